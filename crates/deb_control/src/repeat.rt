@@ -1,0 +1,70 @@
+//! Whether a stanza repeats a field.
+ghost use Rattle.std.specs.Prelude.{◌≡◌, ◌||◌, map, IfOk};
+ghost use Rattle.std.specs.List.{list_any};
+ghost use Rattle.std.specs.Str.{str_to_ascii_lowercase};
+ghost use Rattle.deb_control.specs.Fields.{has_repeat, same_name};
+ghost use Rattle.deb_control.specs.Stanzas.{entry_of};
+
+use crate::field::{Field, is_same_name};
+use std::alloc::{AllocError, Global};
+use std::collections::BTreeSet;
+
+/// Up to so many fields each name is compared with each, which needs no memory.
+const FEW_FIELDS: usize = 64;
+
+/// Whether one of the fields has the name.
+fn contains_name(fields: &[Field], name: &[u8]) -> bool
+    ensures { result ≡ list_any (λ other. same_name other.name name.now) (map entry_of fields.now) }
+{
+    for field in fields {
+        if is_same_name(field.name, name) {
+            return true;
+        }
+    }
+    false
+}
+
+/// Whether two fields have one name, where the fields are few.
+fn is_repeating_few(fields: &[Field]) -> bool
+    ensures { result ≡ has_repeat (map entry_of fields.now) }
+{
+    for (i, field) in fields.iter().enumerate() {
+        if contains_name(&fields[i + 1..], field.name) {
+            return true;
+        }
+    }
+    false
+}
+
+fn lower_case(alloc: Global, name: &[u8]) -> Result<Vec<u8>, AllocError>
+    ensures { IfOk result (λ lower. lower.items ≡ str_to_ascii_lowercase name.now) }
+{
+    let mut lower = Vec::from_slice(alloc, name)?;
+    lower.make_ascii_lowercase();
+    Ok(lower)
+}
+
+/// Whether two fields have one name, where the fields are many.
+/// The names lie in order and not by a hash, whose seed is known, so that no choice of names makes it slow.
+fn is_repeating_many(alloc: Global, fields: &[Field]) -> Result<bool, AllocError>
+    ensures { IfOk result (λ found. found ≡ has_repeat (map entry_of fields.now)) }
+{
+    let mut seen = BTreeSet::new(alloc);
+    for field in fields {
+        let name = lower_case(alloc, field.name)?;
+        if !seen.insert(name)? {
+            return Ok(true);
+        }
+    }
+    Ok(false)
+}
+
+/// Whether two fields have one name.
+pub(crate) fn is_repeating(alloc: Global, fields: &[Field]) -> Result<bool, AllocError>
+    ensures { IfOk result (λ found. found ≡ has_repeat (map entry_of fields.now)) }
+{
+    if fields.len() > FEW_FIELDS {
+        return is_repeating_many(alloc, fields);
+    }
+    Ok(is_repeating_few(fields))
+}
