@@ -91,6 +91,11 @@ unfolding stanzas_of runs
 all_sizes-stanzas_of text =
     omega (arith, all_sizes-filter (λ (run : List (List ℕ)). not (is_empty run)) (slice_split is_blank (content_lines text)), all_sizes-split is_blank (content_lines text), size-content_lines text)
 
+-- all stanzas together take no more bytes than the text, with a line feed behind its last line
+pub stanza-sizes : (text : List ℕ) → sum_by size_of (stanzas_of text) ≤ length text + 1
+unfolding size_of
+stanza-sizes text = all_sizes-stanzas_of text
+
 -- no stanza takes more bytes than the text, with a line feed behind its last line
 pub stanzas-short : (text : List ℕ) → All (λ stanza. size_of stanza ≤ length text + 1) (stanzas_of text)
 unfolding size_of

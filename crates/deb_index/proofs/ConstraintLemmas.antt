@@ -1,0 +1,127 @@
+-- The list of constraints: how it grows, that it speaks of the index, and that it is short.
+use Rattle.std.proofs.Common.{◌≡◌, ℕ, suc, zero, ◌+◌, ◌<◌, ◌≤◌, Bool, not, cond, List, [], ◌∷◌, ◌++◌, map, filter, length, take, get_or, refl, sym, ◌∙◌, ap, subst, inl, inr, arith, append_assoc}
+use Rattle.std.specs.Prelude.{◌^◌, sum_by}
+use Rattle.std.specs.List.{All, enumerate_from, flat_map, range_with_len}
+use Rattle.std.specs.Str.{bytes_eq}
+use Rattle.std.proofs.lemmas.List.{append-nil, length-append, length-map, take_all}
+use Rattle.std.proofs.lemmas.List.Concat.{length-flat_map}
+use Rattle.std.proofs.lemmas.List.Elements.{All-append, All-map}
+use Rattle.std.proofs.lemmas.List.Filters.{length-filter_both}
+use Rattle.std.proofs.lemmas.List.FromFn.{get_or-range_with_len, length-enumerate_from, length-range_with_len, map-range_with_len_more}
+use Rattle.std.proofs.lemmas.List.Sums.{sum_by-cons}
+use Rattle.std.proofs.lemmas.Grind.{flat_map-append}
+use Rattle.deb_index.specs.declared.constraint.Constraint.{Constraint}
+use Rattle.deb_index.specs.declared.constraint.Constraint.TheVariants.{Essential, Need, Apart, Only}
+use Rattle.deb_index.specs.Packages.{IndexView, PackageView, aparts_at, essential_names, first_of_each, is_essential, names, needs_at, no_package, package_at, places_where}
+use Rattle.deb_index.specs.Constraints.{IsOfIndex, below, constraints_at, constraints_of}
+use Rattle.deb_index.specs.Tables.{asked_count, asked_limit}
+use Rattle.deb_index.specs.Reading.{stanza_limit}
+use Rattle.deb_index.proofs.RisingLemmas.{rising-at, where-rising}
+
+-- ---- one number more
+
+pub mapped-more : {A : Type 0} (f : ℕ → A) (front : List A) (n : ℕ) → (front ++ map f (below n)) ++ f n ∷ [] ≡ front ++ map f (below (n + 1))
+mapped-more f front n = append_assoc front (map f (below n)) (f n ∷ []) ∙ ap (λ l. front ++ l) (sym (map-range_with_len_more f 0 n n (omega arith)))
+
+range-more : (a n j : ℕ) → a + n ≡ j → range_with_len a (suc n) ≡ range_with_len a n ++ j ∷ []
+range-more a zero j at = let same : a ≡ j = omega arith in ap (λ x. x ∷ []) same
+range-more a (suc n) j at = ap (λ l. a ∷ l) (range-more (a + 1) n j (omega arith))
+
+pub flat-more : {A : Type 0} (f : ℕ → List A) (front : List A) (n : ℕ) → (front ++ flat_map f (below n)) ++ f n ≡ front ++ flat_map f (below (n + 1))
+flat-more f front n =
+    let next : suc n ≡ n + 1 = omega arith in
+    append_assoc front (flat_map f (below n)) (f n)
+    ∙ ap (λ l. front ++ l) (ap (λ l. flat_map f (below n) ++ l) (sym (append-nil (f n)))
+    ∙ sym (ap (λ m. flat_map f (below m)) (sym next) ∙ (ap (flat_map f) (range-more 0 n n (omega arith)) ∙ flat_map-append f (below n) (n ∷ []))))
+
+-- ---- of the index
+
+all-below : (P : ℕ → Type 0) (n : ℕ) → ((q : ℕ) → q < n → P q) → All P (below n)
+all-below P n each k d h =
+    let few : k < n = omega (arith, length-range_with_len 0 n) in
+    let same : 0 + k ≡ k = omega arith in
+    subst P (sym (get_or-range_with_len 0 n k d few ∙ same)) (each k few)
+
+all-flat : {X A : Type 0} (P : A → Type 0) (f : X → List A) (xs : List X) → All (λ x. All P (f x)) xs → All P (flat_map f xs)
+all-flat P f [] h = λ k d less. absurd (omega arith)
+all-flat P f (x ∷ xs) h = All-append P (f x) (flat_map f xs) (h 0 x (omega arith)) (all-flat P f xs (λ k d less. h (suc k) d (omega arith)))
+
+module _ (index : IndexView) where
+  at-within : (p : ℕ) → p < length index.packages → All (IsOfIndex index) (constraints_at index p)
+  at-within p less = All-append (IsOfIndex index) (map (λ j. Need p j) (below (length (needs_at index p)))) (map (λ j. Apart p j) (below (length (aparts_at index p))))
+      (All-map (IsOfIndex index) (λ j. Need p j) (below (length (needs_at index p))) (all-below (λ j. IsOfIndex index (Need p j)) (length (needs_at index p)) (λ j in_range. (less, in_range))))
+      (All-map (IsOfIndex index) (λ j. Apart p j) (below (length (aparts_at index p))) (all-below (λ j. IsOfIndex index (Apart p j)) (length (aparts_at index p)) (λ j in_range. (less, in_range))))
+
+  essential-within : All (λ n. n < length (names index)) (essential_names index)
+  essential-within k d less = rising-at 0 (length (names index)) (essential_names index) k d (where-rising (is_essential index) (names index)) less
+
+  pub constraints-within : All (IsOfIndex index) (constraints_of index)
+  unfolding constraints_of
+  constraints-within = All-append (IsOfIndex index) (map (λ n. Essential n) (essential_names index) ++ flat_map (constraints_at index) (below (length index.packages))) (map (λ n. Only n) (below (length (names index))))
+      (All-append (IsOfIndex index) (map (λ n. Essential n) (essential_names index)) (flat_map (constraints_at index) (below (length index.packages)))
+      (All-map (IsOfIndex index) (λ n. Essential n) (essential_names index) essential-within)
+      (all-flat (IsOfIndex index) (constraints_at index) (below (length index.packages)) (all-below (λ p. All (IsOfIndex index) (constraints_at index p)) (length index.packages) at-within)))
+      (All-map (IsOfIndex index) (λ n. Only n) (below (length (names index))) (all-below (λ n. n < length (names index)) (length (names index)) (λ n less. less)))
+
+-- ---- short
+
+filter-short : {A : Type 0} (p : A → Bool) (xs : List A) → length (filter p xs) ≤ length xs
+filter-short p xs = omega (arith, length-filter_both p (λ x. not (p x)) (λ x. refl) xs)
+
+first-short : {A : Type 0} (same : A → A → Bool) (xs : List A) → length (first_of_each same xs) ≤ length xs
+unfolding first_of_each
+first-short same [] = omega arith
+first-short same (x ∷ xs) = omega (arith, first-short same xs, filter-short (λ y. not (same x y)) (first_of_each same xs))
+
+where-short : {A : Type 0} (test : A → Bool) (xs : List A) → length (places_where test xs) ≤ length xs
+unfolding places_where
+where-short {A} test xs = omega (arith, length-map (filter (λ (e : ℕ × A). test e.1) (enumerate_from 0 xs)) (λ (e : ℕ × A). e.0), filter-short (λ (e : ℕ × A). test e.1) (enumerate_from 0 xs), length-enumerate_from 0 xs)
+
+sum-at : {A : Type 0} (d : A) (g : A → ℕ) (h : ℕ → ℕ) (n : ℕ) (xs : List A) → ((q m : ℕ) → n + q ≡ m → h m ≡ g (get_or xs q d)) → sum_by h (range_with_len n (length xs)) ≡ sum_by g xs
+sum-at d g h n [] same = refl
+sum-at d g h n (x ∷ xs) same =
+    omega (arith, sum_by-cons h n (range_with_len (n + 1) (length xs)), sum_by-cons g x xs, same 0 n (omega arith), sum-at d g h (n + 1) xs (λ q m at. same (suc q) m (omega arith)))
+
+module _ (index : IndexView) where
+  at-length : (p : ℕ) → length (constraints_at index p) ≡ asked_count (package_at index p)
+  at-length p = omega (arith, length-append (map (λ j. Need p j) (below (length (needs_at index p)))) (map (λ j. Apart p j) (below (length (aparts_at index p)))),
+      length-map (below (length (needs_at index p))) (λ j. Need p j), length-map (below (length (aparts_at index p))) (λ j. Apart p j),
+      length-range_with_len 0 (length (needs_at index p)), length-range_with_len 0 (length (aparts_at index p)))
+
+  asked-length : length (flat_map (constraints_at index) (below (length index.packages))) ≡ sum_by asked_count index.packages
+  asked-length = length-flat_map (constraints_at index) (below (length index.packages))
+      ∙ sum-at no_package asked_count (λ p. length (constraints_at index p)) 0 index.packages (λ q m at. let same : m ≡ q = omega arith in at-length m ∙ ap (λ i. asked_count (package_at index i)) same)
+
+  names-short : length (names index) ≤ length index.packages
+  names-short = omega (arith, first-short bytes_eq (map (λ (p : PackageView). p.name) index.packages), length-map index.packages (λ (p : PackageView). p.name))
+
+  pub constraints-few : length index.packages ≤ stanza_limit → sum_by asked_count index.packages ≤ asked_limit → length (constraints_of index) < 2 ^ 32
+  unfolding constraints_of
+  constraints-few few few_asked = omega (arith, few, few_asked, names-short, where-short (is_essential index) (names index), asked-length,
+      length-append (map (λ n. Essential n) (essential_names index) ++ flat_map (constraints_at index) (below (length index.packages))) (map (λ n. Only n) (below (length (names index)))),
+      length-append (map (λ n. Essential n) (essential_names index)) (flat_map (constraints_at index) (below (length index.packages))),
+      length-map (essential_names index) (λ n. Essential n), length-map (below (length (names index))) (λ n. Only n), length-range_with_len 0 (length (names index)))
+
+-- a package asks for no more than all do
+pub asked-at : (ps : List PackageView) (i : ℕ) → i < length ps → asked_count (get_or ps i no_package) ≤ sum_by asked_count ps
+asked-at [] i less = absurd (omega arith)
+asked-at (p ∷ ps) zero less = omega (arith, sum_by-cons asked_count p ps)
+asked-at (p ∷ ps) (suc i) less = omega (arith, sum_by-cons asked_count p ps, asked-at ps i (omega arith))
+
+-- ---- the parts that were pushed, put together
+
+pub asked-all : (index : IndexView) (p g e : ℕ) (old mid new : List Constraint) → mid ≡ old ++ map (λ j. Need p j) (below g) → new ≡ mid ++ map (λ j. Apart p j) (below e)
+    → g ≡ length (needs_at index p) → e ≡ length (aparts_at index p) → new ≡ old ++ constraints_at index p
+asked-all index p g e old mid new groups entries many more =
+    entries ∙ (ap (λ l. l ++ map (λ j. Apart p j) (below e)) groups
+    ∙ (append_assoc old (map (λ j. Need p j) (below g)) (map (λ j. Apart p j) (below e))
+    ∙ (ap (λ n. old ++ (map (λ j. Need p j) (below n) ++ map (λ j. Apart p j) (below e))) many
+    ∙ ap (λ n. old ++ (map (λ j. Need p j) (below (length (needs_at index p))) ++ map (λ j. Apart p j) (below n))) more)))
+
+pub all-pushed : (index : IndexView) (i p n : ℕ) (first mid new : List Constraint) → first ≡ map (λ n. Essential n) (take i (essential_names index)) → mid ≡ first ++ flat_map (constraints_at index) (below p)
+    → new ≡ mid ++ map (λ n. Only n) (below n) → length (essential_names index) ≤ i → p ≡ length index.packages → n ≡ length (names index) → new ≡ constraints_of index
+unfolding constraints_of
+all-pushed index i p n first mid new e m o whole many more =
+    o ∙ (ap (λ l. l ++ map (λ n. Only n) (below n)) (m ∙ (ap (λ l. l ++ flat_map (constraints_at index) (below p)) (e ∙ ap (map (λ n. Essential n)) (take_all i (essential_names index) whole))
+    ∙ ap (λ k. map (λ n. Essential n) (essential_names index) ++ flat_map (constraints_at index) (below k)) many))
+    ∙ ap (λ k. map (λ n. Essential n) (essential_names index) ++ flat_map (constraints_at index) (below (length index.packages)) ++ map (λ n. Only n) (below k)) more)

@@ -1,0 +1,67 @@
+-- At most one member of a rising list passes a test where at most one is counted.
+use Rattle.std.proofs.Common.{◌≡◌, ℕ, ◌+◌, ◌<◌, ◌≤◌, Bool, true, false, cond, eqb, List, [], ◌∷◌, refl, sym, ◌∙◌, ap, inl, inr, arith}
+use Rattle.std.specs.Prelude.{count_by}
+use Rattle.std.proofs.lemmas.List.Sums.{sum_by-cons}
+use Rattle.std.proofs.lemmas.Bool.{cases_Bool, false≢true, or_cases, or_left, or_right, eqb-true, eq-eqb}
+use Rattle.deb_index.proofs.RisingLemmas.{IsRising, is_in, rising-within}
+
+module _ (test : ℕ → Bool) where
+  count-first : (x : ℕ) (xs : List ℕ) → test x ≡ true → count_by test (x ∷ xs) ≡ 1 + count_by test xs
+  count-first x xs passes =
+      let one : cond {A = ℕ} (test x) 1 0 ≡ 1 = ap (λ (b : Bool). cond {A = ℕ} b 1 0) passes in
+      omega (arith, one, sum_by-cons (λ y. cond {A = ℕ} (test y) 1 0) x xs)
+
+  count-past : (x : ℕ) (xs : List ℕ) → test x ≡ false → count_by test (x ∷ xs) ≡ count_by test xs
+  count-past x xs fails =
+      let none : cond {A = ℕ} (test x) 1 0 ≡ 0 = ap (λ (b : Bool). cond {A = ℕ} b 1 0) fails in
+      omega (arith, none, sum_by-cons (λ y. cond {A = ℕ} (test y) 1 0) x xs)
+
+  -- where a member passes, the count is not 0
+  count-some : (xs : List ℕ) (q : ℕ) → test q ≡ true → is_in xs q ≡ true → 0 < count_by test xs
+  count-some [] q holds there = absurd (false≢true there)
+  count-some (x ∷ xs) q holds there =
+      elim (or_cases (eqb x q) (is_in xs q) there) [
+        | inl here ↦ omega (arith, count-first x xs (ap test (eqb-true x q here) ∙ holds))
+        | inr later ↦ omega (arith, count-some xs q holds later, sum_by-cons (λ y. cond {A = ℕ} (test y) 1 0) x xs)
+      ]
+
+  count-none : (xs : List ℕ) → ((q : ℕ) → test q ≡ true → is_in xs q ≡ true → ⊥) → count_by test xs ≡ 0
+  count-none [] none = refl
+  count-none (x ∷ xs) none =
+      elim (cases_Bool (test x)) [
+        | inl passes ↦ absurd (none x passes (or_left (eqb x x) (is_in xs x) (eq-eqb x x refl)))
+        | inr fails ↦ count-past x xs fails ∙ count-none xs (λ q holds there. none q holds (or_right (eqb x q) (is_in xs q) there))
+      ]
+
+  apart-first : (x r : ℕ) (xs : List ℕ) → count_by test (x ∷ xs) ≤ 1 → test x ≡ true → test r ≡ true → is_in xs r ≡ true → ⊥
+  apart-first x r xs few passes holds later = omega (arith, count-first x xs passes, count-some xs r holds later)
+
+  pub one-from-count : (xs : List ℕ) → count_by test xs ≤ 1 → (q r : ℕ) → test q ≡ true → test r ≡ true → is_in xs q ≡ true → is_in xs r ≡ true → q ≡ r
+  one-from-count [] few q r holds also there too = absurd (false≢true there)
+  one-from-count (x ∷ xs) few q r holds also there too =
+      elim (or_cases (eqb x q) (is_in xs q) there) [
+        | inl here ↦ elim (or_cases (eqb x r) (is_in xs r) too) [
+          | inl both ↦ sym (eqb-true x q here) ∙ eqb-true x r both
+          | inr later ↦ absurd (apart-first x r xs few (ap test (eqb-true x q here) ∙ holds) also later)
+        ]
+        | inr later ↦ elim (or_cases (eqb x r) (is_in xs r) too) [
+          | inl here ↦ absurd (apart-first x q xs few (ap test (eqb-true x r here) ∙ also) holds later)
+          | inr both ↦ one-from-count xs (omega (arith, sum_by-cons (λ y. cond {A = ℕ} (test y) 1 0) x xs)) q r holds also later both
+        ]
+      ]
+
+  pub count-from-one : (n limit : ℕ) (xs : List ℕ) → IsRising n limit xs → ((q r : ℕ) → test q ≡ true → test r ≡ true → is_in xs q ≡ true → is_in xs r ≡ true → q ≡ r) → count_by test xs ≤ 1
+  count-from-one n limit [] rising one = omega arith
+  count-from-one n limit (x ∷ xs) rising one =
+      elim (cases_Bool (test x)) [
+        | inl passes ↦
+            let none : count_by test xs ≡ 0 = count-none xs (λ q holds there.
+            let later = rising-within (x + 1) limit xs q rising.2 there in
+            let same : x ≡ q = one x q passes holds (or_left (eqb x x) (is_in xs x) (eq-eqb x x refl)) (or_right (eqb x q) (is_in xs q) there) in
+            omega (arith, later.0)) in
+            omega (arith, count-first x xs passes)
+        | inr fails ↦
+            let few : count_by test xs ≤ 1 = count-from-one (x + 1) limit xs rising.2 (λ q r holds also there too.
+            one q r holds also (or_right (eqb x q) (is_in xs q) there) (or_right (eqb x r) (is_in xs r) too)) in
+            omega (arith, count-past x xs fails)
+      ]

@@ -1,0 +1,108 @@
+-- Where names are provided: the table of what entries of Provides put down.
+use Rattle.std.proofs.Common.{◌≡◌, ◌<◌, ◌≤◌, ◌+◌, ℕ, Bool, true, false, cond, List, [], ◌∷◌, ◌++◌, map, filter, length, take, get_or, refl, sym, ap, ◌∙◌, subst, append_assoc, arith, Option, Some, None, ◌||◌, ◌↔◌, inl, inr}
+use Rattle.std.specs.Prelude.{codes, IsTrue}
+use Rattle.std.specs.List.{enumerate_from, flat_map}
+use Rattle.std.specs.Str.{bytes_eq}
+use Rattle.std.proofs.lemmas.List.{append-nil, map-append, length-map, length-take-le, take_more}
+use Rattle.std.proofs.lemmas.List.Elements.{filter-append}
+use Rattle.std.proofs.lemmas.Grind.{flat_map-append}
+use Rattle.deb_relation.specs.declared.atom.Atom.{Atom}
+use Rattle.deb_relation.specs.AtomView.{atom_view}
+use Rattle.std.proofs.lemmas.Bool.{false≢true}
+use Rattle.deb_relation.specs.Relationship.{AtomText}
+use Rattle.deb_relation.specs.Usable.{is_usable}
+use Rattle.deb_index.specs.Packages.{PackageView, IndexView, places_where}
+use Rattle.deb_index.specs.Meets.{is_providing, provided_at}
+use Rattle.deb_index.specs.Tables.{items_of, numbered_entries, provided_entries, provided_places}
+use Rattle.deb_index.proofs.EnumerateLemmas.{enumerate-push}
+use Rattle.deb_index.proofs.FirstLemmas.{name-itself, same-name}
+
+items-append : {T : Type 0} (name : List ℕ) (xs ys : List (List ℕ × T)) → items_of name (xs ++ ys) ≡ items_of name xs ++ items_of name ys
+unfolding items_of
+items-append {T} name xs ys = ap (map item) (filter-append test xs ys) ∙ map-append item (filter test xs) (filter test ys)
+  where
+    item : List ℕ × T → T
+    item p = p.1
+
+    test : List ℕ × T → Bool
+    test p = bytes_eq name p.0
+
+module _ (arch name : List ℕ) (place : ℕ) where
+  items-numbered : (es : List (ℕ × AtomText)) → items_of name (numbered_entries arch place es) ≡ map (λ (j : ℕ). (place, j)) (map (λ (e : ℕ × AtomText). e.0) (filter (λ (e : ℕ × AtomText). is_providing arch name e.1) es))
+  unfolding items_of
+  items-numbered [] = refl
+  items-numbered (e ∷ es) = by (is_usable arch e.1.qualifier) (bytes_eq name e.1.name) refl refl (items-numbered es)
+    where
+      by : (u b : Bool) → is_usable arch e.1.qualifier ≡ u → bytes_eq name e.1.name ≡ b
+          → items_of name (numbered_entries arch place es) ≡ map (λ (j : ℕ). (place, j)) (map (λ (e : ℕ × AtomText). e.0) (filter (λ (e : ℕ × AtomText). is_providing arch name e.1) es))
+          → items_of name (numbered_entries arch place (e ∷ es)) ≡ map (λ (j : ℕ). (place, j)) (map (λ (e : ℕ × AtomText). e.0) (filter (λ (e : ℕ × AtomText). is_providing arch name e.1) (e ∷ es)))
+      by true true u b ih = rw (u, b) (ap (λ r. (place, e.0) ∷ r) ih)
+      by true false u b ih = rw (u, b) ih
+      by false b u h ih = rw u ih
+
+  items-entries : (entries : List AtomText) → items_of name (provided_entries arch place entries) ≡ map (λ (j : ℕ). (place, j)) (places_where (is_providing arch name) entries)
+  unfolding places_where
+  items-entries entries = items-numbered (enumerate_from 0 entries)
+
+items-of-all : (arch name : List ℕ) (es : List (ℕ × PackageView)) → items_of name (flat_map (λ (e : ℕ × PackageView). provided_entries arch e.0 e.1.provides) es)
+    ≡ flat_map (λ (e : ℕ × PackageView). map (λ (j : ℕ). (e.0, j)) (places_where (is_providing arch name) e.1.provides)) es
+unfolding items_of
+items-of-all arch name [] = refl
+items-of-all arch name (e ∷ es) = items-append name (provided_entries arch e.0 e.1.provides) (flat_map (λ (e : ℕ × PackageView). provided_entries arch e.0 e.1.provides) es)
+    ∙ (λ i. items-entries arch name e.0 e.1.provides i ++ items-of-all arch name es i)
+
+-- what the table has under a name is where the index provides it
+pub items-provided : (index : IndexView) (name : List ℕ) → items_of name (provided_places index.arch index.packages) ≡ provided_at index name
+unfolding provided_at
+items-provided index name = items-of-all index.arch name (enumerate_from 0 index.packages)
+
+-- one package more puts its entries down last
+pub provided-push : (arch : List ℕ) (packages : List PackageView) (p : PackageView)
+    → provided_places arch (packages ++ p ∷ []) ≡ provided_places arch packages ++ provided_entries arch (length packages) p.provides
+provided-push arch packages p =
+    let next : 0 + length packages ≡ length packages = omega arith in
+    ap (flat_map entries) (enumerate-push 0 packages p) ∙ flat_map-append entries (enumerate_from 0 packages) ((0 + length packages, p) ∷ [])
+    ∙ ap (λ r. provided_places arch packages ++ r) (append-nil (entries (0 + length packages, p)))
+    ∙ ap (λ (m : ℕ). provided_places arch packages ++ provided_entries arch m p.provides) next
+  where
+    entries : ℕ × PackageView → List (List ℕ × (ℕ × ℕ))
+    entries e = provided_entries arch e.0 e.1.provides
+
+-- one entry more of a package goes last, where it is for the architecture
+entries-push : (arch : List ℕ) (place : ℕ) (es : List AtomText) (e : AtomText)
+    → provided_entries arch place (es ++ e ∷ []) ≡ provided_entries arch place es ++ cond (is_usable arch e.qualifier) ((e.name, (place, length es)) ∷ []) []
+entries-push arch place es e =
+    let next : 0 + length es ≡ length es = omega arith in
+    ap (numbered_entries arch place) (enumerate-push 0 es e) ∙ ap (map put) (filter-append test (enumerate_from 0 es) ((0 + length es, e) ∷ []))
+    ∙ map-append put (filter test (enumerate_from 0 es)) (filter test ((0 + length es, e) ∷ []))
+    ∙ ap (λ r. provided_entries arch place es ++ r) (by (is_usable arch e.qualifier) refl ∙ ap (λ (m : ℕ). cond (is_usable arch e.qualifier) ((e.name, (place, m)) ∷ []) []) next)
+  where
+    put : ℕ × AtomText → List ℕ × (ℕ × ℕ)
+    put entry = (entry.1.name, (place, entry.0))
+
+    test : ℕ × AtomText → Bool
+    test entry = is_usable arch entry.1.qualifier
+
+    by : (t : Bool) → is_usable arch e.qualifier ≡ t → map put (filter test ((0 + length es, e) ∷ [])) ≡ cond (is_usable arch e.qualifier) ((e.name, (place, 0 + length es)) ∷ []) []
+    by true h = rw h refl
+    by false h = rw h refl
+
+-- a step of the walk over a package's entries
+module _ (arch : List ℕ) (place : ℕ) (atoms : List Atom) (i : ℕ) (a : Atom) (within : i < length atoms) (at : a ≡ get_or atoms i a) where
+  step : provided_entries arch place (map atom_view (take (i + 1) atoms)) ≡ provided_entries arch place (map atom_view (take i atoms)) ++ cond (is_usable arch (atom_view a).qualifier) (((atom_view a).name, (place, i)) ∷ []) []
+  step = ap (λ l. provided_entries arch place (map atom_view l)) (take_more atoms i a within ∙ ap (λ x. take i atoms ++ x ∷ []) (sym at))
+      ∙ ap (provided_entries arch place) (map-append atom_view (take i atoms) (a ∷ []))
+      ∙ entries-push arch place (map atom_view (take i atoms)) (atom_view a)
+      ∙ ap (λ (m : ℕ). provided_entries arch place (map atom_view (take i atoms)) ++ cond (is_usable arch (atom_view a).qualifier) (((atom_view a).name, (place, m)) ∷ []) [])
+          counted
+    where
+      counted : length (map atom_view (take i atoms)) ≡ i
+      counted = let shorter : i ≤ length atoms = omega arith in length-map (take i atoms) atom_view ∙ length-take-le i atoms shorter
+
+  pub entry-taken : is_usable arch (atom_view a).qualifier ≡ true → (pairs : List (List ℕ × (ℕ × ℕ)))
+      → (pairs ++ provided_entries arch place (map atom_view (take i atoms))) ++ ((atom_view a).name, (place, i)) ∷ [] ≡ pairs ++ provided_entries arch place (map atom_view (take (i + 1) atoms))
+  entry-taken h pairs = append_assoc pairs (provided_entries arch place (map atom_view (take i atoms))) (((atom_view a).name, (place, i)) ∷ []) ∙ ap (λ r. pairs ++ r) (sym (step ∙ rw h refl))
+
+  pub entry-left : is_usable arch (atom_view a).qualifier ≡ false → (pairs : List (List ℕ × (ℕ × ℕ)))
+      → pairs ++ provided_entries arch place (map atom_view (take i atoms)) ≡ pairs ++ provided_entries arch place (map atom_view (take (i + 1) atoms))
+  entry-left h pairs = ap (λ r. pairs ++ r) (sym (step ∙ rw h (append-nil (provided_entries arch place (map atom_view (take i atoms))))))

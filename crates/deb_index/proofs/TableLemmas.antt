@@ -1,0 +1,241 @@
+-- Tables from names to items.
+use Rattle.std.proofs.Common.{◌≡◌, ◌<◌, ◌+◌, ℕ, Bool, true, false, not, cond, ltb, ◌||◌, List, [], ◌∷◌, ◌++◌, map, filter, length, get_or, set, Option, Some, None, refl, sym, ap, ◌∙◌, subst, arith}
+use Prim.Native.Nat.{suc}
+use Rattle.std.specs.List.{list_any, position, position_or_len}
+use Rattle.std.specs.Option.{option_map}
+use Rattle.std.specs.Str.{bytes_eq}
+use Rattle.std.proofs.lemmas.List.{map-append, append-nil, get_or-map, length-map, map-set}
+use Rattle.std.proofs.lemmas.List.Elements.{filter-append}
+use Rattle.std.proofs.lemmas.Bool.{false≢true, lt-ltb, ltb-true}
+use Rattle.deb_index.specs.Packages.{first_of_each}
+use Rattle.deb_index.specs.Tables.{IsTable, items_of, number_in}
+use Rattle.deb_index.proofs.FirstLemmas.{first-push, same-name, names-turned, name-itself, other-name, any-filter, any-filter-false, any-left-out}
+
+-- no name stands twice
+abbrev pub IsApart : List (List ℕ) → Type 0
+IsApart [] = Unit {0}
+IsApart (k ∷ ks) = (list_any (bytes_eq k) ks ≡ false) × IsApart ks
+
+filter-apart : (keep : List ℕ → Bool) (ks : List (List ℕ)) → IsApart ks → IsApart (filter keep ks)
+filter-apart keep [] a = tt
+filter-apart keep (k ∷ ks) a = by (keep k) refl (filter-apart keep ks a.1)
+  where
+    by : (t : Bool) → keep k ≡ t → IsApart (filter keep ks) → IsApart (filter keep (k ∷ ks))
+    by true e ih = rw e (any-filter-false (bytes_eq k) keep ks a.0, ih)
+    by false e ih = rw e ih
+
+pub first-apart : (ks : List (List ℕ)) → IsApart (first_of_each bytes_eq ks)
+unfolding first_of_each
+first-apart [] = tt
+first-apart (k ∷ ks) = (any-left-out (bytes_eq k) (first_of_each bytes_eq ks), filter-apart _ (first_of_each bytes_eq ks) (first-apart ks))
+
+-- a name is among the first of each where it is among all
+pub any-first : (name : List ℕ) (ks : List (List ℕ)) → list_any (bytes_eq name) (first_of_each bytes_eq ks) ≡ list_any (bytes_eq name) ks
+unfolding first_of_each
+any-first name [] = refl
+any-first name (k ∷ ks) = by (bytes_eq name k) refl (any-first name ks)
+  where
+    by : (t : Bool) → bytes_eq name k ≡ t → list_any (bytes_eq name) (first_of_each bytes_eq ks) ≡ list_any (bytes_eq name) ks → list_any (bytes_eq name) (first_of_each bytes_eq (k ∷ ks)) ≡ list_any (bytes_eq name) (k ∷ ks)
+    by true e ih = rw e refl
+    by false e ih = rw e (any-filter (bytes_eq name) (λ y. not (bytes_eq k y)) (λ z h. ap not (subst (λ w. bytes_eq k w ≡ false) (same-name name z h) (other-name name k e))) (first_of_each bytes_eq ks) ∙ ih)
+
+none-some : (i : ℕ) → None ≡ Some i → ⊥
+none-some i e = cc
+
+some-same : (i j : ℕ) → Some i ≡ Some j → i ≡ j
+some-same i j e = cc
+
+pub number-within : (name : List ℕ) (ks : List (List ℕ)) (i : ℕ) → number_in name ks ≡ Some i → i < length ks
+number-within name [] i e = absurd (none-some i e)
+number-within name (k ∷ ks) i e = by (bytes_eq name k) (number_in name ks) refl refl (number-within name ks)
+  where
+    by : (t : Bool) (n : Option ℕ) → bytes_eq name k ≡ t → number_in name ks ≡ n → ((j : ℕ) → number_in name ks ≡ Some j → j < length ks) → i < length (k ∷ ks)
+    by true n t h ih = let z : 0 ≡ i = some-same 0 i (rw t at e) in omega arith
+    by false None t h ih = absurd (none-some i (rw (t, h) at e))
+    by false (Some j) t h ih = let z : suc j ≡ i = some-same (suc j) i (rw (t, h) at e) in let w = ih j h in omega arith
+
+module _ {T : Type 0} (name : List ℕ) (f g : List ℕ → T) (other : (k : List ℕ) → bytes_eq name k ≡ false → g k ≡ f k) where
+  pub map-others : (ks : List (List ℕ)) → list_any (bytes_eq name) ks ≡ false → map g ks ≡ map f ks
+  map-others [] h = refl
+  map-others (k ∷ ks) h = by (bytes_eq name k) refl (map-others ks)
+    where
+      by : (t : Bool) → bytes_eq name k ≡ t → (list_any (bytes_eq name) ks ≡ false → map g ks ≡ map f ks) → map g (k ∷ ks) ≡ map f (k ∷ ks)
+      by true e ih = absurd (false≢true (sym h ∙ rw e refl))
+      by false e ih = ap (λ w. w ∷ map g ks) (other k e) ∙ ap (λ r. f k ∷ r) (ih (rw e at h))
+
+  pub set-there : (ks : List (List ℕ)) (i : ℕ) → IsApart ks → number_in name ks ≡ Some i → map g ks ≡ set (map f ks) i (g name)
+  set-there [] i a e = absurd (none-some i e)
+  set-there (k ∷ ks) i a e = by (bytes_eq name k) (number_in name ks) refl refl (λ j. set-there ks j a.1)
+    where
+      at-first : (j : ℕ) → 0 ≡ j → bytes_eq name k ≡ true → map g (k ∷ ks) ≡ set (map f (k ∷ ks)) j (g name)
+      at-first j z t = let same = same-name name k t in subst (λ m. map g (k ∷ ks) ≡ set (map f (k ∷ ks)) m (g name)) z
+          (ap (λ w. g w ∷ map g ks) (sym same) ∙ ap (λ r. g name ∷ r) (map-others ks (subst (λ w. list_any (bytes_eq w) ks ≡ false) (sym same) a.0)))
+
+      later : (j : ℕ) → suc j ≡ i → bytes_eq name k ≡ false → map g ks ≡ set (map f ks) j (g name) → map g (k ∷ ks) ≡ set (map f (k ∷ ks)) i (g name)
+      later j z t ih = subst (λ m. map g (k ∷ ks) ≡ set (map f (k ∷ ks)) m (g name)) z
+          (ap (λ w. w ∷ map g ks) (other k t) ∙ ap (λ r. f k ∷ r) ih)
+
+      by : (t : Bool) (n : Option ℕ) → bytes_eq name k ≡ t → number_in name ks ≡ n → ((j : ℕ) → number_in name ks ≡ Some j → map g ks ≡ set (map f ks) j (g name))
+          → map g (k ∷ ks) ≡ set (map f (k ∷ ks)) i (g name)
+      by true n t h ih = at-first i (some-same 0 i (rw t at e)) t
+      by false None t h ih = absurd (none-some i (rw (t, h) at e))
+      by false (Some j) t h ih = later j (some-same (suc j) i (rw (t, h) at e)) t (ih j h)
+
+shifted : (m n : ℕ) → cond (ltb (1 + m) (suc n)) (Some (1 + m)) None ≡ option_map (λ i. suc i) (cond (ltb m n) (Some m) None)
+shifted m n = let k : 1 + m ≡ suc m = omega arith in rw k (by (ltb m n) (ltb (suc m) (suc n)) refl refl)
+  where
+    by : (s t : Bool) → ltb m n ≡ s → ltb (suc m) (suc n) ≡ t → cond (ltb (suc m) (suc n)) (Some (suc m)) None ≡ option_map (λ i. suc i) (cond (ltb m n) (Some m) None)
+    by true true e f = rw (e, f) refl
+    by false false e f = rw (e, f) refl
+    by true false e f = let lt = ltb-true m n e in absurd (false≢true (sym f ∙ lt-ltb (suc m) (suc n) (omega arith)))
+    by false true e f = let lt = ltb-true (suc m) (suc n) f in absurd (false≢true (sym e ∙ lt-ltb m n (omega arith)))
+
+-- what a look-up by the bytes of a key answers
+pub position-is : {K : Type 0} (name : List ℕ) (bytes : K → List ℕ) (ks : List K) → position (λ k. bytes_eq name (bytes k)) ks ≡ number_in name (map bytes ks)
+position-is name bytes [] = refl
+position-is {K} name bytes (k ∷ ks) = by (bytes_eq name (bytes k)) refl (position-is name bytes ks)
+  where
+    by : (t : Bool) → bytes_eq name (bytes k) ≡ t → position (λ k. bytes_eq name (bytes k)) ks ≡ number_in name (map bytes ks) → position (λ k. bytes_eq name (bytes k)) (k ∷ ks) ≡ number_in name (map bytes (k ∷ ks))
+    by true e ih = rw e (ap (λ t. cond t (Some 0) None) (lt-ltb 0 (suc (length ks)) (omega arith)))
+    by false e ih = rw (e, ← ih) (shifted (position_or_len (λ k. bytes_eq name (bytes k)) ks) (length ks))
+
+-- ---- the table
+
+none-any : (name : List ℕ) (ks : List (List ℕ)) → number_in name ks ≡ None → list_any (bytes_eq name) ks ≡ false
+none-any name [] e = refl
+none-any name (k ∷ ks) e = by (bytes_eq name k) (number_in name ks) refl refl (none-any name ks)
+  where
+    by : (t : Bool) (n : Option ℕ) → bytes_eq name k ≡ t → number_in name ks ≡ n → (number_in name ks ≡ None → list_any (bytes_eq name) ks ≡ false) → list_any (bytes_eq name) (k ∷ ks) ≡ false
+    by true n t h ih = absurd (none-some 0 (sym (rw t at e)))
+    by false None t h ih = rw t (ih h)
+    by false (Some j) t h ih = absurd (none-some (suc j) (sym (rw (t, h) at e)))
+
+some-any : (name : List ℕ) (ks : List (List ℕ)) (i : ℕ) → number_in name ks ≡ Some i → list_any (bytes_eq name) ks ≡ true
+some-any name [] i e = absurd (none-some i e)
+some-any name (k ∷ ks) i e = by (bytes_eq name k) (number_in name ks) refl refl (some-any name ks)
+  where
+    by : (t : Bool) (n : Option ℕ) → bytes_eq name k ≡ t → number_in name ks ≡ n → ((j : ℕ) → number_in name ks ≡ Some j → list_any (bytes_eq name) ks ≡ true) → list_any (bytes_eq name) (k ∷ ks) ≡ true
+    by true n t h ih = rw t refl
+    by false None t h ih = absurd (none-some i (rw (t, h) at e))
+    by false (Some j) t h ih = rw t (ih j h)
+
+-- what a map has at a name's place
+get-there : {T : Type 0} (name : List ℕ) (f : List ℕ → T) (ks : List (List ℕ)) (i : ℕ) (d : T) → number_in name ks ≡ Some i → get_or (map f ks) i d ≡ f name
+get-there name f [] i d e = absurd (none-some i e)
+get-there {T} name f (k ∷ ks) i d e = by (bytes_eq name k) (number_in name ks) refl refl (λ j. get-there name f ks j d)
+  where
+    by : (t : Bool) (n : Option ℕ) → bytes_eq name k ≡ t → number_in name ks ≡ n → ((j : ℕ) → number_in name ks ≡ Some j → get_or (map f ks) j d ≡ f name) → get_or (map f (k ∷ ks)) i d ≡ f name
+    by true n t h ih = subst (λ m. get_or (map f (k ∷ ks)) m d ≡ f name) (some-same 0 i (rw t at e)) (ap f (sym (same-name name k t)))
+    by false None t h ih = absurd (none-some i (rw (t, h) at e))
+    by false (Some j) t h ih = subst (λ m. get_or (map f (k ∷ ks)) m d ≡ f name) (some-same (suc j) i (rw (t, h) at e)) (ih j h)
+
+-- the same test with its sides turned
+any-turned : (name : List ℕ) (ks : List (List ℕ)) → list_any (λ k. bytes_eq k name) ks ≡ list_any (bytes_eq name) ks
+any-turned name [] = refl
+any-turned name (k ∷ ks) = (λ i. names-turned k name i || any-turned name ks i)
+
+names-chain : (a b c : List ℕ) → bytes_eq a b ≡ true → bytes_eq b c ≡ true → bytes_eq a c ≡ true
+names-chain a b c e h = subst (λ w. bytes_eq a w ≡ true) (same-name b c h) e
+
+module _ {T : Type 0} where
+  items-push : (k name : List ℕ) (x : T) (pairs : List (List ℕ × T)) → items_of k (pairs ++ (name, x) ∷ []) ≡ items_of k pairs ++ cond (bytes_eq k name) (x ∷ []) []
+  unfolding items_of
+  items-push k name x pairs = ap (map item) (filter-append test pairs ((name, x) ∷ [])) ∙ map-append item (filter test pairs) (filter test ((name, x) ∷ []))
+      ∙ ap (λ (r : List T). map item (filter test pairs) ++ r) (by (bytes_eq k name) refl)
+    where
+      item : List ℕ × T → T
+      item p = p.1
+
+      test : List ℕ × T → Bool
+      test p = bytes_eq k p.0
+
+      by : (t : Bool) → bytes_eq k name ≡ t → map item (filter test ((name, x) ∷ [])) ≡ cond (bytes_eq k name) (x ∷ []) []
+      by true e = rw e refl
+      by false e = rw e refl
+
+  items-same : (name : List ℕ) (x : T) (pairs : List (List ℕ × T)) → items_of name (pairs ++ (name, x) ∷ []) ≡ items_of name pairs ++ x ∷ []
+  items-same name x pairs = items-push name name x pairs ∙ rw (name-itself name) refl
+
+  items-other : (name : List ℕ) (x : T) (pairs : List (List ℕ × T)) (k : List ℕ) → bytes_eq name k ≡ false → items_of k (pairs ++ (name, x) ∷ []) ≡ items_of k pairs
+  items-other name x pairs k e = items-push k name x pairs ∙ rw (other-name name k e) (append-nil (items_of k pairs))
+
+  -- a name that no pair has
+  no-items : (name : List ℕ) (pairs : List (List ℕ × T)) → list_any (bytes_eq name) (map (λ (p : List ℕ × T). p.0) pairs) ≡ false → items_of name pairs ≡ []
+  unfolding items_of
+  no-items name [] h = refl
+  no-items name (p ∷ ps) h = by (bytes_eq name p.0) refl (no-items name ps)
+    where
+      by : (t : Bool) → bytes_eq name p.0 ≡ t → (list_any (bytes_eq name) (map (λ (p : List ℕ × T). p.0) ps) ≡ false → items_of name ps ≡ []) → items_of name (p ∷ ps) ≡ []
+      by true e ih = absurd (false≢true (sym h ∙ rw e refl))
+      by false e ih = rw e (ih (rw e at h))
+
+  keys-push : (name : List ℕ) (x : T) (pairs : List (List ℕ × T)) → first_of_each bytes_eq (map (λ (p : List ℕ × T). p.0) (pairs ++ (name, x) ∷ []))
+      ≡ cond (list_any (λ k. bytes_eq k name) (first_of_each bytes_eq (map (λ (p : List ℕ × T). p.0) pairs))) (first_of_each bytes_eq (map (λ (p : List ℕ × T). p.0) pairs)) (first_of_each bytes_eq (map (λ (p : List ℕ × T). p.0) pairs) ++ name ∷ [])
+  keys-push name x pairs = ap (first_of_each bytes_eq) (map-append (λ (p : List ℕ × T). p.0) pairs ((name, x) ∷ [])) ∙ first-push bytes_eq names-chain (map (λ (p : List ℕ × T). p.0) pairs) name
+
+  -- what is under a name that is not there, or is
+  pub table-none : {pairs : List (List ℕ × T)} {ks : List (List ℕ)} {lists : List (List T)} (name : List ℕ) → IsTable pairs ks lists → number_in name ks ≡ None → items_of name pairs ≡ []
+  table-none {pairs} {ks} name t e = no-items name pairs (sym (any-first name (map (λ (p : List ℕ × T). p.0) pairs)) ∙ subst (λ l. list_any (bytes_eq name) l ≡ false) t.names_are (none-any name ks e))
+
+  pub table-found : {pairs : List (List ℕ × T)} {ks : List (List ℕ)} {lists : List (List T)} (name : List ℕ) (i : ℕ) (d : List T) → IsTable pairs ks lists → number_in name ks ≡ Some i → get_or lists i d ≡ items_of name pairs
+  table-found {pairs} {ks} name i d t e = ap (λ (l : List (List T)). get_or l i d) t.lists_are ∙ get-there name (λ k. items_of k pairs) ks i d e
+
+  -- one more item under a name that is there
+  pub put-there : {pairs : List (List ℕ × T)} {ks : List (List ℕ)} {lists : List (List T)} (name : List ℕ) (x : T) (i : ℕ) → IsTable pairs ks lists → number_in name ks ≡ Some i
+      → IsTable (pairs ++ (name, x) ∷ []) ks (set lists i (get_or lists i [] ++ x ∷ []))
+  put-there {pairs} {ks} {lists} name x i t e = record {
+    names_are = t.names_are ∙ sym (keys-push name x pairs ∙ ap (λ c. cond c keys (keys ++ name ∷ [])) found);
+    lists_are = subst (λ (l : List (List T)). set l i (get_or l i [] ++ x ∷ []) ≡ map (λ k. items_of k (pairs ++ (name, x) ∷ [])) ks) (sym t.lists_are)
+        (ap (λ (v : List T). set (map (λ k. items_of k pairs) ks) i (v ++ x ∷ [])) (get-there name (λ k. items_of k pairs) ks i [] e) ∙ ap (λ (v : List T). set (map (λ k. items_of k pairs) ks) i v) (sym (items-same name x pairs))
+        ∙ sym (set-there name (λ k. items_of k pairs) (λ k. items_of k (pairs ++ (name, x) ∷ [])) (items-other name x pairs) ks i apart e));
+  }
+    where
+      keys : List (List ℕ)
+      keys = first_of_each bytes_eq (map (λ (p : List ℕ × T). p.0) pairs)
+
+      apart : IsApart ks
+      apart = subst IsApart (sym t.names_are) (first-apart (map (λ (p : List ℕ × T). p.0) pairs))
+
+      found : list_any (λ k. bytes_eq k name) keys ≡ true
+      found = any-turned name keys ∙ subst (λ l. list_any (bytes_eq name) l ≡ true) t.names_are (some-any name ks i e)
+
+  -- a first item under a name that is new
+  pub put-new : {pairs : List (List ℕ × T)} {ks : List (List ℕ)} {lists : List (List T)} (name : List ℕ) (x : T) → IsTable pairs ks lists → number_in name ks ≡ None
+      → IsTable (pairs ++ (name, x) ∷ []) (ks ++ name ∷ []) (lists ++ (x ∷ []) ∷ [])
+  put-new {pairs} {ks} {lists} name x t e = record {
+    names_are = ap (λ l. l ++ name ∷ []) t.names_are ∙ sym (keys-push name x pairs ∙ ap (λ c. cond c keys (keys ++ name ∷ [])) (any-turned name keys ∙ subst (λ l. list_any (bytes_eq name) l ≡ false) t.names_are (none-any name ks e)));
+    lists_are = ap (λ (l : List (List T)). l ++ (x ∷ []) ∷ []) (t.lists_are ∙ sym (map-others name (λ k. items_of k pairs) (λ k. items_of k (pairs ++ (name, x) ∷ [])) (items-other name x pairs) ks (none-any name ks e)))
+        ∙ ap (λ (v : List T). map (λ k. items_of k (pairs ++ (name, x) ∷ [])) ks ++ v ∷ []) (sym (items-same name x pairs ∙ ap (λ (v : List T). v ++ x ∷ []) (table-none name t e)))
+        ∙ sym (map-append (λ k. items_of k (pairs ++ (name, x) ∷ [])) ks (name ∷ []));
+  }
+    where
+      keys : List (List ℕ)
+      keys = first_of_each bytes_eq (map (λ (p : List ℕ × T). p.0) pairs)
+
+  -- the same over lists that are seen through a view
+  module _ {V : Type 0} (items : V → List T) where
+    listed-at : {pairs : List (List ℕ × T)} {ks : List (List ℕ)} (vs : List V) (name : List ℕ) (i : ℕ) → IsTable pairs ks (map items vs) → number_in name ks ≡ Some i → i < length vs
+    listed-at {pairs} {ks} vs name i t e = let a : length (map items vs) ≡ length vs = length-map vs items in let b : length (map (λ k. items_of k pairs) ks) ≡ length ks = length-map ks (λ k. items_of k pairs) in let e' = number-within name ks i e in let s : length (map items vs) ≡ length (map (λ k. items_of k pairs) ks) = ap length t.lists_are in omega arith
+
+    pub found-at : {pairs : List (List ℕ × T)} {ks : List (List ℕ)} (vs : List V) (name : List ℕ) (i : ℕ) (old : V) → IsTable pairs ks (map items vs) → number_in name ks ≡ Some i → old ≡ get_or vs i old → items old ≡ items_of name pairs
+    found-at vs name i old t e at = ap items at ∙ sym (get_or-map items vs i old [] (listed-at vs name i t e)) ∙ table-found name i [] t e
+
+    pub put-at : {pairs : List (List ℕ × T)} {ks : List (List ℕ)} (vs : List V) (name : List ℕ) (x : T) (i : ℕ) (old new : V) → IsTable pairs ks (map items vs) → number_in name ks ≡ Some i → old ≡ get_or vs i old → items new ≡ items old ++ x ∷ []
+        → IsTable (pairs ++ (name, x) ∷ []) ks (map items (set vs i new))
+    put-at {pairs} {ks} vs name x i old new t e at put = subst (λ l. IsTable (pairs ++ (name, x) ∷ []) ks l)
+        (ap (λ v. set (map items vs) i (v ++ x ∷ [])) (get_or-map items vs i old [] (listed-at vs name i t e) ∙ ap items (sym at)) ∙ ap (λ v. set (map items vs) i v) (sym put) ∙ sym (map-set items vs i new)) (put-there name x i t e)
+
+    any-seen : {K : Type 0} (bytes : K → List ℕ) (name : List ℕ) (keys : List K) → list_any (bytes_eq name) (map bytes keys) ≡ list_any (λ k. bytes_eq name (bytes k)) keys
+    any-seen bytes name [] = refl
+    any-seen bytes name (k ∷ ks) = ap (λ r. bytes_eq name (bytes k) || r) (any-seen bytes name ks)
+
+    pub put-first : {K : Type 0} (bytes : K → List ℕ) {pairs : List (List ℕ × T)} (keys : List K) (vs : List V) (name : List ℕ) (x : T) (key : K) (v : V)
+        → IsTable pairs (map bytes keys) (map items vs) → number_in name (map bytes keys) ≡ None → bytes key ≡ name → items v ≡ x ∷ []
+        → IsTable (pairs ++ (name, x) ∷ []) (map bytes (cond (list_any (λ k. bytes_eq (bytes key) (bytes k)) keys) keys (keys ++ key ∷ []))) (map items (vs ++ v ∷ []))
+    put-first bytes {pairs} keys vs name x key v t e same one =
+        let none : list_any (λ k. bytes_eq (bytes key) (bytes k)) keys ≡ false = subst (λ w. list_any (λ k. bytes_eq w (bytes k)) keys ≡ false) (sym same) (sym (any-seen bytes name keys) ∙ none-any name (map bytes keys) e) in
+        let longer : map bytes keys ++ name ∷ [] ≡ map bytes (cond (list_any (λ k. bytes_eq (bytes key) (bytes k)) keys) keys (keys ++ key ∷ [])) =
+        ap (λ w. map bytes keys ++ w ∷ []) (sym same) ∙ sym (map-append bytes keys (key ∷ [])) ∙ ap (λ c. map bytes (cond c keys (keys ++ key ∷ []))) (sym none) in
+        let put : IsTable (pairs ++ (name, x) ∷ []) (map bytes keys ++ name ∷ []) (map items vs ++ (x ∷ []) ∷ []) = put-new name x t e in
+        subst (λ l. IsTable (pairs ++ (name, x) ∷ []) l (map items (vs ++ v ∷ []))) longer
+        (subst (λ l. IsTable (pairs ++ (name, x) ∷ []) (map bytes keys ++ name ∷ []) l) (ap (λ w. map items vs ++ w ∷ []) (sym one) ∙ sym (map-append items vs (v ∷ []))) put)

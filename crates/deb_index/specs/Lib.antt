@@ -1,0 +1,6 @@
+pub mod Packages
+pub mod Reading
+pub mod Meets
+pub mod Constraints
+pub mod Tables
+pub mod Walk

@@ -1,0 +1,279 @@
+//! The index of a text.
+ghost use Rattle.std.specs.Prelude.{◌≡◌, ◌≢◌, ◌<◌, ◌≤◌, ◌+◌, ◌^◌, All, IfOk, IfErr, Ok, Err, OnOk, IsTrue, [], ◌++◌, length, map, sum_by, Some, None, position, slice_get, slice_index_or};
+ghost use Rattle.std.specs.Option.{option_map, option_copied};
+ghost use Rattle.std.specs.Str.{bytes_eq};
+ghost use Rattle.deb_relation.specs.AtomView.{atom_view};
+ghost use Rattle.deb_index.specs.Packages.{package_view, names, places_of, essential_names, needs_at, aparts_at, need_at, apart_at, package_at, name_at};
+ghost use Rattle.deb_index.specs.Reading.{Gives, index_of, byte_limit, stanza_limit};
+ghost use Rattle.deb_index.specs.Meets.{meets_at, satisfiers, provided_at};
+ghost use Rattle.deb_index.specs.Constraints.{constraints_at, constraints_of, IsOfIndex};
+ghost use Rattle.deb_index.specs.Tables.{asked_count, asked_limit};
+ghost use Rattle.deb_index.specs.Walk.{behind, first_place};
+
+use crate::constraint::Constraint;
+use crate::error::IndexError;
+use crate::package::{Package, next_reading};
+use crate::tables::Tables;
+use deb_control::Reader;
+use deb_relation::Atom;
+use std::alloc::{AllocError, Global};
+use std::marker::Model;
+
+/// The index of a text for one architecture. Its packages have places from 0, in the order of the text, and their distinct
+/// names have numbers from 0, in the order in which they first occur.
+#[derive(Drop)]
+pub struct Index {
+    tables: Tables,
+    essential: Vec<u32>,
+}
+
+impl Model for Index {
+    ghost use Rattle.std.specs.Prelude.{◌≡◌};
+    ghost use Rattle.deb_index.specs.Packages.{IndexView, essential_names};
+
+    ghost Value = { IndexView };
+
+    ghost view = { λ i. i.tables };
+
+    ghost invariant = { λ i. i.essential.items ≡ essential_names i.tables };
+}
+
+impl Index {
+    /// Reads the index of a text for an architecture, or its first fault; without `essential` no name is essential.
+    pub fn read(
+        alloc: Global,
+        text: &[u8],
+        arch: &str,
+        essential: bool,
+    ) -> Result<Index, IndexError>
+        requires { length text.now ≤ byte_limit }
+        ensures accepted { IfOk result (λ index. index_of text.now arch.now essential ≡ Ok index) }
+        ensures refused { IfErr result (λ e. e ≢ IndexError.Memory → index_of text.now arch.now essential ≡ Err e) }
+    {
+        let mut reader = Reader::new(text);
+        let mut tables = Tables::new(alloc, arch.as_bytes(), essential)?;
+        'stanzas: while let Some(reading) = next_reading(
+            alloc,
+            arch.as_bytes(),
+            tables.stanzas(),
+            &mut reader,
+        )? {
+            tables.add(alloc, reading)?;
+        }
+        let essential = tables.essential_names(alloc)?;
+        Ok(Index { tables, essential })
+    }
+
+    /// How many packages there are: at most 1,048,576, the most stanzas that a text may have.
+    pub fn len(&self) -> u32
+        ensures value { result ≡ length self.now.packages }
+        ensures few { length self.now.packages ≤ stanza_limit }
+    {
+        self.tables.len()
+    }
+
+    /// The architecture that the index was read for.
+    pub fn arch(&self) -> &[u8]
+        ensures { result.now ≡ self.now.arch }
+    {
+        self.tables.arch()
+    }
+
+    /// The package at a place, which is below `len`.
+    pub fn package(&self, place: u32) -> &Package
+        requires { place < length self.now.packages }
+        ensures { package_view result.now ≡ package_at self.now place }
+    {
+        self.tables.package(place)
+    }
+
+    /// How many distinct names there are.
+    pub fn name_count(&self) -> u32
+        ensures { result ≡ length (names self.now) }
+    {
+        self.tables.name_count()
+    }
+
+    /// The name with a number, which is below `name_count`.
+    pub fn name_text(&self, number: u32) -> &[u8]
+        requires { number < length (names self.now) }
+        ensures { result.now ≡ name_at self.now number }
+    {
+        self.tables.name_text(number)
+    }
+
+    /// The number of a name; `None` where no package has it. Names are compared byte by byte (Debian Policy 5.6.7).
+    pub fn name_number(&self, name: &[u8]) -> Option<u32>
+        ensures { result ≡ position (bytes_eq name.now) (names self.now) }
+    {
+        self.tables.name_number(name)
+    }
+
+    /// The places of a name's packages, rising: none for an unknown name.
+    pub fn places_of(&self, name: &[u8]) -> &[u32]
+        ensures { result.now ≡ places_of self.now name.now }
+    {
+        self.tables.places_of(name)
+    }
+
+    /// Where a name is provided (Debian Policy 7.5), rising: each pair is a place and the number, from 0, of an entry in the
+    /// Provides of the package there. An entry with a qualifier counts if it is `any` or the index's architecture.
+    pub fn provides_of(&self, name: &[u8]) -> &[(u32, u32)]
+        ensures { result.now ≡ provided_at self.now name.now }
+    {
+        self.tables.provides_of(name)
+    }
+
+    /// The numbers of the essential names, rising: a name is essential if some package of it has `Essential: yes`
+    /// (Debian Policy 5.6.9). There are none where the index was read without essential names.
+    pub fn essential_names(&self) -> &[u32]
+        ensures { result.now ≡ essential_names self.now }
+    {
+        &self.essential
+    }
+
+    /// The alternatives of a group that the package at a place needs (Debian Policy 7.2). Groups are numbered from 0: those
+    /// of Pre-Depends, then those of Depends.
+    pub fn need(&self, place: u32, number: u32) -> &[Atom]
+        requires place { place < length self.now.packages }
+        requires number { number < length (needs_at self.now place) }
+        ensures { map atom_view result.now ≡ need_at self.now place number }
+    {
+        self.package(place).need(number)
+    }
+
+    /// An entry that the package at a place stands apart from (Debian Policy 7.3 and 7.4). Entries are numbered from 0: those
+    /// of Conflicts, then those of Breaks.
+    pub fn apart(&self, place: u32, number: u32) -> &Atom
+        requires place { place < length self.now.packages }
+        requires number { number < length (aparts_at self.now place) }
+        ensures { atom_view result.now ≡ apart_at self.now place number }
+    {
+        self.package(place).apart(number)
+    }
+
+    /// How many stanzas the text has: at most 1,048,576.
+    pub fn stanzas(&self) -> u32
+        ensures { result ≡ self.now.stanzas }
+    {
+        self.tables.stanzas()
+    }
+
+    /// How many stanzas are passed over, since their architecture is neither the index's nor `all`.
+    pub fn skipped(&self) -> u32
+        ensures { result ≡ self.now.skipped }
+    {
+        self.tables.skipped()
+    }
+
+    /// How many stanzas have the name and the version text of an earlier one that was kept, and are left out.
+    pub fn duplicates(&self) -> u32
+        ensures { result ≡ self.now.duplicates }
+    {
+        self.tables.duplicates()
+    }
+
+    /// Whether the package at a place meets an atom. An atom with a qualifier other than `any` and the index's architecture
+    /// is met by none. Else a package meets it by its own name and version, or by an entry of its Provides of that name:
+    /// any where the atom has no bound, and one whose version meets the bound where it has one (Debian Policy 7.1 and 7.5).
+    pub fn meets(&self, place: u32, atom: &Atom) -> bool
+        requires { place < length self.now.packages }
+        ensures { result ≡ meets_at self.now place (atom_view atom.now) }
+    {
+        self.package(place).meets(self.arch(), atom)
+    }
+
+    /// The places of all packages that meet an atom, rising. The error is want of memory.
+    ///
+    /// Only the packages of the atom's name and those that provide it are looked at.
+    pub fn satisfiers(&self, alloc: Global, atom: &Atom) -> Result<Vec<u32>, AllocError>
+        ensures { IfOk result (λ v. v.items ≡ satisfiers self.now (atom_view atom.now)) }
+    {
+        let mut found = Vec::new(alloc);
+        let (mut named, mut provided) = (self.places_of(&atom.name), self.provides_of(&atom.name));
+        'places: while let Some(place) = first_place(named, provided) {
+            if self.meets(place, atom) {
+                found.push(place)?;
+            }
+            named = behind(named, place);
+            provided = entries_behind(provided, place);
+        }
+        Ok(found)
+    }
+
+    /// All constraints, below 2^32 of them: `Essential` for the essential names by number, then by place the `Need` of each
+    /// package's groups and the `Apart` of its entries, then `Only` for all names by number. The error is want of memory.
+    pub fn constraints(&self, alloc: Global) -> Result<Vec<Constraint>, AllocError>
+        ensures value { IfOk result (λ v. v.items ≡ constraints_of self.now) }
+        ensures within { IfOk result (λ v. All (IsOfIndex self.now) v.items) }
+        ensures few { IfOk result (λ v. length v.items < 2 ^ 32) }
+    {
+        let mut found = Vec::new(alloc);
+        for name in self.essential_names() {
+            found.push(Constraint::Essential(*name))?;
+        }
+        for place in 0..self.tables.len() {
+            self.push_constraints(place, &mut found)?;
+        }
+        for number in 0..self.name_count() {
+            found.push(Constraint::Only(number))?;
+        }
+        Ok(found)
+    }
+
+    // Adds what the package at a place asks for.
+    fn push_constraints(&self, place: u32, found: &mut Vec<Constraint>) -> Result<(), AllocError>
+        requires within { place < length self.now.packages }
+        requires few_asked { sum_by asked_count self.now.packages ≤ asked_limit }
+        ensures { OnOk result (found.new.items ≡ found.old.items ++ constraints_at self.now place) }
+    {
+        let asking = self.package(place);
+        for group in 0..asking.need_count() {
+            found.push(Constraint::Need(place, group))?;
+        }
+        for entry in 0..asking.apart_count() {
+            found.push(Constraint::Apart(place, entry))?;
+        }
+        Ok(())
+    }
+}
+
+// The least place that comes next in one of two rising lists.
+fn first_place(named: &[u32], provided: &[(u32, u32)]) -> Option<u32>
+    ensures { result ≡ first_place named.now (map (λ e. e.0) provided.now) }
+{
+    match (named, provided) {
+        ([], []) => None,
+        ([place, ..], []) => Some(*place),
+        ([], [entry, ..]) => Some(entry.0),
+        ([place, ..], [entry, ..]) => Some((*place).min(entry.0)),
+    }
+}
+
+// What comes behind a place.
+fn behind(named: &[u32], place: u32) -> &[u32]
+    ensures { result.now ≡ behind place named.now }
+{
+    let mut rest = named;
+    while let [first, others @ ..] = rest {
+        if *first > place {
+            return rest;
+        }
+        rest = others;
+    }
+    rest
+}
+
+// What comes behind all entries of a place.
+fn entries_behind(provided: &[(u32, u32)], place: u32) -> &[(u32, u32)]
+    ensures { map (λ e. e.0) result.now ≡ behind place (map (λ e. e.0) provided.now) }
+{
+    let mut rest = provided;
+    while let [first, others @ ..] = rest {
+        if first.0 > place {
+            return rest;
+        }
+        rest = others;
+    }
+    rest
+}

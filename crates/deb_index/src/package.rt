@@ -1,0 +1,285 @@
+//! One stanza, read as a package.
+ghost use Rattle.std.specs.Prelude.{◌≡◌, ◌+◌, map, codes};
+ghost use Rattle.std.specs.Option.{option_map};
+ghost use Rattle.std.specs.List.{list_all};
+ghost use Rattle.deb_control.specs.Fields.{field_value};
+ghost use Rattle.deb_relation.specs.AtomView.{atom_view, atoms_view};
+ghost use Rattle.deb_index.specs.Packages.{package_view};
+ghost use Rattle.deb_index.specs.Reading.{Gives, field_name, head_of, head_view, groups_in, atoms_in, is_for, is_marked, is_provided, provides_in, package_of, reading_of, reading_view, relation_text, good_version, next_reading};
+ghost use Rattle.deb_index.specs.Reading as spec;
+
+use crate::error::{IndexError, RelField};
+use deb_control::{ControlError, Reader, Stanza};
+use deb_relation::{
+    Atom, Op, RelationError, Version, VersionError, is_name, parse_groups, parse_list,
+};
+use std::alloc::Global;
+
+/// A package, as its stanza gives it (Debian Policy 5.3 and 7). A field of relationships that is absent or empty gives an empty list.
+#[derive(Drop)]
+pub struct Package {
+    pub name: Vec<u8>,
+    pub version: Version,
+    /// The stanza's own value: the checked architecture or `all`.
+    pub architecture: Vec<u8>,
+    /// Whether the stanza says `Essential: yes` (Debian Policy 3.8); any other value means no.
+    pub essential: bool,
+    /// Groups of alternatives, one of each of which has to be met.
+    pub pre_depends: Vec<Vec<Atom>>,
+    pub depends: Vec<Vec<Atom>>,
+    pub conflicts: Vec<Atom>,
+    pub breaks: Vec<Atom>,
+    /// Names that the package stands for, each with no bound or with an exact version (Debian Policy 7.5).
+    pub provides: Vec<Atom>,
+}
+
+/// What each stanza has, of whatever architecture.
+#[derive(Drop)]
+pub(crate) struct Head<'s> {
+    pub(crate) name: &'s [u8],
+    pub(crate) version: Version,
+    pub(crate) architecture: &'s [u8],
+}
+
+/// What a stanza without a fault is.
+#[derive(Drop)]
+pub(crate) enum Reading {
+    /// One of another architecture.
+    Skipped,
+    Kept(Package),
+}
+
+// The most stanzas that an index may have.
+const STANZA_LIMIT: u64 = 1_048_576;
+
+impl RelField {
+    fn name(self) -> &'static str
+        ensures { result.now ≡ field_name self }
+    {
+        match self {
+            RelField::PreDepends => "Pre-Depends",
+            RelField::Depends => "Depends",
+            RelField::Conflicts => "Conflicts",
+            RelField::Breaks => "Breaks",
+            RelField::Provides => "Provides",
+        }
+    }
+}
+
+fn mandatory<'s>(stanza: &'s Stanza, number: u64, name: &str) -> Result<&'s [u8], IndexError>
+    ensures { Gives (λ v. v.now) result (spec.mandatory number (field_value stanza.now name.now)) }
+{
+    match stanza.field(name) {
+        Some(value) => Ok(value),
+        None => Err(IndexError::MissingField { stanza: number }),
+    }
+}
+
+fn read_version(alloc: Global, number: u64, text: &[u8]) -> Result<Version, IndexError>
+    ensures { Gives (λ v. v) result (good_version number text.now) }
+{
+    match Version::parse(alloc, text) {
+        Ok(version) => Ok(version),
+        Err(VersionError::Memory) => Err(IndexError::Memory),
+        Err(_) => Err(IndexError::BadVersion { stanza: number }),
+    }
+}
+
+#[tactic(auto, unfolding(crate::specs::Reading::head_of))]
+fn read_head<'s>(alloc: Global, number: u64, stanza: &'s Stanza) -> Result<Head<'s>, IndexError>
+    ensures { Gives head_view result (head_of number stanza.now) }
+{
+    let name = mandatory(stanza, number, "Package")?;
+    let version = mandatory(stanza, number, "Version")?;
+    let architecture = mandatory(stanza, number, "Architecture")?;
+    if !is_name(name) {
+        return Err(IndexError::BadName { stanza: number });
+    }
+    let version = read_version(alloc, number, version)?;
+    Ok(Head {
+        name,
+        version,
+        architecture,
+    })
+}
+
+fn relation_text<'s>(stanza: &'s Stanza, field: RelField) -> &'s [u8]
+    ensures { result.now ≡ relation_text stanza.now field }
+{
+    match stanza.field(field.name()) {
+        Some(value) => value,
+        None => &[],
+    }
+}
+
+fn fault_in(error: RelationError, number: u64, field: RelField) -> IndexError
+    ensures { result ≡ spec.relation_fault number field error }
+{
+    match error {
+        RelationError::Memory => IndexError::Memory,
+        _ => IndexError::BadRelation {
+            stanza: number,
+            field,
+        },
+    }
+}
+
+fn read_groups(
+    alloc: Global,
+    number: u64,
+    stanza: &Stanza,
+    field: RelField,
+) -> Result<Vec<Vec<Atom>>, IndexError>
+    ensures { Gives (λ v. map atoms_view v.items) result (groups_in number stanza.now field) }
+{
+    match parse_groups(alloc, relation_text(stanza, field)) {
+        Ok(groups) => Ok(groups),
+        Err(error) => Err(fault_in(error, number, field)),
+    }
+}
+
+fn read_atoms(
+    alloc: Global,
+    number: u64,
+    stanza: &Stanza,
+    field: RelField,
+) -> Result<Vec<Atom>, IndexError>
+    ensures { Gives (λ v. map atom_view v.items) result (atoms_in number stanza.now field) }
+{
+    match parse_list(alloc, relation_text(stanza, field)) {
+        Ok(atoms) => Ok(atoms),
+        Err(error) => Err(fault_in(error, number, field)),
+    }
+}
+
+fn is_provided(atom: &Atom) -> bool
+    ensures { result ≡ is_provided (atom_view atom.now) }
+{
+    match &atom.bound {
+        None => true,
+        Some((op, _)) => matches!(op, Op::Eq),
+    }
+}
+
+fn are_provided(atoms: &[Atom]) -> bool
+    ensures { result ≡ list_all is_provided (map atom_view atoms.now) }
+{
+    for atom in atoms {
+        if !is_provided(atom) {
+            return false;
+        }
+    }
+    true
+}
+
+#[tactic(auto, unfolding(crate::specs::Reading::provides_in))]
+fn read_provides(alloc: Global, number: u64, stanza: &Stanza) -> Result<Vec<Atom>, IndexError>
+    ensures { Gives (λ v. map atom_view v.items) result (provides_in number stanza.now) }
+{
+    let atoms = read_atoms(alloc, number, stanza, RelField::Provides)?;
+    if are_provided(&atoms) {
+        Ok(atoms)
+    } else {
+        Err(IndexError::BadRelation {
+            stanza: number,
+            field: RelField::Provides,
+        })
+    }
+}
+
+fn is_marked(stanza: &Stanza) -> bool
+    ensures { result ≡ is_marked stanza.now }
+{
+    match stanza.field("Essential") {
+        Some(value) => value == b"yes".as_slice(),
+        None => false,
+    }
+}
+
+#[tactic(auto, unfolding(crate::specs::Reading::package_of))]
+fn read_package(
+    alloc: Global,
+    number: u64,
+    stanza: &Stanza,
+    head: Head,
+) -> Result<Package, IndexError>
+    ensures { Gives package_view result (package_of number stanza.now (head_view head.entry)) }
+{
+    let pre_depends = read_groups(alloc, number, stanza, RelField::PreDepends)?;
+    let depends = read_groups(alloc, number, stanza, RelField::Depends)?;
+    let conflicts = read_atoms(alloc, number, stanza, RelField::Conflicts)?;
+    let breaks = read_atoms(alloc, number, stanza, RelField::Breaks)?;
+    let provides = read_provides(alloc, number, stanza)?;
+    Ok(Package {
+        name: Vec::from_slice(alloc, head.name)?,
+        version: head.version,
+        architecture: Vec::from_slice(alloc, head.architecture)?,
+        essential: is_marked(stanza),
+        pre_depends,
+        depends,
+        conflicts,
+        breaks,
+        provides,
+    })
+}
+
+fn is_for(arch: &[u8], architecture: &[u8]) -> bool
+    ensures { result ≡ is_for arch.now architecture.now }
+{
+    architecture == arch || architecture == b"all".as_slice()
+}
+
+/// Reads a stanza, the `number`-th of its text.
+#[tactic(auto, unfolding(crate::specs::Reading::reading_of))]
+fn read_fields(
+    alloc: Global,
+    arch: &[u8],
+    number: u64,
+    stanza: &Stanza,
+) -> Result<Reading, IndexError>
+    ensures { Gives reading_view result (reading_of arch.now number stanza.now) }
+{
+    let head = read_head(alloc, number, stanza)?;
+    if is_for(arch, head.architecture) {
+        let package = read_package(alloc, number, stanza, head)?;
+        Ok(Reading::Kept(package))
+    } else {
+        Ok(Reading::Skipped)
+    }
+}
+
+// What the fault of the `number`-th stanza is in an index; that there are too many stanzas goes first.
+fn stanza_fault(number: u64, error: ControlError) -> IndexError
+    ensures { result ≡ spec.stanza_fault number error }
+{
+    match error {
+        ControlError::Memory => IndexError::Memory,
+        _ if number > STANZA_LIMIT => IndexError::TooManyStanzas { stanza: number },
+        ControlError::BadLine { stanza } => IndexError::BadLine { stanza },
+        ControlError::RepeatedField { stanza } => IndexError::RepeatedField { stanza },
+    }
+}
+
+/// Reads the next stanza of a text, if there is one; `count` were read before.
+pub(crate) fn next_reading(
+    alloc: Global,
+    arch: &[u8],
+    count: u32,
+    reader: &mut Reader,
+) -> Result<Option<Reading>, IndexError>
+    requires { count ≡ reader.old.count }
+    ensures { Gives (λ found. (option_map reading_view found, reader.new)) result (next_reading arch.now reader.old.stanzas reader.old.count) }
+{
+    let number = u64::from(count) + 1;
+    match reader.next_stanza(alloc) {
+        Ok(None) => Ok(None),
+        Ok(Some(stanza)) => {
+            if number > STANZA_LIMIT {
+                return Err(IndexError::TooManyStanzas { stanza: number });
+            }
+            let reading = read_fields(alloc, arch, number, &stanza)?;
+            Ok(Some(reading))
+        }
+        Err(error) => Err(stanza_fault(number, error)),
+    }
+}
