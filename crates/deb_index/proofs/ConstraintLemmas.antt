@@ -1,5 +1,5 @@
 -- The list of constraints: how it grows, that it speaks of the index, and that it is short.
-use Rattle.std.proofs.Common.{◌≡◌, ℕ, suc, zero, ◌+◌, ◌<◌, ◌≤◌, Bool, not, cond, List, [], ◌∷◌, ◌++◌, map, filter, length, take, get_or, refl, sym, ◌∙◌, ap, subst, inl, inr, arith, append_assoc}
+use Rattle.std.proofs.Common.{◌≡◌, ℕ, suc, zero, ◌+◌, ◌<◌, ◌≤◌, Bool, not, List, [], ◌∷◌, ◌++◌, map, filter, length, take, get_or, refl, sym, ◌∙◌, ap, subst, arith, append_assoc}
 use Rattle.std.specs.Prelude.{◌^◌, sum_by}
 use Rattle.std.specs.List.{All, enumerate_from, flat_map, range_with_len}
 use Rattle.std.specs.Str.{bytes_eq}
@@ -84,9 +84,14 @@ sum-at d g h n (x ∷ xs) same =
 
 module _ (index : IndexView) where
   at-length : (p : ℕ) → length (constraints_at index p) ≡ asked_count (package_at index p)
-  at-length p = omega (arith, length-append (map (λ j. Need p j) (below (length (needs_at index p)))) (map (λ j. Apart p j) (below (length (aparts_at index p)))),
-      length-map (below (length (needs_at index p))) (λ j. Need p j), length-map (below (length (aparts_at index p))) (λ j. Apart p j),
-      length-range_with_len 0 (length (needs_at index p)), length-range_with_len 0 (length (aparts_at index p)))
+  at-length p = omega (
+    arith,
+    length-append (map (λ j. Need p j) (below (length (needs_at index p)))) (map (λ j. Apart p j) (below (length (aparts_at index p)))),
+    length-map (below (length (needs_at index p))) (λ j. Need p j),
+    length-map (below (length (aparts_at index p))) (λ j. Apart p j),
+    length-range_with_len 0 (length (needs_at index p)),
+    length-range_with_len 0 (length (aparts_at index p)),
+  )
 
   asked-length : length (flat_map (constraints_at index) (below (length index.packages))) ≡ sum_by asked_count index.packages
   asked-length = length-flat_map (constraints_at index) (below (length index.packages))
@@ -97,10 +102,19 @@ module _ (index : IndexView) where
 
   pub constraints-few : length index.packages ≤ stanza_limit → sum_by asked_count index.packages ≤ asked_limit → length (constraints_of index) < 2 ^ 32
   unfolding constraints_of
-  constraints-few few few_asked = omega (arith, few, few_asked, names-short, where-short (is_essential index) (names index), asked-length,
-      length-append (map (λ n. Essential n) (essential_names index) ++ flat_map (constraints_at index) (below (length index.packages))) (map (λ n. Only n) (below (length (names index)))),
-      length-append (map (λ n. Essential n) (essential_names index)) (flat_map (constraints_at index) (below (length index.packages))),
-      length-map (essential_names index) (λ n. Essential n), length-map (below (length (names index))) (λ n. Only n), length-range_with_len 0 (length (names index)))
+  constraints-few few few_asked = omega (
+    arith,
+    few,
+    few_asked,
+    names-short,
+    where-short (is_essential index) (names index),
+    asked-length,
+    length-append (map (λ n. Essential n) (essential_names index) ++ flat_map (constraints_at index) (below (length index.packages))) (map (λ n. Only n) (below (length (names index)))),
+    length-append (map (λ n. Essential n) (essential_names index)) (flat_map (constraints_at index) (below (length index.packages))),
+    length-map (essential_names index) (λ n. Essential n),
+    length-map (below (length (names index))) (λ n. Only n),
+    length-range_with_len 0 (length (names index)),
+  )
 
 -- a package asks for no more than all do
 pub asked-at : (ps : List PackageView) (i : ℕ) → i < length ps → asked_count (get_or ps i no_package) ≤ sum_by asked_count ps

@@ -1,5 +1,5 @@
 -- Elements with their places, and how long lists of them are.
-use Rattle.std.proofs.Common.{◌≡◌, ◌≤◌, ◌+◌, ℕ, Bool, true, false, not, List, [], ◌∷◌, ◌++◌, map, filter, length, refl, ap, ◌∙◌, arith}
+use Rattle.std.proofs.Common.{◌≡◌, ◌≤◌, ◌+◌, ℕ, Bool, true, false, not, List, [], ◌∷◌, ◌++◌, filter, length, refl, ap, ◌∙◌, arith}
 use Rattle.std.specs.List.{enumerate_from}
 use Rattle.deb_index.specs.Packages.{first_of_each}
 

@@ -1,5 +1,5 @@
 -- Worked examples: what the definitions give, by computation.
-use Rattle.std.proofs.Common.{◌≡◌, ℕ, List, [], ◌∷◌, ◌++◌, Option, Some, None, Bool, true, false, Result, Ok, Err, refl}
+use Rattle.std.proofs.Common.{◌≡◌, ℕ, List, [], ◌∷◌, Option, Some, None, true, false, Result, Ok, Err, refl}
 use Rattle.std.specs.Prelude.{codes, map, nat_eq}
 use Rattle.deb_control.specs.Lines.{lines, content_lines}
 use Rattle.deb_control.specs.Fields.{is_field_name, field_parts, has_bad_line, value_of, fields_of, has_repeat, field_value}
@@ -14,9 +14,8 @@ use Rattle.deb_relation.specs.declared.bound.Op.TheVariants.{Ge, Eq}
 use Rattle.deb_index.specs.declared.error.IndexError.{IndexError}
 use Rattle.deb_index.specs.declared.error.IndexError.TheVariants.{BadLine, RepeatedField, MissingField, BadName, BadVersion, BadRelation}
 use Rattle.deb_index.specs.declared.error.RelField.TheVariants.{Depends, Provides}
-use Rattle.deb_index.specs.declared.constraint.Constraint.{Constraint}
 use Rattle.deb_index.specs.declared.constraint.Constraint.TheVariants.{Essential, Need, Apart, Only}
-use Rattle.deb_index.specs.Packages.{IndexView, PackageView, first_of_each, places_where, names, essential_names}
+use Rattle.deb_index.specs.Packages.{IndexView, PackageView, first_of_each, places_where}
 use Rattle.deb_index.specs.Reading.{collected, head_of, index_of, package_of, provides_in, reading_of, readings, stanza_reading}
 use Rattle.deb_index.specs.Meets.{meets, meets_at, provided_at, satisfiers}
 use Rattle.deb_index.specs.Constraints.{is_holding, constraints_of}

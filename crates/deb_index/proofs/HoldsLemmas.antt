@@ -1,17 +1,17 @@
 -- The computing test of a constraint tells whether it holds.
-use Rattle.std.proofs.Common.{◌≡◌, ℕ, Bool, true, false, not, ◌||◌, ◌&&◌, eqb, leb, List, [], ◌∷◌, Option, Some, None, slice_get, refl, sym, ◌∙◌, ap, inl, inr, ◌↔◌}
+use Rattle.std.proofs.Common.{◌≡◌, ℕ, Bool, true, false, not, ◌&&◌, eqb, List, [], ◌∷◌, Option, Some, None, slice_get, refl, sym, ◌∙◌, inl, inr, ◌↔◌}
 use Rattle.std.specs.Prelude.{count_by}
 use Rattle.std.specs.List.{list_any}
 use Rattle.std.specs.Option.{option_map_or}
-use Rattle.std.proofs.lemmas.Bool.{cases_Bool, false≢true, or_cases, or_left, or_right, and_from, and_parts, not-true, not_from_true, not_from_false, eqb-true, eq-eqb, leb-true, le-leb, false_from_ne_true}
+use Rattle.std.proofs.lemmas.Bool.{cases_Bool, false≢true, or_cases, or_left, or_right, and_from, and_parts, not-true, not_from_false, eqb-true, eq-eqb, leb-true, le-leb, false_from_ne_true}
 use Rattle.deb_relation.specs.Relationship.{AtomText}
 use Rattle.deb_index.specs.declared.constraint.Constraint.{Constraint}
 use Rattle.deb_index.specs.declared.constraint.Constraint.TheVariants.{Essential, Need, Apart, Only}
 use Rattle.deb_index.specs.Packages.{IndexView, PackageView, apart_at, is_named, name_at, need_at, places_of, places_where}
-use Rattle.deb_index.specs.Meets.{group_satisfiers, meets, meets_at, satisfiers}
-use Rattle.deb_index.specs.Constraints.{Holds, answers, has_name, hits, is_holding}
+use Rattle.deb_index.specs.Meets.{group_satisfiers, meets, satisfiers}
+use Rattle.deb_index.specs.Constraints.{Holds, answers, is_holding}
 use Rattle.deb_index.proofs.MemberLemmas.{member-places_where}
-use Rattle.deb_index.proofs.RisingLemmas.{any-member, is_in, member-any, where-rising}
+use Rattle.deb_index.proofs.RisingLemmas.{any-member, member-any, where-rising}
 use Rattle.deb_index.proofs.CountLemmas.{count-from-one, one-from-count}
 
 none-meets : (group : List AtomText) → false ≡ list_any (λ a. false) group
@@ -60,7 +60,7 @@ module _ (index : IndexView) (set : ℕ → Bool) where
         | inr none ↦ elim (cases_Bool (eqb q p)) [
           | inl same ↦ eqb-true q p same
           | inr differs ↦ absurd (false≢true (sym (not-true (list_any (other p) (satisfiers index (apart_at index p j))) none)
-            ∙ member-any (other p) (satisfiers index (apart_at index p j)) q (and_from (set q) (not (eqb q p)) there (not_from_false (eqb q p) differs)) (member-places_where (hit_by p j) index.packages q ∙ hit)))
+              ∙ member-any (other p) (satisfiers index (apart_at index p j)) q (and_from (set q) (not (eqb q p)) there (not_from_false (eqb q p) differs)) (member-places_where (hit_by p j) index.packages q ∙ hit)))
         ]
       ]
   holds-from-test (Only n) h = λ q r inside also named too.
@@ -73,17 +73,17 @@ module _ (index : IndexView) (set : ℕ → Bool) where
   test-from-holds (Need p j) h =
       elim (cases_Bool (set p)) [
         | inl inside ↦ let found = h inside in
-          or_right (not (set p)) (list_any set (group_satisfiers index (need_at index p j))) (at-some (answering p j) found.0 found.1 (answers-at p j found.0 ∙ found.2))
+            or_right (not (set p)) (list_any set (group_satisfiers index (need_at index p j))) (at-some (answering p j) found.0 found.1 (answers-at p j found.0 ∙ found.2))
         | inr outside ↦ or_left (not (set p)) (list_any set (group_satisfiers index (need_at index p j))) (not_from_false (set p) outside)
       ]
   test-from-holds (Apart p j) h =
       elim (cases_Bool (set p)) [
         | inl inside ↦ or_right (not (set p)) (not (list_any (other p) (satisfiers index (apart_at index p j))))
-          (not_from_false (list_any (other p) (satisfiers index (apart_at index p j))) (false_from_ne_true (list_any (other p) (satisfiers index (apart_at index p j))) (λ some.
-          let found = any-member (other p) (satisfiers index (apart_at index p j)) some in
-          let parts = and_parts (set found.0) (not (eqb found.0 p)) found.1 in
-          let same : found.0 ≡ p = h inside found.0 parts.0 (sym (member-places_where (hit_by p j) index.packages found.0) ∙ found.2) in
-          false≢true (sym (not-true (eqb found.0 p) parts.1) ∙ eq-eqb found.0 p same))))
+            (not_from_false (list_any (other p) (satisfiers index (apart_at index p j))) (false_from_ne_true (list_any (other p) (satisfiers index (apart_at index p j))) (λ some.
+            let found = any-member (other p) (satisfiers index (apart_at index p j)) some in
+            let parts = and_parts (set found.0) (not (eqb found.0 p)) found.1 in
+            let same : found.0 ≡ p = h inside found.0 parts.0 (sym (member-places_where (hit_by p j) index.packages found.0) ∙ found.2) in
+            false≢true (sym (not-true (eqb found.0 p) parts.1) ∙ eq-eqb found.0 p same))))
         | inr outside ↦ or_left (not (set p)) (not (list_any (other p) (satisfiers index (apart_at index p j)))) (not_from_false (set p) outside)
       ]
   test-from-holds (Only n) h = le-leb (count_by set (places_of index (name_at index n))) 1

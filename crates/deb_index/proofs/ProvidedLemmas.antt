@@ -1,6 +1,5 @@
 -- Where names are provided: the table of what entries of Provides put down.
-use Rattle.std.proofs.Common.{◌≡◌, ◌<◌, ◌≤◌, ◌+◌, ℕ, Bool, true, false, cond, List, [], ◌∷◌, ◌++◌, map, filter, length, take, get_or, refl, sym, ap, ◌∙◌, subst, append_assoc, arith, Option, Some, None, ◌||◌, ◌↔◌, inl, inr}
-use Rattle.std.specs.Prelude.{codes, IsTrue}
+use Rattle.std.proofs.Common.{◌≡◌, ◌<◌, ◌≤◌, ◌+◌, ℕ, Bool, true, false, cond, List, [], ◌∷◌, ◌++◌, map, filter, length, take, get_or, refl, sym, ap, ◌∙◌, append_assoc, arith}
 use Rattle.std.specs.List.{enumerate_from, flat_map}
 use Rattle.std.specs.Str.{bytes_eq}
 use Rattle.std.proofs.lemmas.List.{append-nil, map-append, length-map, length-take-le, take_more}
@@ -8,14 +7,12 @@ use Rattle.std.proofs.lemmas.List.Elements.{filter-append}
 use Rattle.std.proofs.lemmas.Grind.{flat_map-append}
 use Rattle.deb_relation.specs.declared.atom.Atom.{Atom}
 use Rattle.deb_relation.specs.AtomView.{atom_view}
-use Rattle.std.proofs.lemmas.Bool.{false≢true}
 use Rattle.deb_relation.specs.Relationship.{AtomText}
 use Rattle.deb_relation.specs.Usable.{is_usable}
 use Rattle.deb_index.specs.Packages.{PackageView, IndexView, places_where}
 use Rattle.deb_index.specs.Meets.{is_providing, provided_at}
 use Rattle.deb_index.specs.Tables.{items_of, numbered_entries, provided_entries, provided_places}
 use Rattle.deb_index.proofs.EnumerateLemmas.{enumerate-push}
-use Rattle.deb_index.proofs.FirstLemmas.{name-itself, same-name}
 
 items-append : {T : Type 0} (name : List ℕ) (xs ys : List (List ℕ × T)) → items_of name (xs ++ ys) ≡ items_of name xs ++ items_of name ys
 unfolding items_of
@@ -94,7 +91,7 @@ module _ (arch : List ℕ) (place : ℕ) (atoms : List Atom) (i : ℕ) (a : Atom
       ∙ ap (provided_entries arch place) (map-append atom_view (take i atoms) (a ∷ []))
       ∙ entries-push arch place (map atom_view (take i atoms)) (atom_view a)
       ∙ ap (λ (m : ℕ). provided_entries arch place (map atom_view (take i atoms)) ++ cond (is_usable arch (atom_view a).qualifier) (((atom_view a).name, (place, m)) ∷ []) [])
-          counted
+      counted
     where
       counted : length (map atom_view (take i atoms)) ≡ i
       counted = let shorter : i ≤ length atoms = omega arith in length-map (take i atoms) atom_view ∙ length-take-le i atoms shorter

@@ -1,5 +1,5 @@
 -- An index has room for the packages of a text: together they ask for little more than the text has bytes.
-use Rattle.std.proofs.Common.{◌≡◌, ◌<◌, ◌≤◌, ◌+◌, ◌*◌, ℕ, Bool, true, false, cond, List, [], ◌∷◌, ◌++◌, length, Option, Some, None, refl, sym, ap, ◌∙◌, arith}
+use Rattle.std.proofs.Common.{◌≡◌, ◌<◌, ◌≤◌, ◌+◌, ◌*◌, ℕ, Bool, true, false, List, [], ◌∷◌, length, Option, Some, None, refl, ap, ◌∙◌, arith}
 use Rattle.std.specs.List.{list_any, sum_by}
 use Rattle.std.proofs.lemmas.List.Sums.{sum_by-append, sum_by-cons}
 use Rattle.deb_control.specs.Stanzas.{Unread, size_of, stanzas_of}
@@ -7,7 +7,7 @@ use Rattle.deb_control.proofs.SizeLemmas.{stanza-sizes}
 use Rattle.deb_index.specs.Packages.{IndexView, PackageView, first_of_each}
 use Rattle.deb_index.specs.Reading.{byte_limit, collected, same_package, stanza_limit, with_reading}
 use Rattle.deb_index.specs.Tables.{HasRoom, asked_count}
-use Rattle.deb_index.proofs.SizeLemmas.{Fits, stanza-few, stanza-fits}
+use Rattle.deb_index.proofs.SizeLemmas.{stanza-few, stanza-fits}
 use Rattle.deb_index.proofs.StepLemmas.{Steps}
 
 abbrev asked : IndexView → ℕ

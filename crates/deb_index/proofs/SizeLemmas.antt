@@ -1,5 +1,5 @@
 -- How much a package asks for and provides, against the bytes of its stanza.
-use Rattle.std.proofs.Common.{◌≡◌, ◌<◌, ◌≤◌, ◌+◌, ◌*◌, ℕ, Bool, true, false, cond, ltb, List, [], ◌∷◌, ◌++◌, length, get_or, Option, Some, None, unwrap_or, Result, Ok, Err, refl, sym, subst, ap, ◌∙◌, arith, length-append, ltb-false}
+use Rattle.std.proofs.Common.{◌≡◌, ◌≤◌, ◌+◌, ◌*◌, ℕ, Bool, true, false, cond, ltb, List, [], ◌∷◌, ◌++◌, length, Option, Some, None, unwrap_or, Result, Ok, Err, refl, sym, subst, ap, ◌∙◌, arith, length-append, ltb-false}
 use Rattle.std.specs.List.{All, find, list_all}
 use Rattle.std.specs.Option.{option_and_then}
 use Rattle.std.proofs.lemmas.List.{map-id}
@@ -16,7 +16,7 @@ use Rattle.deb_index.specs.declared.error.IndexError.{IndexError}
 use Rattle.deb_index.specs.declared.error.IndexError.TheVariants.{TooManyStanzas}
 use Rattle.deb_index.specs.declared.error.RelField.{RelField}
 use Rattle.deb_index.specs.declared.error.RelField.TheVariants.{PreDepends, Depends, Conflicts, Breaks, Provides}
-use Rattle.deb_index.specs.Packages.{PackageView, needs, aparts}
+use Rattle.deb_index.specs.Packages.{PackageView}
 use Rattle.deb_index.specs.Reading.{◌>>=◌, HeadView, atoms_in, field_name, from_control, groups_in, head_of, in_field, is_for, is_provided, package_of, provided, provides_in, reading_of, relation_text, stanza_limit, stanza_reading}
 use Rattle.deb_index.specs.Tables.{asked_count}
 

@@ -1,5 +1,5 @@
 -- The readings of a text, one stanza after the other: what was read, continued with what is left, gives the text's index or its first fault.
-use Rattle.std.proofs.Common.{◌≡◌, ◌≢◌, ◌<◌, ◌+◌, ℕ, List, [], ◌∷◌, length, Option, Some, None, Result, Ok, Err, refl, sym, subst, ap, ◌∙◌, arith}
+use Rattle.std.proofs.Common.{◌≡◌, ◌≢◌, ◌<◌, ◌+◌, ℕ, List, [], ◌∷◌, length, Option, Some, None, Result, Ok, Err, refl, sym, ap, ◌∙◌, arith}
 use Rattle.std.specs.List.{fold}
 use Rattle.deb_control.specs.Stanzas.{Unread}
 use Rattle.deb_index.specs.declared.error.IndexError.{IndexError}

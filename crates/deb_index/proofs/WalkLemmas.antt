@@ -1,9 +1,9 @@
 -- The walk over the places of a name and the places that provide it finds each place that meets an atom.
-use Rattle.std.proofs.Common.{◌≡◌, ℕ, suc, zero, ◌+◌, ◌<◌, ◌≤◌, Bool, true, false, cond, not, ◌||◌, ◌&&◌, eqb, leb, List, [], ◌∷◌, ◌++◌, map, filter, length, min, Option, Some, None, slice_get, refl, sym, ◌∙◌, ap, subst, inl, inr, arith}
+use Rattle.std.proofs.Common.{◌≡◌, ℕ, suc, zero, ◌+◌, ◌<◌, ◌≤◌, Bool, true, false, cond, ◌||◌, eqb, List, [], ◌∷◌, ◌++◌, map, filter, length, min, Option, Some, None, slice_get, refl, sym, ◌∙◌, ap, subst, inl, inr, arith}
 use Rattle.std.specs.List.{list_any, enumerate_from, flat_map, range_with_len}
 use Rattle.std.specs.Option.{option_map_or}
 use Rattle.std.specs.Str.{bytes_eq}
-use Rattle.std.proofs.lemmas.Bool.{cases_Bool, cases_lt, false≢true, or_cases, or_from, or_left, or_right, and_parts, eqb-true, eq-eqb, ne_eqb, leb-true, leb-false, le-leb, lt-leb, true_from_ne_false, false_from_ne_true}
+use Rattle.std.proofs.lemmas.Bool.{cases_Bool, cases_lt, false≢true, or_cases, or_from, or_left, or_right, and_parts, eq-eqb, ne_eqb, le-leb, lt-leb, false_from_ne_true}
 use Rattle.std.proofs.lemmas.List.{append-nil, length-map, map-append}
 use Rattle.std.proofs.lemmas.List.Elements.{filter-append}
 use Rattle.deb_relation.specs.Relationship.{AtomText}
@@ -149,8 +149,8 @@ module _ (t : ℕ → Bool) where
         named_from = behind-from p limit named least.2;
         provided_from = behind-from p limit provided least.3;
         candidates = λ q low high passes.
-        let later : p < q = omega arith in
-        ap (λ b. b || is_in (behind p provided) q) (behind-members p named q later) ∙ (ap (λ b. is_in named q || b) (behind-members p provided q later) ∙ w.candidates q (omega (arith, least.0)) high passes);
+            let later : p < q = omega arith in
+            ap (λ b. b || is_in (behind p provided) q) (behind-members p named q later) ∙ (ap (λ b. is_in named q || b) (behind-members p provided q later) ∙ w.candidates q (omega (arith, least.0)) high passes);
       }
 
   pub walk-yes : (limit p : ℕ) (found named provided : List ℕ) → IsWalked limit found named provided → first_place named provided ≡ Some p → t p ≡ true
@@ -268,7 +268,7 @@ starts index atom = record {
         by None e = absurd (false≢true (sym (ap (λ o. option_map_or (λ (p : PackageView). meets index.arch p atom) o false) e) ∙ passes))
         by (Some p) e =
             elim (or_cases (is_named atom.name p) (list_any (is_providing index.arch atom.name) p.provides)
-                (meets-named index.arch p atom (sym (ap (λ o. option_map_or (λ (p : PackageView). meets index.arch p atom) o false) e) ∙ passes))) [
+            (meets-named index.arch p atom (sym (ap (λ o. option_map_or (λ (p : PackageView). meets index.arch p atom) o false) e) ∙ passes))) [
               | inl named ↦ or_left (is_in (places_of index atom.name) q) (is_in (places (providing index.arch atom.name 0 index.packages)) q)
                   (member-places_where (is_named atom.name) index.packages q ∙ (ap (λ o. option_map_or (is_named atom.name) o false) e ∙ named))
               | inr provides ↦ or_right (is_in (places_of index atom.name) q) (is_in (places (providing index.arch atom.name 0 index.packages)) q)

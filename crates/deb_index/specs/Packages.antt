@@ -1,7 +1,6 @@
 -- Packages and the index that they make, without where they lie in memory.
-use Rattle.std.specs.Prelude.{ℕ, Bool, false, ◌&&◌, ◌||◌, ◌==◌, List, [], ◌∷◌, ◌++◌, map, filter, length, not, Option, None, slice_get, slice_index_or}
+use Rattle.std.specs.Prelude.{ℕ, Bool, false, ◌&&◌, List, [], ◌∷◌, ◌++◌, map, filter, not, None, slice_index_or}
 use Rattle.std.specs.List.{list_any, enumerate_from}
-use Rattle.std.specs.Option.{option_map_or}
 use Rattle.std.specs.Str.{bytes_eq}
 use Rattle.deb_relation.specs.AtomView.{atom_view, atoms_view}
 use Rattle.deb_relation.specs.Relationship.{AtomText}

@@ -1,10 +1,9 @@
 -- Tables from names to the items that were put down under each, names and items in the order of their coming.
-use Rattle.std.specs.Prelude.{◌≡◌, ◌<◌, ◌≤◌, ◌+◌, ◌^◌, ℕ, Bool, false, ◌&&◌, List, [], ◌∷◌, map, filter, length, sum_by, slice_get, Vec, Option, Some, None, if◌then◌else◌}
+use Rattle.std.specs.Prelude.{◌≡◌, ◌<◌, ◌≤◌, ◌+◌, ◌^◌, ℕ, Bool, false, ◌&&◌, List, [], ◌∷◌, map, filter, length, sum_by, slice_get, Option, Some, None, if◌then◌else◌}
 use Prim.Native.Nat.{suc}
 use Rattle.std.specs.Option.{option_map, option_map_or}
 use Rattle.std.specs.List.{enumerate_from, flat_map, AllByRecursion}
 use Rattle.std.specs.Str.{bytes_eq}
-use Rattle.std.specs.declared.alloc.Global.{Global}
 use Rattle.deb_relation.specs.Relationship.{AtomText}
 use Rattle.deb_index.specs.declared.table.Table.{Table}
 use Rattle.deb_index.specs.declared.listing.Listing.{Listing}

@@ -3,6 +3,7 @@ use Rattle.std.proofs.Common.{◌≡◌, ◌≤◌, ◌+◌, ◌==◌, ℕ, List
 use Rattle.std.proofs.lemmas.List.{length-map}
 use Rattle.std.proofs.lemmas.List.Splits.{length-slice_split}
 use Rattle.std.proofs.lemmas.List.Sums.{count_by-le-length}
+use Rattle.deb_relation.specs.Bytes.{comma}
 use Rattle.deb_relation.specs.declared.atom.RelationError.{RelationError}
 use Rattle.deb_relation.proofs.Gather.{onto}
 use Rattle.deb_relation.specs.Relationship.{AtomText, atoms_from, atoms_of, elements_of, groups_from, groups_of, group_of, is_blank, pieces_of, single_of}
@@ -38,8 +39,8 @@ atoms-up_to_elements (element ∷ elements) atoms e =
 
 elements-few : (text : List ℕ) → length (elements_of text) ≤ length text + 1
 elements-few text =
-    let parts = length-slice_split (λ (b : ℕ). b == 44) text in
-    let commas = count_by-le-length (λ (b : ℕ). b == 44) text in
+    let parts = length-slice_split (λ (b : ℕ). b == comma) text in
+    let commas = count_by-le-length (λ (b : ℕ). b == comma) text in
     omega arith
 
 -- of what is read, where a view of it is what the definition gives

@@ -7,7 +7,7 @@ use Rattle.deb_relation.specs.declared.bound.Op.{Op}
 use Rattle.deb_relation.specs.declared.bound.Op.TheVariants.{Lt, Le, Eq, Ge, Gt}
 use Rattle.deb_relation.specs.Bytes.{close_parenthesis, colon, open_parenthesis}
 use Rattle.deb_relation.specs.Form.{AtomText, IsAtom, IsBound, IsBoundText, IsSign, is_name, is_name_byte, is_qualifier, is_qualifier_byte, is_white, qualifier_text}
-use Rattle.deb_relation.specs.Relationship.{atom_of, bound_at, double_or, inside_at, is_version_byte, name_at, op_at, qualifier_at, version_at}
+use Rattle.deb_relation.specs.Relationship.{atom_of, bound_at, inside_at, is_version_byte, name_at, op_at, qualifier_at, version_at}
 use Rattle.deb_relation.specs.Runs.{begins}
 use Rattle.deb_relation.specs.VersionText.{fault_of, is_upstream_byte}
 use Rattle.deb_relation.proofs.ByteKinds.{alphanumeric-not_white, is_sign_byte, not_sign-parts, upstream-is_version, upstream-not_sign, upstream-not_white, white-not_colon, white-not_name, white-not_qualifier, white-not_sign, white-not_version}
@@ -26,11 +26,6 @@ qualifier-again None (b ∷ bs) h stop other = rw other refl
 qualifier-again (Some q) rest h stop other =
     let parts = and_parts (begins is_qualifier_byte q) (list_all is_qualifier_byte q) h in
     rw (begins-append is_qualifier_byte q rest parts.0, run-append is_qualifier_byte q rest parts.1 stop, after_run-append is_qualifier_byte q rest parts.1 stop) refl
-
--- an operator of one byte, where no further byte of an operator stands
-single-again : (double single : Op) (b : ℕ) (rest : List ℕ) → begins (λ c. c == b) rest ≡ false → begins (λ c. c == 61) rest ≡ false → double_or double single b rest ≡ (single, rest)
-single-again double single b [] same equals = refl
-single-again double single b (c ∷ cs) same equals = rw (same, equals) refl
 
 sign-again : (op : Op) (sign rest : List ℕ) → IsSign op sign → begins is_sign_byte rest ≡ false → op_at (sign ++ rest) ≡ Ok (op, rest)
 sign-again Lt sign rest e stop = rw e refl

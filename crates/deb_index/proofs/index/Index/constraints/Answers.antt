@@ -26,5 +26,5 @@ returns c =
       value = value;
       within = subst (All (IsOfIndex index)) (sym value) (constraints-within index);
       few = subst (λ l. length l < 2 ^ 32) (sym value) (constraints-few index (subst (λ (v : IndexView). length v.packages ≤ stanza_limit) c.self.view_is c.len-place-end.ensures.few)
-      (subst (λ (v : IndexView). sum_by asked_count v.packages ≤ asked_limit) c.self.view_is c.len-place-end.ensures.few_asked));
+          (subst (λ (v : IndexView). sum_by asked_count v.packages ≤ asked_limit) c.self.view_is c.len-place-end.ensures.few_asked));
     }

@@ -1,12 +1,10 @@
-use Rattle.std.proofs.Common.{◌≡◌, ap, subst, sym}
+use Rattle.std.proofs.Common.{ap}
 use Rattle.std.specs.Option.{option_map}
 use Rattle.std.proofs.lemmas.Result.{err_from_is_err_and}
-use Rattle.deb_control.specs.Stanzas.{Unread}
-use Rattle.deb_index.specs.Packages.{IndexView}
 use Rattle.deb_index.specs.Reading.{index_of, reading_view}
 use Rattle.deb_index.proofs.CollectLemmas.{continues-none}
-use Rattle.deb_index.proofs.StepLemmas.{Continues, continues-end, continues-fault, continues-more, steps, steps-fewer}
-use Rattle.deb_index.proofs.RoomLemmas.{IsRoomy, read-few, read-room, starts-roomy, stays-roomy}
+use Rattle.deb_index.proofs.StepLemmas.{continues-end, continues-fault, continues-more, steps, steps-fewer}
+use Rattle.deb_index.proofs.RoomLemmas.{read-few, read-room, starts-roomy, stays-roomy}
 use Rattle.deb_index.proofs.index.Index.read.Goals as goal
 
 pub stanzas-init : goal.stanzas-init

@@ -1,4 +1,4 @@
-use Rattle.std.proofs.Common.{◌≡◌, ◌∙◌, ap, sym, subst}
+use Rattle.std.proofs.Common.{◌∙◌, ap, sym}
 use Rattle.deb_relation.specs.AtomView.{atom_view}
 use Rattle.deb_index.specs.Packages.{places_of}
 use Rattle.deb_index.specs.Meets.{provided_at}

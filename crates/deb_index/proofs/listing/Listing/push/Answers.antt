@@ -1,4 +1,4 @@
-use Rattle.std.proofs.Common.{◌≡◌, ◌++◌, ◌∷◌, ◌∙◌, [], ap, sym, subst, map, length, arith}
+use Rattle.std.proofs.Common.{◌≡◌, ◌++◌, ◌∷◌, ◌∙◌, [], ap, subst, map, length, arith}
 use Rattle.std.proofs.lemmas.List.{length-map, map-append}
 use Rattle.deb_relation.specs.AtomView.{atom_view}
 use Rattle.deb_index.specs.Packages.{package_view}

@@ -1,4 +1,4 @@
-use Rattle.std.proofs.Common.{◌≡◌, ◌<◌, ◌++◌, ◌∷◌, ◌∙◌, ◌&&◌, [], ℕ, Vec, Global, true, false, cond, ap, sym, subst, take, length, get_or, arith}
+use Rattle.std.proofs.Common.{◌≡◌, ◌<◌, ◌++◌, ◌∷◌, ◌∙◌, ◌&&◌, [], ℕ, Vec, Global, true, cond, ap, sym, subst, take, length, get_or, arith}
 use Rattle.std.specs.List.{list_any}
 use Rattle.std.proofs.Math.Seq.{take-length}
 use Rattle.std.proofs.lemmas.List.{append-nil}
@@ -47,12 +47,13 @@ loop-number-preserved c =
     let marked = sym (c.is_essential.ensures ∙ ap (list_any (is_marked v)) c.deref.ensures.value) in
     let so_far = places_where (is_essential v) (take n (names v)) in
     elim c.if-is_essential.branch [
-      then-is_essential+in_ok-push w ↦
-        ap (λ (f : Vec ℕ Global). f.items) w.found-is ∙ w.in_ok-push.ensures.items ∙ ap (λ l. l ++ n ∷ []) c.loop-number.invariant
-        ∙ sym (step ∙ ap (λ b. so_far ++ cond b (n ∷ []) []) (marked ∙ w.if-is_essential.true))
-    | else-is_essential w ↦
-        ap (λ (f : Vec ℕ Global). f.items) w.found-is ∙ c.loop-number.invariant
-        ∙ sym (step ∙ ap (λ b. so_far ++ cond b (n ∷ []) []) (marked ∙ w.if-is_essential.false) ∙ append-nil so_far) ]
+      | then-is_essential+in_ok-push w ↦
+          ap (λ (f : Vec ℕ Global). f.items) w.found-is ∙ w.in_ok-push.ensures.items ∙ ap (λ l. l ++ n ∷ []) c.loop-number.invariant
+          ∙ sym (step ∙ ap (λ b. so_far ++ cond b (n ∷ []) []) (marked ∙ w.if-is_essential.true))
+      | else-is_essential w ↦
+          ap (λ (f : Vec ℕ Global). f.items) w.found-is ∙ c.loop-number.invariant
+          ∙ sym (step ∙ ap (λ b. so_far ++ cond b (n ∷ []) []) (marked ∙ w.if-is_essential.false) ∙ append-nil so_far)
+    ]
 
 pub returns : goal.returns
 returns c =

@@ -1,5 +1,4 @@
-use Rattle.std.proofs.Common.{◌≡◌, ◌<◌, ◌≤◌, ◌∙◌, false, length, map, get_or, sym, subst, ap, arith}
-use Rattle.std.proofs.lemmas.Bool.{ltb-true}
+use Rattle.std.proofs.Common.{◌≡◌, ◌<◌, ◌≤◌, false, length, map, get_or, sym, subst}
 use Rattle.std.proofs.lemmas.List.{length-map}
 use Rattle.deb_index.specs.Packages.{IndexView, package_view}
 use Rattle.deb_index.specs.Tables.{is_marked}

@@ -1,8 +1,7 @@
-use Rattle.std.proofs.Common.{◌≡◌, ◌∙◌, ◌+◌, ◌++◌, ◌∷◌, [], List, true, false, Some, ap, sym, subst, refl, length, map, arith}
-use Rattle.std.specs.List.{list_any}
+use Rattle.std.proofs.Common.{◌≡◌, ◌∙◌, ◌+◌, ◌∷◌, [], List, Some, ap, sym, subst, length, map, arith}
 use Rattle.std.proofs.lemmas.List.{map-append}
 use Rattle.deb_index.specs.Packages.{IndexView, PackageView, package_view}
-use Rattle.deb_index.specs.Reading.{same_package, with_reading}
+use Rattle.deb_index.specs.Reading.{with_reading}
 use Rattle.deb_index.specs.Tables.{listed_packages}
 use Rattle.deb_index.proofs.ListingLemmas.{adds-duplicate, adds-package, key-there}
 use Rattle.deb_index.proofs.tables.Tables.keep.Goals as goal

@@ -1,4 +1,4 @@
-use Rattle.std.proofs.Common.{◌≡◌, ◌∙◌, subst, List, ℕ}
+use Rattle.std.proofs.Common.{◌≡◌, ◌∙◌, subst}
 use Rattle.deb_index.specs.Packages.{IndexView, places_of}
 use Rattle.deb_index.proofs.PlaceLemmas.{items-places}
 use Rattle.deb_index.proofs.tables.Tables.places_of.Goals as goal

@@ -1,0 +1,242 @@
+-- Clauses that are added, one after another, and what they say together.
+use Rattle.std.proofs.Common.{◌≡◌, ◌⊎◌, ℕ, ◌+◌, ◌<◌, ◌≤◌, Bool, true, false, ◌||◌, not, eqb, List, [], ◌∷◌, ◌++◌, length, get_or, map, Some, slice_get, All, ◌↔◌, refl, sym, subst, ◌∙◌, ap, inl, inr, arith, append_assoc}
+use Rattle.std.specs.List.{list_any}
+use Rattle.std.proofs.lemmas.Bool.{cases_lt, cases_Bool, false≢true, or_cases, or_left, or_right, eqb-true, eq-eqb, both_ways}
+use Rattle.std.proofs.lemmas.List.{append-nil, get_or_append_left, get_or_push, length-append}
+use Rattle.std.proofs.lemmas.List.Elements.{All-nil, All-cons, All-head, All-tail, All-append, All-weaker, All-same}
+use Rattle.std.proofs.lemmas.List.Folds.{list_any-append}
+use Rattle.std.proofs.lemmas.Option.{slice_get-get_or, slice_get_within, same_Some, get_or_from_slice_get}
+use Rattle.deb_index.specs.declared.constraint.Constraint.{Constraint}
+use Rattle.deb_index.specs.Packages.{IndexView}
+use Rattle.deb_index.specs.Constraints.{Holds}
+use Rattle.sat_solve.specs.declared.Lit.{Lit}
+use Rattle.sat_solve.specs.Sets.{NumberSet, members_of}
+use Rattle.sat_solve.specs.Clauses.{Clause, Clauses, clause_holds, literal_holds}
+use Rattle.deb_verdict.specs.Encoding.{GroupHolds}
+use Rattle.deb_verdict.specs.Adding.{present, absent, AllHold, Adds, IsAlone, IsSingle, Tells}
+
+All-front : {A : Type 0} (P : A → Type 0) (xs ys : List A) → All P (xs ++ ys) → All P xs
+All-front P [] ys all = All-nil P
+All-front P (x ∷ xs) ys all = All-cons P x xs (All-head P x (xs ++ ys) all) (All-front P xs ys (All-tail P x (xs ++ ys) all))
+
+All-back : {A : Type 0} (P : A → Type 0) (xs ys : List A) → All P (xs ++ ys) → All P ys
+All-back P [] ys all = all
+All-back P (x ∷ xs) ys all = All-back P xs ys (All-tail P x (xs ++ ys) all)
+
+holds_in : NumberSet → Clause → Type 0
+holds_in set clause = clause_holds set clause.literals ≡ true
+
+-- nothing is added, for what holds anyway
+pub adds_none : (group : ℕ) (Means : NumberSet → Type 0) (before : Clauses) → ((set : NumberSet) → Means set) → Adds group Means before before
+adds_none group Means before always = record {
+  vars = refl;
+  groups = refl;
+  more = [];
+  appended = sym (append-nil before.clauses);
+  in_group = All-nil (λ clause. clause.group ≡ group);
+  says = λ set. (λ holds. always set, λ means. All-nil (λ clause. clause_holds set clause.literals ≡ true));
+}
+
+-- one clause
+pub adds_one : (group : ℕ) (literals : List Lit) (before : Clauses)
+    → Adds group (λ set. clause_holds set literals ≡ true) before (record { vars = before.vars; groups = before.groups; clauses = before.clauses ++ record { group = group; literals = literals } ∷ [] })
+adds_one group literals before =
+    let clause : Clause = record { group = group; literals = literals } in
+    record {
+      vars = refl;
+      groups = refl;
+      more = clause ∷ [];
+      appended = refl;
+      in_group = All-cons (λ c. c.group ≡ group) clause [] refl (All-nil (λ c. c.group ≡ group));
+      says = λ set. (
+        λ holds. All-head (λ c. clause_holds set c.literals ≡ true) clause [] holds,
+        λ means. All-cons (λ c. clause_holds set c.literals ≡ true) clause [] means (All-nil (λ c. clause_holds set c.literals ≡ true)),
+      );
+    }
+
+-- the clauses of two steps say what both say
+pub adds_both : (group : ℕ) (A B : NumberSet → Type 0) (before between after : Clauses) → Adds group A before between → Adds group B between after
+    → Adds group (λ set. A set × B set) before after
+adds_both group A B before between after first second = record {
+  vars = second.vars ∙ first.vars;
+  groups = second.groups ∙ first.groups;
+  more = first.more ++ second.more;
+  appended = second.appended ∙ (ap (λ clauses. clauses ++ second.more) first.appended ∙ append_assoc before.clauses first.more second.more);
+  in_group = All-append (λ clause. clause.group ≡ group) first.more second.more first.in_group second.in_group;
+  says = λ set. (
+    λ holds. (
+      (first.says set).0 (All-front (λ clause. clause_holds set clause.literals ≡ true) first.more second.more holds),
+      (second.says set).0 (All-back (λ clause. clause_holds set clause.literals ≡ true) first.more second.more holds),
+    ),
+    λ means. All-append (λ clause. clause_holds set clause.literals ≡ true) first.more second.more ((first.says set).1 means.0) ((second.says set).1 means.1),
+  );
+}
+
+-- the same, said in other words
+pub adds_as : (group : ℕ) (A B : NumberSet → Type 0) (before after : Clauses) → ((set : NumberSet) → (A set ↔ B set)) → Adds group A before after → Adds group B before after
+adds_as group A B before after same adds = record {
+  vars = adds.vars;
+  groups = adds.groups;
+  more = adds.more;
+  appended = adds.appended;
+  in_group = adds.in_group;
+  says = λ set. (λ holds. (same set).0 ((adds.says set).0 holds), λ means. (adds.says set).1 ((same set).1 means));
+}
+
+-- literals of places hold where the set has one of them
+any_present : (set : NumberSet) (places : List ℕ) → list_any (literal_holds set) (map present places) ≡ list_any set places
+any_present set [] = refl
+any_present set (place ∷ places) = ap (λ b. set place || b) (any_present set places)
+
+pub some_present : (set : NumberSet) (literals : List Lit) (places : List ℕ) → clause_holds set (literals ++ map present places) ≡ (clause_holds set literals || list_any set places)
+some_present set literals places =
+    list_any-append (literal_holds set) literals (map present places) ∙ ap (λ b. clause_holds set literals || b) (any_present set places)
+
+-- two places that are not both there
+not_both : (set : NumberSet) (place other : ℕ) → clause_holds set (absent place ∷ absent other ∷ []) ≡ true → set place ≡ true → set other ≡ true → ⊥
+not_both set place other holds has also =
+    elim (or_cases (not (set place)) (not (set other) || false) holds) [
+      | inl lacks ↦ false≢true (sym (ap not has) ∙ lacks)
+      | inr rest ↦ elim (or_cases (not (set other)) false rest) [
+        | inl lacks ↦ false≢true (sym (ap not also) ∙ lacks)
+        | inr never ↦ false≢true never
+      ]
+    ]
+
+one_lacking : (set : NumberSet) (place other : ℕ) → (set place ≡ true → set other ≡ true → ⊥) → clause_holds set (absent place ∷ absent other ∷ []) ≡ true
+one_lacking set place other apart =
+    elim (cases_Bool (set place)) [
+      | inl has ↦ elim (cases_Bool (set other)) [
+        | inl also ↦ absurd (apart has also)
+        | inr lacks ↦ or_right (not (set place)) (not (set other) || false) (or_left (not (set other)) false (ap not lacks))
+      ]
+      | inr lacks ↦ or_left (not (set place)) (not (set other) || false) (ap not lacks)
+    ]
+
+in_push : (xs : List ℕ) (x q : ℕ) → members_of (xs ++ x ∷ []) q ≡ true → (members_of xs q ≡ true) ⊎ (x ≡ q)
+in_push xs x q is_in =
+    elim (or_cases (members_of xs q) (eqb x q || false) (sym (list_any-append (λ member. eqb member q) xs (x ∷ [])) ∙ is_in)) [
+      | inl old ↦ inl old
+      | inr added ↦ elim (or_cases (eqb x q) false added) [
+        | inl here ↦ inr (eqb-true x q here)
+        | inr never ↦ absurd (false≢true never)
+      ]
+    ]
+
+front_in : (xs : List ℕ) (x q : ℕ) → members_of xs q ≡ true → members_of (xs ++ x ∷ []) q ≡ true
+front_in xs x q is_in = list_any-append (λ member. eqb member q) xs (x ∷ []) ∙ or_left (members_of xs q) (eqb x q || false) is_in
+
+last_in : (xs : List ℕ) (x : ℕ) → members_of (xs ++ x ∷ []) x ≡ true
+last_in xs x = list_any-append (λ member. eqb member x) xs (x ∷ []) ∙ or_right (members_of xs x) (eqb x x || false) (or_left (eqb x x) false (eq-eqb x x refl))
+
+-- one other place more that the place stands apart from
+pub alone_more : (set : NumberSet) (place other : ℕ) (others : List ℕ) → (other ≡ place → ⊥)
+    → ((IsAlone set place others × (clause_holds set (absent place ∷ absent other ∷ []) ≡ true)) ↔ IsAlone set place (others ++ other ∷ []))
+alone_more set place other others different = (
+  λ both has q is_in also.
+      elim (in_push others other q is_in) [
+        | inl old ↦ both.0 has q old also
+        | inr here ↦ absurd (not_both set place other both.1 has (ap set here ∙ also))
+      ],
+  λ alone. (
+    λ has q is_in also. alone has q (front_in others other q is_in) also,
+    one_lacking set place other (λ has also. different (alone has other (last_in others other) also)),
+  ),
+)
+
+pub alone_itself : (set : NumberSet) (place : ℕ) (others : List ℕ) → (IsAlone set place others ↔ IsAlone set place (others ++ place ∷ []))
+alone_itself set place others = (
+  λ alone has q is_in also.
+      elim (in_push others place q is_in) [
+        | inl old ↦ alone has q old also
+        | inr here ↦ sym here
+      ],
+  λ alone has q is_in also. alone has q (front_in others place q is_in) also,
+)
+
+-- one place more of which at most one is there
+pub single_more : (set : NumberSet) (place : ℕ) (places : List ℕ) → ((IsSingle set places × IsAlone set place places) ↔ IsSingle set (places ++ place ∷ []))
+single_more set place places = (
+  λ both q r is_in is_too has also.
+      elim (in_push places place q is_in) [
+        | inl old ↦ elim (in_push places place r is_too) [
+          | inl older ↦ both.0 q r old older has also
+          | inr here ↦ both.1 (ap set here ∙ also) q old has ∙ here
+        ]
+        | inr here ↦ elim (in_push places place r is_too) [
+          | inl older ↦ sym here ∙ sym (both.1 (ap set here ∙ has) r older also)
+          | inr there ↦ sym here ∙ there
+        ]
+      ],
+  λ single. (
+    λ q r is_in is_too has also. single q r (front_in places place q is_in) (front_in places place r is_too) has also,
+    λ has q is_in also. single q place (front_in places place q is_in) (last_in places place) also has,
+  ),
+)
+
+-- ---- the clauses of all constraints, one constraint more
+
+apart_groups : (set : NumberSet) (group : ℕ) (clauses : List Clause) → All (λ clause. clause.group ≡ group → ⊥) clauses → GroupHolds clauses group set
+apart_groups set group clauses other = All-weaker (λ clause. clause.group ≡ group → ⊥) (λ clause. clause.group ≡ group → clause_holds set clause.literals ≡ true) (λ clause no same. absurd (no same)) clauses other
+
+get_front : {A : Type 0} (xs : List A) (x y : A) (k : ℕ) → k < length xs → slice_get (xs ++ x ∷ []) k ≡ Some y → slice_get xs k ≡ Some y
+get_front xs x y k inside there =
+    slice_get-get_or xs k y inside ∙ ap Some (sym (get_or_append_left xs (x ∷ []) y k inside) ∙ get_or_from_slice_get (xs ++ x ∷ []) k y y there)
+
+get_last : {A : Type 0} (xs : List A) (x y : A) (k : ℕ) → length xs ≤ k → slice_get (xs ++ x ∷ []) k ≡ Some y → (k ≡ length xs) × (x ≡ y)
+get_last xs x y k past there =
+    let within : k < length (xs ++ x ∷ []) = slice_get_within (xs ++ x ∷ []) k y there in
+    let here : k ≡ length xs = omega (arith, length-append xs (x ∷ [])) in
+    (here, sym (get_or_push xs x y k (sym here)) ∙ get_or_from_slice_get (xs ++ x ∷ []) k y y there)
+
+module _ (index : IndexView) (constraints : List Constraint) (constraint : Constraint) (before after : Clauses)
+    (tells : Tells index constraints before.clauses) (adds : Adds (length constraints) (λ set. Holds index set constraint) before after) where
+  told_in_groups : All (λ clause. clause.group < length (constraints ++ constraint ∷ [])) (before.clauses ++ adds.more)
+  told_in_groups =
+      All-append (λ clause. clause.group < length (constraints ++ constraint ∷ [])) before.clauses adds.more
+      (All-weaker (λ clause. clause.group < length constraints) (λ clause. clause.group < length (constraints ++ constraint ∷ [])) (λ clause below. omega (arith, length-append constraints (constraint ∷ []))) before.clauses tells.in_groups)
+      (All-weaker (λ clause. clause.group ≡ length constraints) (λ clause. clause.group < length (constraints ++ constraint ∷ [])) (λ clause same. omega (arith, length-append constraints (constraint ∷ []))) adds.more adds.in_group)
+
+  told_old : (set : NumberSet) (group : ℕ) (old : Constraint) → group < length constraints → slice_get constraints group ≡ Some old
+      → (GroupHolds (before.clauses ++ adds.more) group set ↔ Holds index set old)
+  told_old set group old below there = (
+    λ holds. (tells.says set group old there).0 (All-front (λ clause. clause.group ≡ group → clause_holds set clause.literals ≡ true) before.clauses adds.more holds),
+    λ holds.
+        All-append (λ clause. clause.group ≡ group → clause_holds set clause.literals ≡ true) before.clauses adds.more
+        ((tells.says set group old there).1 holds)
+        (apart_groups set group adds.more (All-weaker (λ clause. clause.group ≡ length constraints) (λ clause. clause.group ≡ group → ⊥) (λ clause same other. omega arith) adds.more adds.in_group)),
+  )
+
+  told_new : (set : NumberSet) → (GroupHolds (before.clauses ++ adds.more) (length constraints) set ↔ Holds index set constraint)
+  told_new set = (
+    λ holds.
+        (adds.says set).0
+        (λ k d inside. All-back (λ clause. clause.group ≡ length constraints → clause_holds set clause.literals ≡ true) before.clauses adds.more holds k d inside (adds.in_group k d inside)),
+    λ holds.
+        All-append (λ clause. clause.group ≡ length constraints → clause_holds set clause.literals ≡ true) before.clauses adds.more
+        (apart_groups set (length constraints) before.clauses (All-weaker (λ clause. clause.group < length constraints) (λ clause. clause.group ≡ length constraints → ⊥) (λ clause below same. omega arith) before.clauses tells.in_groups))
+        (All-weaker (λ clause. clause_holds set clause.literals ≡ true) (λ clause. clause.group ≡ length constraints → clause_holds set clause.literals ≡ true) (λ clause held same. held) adds.more ((adds.says set).1 holds)),
+  )
+
+  pub tells_more : Tells index (constraints ++ constraint ∷ []) after.clauses
+  tells_more =
+      let TellsAll : List Clause → Type 0 = λ clauses. Tells index (constraints ++ constraint ∷ []) clauses in
+      subst TellsAll (sym adds.appended) (record {
+        in_groups = told_in_groups;
+        says = λ set group one there.
+            elim (cases_lt group (length constraints)) [
+              | inl below ↦ told_old set group one below (get_front constraints constraint one group below there)
+              | inr past ↦
+                  let last = get_last constraints constraint one group past there in
+                  let At : ℕ → Constraint → Type 0 = λ g c. GroupHolds (before.clauses ++ adds.more) g set ↔ Holds index set c in
+                  let there_too : At (length constraints) one = subst (At (length constraints)) last.1 (told_new set) in
+                  let AtGroup : ℕ → Type 0 = λ g. At g one in
+                  subst AtGroup (sym last.0) there_too
+            ];
+      })
+
+pub tells_none : (index : IndexView) → Tells index [] []
+tells_none index = record {
+  in_groups = All-nil (λ clause. clause.group < 0);
+  says = λ set group constraint there. let within : group < 0 = slice_get_within {A = Constraint} [] group constraint there in absurd (omega arith);
+}

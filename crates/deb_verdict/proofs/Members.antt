@@ -1,0 +1,22 @@
+-- Members of lists of numbers.
+use Rattle.std.proofs.Common.{◌≡◌, ℕ, true, eqb, List, [], ◌∷◌, refl, ◌∙◌, ap, inl, inr}
+use Rattle.std.specs.List.{list_any}
+use Rattle.std.proofs.lemmas.Bool.{false≢true, or_cases, or_left, or_right, eqb-true, eq-eqb}
+use Rattle.sat_solve.specs.Sets.{NumberSet, members_of}
+
+-- a member of the list that passes
+pub any_member : (test : NumberSet) (xs : List ℕ) → list_any test xs ≡ true → (q : ℕ) × (test q ≡ true) × (members_of xs q ≡ true)
+any_member test [] holds = absurd (false≢true holds)
+any_member test (x ∷ xs) holds =
+    elim (or_cases (test x) (list_any test xs) holds) [
+      | inl here ↦ (x, here, or_left (eqb x x) (members_of xs x) (eq-eqb x x refl))
+      | inr later ↦ let at = any_member test xs later in (at.0, at.1, or_right (eqb x at.0) (members_of xs at.0) at.2)
+    ]
+
+pub member_any : (test : NumberSet) (xs : List ℕ) (q : ℕ) → test q ≡ true → members_of xs q ≡ true → list_any test xs ≡ true
+member_any test [] q holds is_in = absurd (false≢true is_in)
+member_any test (x ∷ xs) q holds is_in =
+    elim (or_cases (eqb x q) (members_of xs q) is_in) [
+      | inl here ↦ or_left (test x) (list_any test xs) (ap test (eqb-true x q here) ∙ holds)
+      | inr later ↦ or_right (test x) (list_any test xs) (member_any test xs q holds later)
+    ]

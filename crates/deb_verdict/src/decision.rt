@@ -1,0 +1,51 @@
+//! The closure and the verdict of a package: whether some set of packages of the index contains it and meets every dependency of a
+//! member and no conflict, and what stands in its way (Debian Policy 7.2 to 7.5; dose-debcheck(1)).
+
+ghost use Rattle.std.specs.Prelude.{◌<◌, IfOk, length};
+ghost use Rattle.std.specs.List.Sorted.{IsStrictlyIncreasing};
+ghost use Rattle.sat_solve.specs.Sets.{members_of};
+ghost use Rattle.deb_verdict.specs.Closure.{IsClosure};
+ghost use Rattle.deb_verdict.specs.Verdicts.{IsVerdict, SpeaksOf, verdict_view};
+
+use crate::answer::Verdict;
+use crate::encoding::encode;
+use crate::reach::reach;
+use crate::reached::listed;
+use crate::unsolvable::{blocking, solve_all};
+use deb_index::Index;
+use std::alloc::{AllocError, Global};
+
+/// The dependency closure of the package at a place: the least set of places that has it, all packages of essential names, and with each
+/// member every package that meets an alternative of one of its Pre-Depends or Depends (Debian Policy 7.2).
+///
+/// `p` is a place of the index, counted from 0 and below `index.len()`. The places are rising. The one error is want of memory.
+pub fn closure(alloc: Global, index: &Index, p: u32) -> Result<Vec<u32>, AllocError>
+    requires { p < length index.now.packages }
+    ensures rising { IfOk result (λ members. IsStrictlyIncreasing members.items) }
+    ensures least { IfOk result (λ members. IsClosure index.now p (members_of members.items)) }
+{
+    let reached = reach(alloc, index, p)?;
+    let places = listed(alloc, &reached.marked)?;
+    Ok(places)
+}
+
+/// The verdict of the package at a place: the first healthy set that contains it, or, where there is none, the first set of constraints that
+/// no set with it meets. Of two sets of numbers the first is the one that lacks the least number in which they differ.
+///
+/// `p` is a place of the index, counted from 0 and below `index.len()`. The one error is want of memory.
+pub fn verdict(alloc: Global, index: &Index, p: u32) -> Result<Verdict, AllocError>
+    requires { p < length index.now.packages }
+    ensures verdict { IfOk result (λ found. IsVerdict index.now p (verdict_view found)) }
+    ensures within { IfOk result (λ found. SpeaksOf index.now (verdict_view found)) }
+{
+    let constraints = index.constraints(alloc)?;
+    let formula = encode(alloc, index, &constraints)?;
+    let found = solve_all(alloc, &formula, p)?;
+    match found {
+        Some(places) => Ok(Verdict::Ok(places)),
+        None => {
+            let core = blocking(alloc, &formula, &constraints, p)?;
+            Ok(Verdict::Broken(core))
+        }
+    }
+}

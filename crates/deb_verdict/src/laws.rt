@@ -1,0 +1,24 @@
+//! Laws of the definitions: functions without work, whose contracts say what holds.
+
+ghost use Rattle.std.specs.Prelude.{◌≡◌, ◌↔◌, ℕ, List};
+ghost use Rattle.deb_index.specs.declared.constraint.Constraint.{Constraint};
+ghost use Rattle.deb_index.specs.Packages.{IndexView};
+ghost use Rattle.sat_solve.specs.Sets.{NumberSet, IsFirst};
+ghost use Rattle.deb_verdict.specs.Health.{IsInstallation, MeetsAt, Admits, AdmitsNone};
+ghost use Rattle.deb_verdict.specs.Closure.{IsWithin, cut, IsClosure, kept};
+ghost use Rattle.deb_verdict.specs.Verdicts.{IsFirstInstallation, IsFirstCore};
+
+/// What lies outside of the closure of a package plays no part in its verdict.
+pub fn closure()
+    ensures cut { (index : IndexView) (p : ℕ) (members set positions : NumberSet) → IsClosure index p members → MeetsAt index set positions → MeetsAt index (cut set members) positions }
+    ensures kept { (index : IndexView) (p : ℕ) (members positions : NumberSet) → IsClosure index p members → (Admits index p (cut positions (kept index members)) ↔ Admits index p positions) }
+    ensures set { (index : IndexView) (p : ℕ) (members set : NumberSet) → IsClosure index p members → IsFirst (IsInstallation index p) set → IsWithin set members }
+    ensures core { (index : IndexView) (p : ℕ) (members positions : NumberSet) → IsClosure index p members → IsFirst (AdmitsNone index p) positions → IsWithin positions (kept index members) }
+{}
+
+/// A package has at most one closure, one first healthy set and one first core.
+pub fn one_verdict()
+    ensures closure { (index : IndexView) (p : ℕ) (a b : NumberSet) → IsClosure index p a → IsClosure index p b → IsWithin a b }
+    ensures set { (index : IndexView) (p : ℕ) (a b : List ℕ) → IsFirstInstallation index p a → IsFirstInstallation index p b → a ≡ b }
+    ensures core { (index : IndexView) (p : ℕ) (a b : List Constraint) → IsFirstCore index p a → IsFirstCore index p b → a ≡ b }
+{}

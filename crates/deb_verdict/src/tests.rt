@@ -1,0 +1,223 @@
+//! Verdicts and closures of small indexes, compared with answers that were found by hand.
+
+use super::*;
+use deb_index::{Constraint, Index};
+use std::alloc::Global;
+use std::process::Abort;
+use std::test::Fail;
+
+/// The index of a text for amd64.
+fn read(alloc: Global, text: &[u8], essential: bool) -> Result<Index, Fail> {
+    if text.len() > 100_000 {
+        Err::<(), &str>("the text is long")?;
+    }
+    let index = Index::read(alloc, text, "amd64", essential)?;
+    Ok(index)
+}
+
+fn is_found(found: &Verdict, wanted: &[u32]) -> bool {
+    match found {
+        Verdict::Ok(places) => places.as_slice() == wanted,
+        Verdict::Broken(_) => false,
+    }
+}
+
+fn is_broken(found: &Verdict, wanted: &[Constraint]) -> bool {
+    match found {
+        Verdict::Ok(_) => false,
+        Verdict::Broken(core) => core.as_slice() == wanted,
+    }
+}
+
+fn expect_set(
+    rt: &impl Abort,
+    alloc: Global,
+    index: &Index,
+    p: u32,
+    wanted: &[u32],
+) -> Result<(), Fail> {
+    assert!(rt; p < index.len());
+    let found = verdict(alloc, index, p)?;
+    assert!(rt; is_found(&found, wanted));
+    Ok(())
+}
+
+fn expect_core(
+    rt: &impl Abort,
+    alloc: Global,
+    index: &Index,
+    p: u32,
+    wanted: &[Constraint],
+) -> Result<(), Fail> {
+    assert!(rt; p < index.len());
+    let found = verdict(alloc, index, p)?;
+    assert!(rt; is_broken(&found, wanted));
+    Ok(())
+}
+
+fn expect_closure(
+    rt: &impl Abort,
+    alloc: Global,
+    index: &Index,
+    p: u32,
+    wanted: &[u32],
+) -> Result<(), Fail> {
+    assert!(rt; p < index.len());
+    let members = closure(alloc, index, p)?;
+    assert!(rt; members.as_slice() == wanted);
+    Ok(())
+}
+
+#[test]
+fn alternatives(rt: HostRuntime) -> Result<(), Fail> {
+    let text =
+        b"Package: a\nVersion: 1\nArchitecture: all\nDepends: b | c\n\nPackage: b\nVersion: 1\nArchitecture: all\n\nPackage: c\nVersion: 1\nArchitecture: all\n";
+    let index = read(rt.alloc(), text, true)?;
+    expect_set(&rt, rt.alloc(), &index, 0, &[0, 2])?;
+    expect_set(&rt, rt.alloc(), &index, 1, &[1])?;
+    expect_closure(&rt, rt.alloc(), &index, 0, &[0, 1, 2])?;
+    expect_closure(&rt, rt.alloc(), &index, 2, &[2])
+}
+
+#[test]
+fn first_core_lacks_the_earlier(rt: HostRuntime) -> Result<(), Fail> {
+    let text = b"Package: a\nVersion: 1\nArchitecture: all\nDepends: x, y\n";
+    let index = read(rt.alloc(), text, true)?;
+    expect_core(&rt, rt.alloc(), &index, 0, &[Constraint::Need(0, 1)])
+}
+
+#[test]
+fn missing_further_down(rt: HostRuntime) -> Result<(), Fail> {
+    let text =
+        b"Package: a\nVersion: 1\nArchitecture: all\nDepends: b\n\nPackage: b\nVersion: 1\nArchitecture: all\nDepends: c (>= 2)\n\nPackage: c\nVersion: 1\nArchitecture: all\n";
+    let index = read(rt.alloc(), text, true)?;
+    expect_core(
+        &rt,
+        rt.alloc(),
+        &index,
+        0,
+        &[Constraint::Need(0, 0), Constraint::Need(1, 0)],
+    )?;
+    expect_core(&rt, rt.alloc(), &index, 1, &[Constraint::Need(1, 0)])?;
+    expect_set(&rt, rt.alloc(), &index, 2, &[2])?;
+    expect_closure(&rt, rt.alloc(), &index, 0, &[0, 1])
+}
+
+#[test]
+fn mail_agents(rt: HostRuntime) -> Result<(), Fail> {
+    let text =
+        b"Package: m1\nVersion: 1\nArchitecture: all\nProvides: mail-agent\nConflicts: mail-agent\n\nPackage: m2\nVersion: 1\nArchitecture: all\nProvides: mail-agent\nConflicts: mail-agent\n\nPackage: u\nVersion: 1\nArchitecture: all\nDepends: m1, m2\n";
+    let index = read(rt.alloc(), text, true)?;
+    expect_set(&rt, rt.alloc(), &index, 0, &[0])?;
+    expect_set(&rt, rt.alloc(), &index, 1, &[1])?;
+    expect_core(
+        &rt,
+        rt.alloc(),
+        &index,
+        2,
+        &[
+            Constraint::Apart(1, 0),
+            Constraint::Need(2, 0),
+            Constraint::Need(2, 1),
+        ],
+    )
+}
+
+#[test]
+fn two_versions(rt: HostRuntime) -> Result<(), Fail> {
+    let text =
+        b"Package: n\nVersion: 1\nArchitecture: all\n\nPackage: n\nVersion: 2\nArchitecture: all\n\nPackage: a\nVersion: 1\nArchitecture: all\nDepends: n (= 1), b\n\nPackage: b\nVersion: 1\nArchitecture: all\nDepends: n (= 2)\n";
+    let index = read(rt.alloc(), text, true)?;
+    expect_set(&rt, rt.alloc(), &index, 1, &[1])?;
+    expect_core(
+        &rt,
+        rt.alloc(),
+        &index,
+        2,
+        &[
+            Constraint::Need(2, 0),
+            Constraint::Need(2, 1),
+            Constraint::Need(3, 0),
+            Constraint::Only(0),
+        ],
+    )?;
+    expect_set(&rt, rt.alloc(), &index, 3, &[1, 3])
+}
+
+#[test]
+fn essential_conflict(rt: HostRuntime) -> Result<(), Fail> {
+    let text =
+        b"Package: base\nVersion: 1\nArchitecture: all\nEssential: yes\n\nPackage: x\nVersion: 1\nArchitecture: all\nConflicts: base\n";
+    let index = read(rt.alloc(), text, true)?;
+    expect_set(&rt, rt.alloc(), &index, 0, &[0])?;
+    expect_core(
+        &rt,
+        rt.alloc(),
+        &index,
+        1,
+        &[Constraint::Essential(0), Constraint::Apart(1, 0)],
+    )?;
+    expect_closure(&rt, rt.alloc(), &index, 1, &[0, 1])?;
+    let without = read(rt.alloc(), text, false)?;
+    expect_set(&rt, rt.alloc(), &without, 1, &[1])?;
+    expect_closure(&rt, rt.alloc(), &without, 1, &[1])
+}
+
+#[test]
+fn essential_packages_in_conflict(rt: HostRuntime) -> Result<(), Fail> {
+    let text =
+        b"Package: e1\nVersion: 1\nArchitecture: all\nEssential: yes\nConflicts: e2\n\nPackage: e2\nVersion: 1\nArchitecture: all\nEssential: yes\n\nPackage: z\nVersion: 1\nArchitecture: all\n";
+    let index = read(rt.alloc(), text, true)?;
+    expect_core(
+        &rt,
+        rt.alloc(),
+        &index,
+        0,
+        &[Constraint::Essential(1), Constraint::Apart(0, 0)],
+    )?;
+    expect_core(
+        &rt,
+        rt.alloc(),
+        &index,
+        1,
+        &[Constraint::Essential(0), Constraint::Apart(0, 0)],
+    )?;
+    expect_core(
+        &rt,
+        rt.alloc(),
+        &index,
+        2,
+        &[
+            Constraint::Essential(0),
+            Constraint::Essential(1),
+            Constraint::Apart(0, 0),
+        ],
+    )
+}
+
+#[test]
+fn own_dependency(rt: HostRuntime) -> Result<(), Fail> {
+    let text = b"Package: s\nVersion: 1\nArchitecture: all\nDepends: s, v\nProvides: v\n";
+    let index = read(rt.alloc(), text, true)?;
+    expect_set(&rt, rt.alloc(), &index, 0, &[0])
+}
+
+#[test]
+fn pre_depends_and_breaks(rt: HostRuntime) -> Result<(), Fail> {
+    let text =
+        b"Package: a\nVersion: 1\nArchitecture: all\nDepends: c\nPre-Depends: b\n\nPackage: b\nVersion: 1\nArchitecture: all\n\nPackage: c\nVersion: 1\nArchitecture: all\nBreaks: b (<< 2)\n";
+    let index = read(rt.alloc(), text, true)?;
+    expect_core(
+        &rt,
+        rt.alloc(),
+        &index,
+        0,
+        &[
+            Constraint::Need(0, 0),
+            Constraint::Need(0, 1),
+            Constraint::Apart(2, 0),
+        ],
+    )?;
+    expect_set(&rt, rt.alloc(), &index, 2, &[2])?;
+    expect_closure(&rt, rt.alloc(), &index, 0, &[0, 1, 2])
+}

@@ -1,0 +1,9 @@
+use Rattle.std.proofs.Common.{append_assoc, codes}
+use Rattle.debcheck.specs.Faults.{fault_text}
+use Rattle.debcheck.proofs.fault.push_fault.Goals as goal
+
+pub returns-in_ok-extend_from_slice-in-UnknownAsked-2 : goal.returns-in_ok-extend_from_slice-in-UnknownAsked-2
+unfolding fault_text
+returns-in_ok-extend_from_slice-in-UnknownAsked-2 c =
+    rw (c.in-UnknownAsked.is, c.in_ok-extend_from_slice-in-UnknownAsked-2.ensures.items, c.in_ok-extend_from_slice-in-UnknownAsked.ensures.items, c.as_slice.ensures.value)
+    (append_assoc c.args.out.now.items (codes "unknown package ") c.in-UnknownAsked.name.items)

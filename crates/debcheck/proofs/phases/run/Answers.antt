@@ -1,0 +1,33 @@
+use Rattle.std.proofs.Common.{◌≡◌, ℕ, List, subst, sym}
+use Rattle.std.proofs.lemmas.Result.{err_from_is_err_and}
+use Rattle.std.specs.Io.KnownBytes.{Appends}
+use Rattle.debcheck.specs.Devices.{AppendsPart}
+use Rattle.debcheck.specs.Run.{settings_of}
+use Rattle.debcheck.proofs.PhaseLemmas.{front-written, report-fails, report-leaves, report-written}
+use Rattle.debcheck.proofs.phases.run.Goals as goal
+
+pub returns-in_err-output-clause-refused : goal.returns-in_err-output-clause-refused
+returns-in_err-output-clause-refused g c =
+    let p = err_from_is_err_and c.from_residual-in_err-output.result c.from_residual-in_err-output.ensures.1 in
+    rw (p.1, p.2) (report-fails (settings_of c.args.config.now) (g.S.Source.remaining c.args.reader.now) c.in_ok-index.index (g.S.Source.failed c.read_index.new.reader) (g.K.Sink.failed c.args.writer.now)
+    c.in_err-output.field-0.0 c.in_ok-index.ensures.index c.in_err-output.ensures.refused)
+
+pub returns-in_err-output-clause-left : goal.returns-in_err-output-clause-left
+returns-in_err-output-clause-left g c =
+    let p = err_from_is_err_and c.from_residual-in_err-output.result c.from_residual-in_err-output.ensures.1 in
+    rw (p.1, p.2)
+    (report-leaves (settings_of c.args.config.now) (g.S.Source.remaining c.args.reader.now) (g.K.Sink.contents c.args.writer.now) c.in_ok-index.index c.in_err-output.field-0.0 c.in_err-output.ensures.refused)
+
+pub returns-in-Ok-clause-report : goal.returns-in-Ok-clause-report
+returns-in-Ok-clause-report g c =
+    let written = c.in-Ok.ensures.bytes in
+    report-written (settings_of c.args.config.now) (g.S.Source.remaining c.args.reader.now) (g.K.Sink.contents c.args.writer.now) (g.K.Sink.contents c.write_all.new.writer) c.in_ok-index.index
+    c.in_ok-output.output.items c.in_ok-output.summary c.in_ok-index.ensures.index c.in_ok-output.ensures.report
+    (subst (λ (bytes : List ℕ). Appends (g.K.Sink.contents c.args.writer.now) (g.K.Sink.contents c.write_all.new.writer) bytes) c.as_slice.ensures.value written)
+
+pub returns-clause-left : goal.returns-clause-left
+returns-clause-left g c =
+    let part = c.in-Err.ensures.part in
+    front-written (settings_of c.args.config.now) (g.S.Source.remaining c.args.reader.now) (g.K.Sink.contents c.args.writer.now) (g.K.Sink.contents c.write_all.new.writer) c.in_ok-index.index
+    c.in_ok-output.output.items c.in_ok-output.summary c.in_ok-index.ensures.index c.in_ok-output.ensures.report
+    (subst (λ (bytes : List ℕ). AppendsPart (g.K.Sink.contents c.args.writer.now) (g.K.Sink.contents c.write_all.new.writer) bytes) c.as_slice.ensures.value part)

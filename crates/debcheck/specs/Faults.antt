@@ -1,0 +1,47 @@
+-- The lines and statuses of faults.
+use Rattle.std.specs.Prelude.{ℕ, List, [], ◌∷◌, ◌++◌, codes, decimal, Result, Ok, Err, if◌then◌else◌, ◌==◌}
+use Rattle.deb_index.specs.declared.error.IndexError.{IndexError}
+use Rattle.deb_index.specs.declared.error.IndexError.TheVariants.{BadLine, RepeatedField, MissingField, BadName, BadVersion, BadRelation, TooManyStanzas}
+use Rattle.deb_index.specs.declared.error.IndexError.TheVariants as index
+use Rattle.deb_index.specs.Reading.{field_name}
+use Rattle.debcheck.specs.declared.fault.RunFault.{RunFault}
+use Rattle.debcheck.specs.declared.fault.RunFault.TheVariants.{Read, TooLong, Index, UnknownAsked, Memory, Write}
+use Rattle.debcheck.specs.declared.summary.Summary.{Summary}
+
+-- a fault of a stanza, with its number
+unfoldable pub stanza_text : ℕ → List ℕ → List ℕ
+stanza_text stanza what = codes "stanza " ++ decimal stanza ++ codes ": " ++ what
+
+-- what is said of a fault of the text
+unfoldable pub index_fault_text : IndexError → List ℕ
+index_fault_text (BadLine stanza) = stanza_text stanza (codes "bad line")
+index_fault_text (RepeatedField stanza) = stanza_text stanza (codes "repeated field")
+index_fault_text (MissingField stanza) = stanza_text stanza (codes "missing field")
+index_fault_text (BadName stanza) = stanza_text stanza (codes "bad name")
+index_fault_text (BadVersion stanza) = stanza_text stanza (codes "bad version")
+index_fault_text (BadRelation stanza field) = stanza_text stanza (codes "bad relation in " ++ field_name field)
+index_fault_text (TooManyStanzas stanza) = stanza_text stanza (codes "too many stanzas")
+index_fault_text index.Memory = codes "out of memory"
+
+-- what is said of a fault
+unfoldable pub fault_text : RunFault → List ℕ
+fault_text Read = codes "cannot read the index"
+fault_text TooLong = codes "the index is too long"
+fault_text (Index fault) = index_fault_text fault
+fault_text (UnknownAsked name) = codes "unknown package " ++ name.items
+fault_text Memory = codes "out of memory"
+fault_text Write = codes "cannot write the report"
+
+-- the line on standard error: the program's name, what is said, and LF
+unfoldable pub fault_line : RunFault → List ℕ
+fault_line fault = codes "debcheck: " ++ fault_text fault ++ (10 ∷ [])
+
+-- the exit status of a run
+abbrev pub status_of : Result Summary RunFault → ℕ
+status_of (Ok summary) = if summary.broken == 0 then 0 else 1
+status_of (Err (Index fault)) = 65
+status_of (Err (UnknownAsked name)) = 66
+status_of (Err Read) = 67
+status_of (Err TooLong) = 67
+status_of (Err Write) = 68
+status_of (Err Memory) = 69

@@ -1,0 +1,54 @@
+//! What is asked of a run.
+
+ghost use Rattle.std.specs.Prelude.{◌≡◌, IfOk};
+ghost use Rattle.debcheck.specs.Run.{settings_of, usual_settings};
+
+use std::alloc::{AllocError, Global};
+
+/// Which packages have a block in the report.
+#[derive(Clone, Copy, Debug, PartialEq, Eq)]
+pub enum Show {
+    /// All that are asked.
+    All,
+    /// Those that cannot be installed.
+    Failures,
+    /// Those that can be installed.
+    Successes,
+}
+
+/// The settings of a run.
+#[derive(Drop)]
+pub struct Config {
+    /// The checked architecture.
+    pub arch: String,
+    /// How many workers check, 1 to 64. The report does not depend on it.
+    pub workers: u32,
+    /// How many packages a worker takes at once, 1 to 1,000,000. The report does not depend on it.
+    pub chunk: u32,
+    /// Whether a block tells the set that was found, or the reasons why there is none.
+    pub explain: bool,
+    pub show: Show,
+    /// Whether each set has to hold the packages that are marked essential (Debian Policy 3.8).
+    pub essential: bool,
+    /// The names that are asked; all packages without it.
+    pub only: Option<Vec<Vec<u8>>>,
+}
+
+impl Config {
+    /// The settings where nothing is said: architecture `amd64`, with explanations, 4 workers and chunks of 64.
+    pub fn usual(alloc: Global) -> Result<Config, AllocError>
+        ensures settings { IfOk result (λ config. settings_of config ≡ usual_settings) }
+        ensures workers { IfOk result (λ config. config.workers ≡ 4) }
+        ensures chunk { IfOk result (λ config. config.chunk ≡ 64) }
+    {
+        Ok(Config {
+            arch: String::from_str(alloc, "amd64")?,
+            workers: 4,
+            chunk: 64,
+            explain: true,
+            show: Show::All,
+            essential: true,
+            only: None,
+        })
+    }
+}

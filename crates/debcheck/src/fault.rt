@@ -1,0 +1,142 @@
+//! Why a run fails, and what is said of it.
+
+ghost use Rattle.std.specs.Prelude.{◌≡◌, ◌++◌, IfOk, OnOk, decimal};
+ghost use Rattle.deb_index.specs.Reading.{field_name};
+ghost use Rattle.debcheck.specs.Faults.{fault_line, fault_text, index_fault_text, stanza_text, status_of};
+ghost use Rattle.debcheck.specs.declared.fault.RunFault.TheVariants.{Memory};
+
+use crate::summary::Summary;
+use deb_index::{IndexError, RelField};
+use std::alloc::{AllocError, AllocFailed, Global};
+use thiserror::Error;
+
+/// Why there is no report, or no whole one. The first cause in this order is told, but for want of memory, which may come at any time before writing.
+#[derive(Debug, Drop, Error)]
+pub enum RunFault {
+    /// The reader failed.
+    #[error("cannot read the index")]
+    Read,
+    /// The text has more than 268,435,456 bytes.
+    #[error("the index is too long")]
+    TooLong,
+    /// A stanza has a fault: the first that has one. Never want of memory, which is `Memory`.
+    #[error("{0}")]
+    Index(IndexError),
+    /// No package of the index has this name: the first such name of those that were asked.
+    #[error("unknown package")]
+    UnknownAsked { name: Vec<u8> },
+    /// Some growth was refused.
+    #[error("out of memory")]
+    Memory,
+    /// The writer failed, or took no byte: a front of the report was written.
+    #[error("cannot write the report")]
+    Write,
+}
+
+impl From<AllocError> for RunFault {
+    ghost from_gives = { λ _ e. e ≡ Memory };
+
+    fn from(_e: AllocError) -> RunFault {
+        RunFault::Memory
+    }
+}
+
+impl<T: Drop> From<AllocFailed<T>> for RunFault {
+    ghost from_gives = { λ _ e. e ≡ Memory };
+
+    fn from(_e: AllocFailed<T>) -> RunFault {
+        RunFault::Memory
+    }
+}
+
+/// The exit status of a run: 0 where all asked packages can be installed, 1 where some cannot, 65 for a fault of the text, 66 for an unknown
+/// name, 67 where reading failed or the text is too long, 68 where writing failed, 69 for want of memory.
+pub fn status(outcome: &Result<Summary, RunFault>) -> u8
+    ensures { result ≡ status_of outcome.now }
+{
+    match outcome {
+        Ok(summary) => u8::from(summary.broken != 0),
+        Err(RunFault::Index(_)) => 65,
+        Err(RunFault::UnknownAsked { .. }) => 66,
+        Err(RunFault::Read | RunFault::TooLong) => 67,
+        Err(RunFault::Write) => 68,
+        Err(RunFault::Memory) => 69,
+    }
+}
+
+fn field_name(field: RelField) -> &'static [u8]
+    ensures { result.now ≡ field_name field }
+{
+    match field {
+        RelField::PreDepends => b"Pre-Depends",
+        RelField::Depends => b"Depends",
+        RelField::Conflicts => b"Conflicts",
+        RelField::Breaks => b"Breaks",
+        RelField::Provides => b"Provides",
+    }
+}
+
+// The fault's line, without the program's name and the end of the line.
+#[tactic(auto, unfolding(crate::specs::Faults::stanza_text))]
+fn push_stanza(alloc: Global, out: &mut Vec<u8>, stanza: u64, what: &[u8]) -> Result<(), AllocError>
+    ensures { OnOk result (out.new.items ≡ out.old.items ++ stanza_text stanza what.now) }
+{
+    out.extend_from_slice(b"stanza ")?;
+    out.extend_from_slice(stanza.to_string(alloc)?.as_str().as_bytes())?;
+    out.extend_from_slice(b": ")?;
+    out.extend_from_slice(what)?;
+    Ok(())
+}
+
+#[tactic(auto, unfolding(crate::specs::Faults::index_fault_text))]
+fn push_index_fault(alloc: Global, out: &mut Vec<u8>, fault: &IndexError) -> Result<(), AllocError>
+    ensures { OnOk result (out.new.items ≡ out.old.items ++ index_fault_text fault.now) }
+{
+    match fault {
+        IndexError::BadLine { stanza } => push_stanza(alloc, out, *stanza, b"bad line"),
+        IndexError::RepeatedField { stanza } => push_stanza(alloc, out, *stanza, b"repeated field"),
+        IndexError::MissingField { stanza } => push_stanza(alloc, out, *stanza, b"missing field"),
+        IndexError::BadName { stanza } => push_stanza(alloc, out, *stanza, b"bad name"),
+        IndexError::BadVersion { stanza } => push_stanza(alloc, out, *stanza, b"bad version"),
+        IndexError::BadRelation { stanza, field } => {
+            push_stanza(alloc, out, *stanza, b"bad relation in ")?;
+            out.extend_from_slice(field_name(*field))?;
+            Ok(())
+        }
+        IndexError::TooManyStanzas { stanza } => {
+            push_stanza(alloc, out, *stanza, b"too many stanzas")
+        }
+        IndexError::Memory => out.extend_from_slice(b"out of memory"),
+    }
+}
+
+#[tactic(auto, unfolding(crate::specs::Faults::fault_text))]
+fn push_fault(alloc: Global, out: &mut Vec<u8>, fault: &RunFault) -> Result<(), AllocError>
+    ensures { OnOk result (out.new.items ≡ out.old.items ++ fault_text fault.now) }
+{
+    match fault {
+        RunFault::Read => out.extend_from_slice(b"cannot read the index"),
+        RunFault::TooLong => out.extend_from_slice(b"the index is too long"),
+        RunFault::Index(fault) => push_index_fault(alloc, out, fault),
+        RunFault::UnknownAsked { name } => {
+            out.extend_from_slice(b"unknown package ")?;
+            out.extend_from_slice(name.as_slice())?;
+            Ok(())
+        }
+        RunFault::Memory => out.extend_from_slice(b"out of memory"),
+        RunFault::Write => out.extend_from_slice(b"cannot write the report"),
+    }
+}
+
+/// The line of a fault for standard error: `debcheck: `, what it is, and LF. Stanzas count from 1.
+///
+/// `AllocError` where there is no memory for it.
+#[tactic(auto, unfolding(crate::specs::Faults::fault_line))]
+pub fn fault_line(alloc: Global, fault: &RunFault) -> Result<Vec<u8>, AllocError>
+    ensures { IfOk result (λ line. line.items ≡ fault_line fault.now) }
+{
+    let mut line = Vec::from_slice(alloc, b"debcheck: ")?;
+    push_fault(alloc, &mut line, fault)?;
+    line.push(b'\n')?;
+    Ok(line)
+}

@@ -1,0 +1,28 @@
+//! Checks which packages of a Debian package index can be installed, and reports it.
+#![tactic(auto)]
+
+mod asked;
+mod config;
+mod device;
+mod fault;
+mod input;
+pub mod laws;
+mod layout;
+mod output;
+mod phases;
+mod reasons;
+mod std_device;
+mod summary;
+#[cfg(test)]
+mod tests;
+
+pub use asked::asked_places;
+pub use config::{Config, Show};
+pub use device::{DeviceFault, Sink, Source};
+pub use fault::{RunFault, fault_line, status};
+pub use input::read_all;
+pub use layout::report;
+pub use output::write_fault;
+pub use phases::run;
+pub use std_device::Std;
+pub use summary::Summary;

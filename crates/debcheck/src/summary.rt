@@ -1,0 +1,16 @@
+//! What a run counts.
+
+/// The numbers of a report's last lines.
+#[derive(Clone, Copy, Debug, PartialEq, Eq)]
+pub struct Summary {
+    /// All stanzas of the text, at most 1,048,576.
+    pub stanzas: u32,
+    /// Those of other architectures.
+    pub skipped: u32,
+    /// Those of a package that an earlier stanza is: of the same name and version text.
+    pub duplicates: u32,
+    /// The packages that were asked.
+    pub asked: u32,
+    /// Those of the asked that cannot be installed, shown or not.
+    pub broken: u32,
+}

@@ -1,0 +1,21 @@
+//! Worked examples over all crates: a text goes in, and the bytes of the report are compared.
+#![tactic(auto)]
+
+#[cfg(test)]
+mod cut_texts;
+#[cfg(test)]
+mod devices;
+#[cfg(test)]
+mod example;
+#[cfg(test)]
+mod meanings;
+#[cfg(test)]
+mod refusals;
+#[cfg(test)]
+mod relations;
+#[cfg(test)]
+mod reports;
+#[cfg(test)]
+mod sample;
+#[cfg(test)]
+mod workers;

@@ -1,0 +1,327 @@
+//! Texts about essential names, fields, duplicates and qualifiers, and what is written of them with explanations for amd64.
+
+use crate::example::Example;
+
+pub const EXAMPLES: [Example; 7] = [
+    Example {
+        name: "unversioned_provides",
+        text: "Package: foo
+Version: 1
+Architecture: all
+Depends: bar (>= 1.0)
+
+Package: bar
+Version: 0.9
+Architecture: all
+
+Package: bar-plus
+Version: 1
+Architecture: all
+Provides: bar
+",
+        report: "architecture: amd64
+report:
+ -
+  package: foo
+  version: 1
+  architecture: all
+  status: broken
+  reasons:
+   - missing: foo 1 Depends: bar (>= 1.0)
+ -
+  package: bar
+  version: 0.9
+  architecture: all
+  status: ok
+  installation-set:
+   - bar 0.9
+ -
+  package: bar-plus
+  version: 1
+  architecture: all
+  status: ok
+  installation-set:
+   - bar-plus 1
+stanzas: 3
+skipped: 0
+duplicates: 0
+asked: 3
+broken: 1
+",
+        fault: "",
+        status: 1,
+    },
+    Example {
+        name: "essential_conflict",
+        text: "Package: base
+Version: 1
+Architecture: all
+Essential: yes
+
+Package: x
+Version: 1
+Architecture: all
+Conflicts: base
+",
+        report: "architecture: amd64
+report:
+ -
+  package: base
+  version: 1
+  architecture: all
+  status: ok
+  installation-set:
+   - base 1
+ -
+  package: x
+  version: 1
+  architecture: all
+  status: broken
+  reasons:
+   - essential: base
+   - conflict: x 1 Conflicts: base
+stanzas: 2
+skipped: 0
+duplicates: 0
+asked: 2
+broken: 1
+",
+        fault: "",
+        status: 1,
+    },
+    Example {
+        name: "essential_names_apart",
+        text: "Package: e1
+Version: 1
+Architecture: all
+Essential: yes
+Conflicts: e2
+
+Package: e2
+Version: 1
+Architecture: all
+Essential: yes
+
+Package: z
+Version: 1
+Architecture: all
+",
+        report: "architecture: amd64
+report:
+ -
+  package: e1
+  version: 1
+  architecture: all
+  status: broken
+  reasons:
+   - essential: e2
+   - conflict: e1 1 Conflicts: e2
+ -
+  package: e2
+  version: 1
+  architecture: all
+  status: broken
+  reasons:
+   - essential: e1
+   - conflict: e1 1 Conflicts: e2
+ -
+  package: z
+  version: 1
+  architecture: all
+  status: broken
+  reasons:
+   - essential: e1
+   - essential: e2
+   - conflict: e1 1 Conflicts: e2
+stanzas: 3
+skipped: 0
+duplicates: 0
+asked: 3
+broken: 3
+",
+        fault: "",
+        status: 1,
+    },
+    Example {
+        name: "folded_field_and_comment",
+        text: "Package: a
+Version: 1
+Architecture: all
+DEPENDS: b,
+# a note
+ c (< 2)
+ ,
+
+Package: b
+Version: 1
+Architecture: all
+
+Package: c
+Version: 2
+Architecture: all
+",
+        report: "architecture: amd64
+report:
+ -
+  package: a
+  version: 1
+  architecture: all
+  status: ok
+  installation-set:
+   - a 1
+   - b 1
+   - c 2
+ -
+  package: b
+  version: 1
+  architecture: all
+  status: ok
+  installation-set:
+   - b 1
+ -
+  package: c
+  version: 2
+  architecture: all
+  status: ok
+  installation-set:
+   - c 2
+stanzas: 3
+skipped: 0
+duplicates: 0
+asked: 3
+broken: 0
+",
+        fault: "",
+        status: 0,
+    },
+    Example {
+        name: "duplicates_and_skipped",
+        text: "Package: a
+Version: 1.0
+Architecture: amd64
+
+Package: a
+Version: 1.0
+Architecture: all
+
+Package: a
+Version: 1.0
+Architecture: i386
+Depends: b (
+
+Package: a
+Version: 1.00
+Architecture: amd64
+",
+        report: "architecture: amd64
+report:
+ -
+  package: a
+  version: 1.0
+  architecture: amd64
+  status: ok
+  installation-set:
+   - a 1.0
+ -
+  package: a
+  version: 1.00
+  architecture: amd64
+  status: ok
+  installation-set:
+   - a 1.00
+stanzas: 4
+skipped: 1
+duplicates: 1
+asked: 2
+broken: 0
+",
+        fault: "",
+        status: 0,
+    },
+    Example {
+        name: "qualifiers",
+        text: "Package: a
+Version: 1
+Architecture: all
+Depends: python3:any
+
+Package: b
+Version: 1
+Architecture: all
+Depends: n:i386
+
+Package: python3
+Version: 3
+Architecture: all
+
+Package: n
+Version: 1
+Architecture: all
+",
+        report: "architecture: amd64
+report:
+ -
+  package: a
+  version: 1
+  architecture: all
+  status: ok
+  installation-set:
+   - a 1
+   - python3 3
+ -
+  package: b
+  version: 1
+  architecture: all
+  status: broken
+  reasons:
+   - missing: b 1 Depends: n:i386
+ -
+  package: python3
+  version: 3
+  architecture: all
+  status: ok
+  installation-set:
+   - python3 3
+ -
+  package: n
+  version: 1
+  architecture: all
+  status: ok
+  installation-set:
+   - n 1
+stanzas: 4
+skipped: 0
+duplicates: 0
+asked: 4
+broken: 1
+",
+        fault: "",
+        status: 1,
+    },
+    Example {
+        name: "own_dependencies",
+        text: "Package: s
+Version: 1
+Architecture: all
+Depends: s, v
+Provides: v
+",
+        report: "architecture: amd64
+report:
+ -
+  package: s
+  version: 1
+  architecture: all
+  status: ok
+  installation-set:
+   - s 1
+stanzas: 1
+skipped: 0
+duplicates: 0
+asked: 1
+broken: 0
+",
+        fault: "",
+        status: 0,
+    },
+];

@@ -1,0 +1,380 @@
+//! Texts about dependencies and conflicts, and what is written of them with explanations for amd64.
+
+use crate::example::Example;
+
+pub const EXAMPLES: [Example; 9] = [
+    Example {
+        name: "empty_input",
+        text: "",
+        report: "architecture: amd64
+report:
+stanzas: 0
+skipped: 0
+duplicates: 0
+asked: 0
+broken: 0
+",
+        fault: "",
+        status: 0,
+    },
+    Example {
+        name: "one_package_without_last_line_feed",
+        text: "Package: a
+Version: 1
+Architecture: amd64",
+        report: "architecture: amd64
+report:
+ -
+  package: a
+  version: 1
+  architecture: amd64
+  status: ok
+  installation-set:
+   - a 1
+stanzas: 1
+skipped: 0
+duplicates: 0
+asked: 1
+broken: 0
+",
+        fault: "",
+        status: 0,
+    },
+    Example {
+        name: "missing_dependency",
+        text: "Package: a
+Version: 1
+Architecture: all
+Depends: b
+
+Package: b
+Version: 1
+Architecture: all
+Depends: c (>= 2)
+
+Package: c
+Version: 1
+Architecture: all
+",
+        report: "architecture: amd64
+report:
+ -
+  package: a
+  version: 1
+  architecture: all
+  status: broken
+  reasons:
+   - depends: a 1 Depends: b
+   - missing: b 1 Depends: c (>= 2)
+ -
+  package: b
+  version: 1
+  architecture: all
+  status: broken
+  reasons:
+   - missing: b 1 Depends: c (>= 2)
+ -
+  package: c
+  version: 1
+  architecture: all
+  status: ok
+  installation-set:
+   - c 1
+stanzas: 3
+skipped: 0
+duplicates: 0
+asked: 3
+broken: 2
+",
+        fault: "",
+        status: 1,
+    },
+    Example {
+        name: "alternatives",
+        text: "Package: a
+Version: 1
+Architecture: all
+Depends: b | c
+
+Package: b
+Version: 1
+Architecture: all
+
+Package: c
+Version: 1
+Architecture: all
+",
+        report: "architecture: amd64
+report:
+ -
+  package: a
+  version: 1
+  architecture: all
+  status: ok
+  installation-set:
+   - a 1
+   - c 1
+ -
+  package: b
+  version: 1
+  architecture: all
+  status: ok
+  installation-set:
+   - b 1
+ -
+  package: c
+  version: 1
+  architecture: all
+  status: ok
+  installation-set:
+   - c 1
+stanzas: 3
+skipped: 0
+duplicates: 0
+asked: 3
+broken: 0
+",
+        fault: "",
+        status: 0,
+    },
+    Example {
+        name: "first_core_lacks_the_earlier",
+        text: "Package: a
+Version: 1
+Architecture: all
+Depends: x, y
+",
+        report: "architecture: amd64
+report:
+ -
+  package: a
+  version: 1
+  architecture: all
+  status: broken
+  reasons:
+   - missing: a 1 Depends: y
+stanzas: 1
+skipped: 0
+duplicates: 0
+asked: 1
+broken: 1
+",
+        fault: "",
+        status: 1,
+    },
+    Example {
+        name: "conflict_between_dependencies",
+        text: "Package: a
+Version: 1
+Architecture: all
+Depends: b, c
+
+Package: b
+Version: 1
+Architecture: all
+Conflicts: c
+
+Package: c
+Version: 1
+Architecture: all
+",
+        report: "architecture: amd64
+report:
+ -
+  package: a
+  version: 1
+  architecture: all
+  status: broken
+  reasons:
+   - depends: a 1 Depends: b
+   - depends: a 1 Depends: c
+   - conflict: b 1 Conflicts: c
+ -
+  package: b
+  version: 1
+  architecture: all
+  status: ok
+  installation-set:
+   - b 1
+ -
+  package: c
+  version: 1
+  architecture: all
+  status: ok
+  installation-set:
+   - c 1
+stanzas: 3
+skipped: 0
+duplicates: 0
+asked: 3
+broken: 1
+",
+        fault: "",
+        status: 1,
+    },
+    Example {
+        name: "mail_agents",
+        text: "Package: m1
+Version: 1
+Architecture: all
+Provides: mail-agent
+Conflicts: mail-agent
+
+Package: m2
+Version: 1
+Architecture: all
+Provides: mail-agent
+Conflicts: mail-agent
+
+Package: u
+Version: 1
+Architecture: all
+Depends: m1, m2
+",
+        report: "architecture: amd64
+report:
+ -
+  package: m1
+  version: 1
+  architecture: all
+  status: ok
+  installation-set:
+   - m1 1
+ -
+  package: m2
+  version: 1
+  architecture: all
+  status: ok
+  installation-set:
+   - m2 1
+ -
+  package: u
+  version: 1
+  architecture: all
+  status: broken
+  reasons:
+   - conflict: m2 1 Conflicts: mail-agent
+   - depends: u 1 Depends: m1
+   - depends: u 1 Depends: m2
+stanzas: 3
+skipped: 0
+duplicates: 0
+asked: 3
+broken: 1
+",
+        fault: "",
+        status: 1,
+    },
+    Example {
+        name: "two_versions",
+        text: "Package: n
+Version: 1
+Architecture: all
+
+Package: n
+Version: 2
+Architecture: all
+
+Package: a
+Version: 1
+Architecture: all
+Depends: n (= 1), b
+
+Package: b
+Version: 1
+Architecture: all
+Depends: n (= 2)
+",
+        report: "architecture: amd64
+report:
+ -
+  package: n
+  version: 1
+  architecture: all
+  status: ok
+  installation-set:
+   - n 1
+ -
+  package: n
+  version: 2
+  architecture: all
+  status: ok
+  installation-set:
+   - n 2
+ -
+  package: a
+  version: 1
+  architecture: all
+  status: broken
+  reasons:
+   - depends: a 1 Depends: n (= 1)
+   - depends: a 1 Depends: b
+   - depends: b 1 Depends: n (= 2)
+   - versions: n
+ -
+  package: b
+  version: 1
+  architecture: all
+  status: ok
+  installation-set:
+   - n 2
+   - b 1
+stanzas: 4
+skipped: 0
+duplicates: 0
+asked: 4
+broken: 1
+",
+        fault: "",
+        status: 1,
+    },
+    Example {
+        name: "versioned_provides",
+        text: "Package: foo
+Version: 1
+Architecture: all
+Depends: bar (>= 1.0)
+
+Package: bar
+Version: 0.9
+Architecture: all
+
+Package: bar-plus
+Version: 1
+Architecture: all
+Provides: bar (= 1.0)
+",
+        report: "architecture: amd64
+report:
+ -
+  package: foo
+  version: 1
+  architecture: all
+  status: ok
+  installation-set:
+   - foo 1
+   - bar-plus 1
+ -
+  package: bar
+  version: 0.9
+  architecture: all
+  status: ok
+  installation-set:
+   - bar 0.9
+ -
+  package: bar-plus
+  version: 1
+  architecture: all
+  status: ok
+  installation-set:
+   - bar-plus 1
+stanzas: 3
+skipped: 0
+duplicates: 0
+asked: 3
+broken: 0
+",
+        fault: "",
+        status: 0,
+    },
+];

@@ -1,0 +1,67 @@
+-- Answers to the parts of a list are answers to the list.
+use Rattle.std.proofs.Common.{◌≡◌, ℕ, zero, suc, ◌+◌, ◌*◌, ◌<◌, ◌≤◌, List, [], ◌∷◌, ◌++◌, All, take, drop, length, get_or, flat_map, map, sym, ap, ◌∙◌, subst, refl, arith, take-append-drop, drop-drop, drop_of_length-le}
+use Rattle.std.specs.List.{range_with_len}
+use Rattle.std.proofs.lemmas.List.{take_more}
+use Rattle.std.proofs.lemmas.List.Elements.{All-cons, All-nil}
+use Rattle.work_draw.specs.declared.piece.Piece.{Piece}
+use Rattle.work_draw.specs.Checks.{AnswersEach, chunk_of}
+use Rattle.work_draw.specs.Pieces.{numbers_of}
+
+module _ {A B : Type 0} (R : A → B → Type 0) where
+  pub AnswersEach-append : (xs xs' : List A) (ys ys' : List B) → AnswersEach R xs ys → AnswersEach R xs' ys' → AnswersEach R (xs ++ xs') (ys ++ ys')
+  AnswersEach-append [] xs' [] ys' h h' = h'
+  AnswersEach-append [] xs' (y ∷ ys) ys' h h' = absurd h
+  AnswersEach-append (x ∷ xs) xs' [] ys' h h' = absurd h
+  AnswersEach-append (x ∷ xs) xs' (y ∷ ys) ys' h h' = (h.0, AnswersEach-append xs xs' ys ys' h.1 h')
+
+  pub AnswersEach_more : (xs : List A) (i : ℕ) (d : A) (ys : List B) (y : B) → i < length xs → AnswersEach R (take i xs) ys → R (get_or xs i d) y → AnswersEach R (take (i + 1) xs) (ys ++ y ∷ [])
+  AnswersEach_more xs i d ys y lt h here = subst (λ (l : List A). AnswersEach R l (ys ++ y ∷ [])) (sym (take_more xs i d lt)) (AnswersEach-append (take i xs) (get_or xs i d ∷ []) ys (y ∷ []) h (here, tt))
+
+  -- the pieces numbered from a on answer what is asked from a * size on
+  from_chunk : (items_of : Piece → List B) (asked : List A) (size a n : ℕ) (ps : List Piece) → numbers_of ps ≡ range_with_len a n → length asked ≤ (a + n) * size
+      → All (λ p. AnswersEach R (chunk_of asked size p.number) (items_of p)) ps → AnswersEach R (drop (a * size) asked) (flat_map (λ p. items_of p) ps)
+  from_chunk items_of asked size a zero [] e enough h = subst (λ (l : List A). AnswersEach R l []) (sym (drop_of_length-le asked {i = a * size} (omega arith))) tt
+  from_chunk items_of asked size a zero (p ∷ ps) e enough h = absurd (cc)
+  from_chunk items_of asked size a (suc n) [] e enough h = absurd (cc)
+  from_chunk items_of asked size a (suc n) (p ∷ ps) e enough h =
+      let first : p.number ≡ a = cc in
+      let others : numbers_of ps ≡ range_with_len (a + 1) n = cc in
+      let here = subst (λ (k : ℕ). AnswersEach R (chunk_of asked size k) (items_of p)) first (h 0 p (omega arith)) in
+      let rest = from_chunk items_of asked size (a + 1) n ps others (omega arith) (λ k d lt. h (suc k) d (omega arith)) in
+      let both = AnswersEach-append (take size (drop (a * size) asked)) (drop ((a + 1) * size) asked) (items_of p) (flat_map (λ q. items_of q) ps) here rest in
+      let next : drop ((a + 1) * size) asked ≡ drop size (drop (a * size) asked) = ap (λ (k : ℕ). drop k asked) (omega arith) ∙ sym (drop-drop size (a * size) asked) in
+      subst (λ (l : List A). AnswersEach R l (items_of p ++ flat_map (λ q. items_of q) ps)) (ap (λ (l : List A). take size (drop (a * size) asked) ++ l) next ∙ take-append-drop size (drop (a * size) asked)) both
+
+  -- pieces in order answer all that is asked
+  pub answers_in_order : (items_of : Piece → List B) (asked : List A) (size n : ℕ) (ps : List Piece) → numbers_of ps ≡ range_with_len 0 n → length asked ≤ n * size
+      → All (λ p. AnswersEach R (chunk_of asked size p.number) (items_of p)) ps → AnswersEach R asked (flat_map (λ p. items_of p) ps)
+  answers_in_order items_of asked size n ps e enough h = let none : 0 * size ≡ 0 = omega arith in subst (λ (k : ℕ). AnswersEach R (drop k asked) (flat_map (λ p. items_of p) ps)) none (from_chunk items_of asked size 0 n ps e (omega arith) h)
+
+-- answers, seen by view
+module _ {A B C : Type 0} (R : A → C → Type 0) (view : B → C) where
+  pub AnswersEach-map : (xs : List A) (ys : List B) → AnswersEach (λ a b. R a (view b)) xs ys → AnswersEach R xs (map view ys)
+  AnswersEach-map [] [] h = tt
+  AnswersEach-map [] (y ∷ ys) h = absurd h
+  AnswersEach-map (x ∷ xs) [] h = absurd h
+  AnswersEach-map (x ∷ xs) (y ∷ ys) h = (h.0, AnswersEach-map xs ys h.1)
+
+-- there are as many answers as questions
+pub AnswersEach-length : {A B : Type 0} (R : A → B → Type 0) (xs : List A) (ys : List B) → AnswersEach R xs ys → length ys ≡ length xs
+AnswersEach-length R [] [] h = refl
+AnswersEach-length R [] (y ∷ ys) h = absurd h
+AnswersEach-length R (x ∷ xs) [] h = absurd h
+AnswersEach-length R (x ∷ xs) (y ∷ ys) h = ap suc (AnswersEach-length R xs ys h.1)
+
+-- answers that say more say less
+pub AnswersEach-weaker : {A B : Type 0} (R S : A → B → Type 0) (xs : List A) (ys : List B) → ((a : A) (b : B) → R a b → S a b) → AnswersEach R xs ys → AnswersEach S xs ys
+AnswersEach-weaker R S [] [] w h = tt
+AnswersEach-weaker R S [] (y ∷ ys) w h = absurd h
+AnswersEach-weaker R S (x ∷ xs) [] w h = absurd h
+AnswersEach-weaker R S (x ∷ xs) (y ∷ ys) w h = (w x y h.0, AnswersEach-weaker R S xs ys w h.1)
+
+-- what each answer has by itself, seen by view
+pub AnswersEach-All-map : {A B C : Type 0} (R : A → B → Type 0) (P : C → Type 0) (view : B → C) (xs : List A) (ys : List B) → ((a : A) (b : B) → R a b → P (view b)) → AnswersEach R xs ys → All P (map view ys)
+AnswersEach-All-map R P view [] [] w h = All-nil P
+AnswersEach-All-map R P view [] (y ∷ ys) w h = absurd h
+AnswersEach-All-map R P view (x ∷ xs) [] w h = absurd h
+AnswersEach-All-map R P view (x ∷ xs) (y ∷ ys) w h = All-cons P (view y) (map view ys) (w x y h.0) (AnswersEach-All-map R P view xs ys w h.1)

@@ -1,0 +1,37 @@
+-- What a worker makes of the numbers that it draws.
+use Rattle.std.specs.Prelude.{◌≡◌, ℕ, ◌+◌, ◌-◌, ◌≤◌, true, List, All, map, flat_map, IsPermutation, ◌++◌, length}
+use Rattle.std.specs.List.{range_with_len}
+use Rattle.deb_index.specs.Packages.{IndexView}
+use Rattle.deb_verdict.specs.declared.answer.Verdict.{Verdict}
+use Rattle.work_draw.specs.declared.piece.Piece.{Piece}
+use Rattle.work_draw.specs.Board.{DrawerView}
+use Rattle.work_draw.specs.Checks.{AnswersEach, IsFound, chunk_of}
+use Rattle.work_draw.specs.Drawing.{times}
+
+abbrev pub numbers_of : List Piece → List ℕ
+numbers_of pieces = map (λ p. p.number) pieces
+
+-- each piece has the verdicts of its chunk
+abbrev pub AreFound : IndexView → List ℕ → ℕ → List Piece → Type 0
+AreFound index asked size pieces = All (λ p. AnswersEach (IsFound index) (chunk_of asked size p.number) p.verdicts.items) pieces
+
+-- the numbers of the pieces are, in order, those that the drawer gained
+abbrev pub Gains : List ℕ → List Piece → List ℕ → Type 0
+Gains before pieces after = after ≡ before ++ numbers_of pieces
+
+-- the same, but the last number that was gained may lack its piece
+abbrev pub GainsButLast : List ℕ → List Piece → List ℕ → Type 0
+GainsButLast before pieces after = (rest : List ℕ) × (length rest ≤ 1) × (after ≡ (before ++ numbers_of pieces) ++ rest)
+
+-- the pieces are those of the numbers that the drawer gained, each once, in any order
+abbrev pub GainsInAll : List ℕ → List Piece → List ℕ → Type 0
+GainsInAll before pieces after = (n : ℕ) → times n after ≡ times n before + times n (numbers_of pieces)
+
+-- the verdicts of the pieces numbered 0, 1, 2 and so on below the total, one piece after another
+abbrev pub InOrderOfNumber : ℕ → List Piece → List Verdict → Type 0
+InOrderOfNumber total pieces verdicts =
+    (ordered : List Piece) × IsPermutation pieces ordered × (numbers_of ordered ≡ range_with_len 0 total) × (verdicts ≡ flat_map (λ p. p.verdicts.items) ordered)
+
+-- a drawer in which so many workers' drawers were joined, when they were done
+abbrev pub after_crew : DrawerView → ℕ → List ℕ → DrawerView
+after_crew d workers numbers = record { board = d.board; numbers = numbers; spare = d.spare - (workers - 1); held = d.held + (workers - 1); done = true }

@@ -1,0 +1,41 @@
+//! The asked places, cut into chunks.
+ghost use Rattle.std.specs.Prelude.{◌<◌, ◌*◌, All, IfOk, length};
+ghost use Rattle.work_draw.specs.Checks.{AnswersEach, IsFound, chunk_of};
+
+use crate::gate::Gate;
+use deb_index::Index;
+use deb_verdict::{Verdict, verdict};
+use std::alloc::{AllocError, Global};
+
+/// The verdict of each place.
+fn verdicts_of(alloc: Global, index: &Index, places: &[u32]) -> Result<Vec<Verdict>, AllocError>
+    requires { All (λ place. place < length index.now.packages) places.now }
+    ensures { IfOk result (λ v. AnswersEach (IsFound index.now) places.now v.items) }
+{
+    let mut verdicts = Vec::with_capacity(alloc, places.len())?;
+    for place in places {
+        verdicts.push(verdict(alloc, index, *place)?)?;
+    }
+    Ok(verdicts)
+}
+
+/// The verdicts of the chunk with a number, which the gate is told of before and, if all were found, after.
+pub(crate) fn check_chunk<G: Gate>(
+    alloc: Global,
+    index: &Index,
+    asked: &[u32],
+    chunk: u32,
+    number: u32,
+    gate: &G,
+) -> Result<Vec<Verdict>, AllocError>
+    requires begins { number * chunk < length asked.now }
+    requires places { All (λ place. place < length index.now.packages) asked.now }
+    ensures { IfOk result (λ v. AnswersEach (IsFound index.now) (chunk_of asked.now chunk number) v.items) }
+{
+    gate.before(number);
+    let rest = &asked[number as usize * chunk as usize..];
+    let size = rest.len().min(chunk as usize);
+    let verdicts = verdicts_of(alloc, index, &rest[..size])?;
+    gate.after(number);
+    Ok(verdicts)
+}

@@ -1,0 +1,19 @@
+//! What is told of each chunk.
+
+/// Is told of each chunk, by the worker that checks it; shared between threads.
+pub trait Gate {
+    /// Before the chunk with this number, counted from 0, is checked. May wait.
+    fn before(&self, number: u32);
+
+    /// After all verdicts of the chunk were found. May wait.
+    fn after(&self, number: u32);
+}
+
+/// Lets every chunk through at once.
+pub struct OpenGate;
+
+impl Gate for OpenGate {
+    fn before(&self, _number: u32) {}
+
+    fn after(&self, _number: u32) {}
+}

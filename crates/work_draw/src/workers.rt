@@ -1,0 +1,117 @@
+//! Workers that draw chunks and find their verdicts.
+ghost use Rattle.std.specs.Prelude.{◌≡◌, ◌+◌, ◌<◌, ◌≤◌, true, false, All, IfOk, length};
+ghost use Rattle.std.specs.Thread.{IsSync};
+ghost use Rattle.work_draw.specs.Checks.{chunk_count};
+ghost use Rattle.work_draw.specs.Pieces.{AreFound, Gains, GainsButLast, GainsInAll, after_crew};
+
+use crate::board::{Board, Drawer};
+use crate::chunks::check_chunk;
+use crate::gate::Gate;
+use crate::piece::{Drawn, Piece};
+use deb_index::Index;
+use std::alloc::{AllocError, Global};
+use std::thread;
+use std::thread::Threads;
+
+/// What each worker runs: draws until no number is left, and makes a piece of each, in the order of the draws.
+/// Where memory is refused it stops with `refused`, and the last number drawn may lack its piece; else the drawer is done.
+/// It waits for the gate alone.
+pub fn draw_pieces<G: Gate>(
+    alloc: Global,
+    index: &Index,
+    asked: &[u32],
+    chunk: u32,
+    board: &Board,
+    mut drawer: Drawer,
+    gate: &G,
+) -> Drawn
+    requires board { drawer.board ≡ board.now }
+    requires places { All (λ place. place < length index.now.packages) asked.now }
+    requires chunk { 0 < chunk }
+    requires total { board.now.total ≡ chunk_count asked.now chunk }
+    ensures same { result.drawer ≡ record drawer { numbers = result.drawer.numbers; done = result.drawer.done } }
+    ensures gained { result.refused ≡ false → (result.drawer.done ≡ true) × Gains drawer.numbers result.pieces.items result.drawer.numbers }
+    ensures refused { GainsButLast drawer.numbers result.pieces.items result.drawer.numbers }
+    ensures found { AreFound index.now asked.now chunk result.pieces.items }
+{
+    let mut pieces = Vec::new(alloc);
+    while let Some(number) = board.draw(&mut drawer) {
+        let Ok(verdicts) = check_chunk(alloc, index, asked, chunk, number, gate) else {
+            return Drawn {
+                drawer,
+                pieces,
+                refused: true,
+            };
+        };
+        if pieces.push(Piece { number, verdicts }).is_err() {
+            return Drawn {
+                drawer,
+                pieces,
+                refused: true,
+            };
+        }
+    }
+    Drawn {
+        drawer,
+        pieces,
+        refused: false,
+    }
+}
+
+/// So many workers at once, each by `draw_pieces`, on drawers that are split off and joined again. The pieces are those of
+/// the numbers that the drawer gained, each once, in any order. After a want of memory the drawers are gone, and the draws stand.
+pub fn crew<G: Gate + Sync, R: Threads + Sync>(
+    rt: &R,
+    alloc: Global,
+    index: &Index,
+    asked: &[u32],
+    chunk: u32,
+    board: &Board,
+    drawer: Drawer,
+    workers: u32,
+    gate: &G,
+) -> Result<(Drawer, Vec<Piece>), AllocError>
+    requires board { drawer.board ≡ board.now }
+    requires places { All (λ place. place < length index.now.packages) asked.now }
+    requires chunk { 0 < chunk }
+    requires total { board.now.total ≡ chunk_count asked.now chunk }
+    requires workers { (0 < workers) × (workers ≤ drawer.spare + 1) }
+    ensures drawer { IfOk result (λ r. r.0 ≡ after_crew drawer workers r.0.numbers) }
+    ensures gained { IfOk result (λ r. GainsInAll drawer.numbers r.1.items r.0.numbers) }
+    ensures found { IfOk result (λ r. AreFound index.now asked.now chunk r.1.items) }
+{
+    if workers == 1 {
+        let Drawn {
+            drawer,
+            pieces,
+            refused,
+        } = draw_pieces(alloc, index, asked, chunk, board, drawer, gate);
+        return if refused {
+            Err(AllocError)
+        } else {
+            Ok((drawer, pieces))
+        };
+    }
+    let half = workers / 2;
+    let rest = workers - half;
+    let (mine, theirs) = board.split(drawer, half - 1);
+    let (first, second) = thread::join(
+        rt,
+        move || -> Result<(Drawer, Vec<Piece>), AllocError>
+            requires { IsSync R.row × IsSync G.row × (theirs.board ≡ board.now) × All (λ place. place < length index.now.packages) asked.now × (0 < chunk) × (board.now.total ≡ chunk_count asked.now chunk) × (0 < half) × (half ≤ theirs.spare + 1) }
+            ensures drawer { IfOk result (λ r. r.0 ≡ after_crew theirs half r.0.numbers) }
+            ensures gained { IfOk result (λ r. GainsInAll theirs.numbers r.1.items r.0.numbers) }
+            ensures found { IfOk result (λ r. AreFound index.entry.now asked.entry.now chunk r.1.items) }
+        { crew(rt, alloc, index, asked, chunk, board, theirs, half, gate) },
+        move || -> Result<(Drawer, Vec<Piece>), AllocError>
+            requires { IsSync R.row × IsSync G.row × (mine.board ≡ board.now) × All (λ place. place < length index.now.packages) asked.now × (0 < chunk) × (board.now.total ≡ chunk_count asked.now chunk) × (0 < rest) × (rest ≤ mine.spare + 1) }
+            ensures drawer { IfOk result (λ r. r.0 ≡ after_crew mine rest r.0.numbers) }
+            ensures gained { IfOk result (λ r. GainsInAll mine.numbers r.1.items r.0.numbers) }
+            ensures found { IfOk result (λ r. AreFound index.entry.now asked.entry.now chunk r.1.items) }
+        { crew(rt, alloc, index, asked, chunk, board, mine, rest, gate) },
+    );
+    let (other, mut pieces) = first?;
+    let (drawer, mut more) = second?;
+    pieces.append(&mut more)?;
+    Ok((board.join(drawer, other), pieces))
+}
