@@ -15,4 +15,6 @@ pub use answer::Verdict;
 pub use decision::{closure, verdict};
 
 #[cfg(test)]
+mod comparison;
+#[cfg(test)]
 mod tests;

@@ -7,7 +7,7 @@ use std::process::Abort;
 use std::test::Fail;
 
 /// The index of a text for amd64.
-fn read(alloc: Global, text: &[u8], essential: bool) -> Result<Index, Fail> {
+pub fn read(alloc: Global, text: &[u8], essential: bool) -> Result<Index, Fail> {
     if text.len() > 100_000 {
         Err::<(), &str>("the text is long")?;
     }
@@ -15,14 +15,14 @@ fn read(alloc: Global, text: &[u8], essential: bool) -> Result<Index, Fail> {
     Ok(index)
 }
 
-fn is_found(found: &Verdict, wanted: &[u32]) -> bool {
+pub fn is_found(found: &Verdict, wanted: &[u32]) -> bool {
     match found {
         Verdict::Ok(places) => places.as_slice() == wanted,
         Verdict::Broken(_) => false,
     }
 }
 
-fn is_broken(found: &Verdict, wanted: &[Constraint]) -> bool {
+pub fn is_broken(found: &Verdict, wanted: &[Constraint]) -> bool {
     match found {
         Verdict::Ok(_) => false,
         Verdict::Broken(core) => core.as_slice() == wanted,

@@ -31,9 +31,19 @@ fn each_cut_has_its_answer(rt: HostRuntime) -> Result<(), Fail> {
         let front = ALTERNATIVES.get(..len).ok_or("the text is longer")?;
         let found = outcome_of(&rt, rt.alloc(), front, 1, 64)?;
         let (fault, line) = wanted(len);
-        assert!(rt; found.fault.as_slice() == fault.as_bytes(), "the fault of {len} bytes");
-        assert_eq!(rt; found.report.is_empty(), !fault.is_empty(), "nothing is written under a fault");
-        assert!(rt; contains(found.report.as_slice(), line.as_bytes()), "the report of {len} bytes");
+        assert!(rt;
+            found.fault.as_slice() == fault.as_bytes(),
+            "the fault of {len} bytes"
+        );
+        assert_eq!(rt;
+            found.report.is_empty(),
+            !fault.is_empty(),
+            "nothing is written under a fault"
+        );
+        assert!(rt;
+            contains(found.report.as_slice(), line.as_bytes()),
+            "the report of {len} bytes"
+        );
     }
     Ok(())
 }

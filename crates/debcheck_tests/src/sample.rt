@@ -2,10 +2,9 @@
 
 use crate::example::Example;
 
-pub const EXAMPLES: [Example; 1] = [
-    Example {
-        name: "sample",
-        text: "Package: r3a
+pub const EXAMPLES: [Example; 1] = [Example {
+    name: "sample",
+    text: "Package: r3a
 Version: 1
 Architecture: all
 Depends: r3b
@@ -86,7 +85,7 @@ Version: 1
 Architecture: all
 Depends: r8n (= 2)
 ",
-        report: "architecture: amd64
+    report: "architecture: amd64
 report:
  -
   package: r3a
@@ -223,7 +222,6 @@ duplicates: 0
 asked: 17
 broken: 6
 ",
-        fault: "",
-        status: 1,
-    },
-];
+    fault: "",
+    status: 1,
+}];

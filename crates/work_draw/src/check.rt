@@ -53,7 +53,9 @@ fn check_chunks<G: Gate + Sync, R: Threads + Sync>(
 {
     let total = asked.len().div_ceil(chunk as usize) as u32;
     let (board, drawer) = new_board(alloc, total)?;
-    let (drawer, pieces) = crew(rt, alloc, index, asked, chunk, &board, drawer, workers, gate)?;
+    let (drawer, pieces) = crew(
+        rt, alloc, index, asked, chunk, &board, drawer, workers, gate,
+    )?;
     let complete = board.close(drawer);
     prove!(complete);
     gather(alloc, total, pieces)

@@ -9,11 +9,7 @@ use std::alloc::{AllocError, Global};
 
 /// The verdicts of the pieces by rising number, where each number below `total` stands once and no other does.
 /// The pieces are consumed, also where memory is refused.
-pub fn gather(
-    alloc: Global,
-    total: u32,
-    mut pieces: Vec<Piece>,
-) -> Result<Vec<Verdict>, AllocError>
+pub fn gather(alloc: Global, total: u32, mut pieces: Vec<Piece>) -> Result<Vec<Verdict>, AllocError>
     requires { HoldsEachOnce total (numbers_of pieces.items) }
     ensures { IfOk result (λ all. InOrderOfNumber total pieces.items all.items) }
 {

@@ -94,4 +94,3 @@ fn two_threads_draw_each_number_once(rt: HostRuntime) -> Result<(), Fail> {
     assert!(rt; board.close(drawer));
     Ok(())
 }
-

@@ -1,0 +1,227 @@
+//! The verdicts of small generated indexes, compared with all sets of places and all sets of positions.
+
+ghost use Rattle.std.specs.Prelude.{◌<◌};
+
+use super::*;
+use crate::reached::listed;
+use crate::tests::{is_broken, is_found, read};
+use deb_index::{Constraint, Index};
+use deb_relation::Atom;
+use std::alloc::{AllocError, Global};
+use std::process::Abort;
+use std::test::Fail;
+
+/// The next set in the order, where the last number changes first; nothing comes after the set of all.
+fn advance(set: &mut [bool]) -> bool {
+    for mark in set.iter_mut().rev() {
+        if !*mark {
+            *mark = true;
+            return true;
+        }
+        *mark = false;
+    }
+    false
+}
+
+fn has(set: &[bool], number: usize) -> bool {
+    set.get(number).copied().unwrap_or(false)
+}
+
+fn some_meets(index: &Index, set: &[bool], atom: &Atom, but: Option<u32>) -> bool {
+    for q in 0..index.len() {
+        if has(set, q as usize) && but != Some(q) && index.meets(q, atom) {
+            return true;
+        }
+    }
+    false
+}
+
+fn count_named(index: &Index, set: &[bool], name: u32) -> u32 {
+    let mut count = 0u32;
+    for q in 0..index.len() {
+        if has(set, q as usize)
+            && name < index.name_count()
+            && index.package(q).name.as_slice() == index.name_text(name)
+        {
+            count = count.saturating_add(1);
+        }
+    }
+    count
+}
+
+fn is_answered(index: &Index, set: &[bool], p: u32, number: u32) -> bool {
+    if p >= index.len() {
+        return false;
+    }
+    let item = index.package(p);
+    let groups = item.pre_depends.iter().chain(item.depends.iter());
+    for (k, group) in groups.enumerate() {
+        if k == number as usize {
+            for atom in group {
+                if some_meets(index, set, atom, None) {
+                    return true;
+                }
+            }
+        }
+    }
+    false
+}
+
+fn is_hit(index: &Index, set: &[bool], p: u32, number: u32) -> bool {
+    if p >= index.len() {
+        return false;
+    }
+    let item = index.package(p);
+    let entries = item.conflicts.iter().chain(item.breaks.iter());
+    for (k, atom) in entries.enumerate() {
+        if k == number as usize && some_meets(index, set, atom, Some(p)) {
+            return true;
+        }
+    }
+    false
+}
+
+fn holds(index: &Index, set: &[bool], constraint: Constraint) -> bool {
+    match constraint {
+        Constraint::Essential(name) => count_named(index, set, name) > 0,
+        Constraint::Need(p, number) => {
+            !has(set, p as usize) || is_answered(index, set, p, number)
+        }
+        Constraint::Apart(p, number) => !has(set, p as usize) || !is_hit(index, set, p, number),
+        Constraint::Only(name) => count_named(index, set, name) < 2,
+    }
+}
+
+fn all_hold(index: &Index, set: &[bool], constraints: &[Constraint], chosen: &[bool]) -> bool {
+    for (k, constraint) in constraints.iter().enumerate() {
+        if has(chosen, k) && !holds(index, set, *constraint) {
+            return false;
+        }
+    }
+    true
+}
+
+/// The first of all sets of places with a package that meets the chosen constraints.
+fn first_set(
+    alloc: Global,
+    index: &Index,
+    p: u32,
+    constraints: &[Constraint],
+    chosen: &[bool],
+) -> Result<Option<Vec<bool>>, AllocError> {
+    let mut set = vec![in alloc; false; index.len() as usize]?;
+    for _ in 0..100_000 {
+        if has(&set, p as usize) && all_hold(index, &set, constraints, chosen) {
+            return Ok(Some(set));
+        }
+        if !advance(&mut set) {
+            return Ok(None);
+        }
+    }
+    Ok(None)
+}
+
+/// The first of all sets of positions whose constraints no set with the package meets.
+fn first_core(
+    alloc: Global,
+    index: &Index,
+    p: u32,
+    constraints: &[Constraint],
+) -> Result<Vec<Constraint>, AllocError> {
+    let mut chosen = vec![in alloc; false; constraints.len()]?;
+    for _ in 0..100_000 {
+        if first_set(alloc, index, p, constraints, &chosen)?.is_none() {
+            break;
+        }
+        if !advance(&mut chosen) {
+            break;
+        }
+    }
+    let mut core = Vec::new(alloc);
+    for (k, constraint) in constraints.iter().enumerate() {
+        if has(&chosen, k) {
+            core.push(*constraint)?;
+        }
+    }
+    Ok(core)
+}
+
+fn line(choice: u32) -> &'static str {
+    match choice {
+        0 => "Depends: b\n",
+        1 => "Depends: a | c\n",
+        2 => "Depends: c (>> 1)\n",
+        3 => "Pre-Depends: v\n",
+        4 => "Conflicts: b\n",
+        5 => "Conflicts: v\nProvides: v\n",
+        6 => "Breaks: a (<< 2)\n",
+        7 => "Provides: b (= 2)\n",
+        8 => "Essential: yes\n",
+        9 => "Depends: b (= 2), a\n",
+        _ => "",
+    }
+}
+
+fn head(choice: u32) -> &'static str {
+    match choice {
+        0 => "Package: a\nVersion: 1\nArchitecture: all\n",
+        1 => "Package: b\nVersion: 1\nArchitecture: all\n",
+        2 => "Package: c\nVersion: 2\nArchitecture: all\n",
+        _ => "Package: a\nVersion: 2\nArchitecture: all\n",
+    }
+}
+
+/// Some number below a limit, and the next seed.
+fn draw(seed: &mut u32, limit: u32) -> u32
+    requires { 0 < limit }
+{
+    *seed = seed.wrapping_mul(1_664_525).wrapping_add(1_013_904_223);
+    (*seed >> 16) % limit
+}
+
+/// A text of three or four packages.
+fn generated(alloc: Global, seed: u32) -> Result<String, AllocError> {
+    let mut seed = seed;
+    let mut text = String::new(alloc);
+    for k in 0..4 {
+        let choice = draw(&mut seed, 4);
+        text.push_str(head(if k < 3 { k } else { choice }))?;
+        text.push_str(line(draw(&mut seed, 12)))?;
+        text.push_str("\n")?;
+    }
+    Ok(text)
+}
+
+/// Compares all verdicts of an index, and counts those that are broken.
+fn compare(rt: &impl Abort, alloc: Global, index: &Index, broken: &mut u32) -> Result<(), Fail> {
+    let constraints = index.constraints(alloc)?;
+    let all = vec![in alloc; true; constraints.len()]?;
+    for p in 0..index.len() {
+        let found = verdict(alloc, index, p)?;
+        match first_set(alloc, index, p, &constraints, &all)? {
+            Some(set) => {
+                assert!(rt; set.len() < 1000);
+                let places = listed(alloc, &set)?;
+                assert!(rt; is_found(&found, &places));
+            }
+            None => {
+                let core = first_core(alloc, index, p, &constraints)?;
+                assert!(rt; is_broken(&found, &core));
+                *broken = broken.saturating_add(1);
+            }
+        }
+    }
+    Ok(())
+}
+
+#[test]
+fn as_all_sets_say(rt: HostRuntime) -> Result<(), Fail> {
+    let mut broken = 0u32;
+    for seed in 0..60 {
+        let text = generated(rt.alloc(), seed)?;
+        let index = read(rt.alloc(), text.as_bytes(), true)?;
+        compare(&rt, rt.alloc(), &index, &mut broken)?;
+    }
+    assert!(rt; broken > 20 && broken < 180);
+    Ok(())
+}

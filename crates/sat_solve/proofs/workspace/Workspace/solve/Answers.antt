@@ -1,0 +1,34 @@
+use Rattle.std.proofs.Common.{◌<◌, subst, arith}
+use Rattle.sat_solve.specs.Solving.{IsProgress, height}
+use Rattle.sat_solve.proofs.SolverLemmas.{first_found, work_left_falls}
+use Rattle.sat_solve.proofs.workspace.Workspace.solve.Goals as goal
+use Rattle.sat_solve.proofs.workspace.Workspace.solve.Goals.{in-Some+in_ok-turn+else-not-branch, in_default}
+
+pub returns-then-not-branch-clause-none : goal.returns-then-not-branch-clause-none
+returns-then-not-branch-clause-none c = c.in_ok-turn.ensures.none c.if-not-branch.true
+
+pub rounds-init : goal.rounds-init
+rounds-init c =
+    elim c.match-branch-5.branch [
+      | in-Some+in_ok-turn+else-not-branch w ↦ rw w.self-is w.in_ok-turn.ensures.solver
+      | in_default w ↦ rw w.self-is c.in_ok-fault.ensures.solver
+    ]
+
+pub rounds-smaller-in-Going : goal.rounds-smaller-in-Going
+rounds-smaller-in-Going c =
+    work_left_falls c.args.question.now c.rounds.self.solver c.advance.new.self.solver c.rounds.invariant
+    (subst (IsProgress c.args.question.now c.rounds.self.solver c.advance.new.self.solver) c.in-Going.is c.in_ok-advance.ensures.came_to)
+
+pub returns-then-not-branch-2-clause-none : goal.returns-then-not-branch-2-clause-none
+returns-then-not-branch-2-clause-none c = c.in_ok-turn-in-Lost.ensures.none c.if-not-branch-2.true
+
+pub rounds-smaller : goal.rounds-smaller
+rounds-smaller c =
+    let higher : height c.args.question.now c.advance.new.self.solver < height c.args.question.now c.turn-in-Lost.new.self.solver = c.in_ok-turn-in-Lost.ensures.turned c.if-not-branch-2.false in
+    work_left_falls c.args.question.now c.rounds.self.solver c.turn-in-Lost.new.self.solver c.rounds.invariant (omega (arith, c.in_ok-advance.ensures.rises))
+
+pub returns-in-Done-clause-first : goal.returns-in-Done-clause-first
+returns-in-Done-clause-first c =
+    first_found c.args.question.now c.advance.new.self.solver c.in_ok-members-in-Done.field-0.items c.in_ok-advance.ensures.solver
+    (subst (IsProgress c.args.question.now c.rounds.self.solver c.advance.new.self.solver) c.in-Done.is c.in_ok-advance.ensures.came_to)
+    c.in_ok-members-in-Done.ensures.same
