@@ -1,0 +1,34 @@
+//! How long it takes to read the index on standard input. What was measured goes to standard error.
+#![tactic(auto)]
+
+use deb_index::Index;
+use std::alloc::{AllocError, Global};
+use std::io;
+use std::io::Read;
+use std::time::Instant;
+
+/// The bytes of the longest index.
+const LIMIT: usize = 268_435_456;
+
+fn measure(rt: &HostRuntime, alloc: Global, text: &[u8]) -> io::Result<()> {
+    if text.len() > LIMIT {
+        return eprintln!(rt; "the index is too long");
+    }
+    let start = Instant::now(rt)?;
+    let answer = Index::read(alloc, text, "amd64", true);
+    let millis = start.elapsed(rt)?.as_millis();
+    match answer {
+        Ok(index) => {
+            let (packages, stanzas, names) = (index.len(), index.stanzas(), index.name_count());
+            eprintln!(rt; "{millis} ms for {packages} packages of {stanzas} stanzas, {names} names")
+        }
+        Err(fault) => eprintln!(rt; "{millis} ms, and a fault: {fault}"),
+    }
+}
+
+fn main(rt: HostRuntime) -> io::Result<()> {
+    let alloc = rt.alloc();
+    let mut text = Vec::new(alloc);
+    rt.reader().read_to_end(&mut text)?;
+    measure(&rt, alloc, &text)
+}
