@@ -256,3 +256,28 @@ fn refusals(rt: HostRuntime) {
         assert!(rt; read(alloc, text, true).err() == Some(fault));
     }
 }
+
+// Copies of one stanza, with an empty line behind each.
+fn copies(alloc: Global, count: u32) -> Result<Vec<u8>, AllocError> {
+    let mut text = Vec::new(alloc);
+    for _ in 0..count {
+        text.extend_from_slice(b"Package: a\nVersion: 1\nArchitecture: all\n\n")?;
+    }
+    Ok(text)
+}
+
+#[test]
+fn a_stanza_too_many(rt: HostRuntime) -> Result<(), Fail> {
+    let alloc = rt.alloc();
+    let mut text = copies(alloc, 1_048_576)?;
+    assert!(rt; text.len() <= BYTE_LIMIT);
+    let index = Index::read(alloc, &text, "amd64", true)?;
+    assert_eq!(rt; index.len(), 1);
+    assert_eq!(rt; index.stanzas(), 1_048_576);
+    assert_eq!(rt; index.duplicates(), 1_048_575);
+    text.extend_from_slice(b"no stanza")?;
+    assert!(rt; text.len() <= BYTE_LIMIT);
+    let fault = Index::read(alloc, &text, "amd64", true).err();
+    assert!(rt; fault == Some(IndexError::TooManyStanzas { stanza: 1_048_577 }));
+    Ok(())
+}
