@@ -73,7 +73,7 @@ unfolding first_of_each
 first-short same [] = omega arith
 first-short same (x ∷ xs) = omega (arith, first-short same xs, filter-short (λ y. not (same x y)) (first_of_each same xs))
 
-where-short : {A : Type 0} (test : A → Bool) (xs : List A) → length (places_where test xs) ≤ length xs
+pub where-short : {A : Type 0} (test : A → Bool) (xs : List A) → length (places_where test xs) ≤ length xs
 unfolding places_where
 where-short {A} test xs = omega (arith, length-map (filter (λ (e : ℕ × A). test e.1) (enumerate_from 0 xs)) (λ (e : ℕ × A). e.0), filter-short (λ (e : ℕ × A). test e.1) (enumerate_from 0 xs), length-enumerate_from 0 xs)
 

@@ -87,18 +87,19 @@ module _ (index : IndexView) (ks : List (List ℕ)) (vs : List (Vec ℕ Global))
       sym (length-map vs (λ (v : Vec ℕ Global). v.items)) ∙ ap length t.lists_are
       ∙ length-map ks (λ name. items_of name (named_places index.packages)) ∙ ap length (table-names index.packages t)
 
-  module _ (i : ℕ) (v : Vec ℕ Global) (within : i < length vs) (at : v ≡ get_or vs i v) (may : index.with_essential ≡ true) where
-    list-is : v.items ≡ places_where (is_named (name_at index i)) index.packages
-    list-is =
-        let keys : i < length ks = subst (λ n. i < n) (lists-count ∙ sym (ap length (table-names index.packages t))) within in
-        ap (λ (w : Vec ℕ Global). w.items) at ∙ sym (get_or-map (λ (w : Vec ℕ Global). w.items) vs i v [] within)
-        ∙ ap (λ (l : List (List ℕ)). get_or l i []) t.lists_are ∙ get_or-map (λ name. items_of name (named_places index.packages)) ks i [] [] keys
-        ∙ ap (λ (l : List (List ℕ)). items_of (get_or l i []) (named_places index.packages)) (table-names index.packages t)
-        ∙ items-places (name_at index i) index.packages
+  -- the list at a name's number has the places of the name
+  pub list-is : (i : ℕ) (v : Vec ℕ Global) → i < length vs → v ≡ get_or vs i v → v.items ≡ places_where (is_named (name_at index i)) index.packages
+  list-is i v within at =
+      let keys : i < length ks = subst (λ n. i < n) (lists-count ∙ sym (ap length (table-names index.packages t))) within in
+      ap (λ (w : Vec ℕ Global). w.items) at ∙ sym (get_or-map (λ (w : Vec ℕ Global). w.items) vs i v [] within)
+      ∙ ap (λ (l : List (List ℕ)). get_or l i []) t.lists_are ∙ get_or-map (λ name. items_of name (named_places index.packages)) ks i [] [] keys
+      ∙ ap (λ (l : List (List ℕ)). items_of (get_or l i []) (named_places index.packages)) (table-names index.packages t)
+      ∙ items-places (name_at index i) index.packages
 
+  module _ (i : ℕ) (v : Vec ℕ Global) (within : i < length vs) (at : v ≡ get_or vs i v) (may : index.with_essential ≡ true) where
     essential-is : is_essential index (name_at index i) ≡ list_any (is_marked index) v.items
     essential-is = ap (λ b. b && list_any (λ (p : PackageView). is_named (name_at index i) p && p.essential) index.packages) may
-        ∙ sym (ap (list_any (is_marked index)) list-is ∙ marked-places (is_named (name_at index i)) index.packages)
+        ∙ sym (ap (list_any (is_marked index)) (list-is i v within at) ∙ marked-places (is_named (name_at index i)) index.packages)
 
     pub essential-step : places_where (is_essential index) (take (i + 1) (names index)) ≡ places_where (is_essential index) (take i (names index)) ++ cond (list_any (is_marked index) v.items) (i ∷ []) []
     essential-step =

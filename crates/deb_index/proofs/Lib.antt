@@ -19,3 +19,8 @@ pub mod NameLemmas
 pub mod ProvidedLemmas
 pub mod ListingLemmas
 pub mod EssentialLemmas
+pub mod SpanLemmas
+pub mod MergeLemmas
+pub mod RowLemmas
+pub mod PartLemmas
+pub mod LinkLemmas

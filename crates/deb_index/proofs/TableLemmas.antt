@@ -3,6 +3,7 @@ use Rattle.std.proofs.Common.{◌≡◌, ◌<◌, ◌+◌, ℕ, Bool, true, fals
 use Prim.Native.Nat.{suc}
 use Rattle.std.specs.List.{list_any, position, position_or_len}
 use Rattle.std.specs.Option.{option_map}
+use Rattle.std.specs.Prelude.{unwrap_or}
 use Rattle.std.specs.Str.{bytes_eq}
 use Rattle.std.proofs.lemmas.List.{map-append, append-nil, get_or-map, length-map, map-set}
 use Rattle.std.proofs.lemmas.List.Elements.{filter-append}
@@ -239,3 +240,15 @@ module _ {T : Type 0} where
         let put : IsTable (pairs ++ (name, x) ∷ []) (map bytes keys ++ name ∷ []) (map items vs ++ (x ∷ []) ∷ []) = put-new name x t e in
         subst (λ l. IsTable (pairs ++ (name, x) ∷ []) l (map items (vs ++ v ∷ []))) longer
         (subst (λ l. IsTable (pairs ++ (name, x) ∷ []) (map bytes keys ++ name ∷ []) l) (ap (λ w. map items vs ++ w ∷ []) (sym one) ∙ sym (map-append items vs (v ∷ []))) put)
+
+-- a name that is there has a number, and stands at it
+pub number-named : (name : List ℕ) (ks : List (List ℕ)) → list_any (bytes_eq name) ks ≡ true → (unwrap_or (number_in name ks) 0 < length ks) × (get_or ks (unwrap_or (number_in name ks) 0) [] ≡ name)
+number-named name ks h = by (number_in name ks) refl
+  where
+    named : (ks : List (List ℕ)) → map (λ k. k) ks ≡ ks
+    named [] = refl
+    named (k ∷ ks) = ap (λ r. k ∷ r) (named ks)
+
+    by : (o : Option ℕ) → number_in name ks ≡ o → (unwrap_or o 0 < length ks) × (get_or ks (unwrap_or o 0) [] ≡ name)
+    by None e = absurd (false≢true (sym (none-any name ks e) ∙ h))
+    by (Some i) e = (number-within name ks i e, ap (λ l. get_or l i []) (sym (named ks)) ∙ get-there name (λ k. k) ks i [] e)

@@ -14,10 +14,10 @@ use Rattle.deb_index.specs.Walk.{behind, first_place}
 use Rattle.deb_index.proofs.MemberLemmas.{from_fail, from_pass, member-places_where, places_from}
 use Rattle.deb_index.proofs.RisingLemmas.{IsRising, is_in, where-rising}
 
-some-same : (i j : ℕ) → Some i ≡ Some j → i ≡ j
+pub some-same : (i j : ℕ) → Some i ≡ Some j → i ≡ j
 some-same i j e = cc
 
-none-some : (i : ℕ) → None ≡ Some i → ⊥
+pub none-some : (i : ℕ) → None ≡ Some i → ⊥
 none-some i e = cc
 
 -- places that do not fall, from a first one on, all below a limit
@@ -29,16 +29,16 @@ from-earlier : (n m limit : ℕ) (xs : List ℕ) → m ≤ n → IsFrom n limit 
 from-earlier n m limit [] less r = tt
 from-earlier n m limit (x ∷ xs) less r = (omega (arith, r.0), r.1, r.2)
 
-from-rising : (n limit : ℕ) (xs : List ℕ) → IsRising n limit xs → IsFrom n limit xs
+pub from-rising : (n limit : ℕ) (xs : List ℕ) → IsRising n limit xs → IsFrom n limit xs
 from-rising n limit [] r = tt
 from-rising n limit (x ∷ xs) r = (r.0, r.1, from-earlier (x + 1) x limit xs (omega arith) (from-rising (x + 1) limit xs r.2))
 
 -- ---- one step of the walk
 
-behind-yes : (p x : ℕ) (xs : List ℕ) → x ≤ p → behind p (x ∷ xs) ≡ behind p xs
+pub behind-yes : (p x : ℕ) (xs : List ℕ) → x ≤ p → behind p (x ∷ xs) ≡ behind p xs
 behind-yes p x xs less = let h = le-leb x p less in rw h refl
 
-behind-no : (p x : ℕ) (xs : List ℕ) → p < x → behind p (x ∷ xs) ≡ x ∷ xs
+pub behind-no : (p x : ℕ) (xs : List ℕ) → p < x → behind p (x ∷ xs) ≡ x ∷ xs
 behind-no p x xs more = let h = lt-leb x p more in rw h refl
 
 behind-from : (p limit : ℕ) (xs : List ℕ) → IsFrom p limit xs → IsFrom (suc p) limit (behind p xs)
@@ -68,7 +68,7 @@ behind-short p (x ∷ xs) =
 behind-shorter : (p x : ℕ) (xs : List ℕ) → x ≤ p → length (behind p (x ∷ xs)) < length (x ∷ xs)
 behind-shorter p x xs less = omega (arith, ap (λ (l : List ℕ). length l) (behind-yes p x xs less), behind-short p xs)
 
-shorter : (xs ys : List ℕ) (p : ℕ) → first_place xs ys ≡ Some p → length (behind p xs) + length (behind p ys) < length xs + length ys
+pub shorter : (xs ys : List ℕ) (p : ℕ) → first_place xs ys ≡ Some p → length (behind p xs) + length (behind p ys) < length xs + length ys
 shorter [] [] p e = absurd (none-some p e)
 shorter (x ∷ xs) [] p e = let same = some-same x p e in omega (arith, behind-shorter p x xs (omega arith))
 shorter [] (y ∷ ys) p e = let same = some-same y p e in omega (arith, behind-shorter p y ys (omega arith))

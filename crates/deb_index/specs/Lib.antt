@@ -4,3 +4,5 @@ pub mod Meets
 pub mod Constraints
 pub mod Tables
 pub mod Walk
+pub mod Rows
+pub mod Links

@@ -1,17 +1,18 @@
 //! The index of a text.
-ghost use Rattle.std.specs.Prelude.{◌≡◌, ◌≢◌, ◌<◌, ◌≤◌, ◌+◌, ◌^◌, All, IfOk, IfErr, Ok, Err, OnOk, IsTrue, [], ◌++◌, length, map, sum_by, Some, None, position, slice_get, slice_index_or};
-ghost use Rattle.std.specs.Option.{option_map, option_copied};
+ghost use Rattle.std.specs.Prelude.{◌≡◌, ◌≢◌, ◌<◌, ◌≤◌, ◌+◌, ◌^◌, All, IfOk, IfErr, Ok, Err, OnOk, IfSome, IsTrue, [], ◌++◌, length, map, sum_by, position, nat_le};
+ghost use Rattle.std.specs.Option.{is_some};
 ghost use Rattle.std.specs.Str.{bytes_eq};
 ghost use Rattle.deb_relation.specs.AtomView.{atom_view};
 ghost use Rattle.deb_index.specs.Packages.{package_view, names, places_of, essential_names, needs_at, aparts_at, need_at, apart_at, package_at, name_at};
 ghost use Rattle.deb_index.specs.Reading.{Gives, index_of, byte_limit, stanza_limit};
-ghost use Rattle.deb_index.specs.Meets.{meets_at, satisfiers, provided_at};
+ghost use Rattle.deb_index.specs.Meets.{meets_at, satisfiers, group_satisfiers, provided_at};
 ghost use Rattle.deb_index.specs.Constraints.{constraints_at, constraints_of, IsOfIndex};
 ghost use Rattle.deb_index.specs.Tables.{asked_count, asked_limit};
-ghost use Rattle.deb_index.specs.Walk.{behind, first_place};
+ghost use Rattle.deb_index.specs.Rows.{candidate_count, group_candidates, row_limit};
 
 use crate::constraint::Constraint;
 use crate::error::IndexError;
+use crate::links::Links;
 use crate::package::{Package, next_reading};
 use crate::tables::Tables;
 use deb_control::Reader;
@@ -25,17 +26,19 @@ use std::marker::Model;
 pub struct Index {
     tables: Tables,
     essential: Vec<u32>,
+    links: Links,
 }
 
 impl Model for Index {
     ghost use Rattle.std.specs.Prelude.{◌≡◌};
     ghost use Rattle.deb_index.specs.Packages.{IndexView, essential_names};
+    ghost use Rattle.deb_index.specs.Links.{IsLinked};
 
     ghost Value = { IndexView };
 
     ghost view = { λ i. i.tables };
 
-    ghost invariant = { λ i. i.essential.items ≡ essential_names i.tables };
+    ghost invariant = { λ i. (i.essential.items ≡ essential_names i.tables) × IsLinked i.tables i.tables.packages i.links };
 }
 
 impl Index {
@@ -61,13 +64,20 @@ impl Index {
             tables.add(alloc, reading)?;
         }
         let essential = tables.essential_names(alloc)?;
-        Ok(Index { tables, essential })
+        let links = Links::of(alloc, &tables)?;
+        Ok(Index {
+            tables,
+            essential,
+            links,
+        })
     }
 
-    /// How many packages there are: at most 1,048,576, the most stanzas that a text may have.
+    /// How many packages there are: at most 1,048,576, the most stanzas that a text may have. Together they have at most
+    /// 2,147,483,648 groups and entries.
     pub fn len(&self) -> u32
         ensures value { result ≡ length self.now.packages }
         ensures few { length self.now.packages ≤ stanza_limit }
+        ensures few_asked { sum_by asked_count self.now.packages ≤ asked_limit }
     {
         self.tables.len()
     }
@@ -152,6 +162,64 @@ impl Index {
         self.package(place).apart(number)
     }
 
+    /// The places of the packages of the name with a number, rising; the number is below `name_count`.
+    pub fn places_named(&self, number: u32) -> &[u32]
+        requires { number < length (names self.now) }
+        ensures { result.now ≡ places_of self.now (name_at self.now number) }
+    {
+        self.tables.places_named(number)
+    }
+
+    /// The places of all packages that have the name of the package at a place, rising; the place is among them.
+    pub fn versions_of(&self, place: u32) -> &[u32]
+        requires { place < length self.now.packages }
+        ensures { result.now ≡ places_of self.now (package_at self.now place).name }
+    {
+        self.tables.places_named(self.links.numbers[place as usize])
+    }
+
+    /// How many groups the package at a place needs: those of Pre-Depends and of Depends (Debian Policy 7.2).
+    pub fn need_count(&self, place: u32) -> u32
+        requires { place < length self.now.packages }
+        ensures { result ≡ length (needs_at self.now place) }
+    {
+        let place = place as usize;
+        self.links.starts[place + 1].group - self.links.starts[place].group
+    }
+
+    /// How many entries the package at a place stands apart from: those of Conflicts and of Breaks (Debian Policy 7.3 and 7.4).
+    pub fn apart_count(&self, place: u32) -> u32
+        requires { place < length self.now.packages }
+        ensures { result ≡ length (aparts_at self.now place) }
+    {
+        let place = place as usize;
+        self.links.starts[place + 1].entry - self.links.starts[place].entry
+    }
+
+    /// The places of the packages that meet an alternative of a group, rising, each once. There is such a row exactly where
+    /// the alternatives have at most 64 candidates in all: packages of the name, and entries that provide it.
+    pub fn answer_row(&self, place: u32, number: u32) -> Option<&[u32]>
+        requires place { place < length self.now.packages }
+        requires number { number < length (needs_at self.now place) }
+        ensures row { IfSome result (λ row. row.now ≡ group_satisfiers self.now (need_at self.now place number)) }
+        ensures short { is_some result ≡ nat_le (group_candidates self.now (need_at self.now place number)) row_limit }
+    {
+        let first = self.links.starts[place as usize].group;
+        self.links.groups.get(first as usize + number as usize)
+    }
+
+    /// The places of the packages that meet an entry, rising. There is such a row exactly where the entry has at most 64
+    /// candidates: packages of the name, and entries that provide it.
+    pub fn hit_row(&self, place: u32, number: u32) -> Option<&[u32]>
+        requires place { place < length self.now.packages }
+        requires number { number < length (aparts_at self.now place) }
+        ensures row { IfSome result (λ row. row.now ≡ satisfiers self.now (apart_at self.now place number)) }
+        ensures short { is_some result ≡ nat_le (candidate_count self.now (apart_at self.now place number)) row_limit }
+    {
+        let first = self.links.starts[place as usize].entry;
+        self.links.entries.get(first as usize + number as usize)
+    }
+
     /// How many stanzas the text has: at most 1,048,576.
     pub fn stanzas(&self) -> u32
         ensures { result ≡ self.now.stanzas }
@@ -180,7 +248,7 @@ impl Index {
         requires { place < length self.now.packages }
         ensures { result ≡ meets_at self.now place (atom_view atom.now) }
     {
-        self.package(place).meets(self.arch(), atom)
+        self.tables.meets(place, atom)
     }
 
     /// The places of all packages that meet an atom, rising. The error is want of memory.
@@ -190,14 +258,8 @@ impl Index {
         ensures { IfOk result (λ v. v.items ≡ satisfiers self.now (atom_view atom.now)) }
     {
         let mut found = Vec::new(alloc);
-        let (mut named, mut provided) = (self.places_of(&atom.name), self.provides_of(&atom.name));
-        'places: while let Some(place) = first_place(named, provided) {
-            if self.meets(place, atom) {
-                found.push(place)?;
-            }
-            named = behind(named, place);
-            provided = entries_behind(provided, place);
-        }
+        let (named, provided) = (self.places_of(&atom.name), self.provides_of(&atom.name));
+        self.tables.find(atom, named, provided, &mut found)?;
         Ok(found)
     }
 
@@ -236,44 +298,4 @@ impl Index {
         }
         Ok(())
     }
-}
-
-// The least place that comes next in one of two rising lists.
-fn first_place(named: &[u32], provided: &[(u32, u32)]) -> Option<u32>
-    ensures { result ≡ first_place named.now (map (λ e. e.0) provided.now) }
-{
-    match (named, provided) {
-        ([], []) => None,
-        ([place, ..], []) => Some(*place),
-        ([], [entry, ..]) => Some(entry.0),
-        ([place, ..], [entry, ..]) => Some((*place).min(entry.0)),
-    }
-}
-
-// What comes behind a place.
-fn behind(named: &[u32], place: u32) -> &[u32]
-    ensures { result.now ≡ behind place named.now }
-{
-    let mut rest = named;
-    while let [first, others @ ..] = rest {
-        if *first > place {
-            return rest;
-        }
-        rest = others;
-    }
-    rest
-}
-
-// What comes behind all entries of a place.
-fn entries_behind(provided: &[(u32, u32)], place: u32) -> &[(u32, u32)]
-    ensures { map (λ e. e.0) result.now ≡ behind place (map (λ e. e.0) provided.now) }
-{
-    let mut rest = provided;
-    while let [first, others @ ..] = rest {
-        if first.0 > place {
-            return rest;
-        }
-        rest = others;
-    }
-    rest
 }

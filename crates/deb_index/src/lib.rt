@@ -4,16 +4,21 @@
 mod constraint;
 mod error;
 mod index;
+mod links;
 mod listing;
 mod meets;
 mod package;
+mod rows;
 mod table;
 mod tables;
+mod walk;
 
 pub use constraint::Constraint;
 pub use error::{IndexError, RelField};
 pub use index::Index;
 pub use package::Package;
 
+#[cfg(test)]
+mod row_tests;
 #[cfg(test)]
 mod tests;

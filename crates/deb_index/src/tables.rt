@@ -146,6 +146,7 @@ impl Tables {
         requires { place < length self.now.packages }
         ensures value { package_view result.now ≡ package_at self.now place }
         ensures small { IsSmall (package_view result.now) }
+        ensures few_asked { asked_count (package_view result.now) ≤ asked_limit }
     {
         &self.listing.packages[place as usize]
     }
@@ -176,6 +177,14 @@ impl Tables {
         ensures { result.now ≡ places_of self.now name.now }
     {
         self.listing.places.items(name)
+    }
+
+    /// The places of the packages of the name with a number.
+    pub(crate) fn places_named(&self, number: u32) -> &[u32]
+        requires { number < length (names self.now) }
+        ensures { result.now ≡ places_of self.now (name_at self.now number) }
+    {
+        &self.listing.places.lists[number as usize]
     }
 
     pub(crate) fn provides_of(&self, name: &[u8]) -> &[(u32, u32)]

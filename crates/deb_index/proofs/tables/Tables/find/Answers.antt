@@ -1,14 +1,11 @@
 use Rattle.std.proofs.Common.{◌∙◌, ap, sym}
 use Rattle.deb_relation.specs.AtomView.{atom_view}
-use Rattle.deb_index.specs.Packages.{places_of}
-use Rattle.deb_index.specs.Meets.{provided_at}
 use Rattle.deb_index.proofs.WalkLemmas.{walk-finds, walk-passes, walk-shorter, walk-starts, walk-takes}
-use Rattle.deb_index.proofs.index.Index.satisfiers.Goals as goal
-use Rattle.deb_index.proofs.index.Index.satisfiers.Goals.{then-meets+in_ok-push, else-meets}
+use Rattle.deb_index.proofs.tables.Tables.find.Goals as goal
+use Rattle.deb_index.proofs.tables.Tables.find.Goals.{then-meets+in_ok-push, else-meets}
 
 pub places-init : goal.places-init
-places-init c = walk-starts c.args.self.now (atom_view c.args.atom.now) c.new-found.result.items c.places_of-named.result.now c.provides_of-provided.result.now c.new-found.ensures.items
-    (c.places_of-named.ensures ∙ ap (places_of c.args.self.now) c.deref.ensures.value) (c.provides_of-provided.ensures ∙ ap (provided_at c.args.self.now) c.deref-2.ensures.value)
+places-init c = walk-starts c.args.self.now (atom_view c.args.atom.now) _ _ _ c.clear.ensures.items c.requires.named c.requires.provided
 
 pub places-smaller : goal.places-smaller
 places-smaller c = walk-shorter c.in-Some.place c.places.named.now c.behind-named.result.now c.places.provided.now c.entries_behind-provided.result.now c.in-Some.ensures c.behind-named.ensures c.entries_behind-provided.ensures

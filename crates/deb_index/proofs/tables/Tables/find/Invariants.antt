@@ -2,7 +2,7 @@ use Rattle.std.proofs.Common.{◌+◌, ℕ, length, map}
 use Rattle.deb_relation.specs.AtomView.{atom_view}
 use Rattle.deb_index.specs.Meets.{meets_at}
 use Rattle.deb_index.proofs.WalkLemmas.{IsWalked}
-use Rattle.deb_index.proofs.index.Index.satisfiers.Given as goal
+use Rattle.deb_index.proofs.tables.Tables.find.Given as goal
 
 abbrev pub invariant-places : goal.invariant-places
 invariant-places l = IsWalked (λ q. meets_at l.self q (atom_view l.atom)) (length l.self.packages) l.found.items l.named (map (λ (e : ℕ × ℕ). e.0) l.provided)

@@ -1,0 +1,57 @@
+use Rattle.std.proofs.Common.{◌<◌, ◌≤◌, ◌++◌, ◌∷◌, ◌∙◌, [], ap, sym, refl, map, length, take, arith}
+use Rattle.std.specs.List.{list_any}
+use Rattle.std.proofs.lemmas.List.{take_all}
+use Rattle.deb_relation.specs.AtomView.{atom_view}
+use Rattle.deb_index.specs.Packages.{places_of}
+use Rattle.deb_index.specs.Meets.{group_satisfiers, meets, provided_at}
+use Rattle.deb_index.specs.Rows.{answer_row}
+use Rattle.deb_index.proofs.LinkLemmas.{on-ok}
+use Rattle.deb_index.proofs.RowLemmas.{count-more, count-past, found-more, group-left, group-of-one, none-found, one-atom, row-short}
+use Rattle.deb_index.proofs.links.Finder.add_group.Goals as goal
+
+pub alternatives-init : goal.alternatives-init
+alternatives-init c = (refl, none-found c.args.tables.now _ c.clear.ensures.items, refl, omega arith)
+
+pub returns-then-count-gt-ROW_LIMIT : goal.returns-then-count-gt-ROW_LIMIT
+returns-then-count-gt-ROW_LIMIT c =
+    let index = c.args.tables.now in
+    let group = c.args.group.now in
+    let i = c.alternatives.number in
+    let a = c.index-group-number.result in
+    let within : i < length group = omega arith in
+    let named = ap length (c.places_of-named.ensures ∙ ap (places_of index) c.deref.ensures.value) in
+    let provided = ap length (c.provides_of-provided.ensures ∙ ap (provided_at index) c.deref-in-alternatives.ensures.value) in
+    let past = count-past index group i a within c.index-group-number.is (omega (arith, c.alternatives.invariant.2, named, provided)) in
+    on-ok c.leave_out.result (λ e. e ∙ (λ j. c.alternatives.invariant.0 j ++ sym (group-left index (map atom_view group) past) j ∷ [])) c.leave_out.ensures
+
+pub alternatives-preserved : goal.alternatives-preserved
+alternatives-preserved c =
+    let index = c.args.tables.now in
+    let group = c.args.group.now in
+    let i = c.alternatives.number in
+    let a = c.index-group-number.result in
+    let within : i < length group = omega arith in
+    let named = ap length (c.places_of-named.ensures ∙ ap (places_of index) c.deref.ensures.value) in
+    let provided = ap length (c.provides_of-provided.ensures ∙ ap (provided_at index) c.deref-in-alternatives.ensures.value) in
+    let merged = c.in_ok-merge.ensures index.packages (λ q. list_any (meets index.arch q) (map atom_view (take i group))) (λ q. meets index.arch q (atom_view a))
+    (c.deref-in-alternatives-2.ensures.value ∙ c.alternatives.invariant.1) (c.deref-in-alternatives-3.ensures.value ∙ c.in_ok-find.ensures) in (
+      c.alternatives.invariant.0,
+      found-more index group i a within c.index-group-number.is _ (ap (λ v. v.items) c.swap.ensures.x_after ∙ merged),
+      omega (arith, c.alternatives.invariant.2, named, provided, count-more index group i a within c.index-group-number.is),
+      omega arith,
+    )
+
+pub push-requires : goal.push-requires
+push-requires c =
+    let index = c.args.tables.now in
+    let group = c.args.group.now in
+    let all : length group ≤ c.alternatives.number = omega arith in
+    row-short (λ q. list_any (meets index.arch q) (map atom_view group)) index.packages _ c.requires
+    (c.deref-2.ensures.value ∙ c.alternatives.invariant.1 ∙ ap (λ l. group_satisfiers index (map atom_view l)) (take_all c.alternatives.number group all))
+
+pub returns-in-len1 : goal.returns-in-len1
+returns-in-len1 c =
+    let index = c.args.tables.now in
+    let a = c.atom-item.result in
+    let one = one-atom c.args.group.now a c.in-len1.len_at_least c.in-len1.len_below c.atom-item.is in
+    on-ok c.add_entry.result (λ e. e ∙ ap (λ r. c.args.rows.now ++ r ∷ []) (sym (ap (answer_row index) one ∙ group-of-one index (atom_view a)))) c.add_entry.ensures

@@ -1,0 +1,24 @@
+-- What is looked up by place: the number of each package's name, and the rows of its groups and entries.
+use Rattle.std.specs.Prelude.{◌≡◌, ◌+◌, ℕ, List, [], ◌∷◌, map, length, position, unwrap_or}
+use Rattle.std.specs.List.{flat_map}
+use Rattle.std.specs.Str.{bytes_eq}
+use Rattle.deb_index.specs.declared.links.Links.{Links}
+use Rattle.deb_index.specs.Packages.{PackageView, IndexView, aparts, names, needs}
+use Rattle.deb_index.specs.Rows.{answer_row, hit_row}
+
+-- where the part of each element begins if all parts stand behind each other, and at last where they end
+unfoldable pub starts_from : {A : Type 0} → (A → ℕ) → ℕ → List A → List ℕ
+starts_from count n [] = n ∷ []
+starts_from count n (x ∷ xs) = n ∷ starts_from count (n + count x) xs
+
+-- the number of a name that the index has
+abbrev pub number_of : IndexView → List ℕ → ℕ
+number_of index name = unwrap_or (position (bytes_eq name) (names index)) 0
+
+-- the rows of some packages, and where those of each begin
+pub record IsLinked (index : IndexView) (packages : List PackageView) (l : Links) : Type 0 where
+  pub numbers : l.numbers.items ≡ map (λ p. number_of index p.name) packages
+  pub group_starts : map (λ s. s.group) l.starts.items ≡ starts_from (λ p. length (needs p)) 0 packages
+  pub entry_starts : map (λ s. s.entry) l.starts.items ≡ starts_from (λ p. length (aparts p)) 0 packages
+  pub groups : l.groups ≡ flat_map (λ p. map (answer_row index) (needs p)) packages
+  pub entries : l.entries ≡ flat_map (λ p. map (hit_row index) (aparts p)) packages

@@ -1,0 +1,38 @@
+-- Rows of places: those that meet a group or an entry, where few packages come into question.
+use Rattle.std.specs.Prelude.{◌≤◌, ◌+◌, ℕ, nat_le, List, length, sum_by, take, drop, Option, Some, None, if◌then◌else◌}
+use Rattle.deb_relation.specs.Relationship.{AtomText}
+use Rattle.deb_index.specs.declared.rows.Span.{Span}
+use Rattle.deb_index.specs.declared.rows.Span.TheVariants.{Kept, LeftOut}
+use Rattle.deb_index.specs.Packages.{IndexView, places_of}
+use Rattle.deb_index.specs.Meets.{group_satisfiers, provided_at, satisfiers}
+
+-- how many candidates a row is made for at most
+abbrev pub row_limit : ℕ
+row_limit = 64
+
+-- the candidates of an atom: the packages of its name, and the entries that provide it
+abbrev pub candidate_count : IndexView → AtomText → ℕ
+candidate_count index atom = length (places_of index atom.name) + length (provided_at index atom.name)
+
+-- those of a group are the candidates of its alternatives
+abbrev pub group_candidates : IndexView → List AtomText → ℕ
+group_candidates index group = sum_by (candidate_count index) group
+
+-- the row of a group, and that of an entry
+abbrev pub answer_row : IndexView → List AtomText → Option (List ℕ)
+answer_row index group = if nat_le (group_candidates index group) row_limit then Some (group_satisfiers index group) else None
+
+abbrev pub hit_row : IndexView → AtomText → Option (List ℕ)
+hit_row index atom = if nat_le (candidate_count index atom) row_limit then Some (satisfiers index atom) else None
+
+-- ---- how rows are kept
+
+-- what lies in a span of some places
+abbrev pub row_in : List ℕ → Span → Option (List ℕ)
+row_in places (Kept start len) = Some (take len (drop start places))
+row_in places LeftOut = None
+
+-- a span lies within so many places
+abbrev pub IsWithin : ℕ → Span → Type 0
+IsWithin count (Kept start len) = start + len ≤ count
+IsWithin count LeftOut = Unit {0}
