@@ -92,6 +92,20 @@ fn three_variables_and_two_groups(rt: HostRuntime) -> Result<(), Fail> {
 }
 
 #[test]
+fn a_formula_starts_over(rt: HostRuntime) -> Result<(), Fail> {
+    let mut formula = Formula::new(rt.alloc(), 2, 1)?;
+    formula.add(0, &[])?;
+    assert!(rt; both_fail(rt.alloc(), &formula, &[true], 0)?);
+    formula.restart(3, 2);
+    assert_eq!(rt; formula.vars(), 3);
+    assert_eq!(rt; formula.groups(), 2);
+    assert!(rt; both_give(rt.alloc(), &formula, &[true, true], 2, &[2])?);
+    formula.add(1, &[not(2), lit(1)])?;
+    assert!(rt; both_give(rt.alloc(), &formula, &[true, true], 2, &[1, 2])?);
+    Ok(())
+}
+
+#[test]
 fn an_empty_clause_fails_where_it_is_kept(rt: HostRuntime) -> Result<(), Fail> {
     let mut formula = Formula::new(rt.alloc(), 2, 1)?;
     formula.add(0, &[])?;
