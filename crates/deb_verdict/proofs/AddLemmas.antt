@@ -11,15 +11,16 @@ use Rattle.deb_index.specs.Packages.{IndexView}
 use Rattle.deb_index.specs.Constraints.{Holds}
 use Rattle.sat_solve.specs.declared.Lit.{Lit}
 use Rattle.sat_solve.specs.Sets.{NumberSet, members_of}
-use Rattle.sat_solve.specs.Clauses.{Clause, Clauses, clause_holds, literal_holds}
+use Rattle.sat_solve.specs.Clauses.{Clause, Clauses, clause_holds}
 use Rattle.deb_verdict.specs.Encoding.{GroupHolds}
-use Rattle.deb_verdict.specs.Adding.{present, absent, AllHold, Adds, IsAlone, IsSingle, Tells}
+use Rattle.deb_verdict.specs.Adding.{Adds}
+use Rattle.deb_verdict.specs.Play.{placed, TellsPlaces}
 
-All-front : {A : Type 0} (P : A → Type 0) (xs ys : List A) → All P (xs ++ ys) → All P xs
+pub All-front : {A : Type 0} (P : A → Type 0) (xs ys : List A) → All P (xs ++ ys) → All P xs
 All-front P [] ys all = All-nil P
 All-front P (x ∷ xs) ys all = All-cons P x xs (All-head P x (xs ++ ys) all) (All-front P xs ys (All-tail P x (xs ++ ys) all))
 
-All-back : {A : Type 0} (P : A → Type 0) (xs ys : List A) → All P (xs ++ ys) → All P ys
+pub All-back : {A : Type 0} (P : A → Type 0) (xs ys : List A) → All P (xs ++ ys) → All P ys
 All-back P [] ys all = all
 All-back P (x ∷ xs) ys all = All-back P xs ys (All-tail P x (xs ++ ys) all)
 
@@ -83,37 +84,7 @@ adds_as group A B before after same adds = record {
   says = λ set. (λ holds. (same set).0 ((adds.says set).0 holds), λ means. (adds.says set).1 ((same set).1 means));
 }
 
--- literals of places hold where the set has one of them
-any_present : (set : NumberSet) (places : List ℕ) → list_any (literal_holds set) (map present places) ≡ list_any set places
-any_present set [] = refl
-any_present set (place ∷ places) = ap (λ b. set place || b) (any_present set places)
-
-pub some_present : (set : NumberSet) (literals : List Lit) (places : List ℕ) → clause_holds set (literals ++ map present places) ≡ (clause_holds set literals || list_any set places)
-some_present set literals places =
-    list_any-append (literal_holds set) literals (map present places) ∙ ap (λ b. clause_holds set literals || b) (any_present set places)
-
--- two places that are not both there
-not_both : (set : NumberSet) (place other : ℕ) → clause_holds set (absent place ∷ absent other ∷ []) ≡ true → set place ≡ true → set other ≡ true → ⊥
-not_both set place other holds has also =
-    elim (or_cases (not (set place)) (not (set other) || false) holds) [
-      | inl lacks ↦ false≢true (sym (ap not has) ∙ lacks)
-      | inr rest ↦ elim (or_cases (not (set other)) false rest) [
-        | inl lacks ↦ false≢true (sym (ap not also) ∙ lacks)
-        | inr never ↦ false≢true never
-      ]
-    ]
-
-one_lacking : (set : NumberSet) (place other : ℕ) → (set place ≡ true → set other ≡ true → ⊥) → clause_holds set (absent place ∷ absent other ∷ []) ≡ true
-one_lacking set place other apart =
-    elim (cases_Bool (set place)) [
-      | inl has ↦ elim (cases_Bool (set other)) [
-        | inl also ↦ absurd (apart has also)
-        | inr lacks ↦ or_right (not (set place)) (not (set other) || false) (or_left (not (set other)) false (ap not lacks))
-      ]
-      | inr lacks ↦ or_left (not (set place)) (not (set other) || false) (ap not lacks)
-    ]
-
-in_push : (xs : List ℕ) (x q : ℕ) → members_of (xs ++ x ∷ []) q ≡ true → (members_of xs q ≡ true) ⊎ (x ≡ q)
+pub in_push : (xs : List ℕ) (x q : ℕ) → members_of (xs ++ x ∷ []) q ≡ true → (members_of xs q ≡ true) ⊎ (x ≡ q)
 in_push xs x q is_in =
     elim (or_cases (members_of xs q) (eqb x q || false) (sym (list_any-append (λ member. eqb member q) xs (x ∷ [])) ∙ is_in)) [
       | inl old ↦ inl old
@@ -123,56 +94,11 @@ in_push xs x q is_in =
       ]
     ]
 
-front_in : (xs : List ℕ) (x q : ℕ) → members_of xs q ≡ true → members_of (xs ++ x ∷ []) q ≡ true
+pub front_in : (xs : List ℕ) (x q : ℕ) → members_of xs q ≡ true → members_of (xs ++ x ∷ []) q ≡ true
 front_in xs x q is_in = list_any-append (λ member. eqb member q) xs (x ∷ []) ∙ or_left (members_of xs q) (eqb x q || false) is_in
 
-last_in : (xs : List ℕ) (x : ℕ) → members_of (xs ++ x ∷ []) x ≡ true
+pub last_in : (xs : List ℕ) (x : ℕ) → members_of (xs ++ x ∷ []) x ≡ true
 last_in xs x = list_any-append (λ member. eqb member x) xs (x ∷ []) ∙ or_right (members_of xs x) (eqb x x || false) (or_left (eqb x x) false (eq-eqb x x refl))
-
--- one other place more that the place stands apart from
-pub alone_more : (set : NumberSet) (place other : ℕ) (others : List ℕ) → (other ≡ place → ⊥)
-    → ((IsAlone set place others × (clause_holds set (absent place ∷ absent other ∷ []) ≡ true)) ↔ IsAlone set place (others ++ other ∷ []))
-alone_more set place other others different = (
-  λ both has q is_in also.
-      elim (in_push others other q is_in) [
-        | inl old ↦ both.0 has q old also
-        | inr here ↦ absurd (not_both set place other both.1 has (ap set here ∙ also))
-      ],
-  λ alone. (
-    λ has q is_in also. alone has q (front_in others other q is_in) also,
-    one_lacking set place other (λ has also. different (alone has other (last_in others other) also)),
-  ),
-)
-
-pub alone_itself : (set : NumberSet) (place : ℕ) (others : List ℕ) → (IsAlone set place others ↔ IsAlone set place (others ++ place ∷ []))
-alone_itself set place others = (
-  λ alone has q is_in also.
-      elim (in_push others place q is_in) [
-        | inl old ↦ alone has q old also
-        | inr here ↦ sym here
-      ],
-  λ alone has q is_in also. alone has q (front_in others place q is_in) also,
-)
-
--- one place more of which at most one is there
-pub single_more : (set : NumberSet) (place : ℕ) (places : List ℕ) → ((IsSingle set places × IsAlone set place places) ↔ IsSingle set (places ++ place ∷ []))
-single_more set place places = (
-  λ both q r is_in is_too has also.
-      elim (in_push places place q is_in) [
-        | inl old ↦ elim (in_push places place r is_too) [
-          | inl older ↦ both.0 q r old older has also
-          | inr here ↦ both.1 (ap set here ∙ also) q old has ∙ here
-        ]
-        | inr here ↦ elim (in_push places place r is_too) [
-          | inl older ↦ sym here ∙ sym (both.1 (ap set here ∙ has) r older also)
-          | inr there ↦ sym here ∙ there
-        ]
-      ],
-  λ single. (
-    λ q r is_in is_too has also. single q r (front_in places place q is_in) (front_in places place r is_too) has also,
-    λ has q is_in also. single q place (front_in places place q is_in) (last_in places place) also has,
-  ),
-)
 
 -- ---- the clauses of all constraints, one constraint more
 
@@ -189,8 +115,8 @@ get_last xs x y k past there =
     let here : k ≡ length xs = omega (arith, length-append xs (x ∷ [])) in
     (here, sym (get_or_push xs x y k (sym here)) ∙ get_or_from_slice_get (xs ++ x ∷ []) k y y there)
 
-module _ (index : IndexView) (constraints : List Constraint) (constraint : Constraint) (before after : Clauses)
-    (tells : Tells index constraints before.clauses) (adds : Adds (length constraints) (λ set. Holds index set constraint) before after) where
+module _ (index : IndexView) (ins members : List ℕ) (constraints : List Constraint) (constraint : Constraint) (before after : Clauses)
+    (tells : TellsPlaces index ins members constraints before.clauses) (adds : Adds (length constraints) (λ vars. Holds index (placed ins members vars) constraint) before after) where
   told_in_groups : All (λ clause. clause.group < length (constraints ++ constraint ∷ [])) (before.clauses ++ adds.more)
   told_in_groups =
       All-append (λ clause. clause.group < length (constraints ++ constraint ∷ [])) before.clauses adds.more
@@ -198,7 +124,7 @@ module _ (index : IndexView) (constraints : List Constraint) (constraint : Const
       (All-weaker (λ clause. clause.group ≡ length constraints) (λ clause. clause.group < length (constraints ++ constraint ∷ [])) (λ clause same. omega (arith, length-append constraints (constraint ∷ []))) adds.more adds.in_group)
 
   told_old : (set : NumberSet) (group : ℕ) (old : Constraint) → group < length constraints → slice_get constraints group ≡ Some old
-      → (GroupHolds (before.clauses ++ adds.more) group set ↔ Holds index set old)
+      → (GroupHolds (before.clauses ++ adds.more) group set ↔ Holds index (placed ins members set) old)
   told_old set group old below there = (
     λ holds. (tells.says set group old there).0 (All-front (λ clause. clause.group ≡ group → clause_holds set clause.literals ≡ true) before.clauses adds.more holds),
     λ holds.
@@ -207,7 +133,7 @@ module _ (index : IndexView) (constraints : List Constraint) (constraint : Const
         (apart_groups set group adds.more (All-weaker (λ clause. clause.group ≡ length constraints) (λ clause. clause.group ≡ group → ⊥) (λ clause same other. omega arith) adds.more adds.in_group)),
   )
 
-  told_new : (set : NumberSet) → (GroupHolds (before.clauses ++ adds.more) (length constraints) set ↔ Holds index set constraint)
+  told_new : (set : NumberSet) → (GroupHolds (before.clauses ++ adds.more) (length constraints) set ↔ Holds index (placed ins members set) constraint)
   told_new set = (
     λ holds.
         (adds.says set).0
@@ -218,9 +144,9 @@ module _ (index : IndexView) (constraints : List Constraint) (constraint : Const
         (All-weaker (λ clause. clause_holds set clause.literals ≡ true) (λ clause. clause.group ≡ length constraints → clause_holds set clause.literals ≡ true) (λ clause held same. held) adds.more ((adds.says set).1 holds)),
   )
 
-  pub tells_more : Tells index (constraints ++ constraint ∷ []) after.clauses
+  pub tells_more : TellsPlaces index ins members (constraints ++ constraint ∷ []) after.clauses
   tells_more =
-      let TellsAll : List Clause → Type 0 = λ clauses. Tells index (constraints ++ constraint ∷ []) clauses in
+      let TellsAll : List Clause → Type 0 = λ clauses. TellsPlaces index ins members (constraints ++ constraint ∷ []) clauses in
       subst TellsAll (sym adds.appended) (record {
         in_groups = told_in_groups;
         says = λ set group one there.
@@ -228,15 +154,15 @@ module _ (index : IndexView) (constraints : List Constraint) (constraint : Const
               | inl below ↦ told_old set group one below (get_front constraints constraint one group below there)
               | inr past ↦
                   let last = get_last constraints constraint one group past there in
-                  let At : ℕ → Constraint → Type 0 = λ g c. GroupHolds (before.clauses ++ adds.more) g set ↔ Holds index set c in
+                  let At : ℕ → Constraint → Type 0 = λ g c. GroupHolds (before.clauses ++ adds.more) g set ↔ Holds index (placed ins members set) c in
                   let there_too : At (length constraints) one = subst (At (length constraints)) last.1 (told_new set) in
                   let AtGroup : ℕ → Type 0 = λ g. At g one in
                   subst AtGroup (sym last.0) there_too
             ];
       })
 
-pub tells_none : (index : IndexView) → Tells index [] []
-tells_none index = record {
+pub tells_none : (index : IndexView) (ins members : List ℕ) → TellsPlaces index ins members [] []
+tells_none index ins members = record {
   in_groups = All-nil (λ clause. clause.group < 0);
   says = λ set group constraint there. let within : group < 0 = slice_get_within {A = Constraint} [] group constraint there in absurd (omega arith);
 }

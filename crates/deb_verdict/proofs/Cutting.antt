@@ -11,26 +11,10 @@ use Rattle.deb_index.specs.Constraints.{has_name, answers}
 use Rattle.deb_index.specs.Constraints.{Holds, constraints_of}
 use Rattle.sat_solve.specs.Sets.{NumberSet, IsFirst}
 use Rattle.sat_solve.proofs.SetLemmas.{first_within}
+use Rattle.deb_verdict.specs.Gathering.{none_of, all_of, Respects, IsEnough}
 use Rattle.deb_verdict.specs.Health.{IsHealthy, IsInstallation, MeetsAt, Admits, AdmitsNone}
 use Rattle.deb_verdict.specs.Closure.{IsWithin, cut, IsClosed, is_kept, is_kept_there, kept}
 use Rattle.deb_verdict.proofs.IndexFacts.{All-at, IsRight, all_right, some_named}
-
--- no numbers
-abbrev pub none_of : NumberSet
-none_of number = false
-
--- the set holds all that is in, and nothing that is out
-pub record Respects (ins outs set : NumberSet) : Type 0 where
-  pub has_ins : IsWithin ins set
-  pub lacks_outs : (q : ℕ) → outs q ≡ true → set q ≡ false
-
--- a part of the places in which what is in answers each need of a member, or else all that may answer it are members too
-pub record IsEnough (index : IndexView) (ins outs within : NumberSet) : Type 0 where
-  pub has_ins : IsWithin ins within
-  pub essential : (number : ℕ) → Contains (essential_names index) number
-      → ((q : ℕ) × (ins q ≡ true) × (has_name index q number ≡ true)) ⊎ ((q : ℕ) → has_name index q number ≡ true → outs q ≡ false → within q ≡ true)
-  pub answered : (member j : ℕ) → within member ≡ true
-      → ((q : ℕ) × (ins q ≡ true) × (answers index member j q ≡ true)) ⊎ ((q : ℕ) → answers index member j q ≡ true → outs q ≡ false → within q ≡ true)
 
 not_out : (outs set : NumberSet) (q : ℕ) → ((q : ℕ) → outs q ≡ true → set q ≡ false) → set q ≡ true → outs q ≡ false
 not_out outs set q lacks is_in = false_from_ne_true (outs q) (λ out. both_ways (set q) (lacks q out) is_in)
@@ -68,9 +52,6 @@ healthy_from_meets index set all whole meets k d below =
 
 pub meets_from_healthy : (index : IndexView) (set positions : NumberSet) → IsHealthy index set → MeetsAt index set positions
 meets_from_healthy index set positions healthy k constraint asked there = All-at (Holds index set) (constraints_of index) k constraint healthy there
-
-abbrev pub all_of : NumberSet
-all_of number = true
 
 -- a healthy set with p, cut down, is one still
 pub cut_installation : (index : IndexView) (p : ℕ) (ins outs within : NumberSet) → IsEnough index ins outs within → within p ≡ true → (set : NumberSet) → Respects ins outs set

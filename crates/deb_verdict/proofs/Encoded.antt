@@ -13,8 +13,8 @@ use Rattle.std.specs.List.Sorted.{IsStrictlyIncreasing}
 use Rattle.deb_verdict.specs.Health.{MeetsAt, IsInstallation, AdmitsNone}
 use Rattle.deb_verdict.specs.Closure.{IsWithin, cut, kept}
 use Rattle.deb_verdict.specs.Encoding.{places_in_play, Stands, Encodes, IsChosen}
-use Rattle.deb_verdict.proofs.Cutting.{IsEnough, cut_meets, kept_meets, fewer_meets, healthy_from_meets, meets_from_healthy, all_of}
-use Rattle.deb_verdict.proofs.Units.{Follows}
+use Rattle.deb_verdict.specs.Gathering.{IsEnough, Follows, all_of}
+use Rattle.deb_verdict.proofs.Cutting.{cut_meets, kept_meets, fewer_meets, healthy_from_meets, meets_from_healthy}
 
 pub members_of_at : (numbers : List ℕ) (number : ℕ) → members_of numbers number ≡ true → (k : ℕ) × (k < length numbers) × (get_or numbers k 0 ≡ number)
 members_of_at [] number is_in = absurd (false≢true is_in)

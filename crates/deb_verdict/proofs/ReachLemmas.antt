@@ -1,34 +1,30 @@
 -- The steps on the way to a closure.
-use Rattle.std.proofs.Common.{◌≡◌, ◌⊎◌, ℕ, zero, suc, ◌+◌, ◌*◌, ◌<◌, ◌≤◌, Bool, true, false, ◌||◌, eqb, List, Vec, Global, [], ◌∷◌, ◌++◌, length, get_or, replicate, take, map, All, refl, sym, subst, ◌∙◌, ap, inl, inr, arith, Contains}
-use Rattle.std.specs.Prelude.{count_by, not}
-use Rattle.std.specs.List.{list_any}
+use Rattle.std.proofs.Common.{◌≡◌, ℕ, ◌+◌, ◌<◌, ◌≤◌, Bool, true, false, ◌||◌, eqb, List, [], ◌∷◌, length, get_or, take, drop, map, All, refl, sym, subst, ◌∙◌, ap, inl, inr, arith, Option, Some, None, slice_get}
+use Rattle.std.specs.Prelude.{nat_eq}
+use Rattle.std.specs.List.{list_any, IsDistinct}
+use Rattle.std.specs.Option.{option_map_or}
 use mathlib.Core.Path.{fun_ext}
-use Rattle.std.proofs.lemmas.Bool.{cases_Bool, cases_lt, false≢true, or_cases, or_from, both_ways, eqb-true, eq-eqb}
-use Rattle.std.proofs.lemmas.List.{length_push, get_or_past}
+use Rattle.std.proofs.lemmas.Bool.{cases_Bool, cases_lt, false≢true, or_cases, or_left, or_right, or_parts, or_from, both_ways, eqb-true, eq-eqb, lt-ltb, ltb-true}
+use Rattle.std.proofs.lemmas.List.{get_or_past, drop_more, drop-append-le, drop_all, get_or_default}
 use Rattle.std.proofs.lemmas.List.Folds.{list_any_at, list_any-append, Any-from_list_any}
 use Rattle.deb_relation.specs.declared.atom.Atom.{Atom}
-use Rattle.deb_relation.specs.AtomView.{atom_view, atoms_view}
+use Rattle.deb_relation.specs.AtomView.{atom_view}
 use Rattle.deb_relation.specs.Relationship.{AtomText}
-use Rattle.deb_index.specs.declared.package.Package.{Package}
-use Rattle.deb_index.specs.Packages.{IndexView, PackageView, package_view, package_at, needs, needs_at, names, name_at, essential_names, is_essential, places_of}
-use Rattle.deb_index.specs.Meets.{meets_at, satisfiers}
+use Rattle.deb_index.specs.Packages.{IndexView, PackageView, needs_at, names, name_at, essential_names, is_essential, places_of}
+use Rattle.deb_index.specs.Meets.{meets, meets_at, satisfiers, group_satisfiers}
 use Rattle.deb_index.specs.Constraints.{has_name, answers}
-use Rattle.deb_index.proofs.MemberLemmas.{below-places_where}
+use Rattle.deb_index.proofs.MemberLemmas.{below-places_where, member-places_where}
 use Rattle.sat_solve.specs.Sets.{NumberSet, members_of}
-use Rattle.deb_verdict.specs.declared.reached.Reached.{Reached}
 use Rattle.deb_verdict.specs.Closure.{IsWithin, IsClosed, IsClosure}
-use Rattle.deb_verdict.specs.Reach.{marked_in, waiting_in, work_left, Marks, meeting, meeting_any, IsReaching}
-use Rattle.deb_verdict.proofs.AddSteps.{list_any-map, take_whole}
-use Rattle.deb_verdict.proofs.IndexFacts.{member_named, member_satisfiers}
-use Rattle.deb_verdict.proofs.MarkLemmas.{marks_as, marks_both, marks_more}
-use Rattle.deb_verdict.proofs.Reaching.{IsVisit, visit_reaches}
+use Rattle.deb_verdict.specs.Reduction.{all_below}
+use Rattle.deb_verdict.specs.Reach.{Joins, meeting, meeting_any, IsReaching}
+use Rattle.deb_verdict.proofs.AddSteps.{list_any-map, take_whole, below_members}
+use Rattle.deb_verdict.proofs.IndexFacts.{member_named, member_satisfiers, named_is_place, answers_is_place}
+use Rattle.deb_verdict.proofs.JoinLemmas.{joins_as, joins_both, joins_keep, joins_more}
+use Rattle.deb_verdict.proofs.PlaceSetLemmas.{few_below}
+use Rattle.deb_verdict.proofs.Reaching.{IsVisit, visit_reaches, reached}
 
-pub no_marks : (count q : ℕ) → get_or (replicate count false) q false ≡ false
-no_marks zero q = refl
-no_marks (suc count) zero = refl
-no_marks (suc count) (suc q) = no_marks count q
-
--- ---- at first
+-- ---- what comes in
 
 -- the numbers of the essential names are those of names
 pub essential_below : (index : IndexView) (list : List ℕ) → list ≡ essential_names index → (i : ℕ) → i < length list → get_or list i 0 < length (names index)
@@ -37,79 +33,59 @@ essential_below index list is_that i inside =
     let all : All (λ n. n < length (names index)) list = subst Below (sym is_that) (below-places_where (is_essential index) (names index)) in
     all i 0 inside
 
-pub named_marked : (index : IndexView) (list places : List ℕ) (i : ℕ) (before between after : Reached) → i < length list → places ≡ places_of index (name_at index (get_or list i 0))
-    → Marks (λ q. list_any (has_name index q) (take i list)) before between → Marks (members_of places) between after
-    → Marks (λ q. list_any (has_name index q) (take (i + 1) list)) before after
-named_marked index list places i before between after inside is_that so_far more =
-    marks_more (has_name index) list i 0 before between after inside so_far
-    (marks_as (members_of places) (λ q. has_name index q (get_or list i 0)) between after
+-- the places of one name more
+pub named_joined : (index : IndexView) (list places : List ℕ) (i : ℕ) (before between after : List ℕ) → i < length list → places ≡ places_of index (name_at index (get_or list i 0))
+    → Joins (λ q. list_any (has_name index q) (take i list)) before between → Joins (members_of places) between after
+    → Joins (λ q. list_any (has_name index q) (take (i + 1) list)) before after
+named_joined index list places i before between after inside is_that so_far more =
+    joins_more (has_name index) list i 0 before between after inside so_far
+    (joins_as (members_of places) (λ q. has_name index q (get_or list i 0)) between after
     (λ q. ap (λ xs. members_of xs q) is_that ∙ member_named index (get_or list i 0) q) more)
 
-module _ (index : IndexView) (p : ℕ) (empty first last : Reached) (none : (q : ℕ) → marked_in empty q ≡ false)
-    (with_p : Marks (λ q. eqb p q) empty first) (list : List ℕ) (i : ℕ) (past : length list ≤ i) (list_is : list ≡ essential_names index)
-    (with_names : Marks (λ q. list_any (has_name index q) (take i list)) first last) where
-  essential_marked : Marks (λ q. list_any (has_name index q) (essential_names index)) first last
-  essential_marked =
-      marks_as (λ q. list_any (has_name index q) (take i list)) (λ q. list_any (has_name index q) (essential_names index)) first last
-      (λ q. ap (list_any (has_name index q)) (take_whole list i past ∙ list_is)) with_names
+-- at first a place, and then those of all essential names
+pub start_joined : (index : IndexView) (p : ℕ) (first last : List ℕ) → Joins (λ q. eqb p q) [] first → (list : List ℕ) (i : ℕ) → length list ≤ i → list ≡ essential_names index
+    → Joins (λ q. list_any (has_name index q) (take i list)) first last → Joins (λ q. eqb p q || list_any (has_name index q) (essential_names index)) [] last
+start_joined index p first last with_p list i past list_is with_names =
+    joins_both (λ q. eqb p q) (λ q. list_any (has_name index q) (essential_names index)) [] first last with_p
+    (joins_as (λ q. list_any (has_name index q) (take i list)) (λ q. list_any (has_name index q) (essential_names index)) first last
+    (λ q. ap (list_any (has_name index q)) (take_whole list i past ∙ list_is)) with_names)
 
-  pub reaching_start : IsReaching index p (marked_in last) (waiting_in last)
-  reaching_start = record {
-    start = with_names.keeps p (with_p.all p (eq-eqb p p refl));
-    essential = λ number q right named.
-        essential_marked.all q (list_any_at (has_name index q) (essential_names index) right.0 number right.1 (ap (has_name index q) right.2 ∙ named));
-    visited = λ member j q is_in idle answered.
-        (let before = with_names.waits member is_in idle in
-        let start = with_p.waits member before.0 before.1 in
-        absurd (both_ways (marked_in empty member) (none member) start.0));
-    least = λ other closed q is_in.
-        elim (essential_marked.only q is_in) [
-          | inl old ↦ elim (with_p.only q old) [
-            | inl never ↦ absurd (both_ways (marked_in empty q) (none q) never)
-            | inr here ↦ ap other (sym (eqb-true p q here)) ∙ closed.start
-          ]
-          | inr named ↦
-              let at = Any-from_list_any (has_name index q) (essential_names index) named in
-              closed.essential at.1 q (at.0, at.2, at.3) at.4
-        ];
-  }
-
--- ---- a place is visited
-
-pub meeting_more : (index : IndexView) (atoms : List Atom) (i : ℕ) (atom : Atom) (met : List ℕ) (before between after : Reached) → i < length atoms → atom ≡ get_or atoms i atom
-    → met ≡ satisfiers index (atom_view atom) → Marks (meeting index (map atom_view (take i atoms))) before between → Marks (members_of met) between after
-    → Marks (meeting index (map atom_view (take (i + 1) atoms))) before after
+-- the places that meet one alternative more
+pub meeting_more : (index : IndexView) (atoms : List Atom) (i : ℕ) (atom : Atom) (met : List ℕ) (before between after : List ℕ) → i < length atoms → atom ≡ get_or atoms i atom
+    → met ≡ satisfiers index (atom_view atom) → Joins (meeting index (map atom_view (take i atoms))) before between → Joins (members_of met) between after
+    → Joins (meeting index (map atom_view (take (i + 1) atoms))) before after
 meeting_more index atoms i atom met before between after inside here met_is so_far more =
     let test : ℕ → Atom → Bool = λ q a. meets_at index q (atom_view a) in
-    marks_as (λ q. list_any (test q) (take (i + 1) atoms)) (meeting index (map atom_view (take (i + 1) atoms))) before after
+    joins_as (λ q. list_any (test q) (take (i + 1) atoms)) (meeting index (map atom_view (take (i + 1) atoms))) before after
     (λ q. sym (list_any-map (meets_at index q) atom_view (take (i + 1) atoms)))
-    (marks_more test atoms i atom before between after inside
-    (marks_as (meeting index (map atom_view (take i atoms))) (λ q. list_any (test q) (take i atoms)) before between (λ q. list_any-map (meets_at index q) atom_view (take i atoms)) so_far)
-    (marks_as (members_of met) (λ q. test q (get_or atoms i atom)) between after
+    (joins_more test atoms i atom before between after inside
+    (joins_as (meeting index (map atom_view (take i atoms))) (λ q. list_any (test q) (take i atoms)) before between (λ q. list_any-map (meets_at index q) atom_view (take i atoms)) so_far)
+    (joins_as (members_of met) (λ q. test q (get_or atoms i atom)) between after
     (λ q. ap (λ xs. members_of xs q) met_is ∙ (member_satisfiers index (atom_view atom) q ∙ ap (test q) here)) more))
 
-pub groups_more : (index : IndexView) (groups : List (Vec Atom Global)) (i : ℕ) (group : Vec Atom Global) (atoms : List Atom) (before between after : Reached) → i < length groups → group ≡ get_or groups i group
-    → atoms ≡ group.items → Marks (meeting_any index (map atoms_view (take i groups))) before between → Marks (meeting index (map atom_view atoms)) between after
-    → Marks (meeting_any index (map atoms_view (take (i + 1) groups))) before after
-groups_more index groups i group atoms before between after inside here atoms_are so_far more =
-    let test : ℕ → Vec Atom Global → Bool = λ q g. meeting index (atoms_view g) q in
-    let on_view : ℕ → List AtomText → Bool = λ q g. meeting index g q in
-    marks_as (λ q. list_any (test q) (take (i + 1) groups)) (meeting_any index (map atoms_view (take (i + 1) groups))) before after
-    (λ q. sym (list_any-map (on_view q) atoms_view (take (i + 1) groups)))
-    (marks_more test groups i group before between after inside
-    (marks_as (meeting_any index (map atoms_view (take i groups))) (λ q. list_any (test q) (take i groups)) before between (λ q. list_any-map (on_view q) atoms_view (take i groups)) so_far)
-    (marks_as (meeting index (map atom_view atoms)) (λ q. test q (get_or groups i group)) between after
-    (λ q. ap (λ xs. meeting index (map atom_view xs) q) atoms_are ∙ ap (test q) here) more))
+-- a row of places that meet a group
+pub row_joined : (index : IndexView) (group : List AtomText) (row before after : List ℕ) → row ≡ group_satisfiers index group → Joins (members_of row) before after → Joins (meeting index group) before after
+row_joined index group row before after is_that joins =
+    joins_as (members_of row) (meeting index group) before after
+    (λ q. ap (λ list. members_of list q) is_that ∙ (member-places_where (λ item. list_any (meets index.arch item) group) index.packages q ∙ at_place (slice_get index.packages q) group)) joins
+  where
+    none : (group : List AtomText) → false ≡ list_any (λ atom. option_map_or (λ item. meets index.arch item atom) None false) group
+    none [] = refl
+    none (atom ∷ group) = none group
 
-pub needs_marked : (index : IndexView) (place : ℕ) (item : Package) (pre rest : List (Vec Atom Global)) (before between after : Reached) → package_view item ≡ package_at index place
-    → pre ≡ item.pre_depends.items → rest ≡ item.depends.items
-    → Marks (meeting_any index (map atoms_view pre)) before between → Marks (meeting_any index (map atoms_view rest)) between after → Marks (meeting_any index (needs_at index place)) before after
-needs_marked index place item pre rest before between after item_is pre_is rest_is first second =
-    let joined : map atoms_view pre ++ map atoms_view rest ≡ needs_at index place =
-    ap (λ xs. map atoms_view xs ++ map atoms_view rest) pre_is ∙ (ap (λ xs. map atoms_view item.pre_depends.items ++ map atoms_view xs) rest_is ∙ ap needs item_is) in
-    marks_as (λ q. meeting_any index (map atoms_view pre) q || meeting_any index (map atoms_view rest) q) (meeting_any index (needs_at index place)) before after
-    (λ q. sym (list_any-append (λ group. meeting index group q) (map atoms_view pre) (map atoms_view rest)) ∙ ap (λ groups. meeting_any index groups q) joined)
-    (marks_both (meeting_any index (map atoms_view pre)) (meeting_any index (map atoms_view rest)) before between after first second)
+    at_place : (found : Option PackageView) (group : List AtomText)
+        → option_map_or (λ item. list_any (meets index.arch item) group) found false ≡ list_any (λ atom. option_map_or (λ item. meets index.arch item atom) found false) group
+    at_place (Some item) group = refl
+    at_place None group = none group
+
+-- the places that answer one group more
+pub groups_more : (index : IndexView) (place i : ℕ) (before between after : List ℕ) → i < length (needs_at index place)
+    → Joins (meeting_any index (take i (needs_at index place))) before between → Joins (answers index place i) between after
+    → Joins (meeting_any index (take (i + 1) (needs_at index place))) before after
+groups_more index place i before between after inside so_far more =
+    joins_more (λ q group. meeting index group q) (needs_at index place) i [] before between after inside so_far more
+
+-- ---- a place is visited
 
 -- what meets an alternative of some group answers a group, and the other way round
 any_answer : (index : IndexView) (p j q : ℕ) → answers index p j q ≡ true → meeting_any index (needs_at index p) q ≡ true
@@ -122,81 +98,116 @@ any_answer index p j q answered =
 answered_by : (index : IndexView) (p q : ℕ) → meeting_any index (needs_at index p) q ≡ true → (j : ℕ) × (answers index p j q ≡ true)
 answered_by index p q met =
     let at = Any-from_list_any (λ group. meeting index group q) (needs_at index p) met in
-    let here : get_or (needs_at index p) at.0 [] ≡ at.1 = default_moved (needs_at index p) at.0 at.1 [] at.2 ∙ at.3 in
+    let here : get_or (needs_at index p) at.0 [] ≡ at.1 = get_or_default (needs_at index p) at.0 [] at.1 at.2 ∙ at.3 in
     (at.0, ap (λ group. meeting index group q) here ∙ at.4)
-  where
-    default_moved : (xs : List (List AtomText)) (i : ℕ) (d e : List AtomText) → i < length xs → get_or xs i e ≡ get_or xs i d
-    default_moved [] i d e inside = absurd (omega arith)
-    default_moved (x ∷ xs) zero d e inside = refl
-    default_moved (x ∷ xs) (suc i) d e inside = default_moved xs i d e (omega arith)
 
-module _ (index : IndexView) (p place : ℕ) (before popped after : Reached) (same_marks : popped.marked.items ≡ before.marked.items)
-    (was_last : before.waiting.items ≡ popped.waiting.items ++ place ∷ []) (sound : IsWithin (waiting_in before) (marked_in before)) where
-  waiting_before : (q : ℕ) → waiting_in before q ≡ (waiting_in popped q || (eqb place q || false))
-  waiting_before q = ap (λ places. members_of places q) was_last ∙ list_any-append (λ member. eqb member q) popped.waiting.items (place ∷ [])
+-- the members before a position are visited, those from it on are to be visited; none is there twice
+pub record IsVisitedTo (index : IndexView) (p : ℕ) (members : List ℕ) (visited : ℕ) : Type 0 where
+  pub once : IsDistinct nat_eq members
+  pub reaching : IsReaching index p (members_of members) (members_of (drop visited members))
 
-  marked_popped : (q : ℕ) → marked_in popped q ≡ marked_in before q
-  marked_popped q = ap (λ marks. get_or marks q false) same_marks
+no_two : IsDistinct nat_eq []
+unfolding IsDistinct
+no_two = tt
 
-  -- the place that waited is marked
-  pub visited_marked : marked_in before place ≡ true
-  visited_marked =
-      sound place (waiting_before place ∙ here place (waiting_in popped place))
-    where
-      here : (q : ℕ) (b : Bool) → (b || (eqb q q || false)) ≡ true
-      here q true = refl
-      here q false = ap (λ b. b || false) (eq-eqb q q refl)
+module _ (index : IndexView) (p : ℕ) (members : List ℕ)
+    (joined : Joins (λ q. eqb p q || list_any (has_name index q) (essential_names index)) [] members) where
+  start_reaching : IsReaching index p (members_of members) (members_of (drop 0 members))
+  start_reaching = record {
+    start = joined.all p (or_left (eqb p p) (list_any (has_name index p) (essential_names index)) (eq-eqb p p refl));
+    essential = λ number q right named.
+        joined.all q
+        (or_right (eqb p q) (list_any (has_name index q) (essential_names index))
+        (list_any_at (has_name index q) (essential_names index) right.0 number right.1 (ap (has_name index q) right.2 ∙ named)));
+    visited = λ member j q is_in idle answered. absurd (both_ways (members_of members member) idle is_in);
+    least = λ other closed q is_in.
+        elim (joined.only q is_in) [
+          | inl never ↦ absurd (false≢true never)
+          | inr came ↦ elim (or_cases (eqb p q) (list_any (has_name index q) (essential_names index)) came) [
+            | inl here ↦ ap other (sym (eqb-true p q here)) ∙ closed.start
+            | inr named ↦
+                let at = Any-from_list_any (has_name index q) (essential_names index) named in
+                closed.essential at.1 q (at.0, at.2, at.3) at.4
+          ]
+        ];
+  }
 
-  pub visited_inside : place < length before.marked.items
-  visited_inside =
-      elim (cases_lt place (length before.marked.items)) [
-        | inl inside ↦ inside
-        | inr past ↦ absurd (both_ways (marked_in before place) (get_or_past before.marked.items place false past) visited_marked)
-      ]
+  pub visited_start : IsVisitedTo index p members 0
+  visited_start = record {
+    once = joined.once no_two;
+    reaching = start_reaching;
+  }
 
-  pub popped_sound : IsWithin (waiting_in popped) (marked_in popped)
-  popped_sound q waits =
-      marked_popped q ∙ sound q (waiting_before q ∙ ap (λ b. b || (eqb place q || false)) waits)
+-- all places make a closed set, so the members are places
+pub members_are_places : (index : IndexView) (p : ℕ) (members : List ℕ) → p < length index.packages
+    → ((other : NumberSet) → IsClosed index p other → IsWithin (members_of members) other) → All (λ q. q < length index.packages) members
+members_are_places index p members inside least =
+    let bound : ℕ = length index.packages in
+    let closed : IsClosed index p (all_below (length index.packages)) = record {
+      start = lt-ltb p (length index.packages) inside;
+      essential = λ number q right named. lt-ltb q (length index.packages) (named_is_place index q number named);
+      answered = λ member j q is_in answered. lt-ltb q (length index.packages) (answers_is_place index member j q answered);
+    } in
+    below_members members (length index.packages) (λ q is_in. ltb-true q (length index.packages) (least (all_below (length index.packages)) closed q is_in))
 
-  module _ (marks : Marks (meeting_any index (needs_at index place)) popped after) where
-    pub visit_work : work_left after < work_left before
-    visit_work =
-        let longer : length before.waiting.items ≡ length popped.waiting.items + 1 = ap length was_last ∙ length_push popped.waiting.items place in
-        let same : work_left popped ≡ 2 * count_by not before.marked.items + length popped.waiting.items = ap (λ list. 2 * count_by not list + length popped.waiting.items) same_marks in
-        omega (arith, marks.work)
+-- so there are at most as many as places
+pub members_few : (index : IndexView) (p : ℕ) (members : List ℕ) (visited : ℕ) → p < length index.packages → IsVisitedTo index p members visited → length members ≤ length index.packages
+members_few index p members visited inside so_far =
+    few_below (length index.packages) members so_far.once (members_are_places index p members inside so_far.reaching.least)
 
-    is_visit : IsVisit index place (marked_in before) (waiting_in before) (marked_in after) (waiting_in after)
-    is_visit = record {
-      keeps = λ q is_in. marks.keeps q (marked_popped q ∙ is_in);
-      all = λ j q answered. marks.all q (any_answer index place j q answered);
-      only = λ q is_in.
-          elim (marks.only q is_in) [
-            | inl old ↦ inl (sym (marked_popped q) ∙ old)
-            | inr met ↦ inr (answered_by index place q met)
-          ];
-      waits = λ q is_in idle.
-          (let old = marks.waits q is_in idle in
-          elim (cases_Bool (eqb place q)) [
-            | inl here ↦ inr (sym (eqb-true place q here))
-            | inr apart ↦ inl (sym (marked_popped q) ∙ old.0, waiting_before q ∙ or_from (waiting_in popped q) (eqb place q || false) old.1 (or_from (eqb place q) false apart refl))
-          ]);
-    }
+module _ (index : IndexView) (p : ℕ) (members after : List ℕ) (visited place : ℕ) (inside : visited < length members) (here : get_or members visited 0 ≡ place)
+    (so_far : IsVisitedTo index p members visited) (joined : Joins (meeting_any index (needs_at index place)) members after) where
+  -- the place that is visited is one of the members
+  is_member : members_of members place ≡ true
+  is_member = list_any_at (λ member. eqb member place) members visited 0 inside (eq-eqb (get_or members visited 0) place here)
 
-    pub visit_reached : IsReaching index p (marked_in before) (waiting_in before) → IsReaching index p (marked_in after) (waiting_in after)
-    visit_reached reaching = visit_reaches index p place (marked_in before) (waiting_in before) (marked_in after) (waiting_in after) reaching visited_marked is_visit
+  waiting_before : (q : ℕ) → members_of (drop visited members) q ≡ (eqb place q || members_of (drop (visited + 1) members) q)
+  waiting_before q = ap (λ list. members_of list q) (drop_more members visited 0 inside ∙ ap (λ x. x ∷ drop (visited + 1) members) here)
 
--- nobody waits in an empty list
-pub none_waits : (reached : Reached) → length reached.waiting.items ≡ 0 → (q : ℕ) → waiting_in reached q ≡ false
-none_waits reached none q = by reached.waiting.items none
-  where
-    by : (list : List ℕ) → length list ≡ 0 → members_of list q ≡ false
-    by [] none = refl
-    by (x ∷ rest) none = absurd (omega arith)
+  waiting_after : (q : ℕ) → members_of (drop (visited + 1) after) q ≡ (members_of (drop (visited + 1) members) q || members_of joined.more q)
+  waiting_after q =
+      ap (λ list. members_of list q) (ap (drop (visited + 1)) joined.appended ∙ drop-append-le (visited + 1) members joined.more (omega arith))
+      ∙ list_any-append (λ member. eqb member q) (drop (visited + 1) members) joined.more
 
--- the listed marks are the closure
-pub closure_listed : (index : IndexView) (p : ℕ) (places : List ℕ) (reached : Reached) (marks : List Bool) → marks ≡ reached.marked.items → ((q : ℕ) → members_of places q ≡ get_or marks q false)
-    → IsClosure index p (marked_in reached) → IsClosure index p (members_of places)
-closure_listed index p places reached marks is_that same least =
-    let one : members_of places ≡ marked_in reached = fun_ext (λ q. same q ∙ ap (λ list. get_or list q false) is_that) in
+  is_visit : IsVisit index place (members_of members) (members_of (drop visited members)) (members_of after) (members_of (drop (visited + 1) after))
+  is_visit = record {
+    keeps = joins_keep (meeting_any index (needs_at index place)) members after joined;
+    all = λ j q answered. joined.all q (any_answer index place j q answered);
+    only = λ q is_in.
+        elim (joined.only q is_in) [
+          | inl old ↦ inl old
+          | inr met ↦ inr (answered_by index place q met)
+        ];
+    waits = λ q is_in idle.
+        (let parts = or_parts (members_of (drop (visited + 1) members) q) (members_of joined.more q) (sym (waiting_after q) ∙ idle) in
+        let joined_q : (members_of members q || members_of joined.more q) ≡ true =
+        sym (ap (λ list. members_of list q) joined.appended ∙ list_any-append (λ member. eqb member q) members joined.more) ∙ is_in in
+        elim (or_cases (members_of members q) (members_of joined.more q) joined_q) [
+          | inl old ↦ elim (cases_Bool (eqb place q)) [
+            | inl same ↦ inr (sym (eqb-true place q same))
+            | inr apart ↦ inl (old, waiting_before q ∙ or_from (eqb place q) (members_of (drop (visited + 1) members) q) apart parts.0)
+          ]
+          | inr never ↦ absurd (both_ways (members_of joined.more q) parts.1 never)
+        ]);
+  }
+
+  pub visited_more : IsVisitedTo index p after (visited + 1)
+  visited_more = record {
+    once = joined.once so_far.once;
+    reaching =
+        visit_reaches index p place (members_of members) (members_of (drop visited members)) (members_of after) (members_of (drop (visited + 1) after))
+        so_far.reaching is_member is_visit;
+  }
+
+-- where all are visited the members are the closure
+pub visited_all : (index : IndexView) (p : ℕ) (members : List ℕ) (visited : ℕ) → length members ≤ visited → IsVisitedTo index p members visited → IsClosure index p (members_of members)
+visited_all index p members visited past so_far =
+    reached index p (members_of members) (members_of (drop visited members)) so_far.reaching (λ q. ap (λ list. members_of list q) (drop_all visited members past))
+
+-- a list with the same members is the closure too
+pub closure_same : (index : IndexView) (p : ℕ) (members sorted listed : List ℕ) → ((q : ℕ) → members_of sorted q ≡ members_of members q) → listed ≡ sorted
+    → IsClosure index p (members_of members) → IsClosure index p (members_of listed)
+closure_same index p members sorted listed same is_that least =
+    let one : members_of listed ≡ members_of members = fun_ext (λ q. ap (λ list. members_of list q) is_that ∙ same q) in
     let At : NumberSet → Type 0 = λ set. IsClosure index p set in
     subst At (sym one) least

@@ -10,7 +10,8 @@ use Rattle.deb_verdict.specs.Closure.{IsWithin, kept, IsClosed}
 use Rattle.deb_verdict.specs.Encoding.{positions_of, Stands, Encodes, IsChosen}
 use Rattle.deb_verdict.specs.Reduction.{all_below}
 use Rattle.deb_verdict.specs.Groups.{HasNoTrueSet}
-use Rattle.deb_verdict.proofs.Cutting.{none_of, closed_enough, respects_nothing}
+use Rattle.deb_verdict.specs.Gathering.{none_of}
+use Rattle.deb_verdict.proofs.Cutting.{closed_enough, respects_nothing}
 use Rattle.deb_verdict.proofs.Encoded.{members_of_at, at_members_of, none_true, true_meets, first_true, first_meeting}
 use Rattle.deb_verdict.proofs.CoreCarried.{GroupsAdmitNone, position_in, group_at, same_position, first_core_carried}
 use Rattle.deb_verdict.proofs.GroupLemmas.{marks_of, mark_at, marked, true_from_kept, kept_from_true}

@@ -7,11 +7,7 @@ use Rattle.deb_index.specs.Constraints.{has_name, answers, hits}
 use Rattle.deb_index.specs.Constraints.{constraints_of}
 use Rattle.sat_solve.specs.Sets.{NumberSet}
 use Rattle.deb_verdict.specs.Health.{MeetsAt}
-use Rattle.deb_verdict.proofs.Cutting.{Respects, none_of}
-
--- all sets that contain p and meet the constraints at these positions respect what is in and what is out
-abbrev pub Follows : IndexView → ℕ → NumberSet → NumberSet → NumberSet → Type 0
-Follows index p positions ins outs = (set : NumberSet) → set p ≡ true → MeetsAt index set positions → Respects ins outs set
+use Rattle.deb_verdict.specs.Gathering.{Respects, none_of, Follows}
 
 -- one number more
 abbrev pub with_one : NumberSet → ℕ → NumberSet

@@ -6,3 +6,9 @@ pub mod Reduction
 pub mod Groups
 pub mod Adding
 pub mod Reach
+pub mod Play
+pub mod PlaceSets
+pub mod Gathering
+pub mod Growing
+pub mod Standings
+pub mod Having

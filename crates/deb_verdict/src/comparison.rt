@@ -1,15 +1,27 @@
 //! The verdicts of small generated indexes, compared with all sets of places and all sets of positions.
 
-ghost use Rattle.std.specs.Prelude.{◌<◌};
+ghost use Rattle.std.specs.Prelude.{◌<◌, ◌^◌, length};
 
 use super::*;
-use crate::reached::listed;
 use crate::tests::{is_broken, is_found, read};
 use deb_index::{Constraint, Index};
 use deb_relation::Atom;
 use std::alloc::{AllocError, Global};
 use std::process::Abort;
 use std::test::Fail;
+
+/// The numbers of the marks that are set, rising.
+fn listed(alloc: Global, marked: &[bool]) -> Result<Vec<u32>, AllocError>
+    requires { length marked.now < 2 ^ 32 }
+{
+    let mut places = Vec::new(alloc);
+    for (place, is_marked) in marked.iter().enumerate() {
+        if *is_marked {
+            places.push(place as u32)?;
+        }
+    }
+    Ok(places)
+}
 
 /// The next set in the order, where the last number changes first; nothing comes after the set of all.
 fn advance(set: &mut [bool]) -> bool {
@@ -192,6 +204,84 @@ fn generated(alloc: Global, seed: u32) -> Result<String, AllocError> {
     Ok(text)
 }
 
+/// Whether the package at a place has an essential name.
+fn has_essential_name(index: &Index, q: u32) -> bool
+    requires { q < length index.now.packages }
+{
+    for name in index.essential_names() {
+        if *name < index.name_count()
+            && index.package(q).name.as_slice() == index.name_text(*name)
+        {
+            return true;
+        }
+    }
+    false
+}
+
+/// Whether the package at a place meets an alternative of a group of another.
+fn answers_some(index: &Index, p: u32, q: u32) -> bool
+    requires asker { p < length index.now.packages }
+    requires answer { q < length index.now.packages }
+{
+    let item = index.package(p);
+    for group in item.pre_depends.iter().chain(item.depends.iter()) {
+        for atom in group {
+            if index.meets(q, atom) {
+                return true;
+            }
+        }
+    }
+    false
+}
+
+/// Whether a place comes to the closure of a package next, where a set of places is in so far.
+fn comes_next(index: &Index, set: &[bool], p: u32, q: u32) -> bool
+    requires { q < length index.now.packages }
+{
+    if q == p || has_essential_name(index, q) {
+        return true;
+    }
+    for member in 0..index.len() {
+        if has(set, member as usize) && answers_some(index, member, q) {
+            return true;
+        }
+    }
+    false
+}
+
+/// The closure of a package, found by going over all places until nothing comes.
+fn plain_closure(alloc: Global, index: &Index, p: u32) -> Result<Vec<bool>, AllocError> {
+    let mut set = vec![in alloc; false; index.len() as usize]?;
+    for _ in 0..index.len() {
+        for q in 0..index.len() {
+            if comes_next(index, &set, p, q)
+                && let Some(mark) = set.get_mut(q as usize)
+            {
+                *mark = true;
+            }
+        }
+    }
+    Ok(set)
+}
+
+/// Compares all closures of an index, and counts their members.
+fn compare_closures(
+    rt: &impl Abort,
+    alloc: Global,
+    index: &Index,
+    members: &mut usize,
+) -> Result<(), Fail> {
+    for p in 0..index.len() {
+        let set = plain_closure(alloc, index, p)?;
+        assert!(rt; set.len() < 1000);
+        let wanted = listed(alloc, &set)?;
+        let found = closure(alloc, index, p)?;
+        assert!(rt; found.as_slice() == wanted.as_slice());
+        *members = members.saturating_add(found.len());
+    }
+    Ok(())
+}
+
 /// Compares all verdicts of an index, and counts those that are broken.
 fn compare(rt: &impl Abort, alloc: Global, index: &Index, broken: &mut u32) -> Result<(), Fail> {
     let constraints = index.constraints(alloc)?;
@@ -223,5 +313,17 @@ fn as_all_sets_say(rt: HostRuntime) -> Result<(), Fail> {
         compare(&rt, rt.alloc(), &index, &mut broken)?;
     }
     assert!(rt; broken > 20 && broken < 180);
+    Ok(())
+}
+
+#[test]
+fn closures_as_all_places_say(rt: HostRuntime) -> Result<(), Fail> {
+    let mut members = 0usize;
+    for seed in 0..200 {
+        let text = generated(rt.alloc(), seed)?;
+        let index = read(rt.alloc(), text.as_bytes(), true)?;
+        compare_closures(&rt, rt.alloc(), &index, &mut members)?;
+    }
+    assert!(rt; members > 1000 && members < 3000);
     Ok(())
 }

@@ -8,10 +8,11 @@ ghost use Rattle.deb_verdict.specs.Closure.{IsClosure};
 ghost use Rattle.deb_verdict.specs.Verdicts.{IsVerdict, SpeaksOf, verdict_view};
 
 use crate::answer::Verdict;
-use crate::encoding::encode;
+use crate::first_core::first_core;
+use crate::first_set::first_set;
+use crate::place_set::PlaceSet;
 use crate::reach::reach;
-use crate::reached::listed;
-use crate::unsolvable::{blocking, solve_all};
+use crate::workspace::Workspace;
 use deb_index::Index;
 use std::alloc::{AllocError, Global};
 
@@ -24,9 +25,10 @@ pub fn closure(alloc: Global, index: &Index, p: u32) -> Result<Vec<u32>, AllocEr
     ensures rising { IfOk result (λ members. IsStrictlyIncreasing members.items) }
     ensures least { IfOk result (λ members. IsClosure index.now p (members_of members.items)) }
 {
-    let reached = reach(alloc, index, p)?;
-    let places = listed(alloc, &reached.marked)?;
-    Ok(places)
+    let mut members = PlaceSet::new(alloc);
+    reach(alloc, index, p, &mut members)?;
+    members.sort();
+    Vec::from_slice(alloc, members.as_slice())
 }
 
 /// The verdict of the package at a place: the first healthy set that contains it, or, where there is none, the first set of constraints that
@@ -38,13 +40,27 @@ pub fn verdict(alloc: Global, index: &Index, p: u32) -> Result<Verdict, AllocErr
     ensures verdict { IfOk result (λ found. IsVerdict index.now p (verdict_view found)) }
     ensures within { IfOk result (λ found. SpeaksOf index.now (verdict_view found)) }
 {
-    let constraints = index.constraints(alloc)?;
-    let formula = encode(alloc, index, &constraints)?;
-    let found = solve_all(alloc, &formula, p)?;
-    match found {
+    let mut workspace = Workspace::new(alloc)?;
+    verdict_in(alloc, &mut workspace, index, p)
+}
+
+/// What `verdict` gives, found in the buffers of an earlier verdict, of whatever package and index.
+///
+/// The answer does not depend on what the workspace was used for.
+pub fn verdict_in(
+    alloc: Global,
+    workspace: &mut Workspace,
+    index: &Index,
+    p: u32,
+) -> Result<Verdict, AllocError>
+    requires { p < length index.now.packages }
+    ensures verdict { IfOk result (λ found. IsVerdict index.now p (verdict_view found)) }
+    ensures within { IfOk result (λ found. SpeaksOf index.now (verdict_view found)) }
+{
+    match first_set(alloc, workspace, index, p)? {
         Some(places) => Ok(Verdict::Ok(places)),
         None => {
-            let core = blocking(alloc, &formula, &constraints, p)?;
+            let core = first_core(alloc, workspace, index, p)?;
             Ok(Verdict::Broken(core))
         }
     }

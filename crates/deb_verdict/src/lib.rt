@@ -2,19 +2,31 @@
 #![tactic(auto)]
 
 mod answer;
+mod clauses;
 mod decision;
-mod encoding;
+mod describe;
+mod first_core;
+mod first_set;
+mod gather;
+mod kept_constraints;
 pub mod laws;
 mod marks;
+mod place_set;
 mod reach;
-mod reached;
 mod reduction;
+mod scene;
 mod unsolvable;
+mod workspace;
 
 pub use answer::Verdict;
-pub use decision::{closure, verdict};
+pub use decision::{closure, verdict, verdict_in};
+pub use workspace::Workspace;
 
 #[cfg(test)]
 mod comparison;
+#[cfg(test)]
+mod counting;
+#[cfg(test)]
+mod gather_tests;
 #[cfg(test)]
 mod tests;

@@ -1,89 +1,104 @@
 //! The way to a closure: each place that is reached is visited once.
 
-ghost use Rattle.std.specs.Prelude.{◌≡◌, ◌<◌, ◌^◌, IfOk, OnOk, length, map};
-ghost use Rattle.deb_relation.specs.AtomView.{atom_view, atoms_view};
-ghost use Rattle.deb_index.specs.Packages.{needs_at};
-ghost use Rattle.deb_verdict.specs.Closure.{IsWithin, IsClosure};
-ghost use Rattle.deb_verdict.specs.Reach.{Marks, marked_in, waiting_in, meeting, meeting_any, IsReaching};
+ghost use Rattle.std.specs.Prelude.{◌≡◌, ◌<◌, ◌||◌, ◌==◌, [], All, OnOk, length, map};
+ghost use Rattle.std.specs.List.{list_any};
+ghost use Rattle.deb_relation.specs.AtomView.{atom_view};
+ghost use Rattle.deb_index.specs.Packages.{needs_at, essential_names};
+ghost use Rattle.deb_index.specs.Constraints.{has_name, answers};
+ghost use Rattle.sat_solve.specs.Sets.{members_of};
+ghost use Rattle.deb_verdict.specs.Closure.{IsClosure};
+ghost use Rattle.deb_verdict.specs.Reach.{Joins, meeting, meeting_any};
 
-use crate::reached::Reached;
+use crate::place_set::PlaceSet;
 use deb_index::Index;
 use deb_relation::Atom;
 use std::alloc::{AllocError, Global};
 
-/// Marks the places that meet an alternative of a group.
-fn mark_group(
+/// Puts in places.
+fn insert_all(places: &[u32], members: &mut PlaceSet) -> Result<(), AllocError>
+    ensures { OnOk result (Joins (members_of places.now) members.old members.new) }
+{
+    for place in places {
+        members.insert(*place)?;
+    }
+    Ok(())
+}
+
+/// Puts in the places that meet an alternative of a group.
+fn insert_meeting(
     alloc: Global,
     index: &Index,
     group: &[Atom],
-    reached: &mut Reached,
+    members: &mut PlaceSet,
 ) -> Result<(), AllocError>
-    requires { length reached.old.marked.items ≡ length index.now.packages }
-    ensures { OnOk result (Marks (meeting index.now (map atom_view group.now)) reached.old reached.new) }
+    ensures { OnOk result (Joins (meeting index.now (map atom_view group.now)) members.old members.new) }
 {
     for atom in group {
         let met = index.satisfiers(alloc, atom)?;
-        reached.mark_all(&met)?;
+        insert_all(&met, members)?;
     }
     Ok(())
 }
 
-/// Marks the places that meet an alternative of one of the groups.
-fn mark_groups(
+/// Puts in the places that answer a group of the package at a place.
+fn insert_answers(
     alloc: Global,
     index: &Index,
-    groups: &[Vec<Atom>],
-    reached: &mut Reached,
+    place: u32,
+    number: u32,
+    members: &mut PlaceSet,
 ) -> Result<(), AllocError>
-    requires { length reached.old.marked.items ≡ length index.now.packages }
-    ensures { OnOk result (Marks (meeting_any index.now (map atoms_view groups.now)) reached.old reached.new) }
-{
-    for group in groups {
-        mark_group(alloc, index, group, reached)?;
-    }
-    Ok(())
-}
-
-/// Marks the places that answer a group of the package at a place.
-fn visit(alloc: Global, index: &Index, place: u32, reached: &mut Reached) -> Result<(), AllocError>
     requires place { place < length index.now.packages }
-    requires size { length reached.old.marked.items ≡ length index.now.packages }
-    ensures { OnOk result (Marks (meeting_any index.now (needs_at index.now place)) reached.old reached.new) }
+    requires number { number < length (needs_at index.now place) }
+    ensures { OnOk result (Joins (answers index.now place number) members.old members.new) }
 {
-    let visited = index.package(place);
-    mark_groups(alloc, index, &visited.pre_depends, reached)?;
-    mark_groups(alloc, index, &visited.depends, reached)?;
+    match index.answer_row(place, number) {
+        Some(row) => insert_all(row, members),
+        None => insert_meeting(alloc, index, index.need(place, number), members),
+    }
+}
+
+/// Puts in the places that answer a group of the package at a place, for all its groups.
+fn visit(alloc: Global, index: &Index, place: u32, members: &mut PlaceSet) -> Result<(), AllocError>
+    requires { place < length index.now.packages }
+    ensures { OnOk result (Joins (meeting_any index.now (needs_at index.now place)) members.old members.new) }
+{
+    for number in 0..index.need_count(place) {
+        insert_answers(alloc, index, place, number, members)?;
+    }
     Ok(())
 }
 
-/// At first a place and those of essential names are marked, and wait.
-fn start(alloc: Global, index: &Index, p: u32) -> Result<Reached, AllocError>
-    requires { p < length index.now.packages }
-    ensures size { IfOk result (λ reached. length reached.marked.items ≡ length index.now.packages) }
-    ensures few { IfOk result (λ reached. length reached.marked.items < 2 ^ 32) }
-    ensures sound { IfOk result (λ reached. IsWithin (waiting_in reached) (marked_in reached)) }
-    ensures reaching { IfOk result (λ reached. IsReaching index.now p (marked_in reached) (waiting_in reached)) }
+/// At first a place and those of essential names are in, and nothing else.
+fn start(index: &Index, p: u32, members: &mut PlaceSet) -> Result<(), AllocError>
+    ensures { OnOk result (Joins (λ q. (p == q) || list_any (has_name index.now q) (essential_names index.now)) [] members.new) }
 {
-    let mut reached = Reached {
-        marked: vec![in alloc; false; index.len() as usize]?,
-        waiting: Vec::new(alloc),
-    };
-    reached.mark(p)?;
+    members.clear();
+    members.insert(p)?;
     for name in index.essential_names() {
-        reached.mark_all(index.places_of(index.name_text(*name)))?;
+        insert_all(index.places_named(*name), members)?;
     }
-    Ok(reached)
+    Ok(())
 }
 
-/// All places that are reached from a place and those of essential names.
-pub fn reach(alloc: Global, index: &Index, p: u32) -> Result<Reached, AllocError>
+/// Makes the members all places that are reached from a place and those of essential names; what was in goes out.
+///
+/// The list of the members is the list of the places to visit too: each is behind those that are visited before it.
+pub(crate) fn reach(
+    alloc: Global,
+    index: &Index,
+    p: u32,
+    members: &mut PlaceSet,
+) -> Result<(), AllocError>
     requires { p < length index.now.packages }
-    ensures few { IfOk result (λ reached. length reached.marked.items < 2 ^ 32) }
-    ensures least { IfOk result (λ reached. IsClosure index.now p (marked_in reached)) }
+    ensures least { OnOk result (IsClosure index.now p (members_of members.new)) }
+    ensures within { OnOk result (All (λ q. q < length index.now.packages) members.new) }
 {
-    let mut reached = start(alloc, index, p)?;
-    while let Some(place) = reached.waiting.pop() {
-        visit(alloc, index, place, &mut reached)?;
+    start(index, p, members)?;
+    let mut visited = 0;
+    while visited < members.as_slice().len() {
+        visit(alloc, index, members.as_slice()[visited], members)?;
+        visited += 1;
     }
-    Ok(reached)
+    Ok(())
 }

@@ -1,6 +1,7 @@
 //! Verdicts and closures of small indexes, compared with answers that were found by hand.
 
 use super::*;
+use crate::place_set::PlaceSet;
 use deb_index::{Constraint, Index};
 use std::alloc::Global;
 use std::process::Abort;
@@ -220,4 +221,78 @@ fn pre_depends_and_breaks(rt: HostRuntime) -> Result<(), Fail> {
     )?;
     expect_set(&rt, rt.alloc(), &index, 2, &[2])?;
     expect_closure(&rt, rt.alloc(), &index, 0, &[0, 1, 2])
+}
+
+fn expect_same(
+    rt: &impl Abort,
+    alloc: Global,
+    workspace: &mut Workspace,
+    index: &Index,
+) -> Result<(), Fail> {
+    for p in 0..index.len() {
+        let kept = verdict_in(alloc, workspace, index, p)?;
+        let fresh = verdict(alloc, index, p)?;
+        match &fresh {
+            Verdict::Ok(places) => assert!(rt; is_found(&kept, places)),
+            Verdict::Broken(core) => assert!(rt; is_broken(&kept, core)),
+        }
+    }
+    Ok(())
+}
+
+#[test]
+fn one_workspace_for_all(rt: HostRuntime) -> Result<(), Fail> {
+    let agents = read(
+        rt.alloc(),
+        b"Package: base\nVersion: 1\nArchitecture: all\nEssential: yes\nDepends: m1 | m2, lib\n\nPackage: m1\nVersion: 1\nArchitecture: all\nProvides: mail-agent\nConflicts: mail-agent\n\nPackage: m2\nVersion: 1\nArchitecture: all\nProvides: mail-agent\nConflicts: mail-agent\n\nPackage: u\nVersion: 1\nArchitecture: all\nDepends: m1, m2\n\nPackage: lib\nVersion: 1\nArchitecture: all\n",
+        true,
+    )?;
+    let versions = read(
+        rt.alloc(),
+        b"Package: n\nVersion: 1\nArchitecture: all\n\nPackage: n\nVersion: 2\nArchitecture: all\n\nPackage: a\nVersion: 1\nArchitecture: all\nDepends: n (= 1), b\n\nPackage: b\nVersion: 1\nArchitecture: all\nDepends: n (= 2)\n",
+        true,
+    )?;
+    let mut workspace = Workspace::new(rt.alloc())?;
+    expect_same(&rt, rt.alloc(), &mut workspace, &agents)?;
+    expect_same(&rt, rt.alloc(), &mut workspace, &versions)?;
+    expect_same(&rt, rt.alloc(), &mut workspace, &agents)?;
+    assert!(rt; versions.len() == 4 && agents.len() == 5);
+    let first = verdict_in(rt.alloc(), &mut workspace, &versions, 3)?;
+    assert!(rt; is_found(&first, &[1, 3]));
+    let broken = verdict_in(rt.alloc(), &mut workspace, &agents, 3)?;
+    assert!(rt;
+        is_broken(
+            &broken,
+            &[
+                Constraint::Apart(2, 0),
+                Constraint::Need(3, 0),
+                Constraint::Need(3, 1)
+            ]
+        )
+    );
+    let forced = verdict_in(rt.alloc(), &mut workspace, &agents, 1)?;
+    assert!(rt; is_found(&forced, &[0, 1, 4]));
+    Ok(())
+}
+
+#[test]
+fn places_come_and_go(rt: HostRuntime) -> Result<(), Fail> {
+    let mut set = PlaceSet::new(rt.alloc());
+    set.insert(7)?;
+    set.insert(2)?;
+    set.insert(9)?;
+    set.insert(2)?;
+    assert!(rt; set.as_slice() == [7, 2, 9].as_slice());
+    assert!(rt; set.number_of(9) == Some(2));
+    assert!(rt; set.number_of(0).is_none());
+    set.sort();
+    assert!(rt; set.as_slice() == [2, 7, 9].as_slice());
+    assert!(rt; set.number_of(7) == Some(1));
+    set.clear();
+    assert!(rt; !set.contains(7));
+    set.insert(9)?;
+    assert!(rt; set.as_slice() == [9].as_slice());
+    assert!(rt; set.number_of(9) == Some(0));
+    assert!(rt; !set.contains(2));
+    Ok(())
 }

@@ -1,6 +1,10 @@
-use Rattle.deb_verdict.proofs.ReachLemmas.{closure_listed}
+use Rattle.std.proofs.Common.{◌∙◌}
+use Rattle.std.proofs.lemmas.Result.{IfOk-weaker}
+use Rattle.deb_verdict.proofs.ReachLemmas.{closure_same}
 use Rattle.deb_verdict.proofs.decision.closure.Goals as goal
 
 pub returns-clause-least : goal.returns-clause-least
 returns-clause-least c =
-    closure_listed c.args.index.now c.args.p c.in_ok-places.places.items c.in_ok-reached.reached c.deref.result.now c.deref.ensures.value c.in_ok-places.ensures.same c.in_ok-reached.ensures.least
+    IfOk-weaker c.from_slice.result _ _
+    (λ members items_are. closure_same c.args.index.now c.args.p c.reach.new.members c.sort.new.self members.items c.sort.ensures.same (items_are ∙ c.as_slice.ensures) c.in_ok-reach.ensures.least)
+    c.from_slice.ensures.items

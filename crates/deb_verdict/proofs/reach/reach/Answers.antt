@@ -1,36 +1,34 @@
-use Rattle.std.proofs.Common.{◌≡◌, ◌∙◌, ◌<◌, refl, length, arith}
-use Rattle.deb_verdict.specs.Reach.{marked_in, waiting_in, work_left}
-use Rattle.deb_verdict.proofs.Reaching.{reached}
-use Rattle.deb_verdict.proofs.ReachLemmas.{visited_inside, popped_sound, visit_work, visit_reached, none_waits}
+use Rattle.std.proofs.Common.{◌<◌, ◌+◌, ◌-◌, ap, sym, get_or, length, arith}
+use Rattle.deb_verdict.proofs.ReachLemmas.{visited_start, visited_more, visited_all, members_few, members_are_places}
 use Rattle.deb_verdict.proofs.reach.reach.Goals as goal
 
-pub visit-requires-clause-place : goal.visit-requires-clause-place
-visit-requires-clause-place c =
-    omega (
-      arith,
-      c.loop-place.invariant.size,
-      visited_inside c.args.index.now c.args.p c.in-Some.place c.loop-place.reached (record { marked = c.loop-place.reached.marked; waiting = c.pop.new.self }) c.loop-place.reached refl c.in-Some.ensures.items c.loop-place.invariant.sound,
-    )
+pub loop-visited-init : goal.loop-visited-init
+loop-visited-init c = visited_start c.args.index.now c.args.p c.start.new.members c.in_ok-start.ensures
 
-pub loop-place-preserved : goal.loop-place-preserved
-loop-place-preserved c = record {
-  size = c.in_ok-visit.ensures.size ∙ c.loop-place.invariant.size;
-  sound =
-      c.in_ok-visit.ensures.sound
-      (popped_sound c.args.index.now c.args.p c.in-Some.place c.loop-place.reached (record { marked = c.loop-place.reached.marked; waiting = c.pop.new.self }) c.visit.new.reached refl c.in-Some.ensures.items c.loop-place.invariant.sound);
-  reaching =
-      visit_reached c.args.index.now c.args.p c.in-Some.place c.loop-place.reached (record { marked = c.loop-place.reached.marked; waiting = c.pop.new.self }) c.visit.new.reached refl c.in-Some.ensures.items c.loop-place.invariant.sound
-      c.in_ok-visit.ensures c.loop-place.invariant.reaching;
-}
+pub visit-requires : goal.visit-requires
+visit-requires c =
+    let inside : c.loop-visited.visited < length c.as_slice-in-loop-visited.result.now =
+    omega (arith, c.loop-visited-test.true, ap length c.as_slice.ensures, ap length c.as_slice-in-loop-visited.ensures) in
+    let places = members_are_places c.args.index.now c.args.p c.loop-visited.members c.requires c.loop-visited.invariant.reaching.least in
+    let here = places c.loop-visited.visited 0 (omega (arith, inside, ap length c.as_slice-in-loop-visited.ensures)) in
+    omega (arith, here, ap (λ list. get_or list c.loop-visited.visited 0) c.as_slice-in-loop-visited.ensures)
 
-pub loop-place-smaller : goal.loop-place-smaller
-loop-place-smaller c =
-    let less : work_left c.visit.new.reached < work_left c.loop-place.reached =
-    visit_work c.args.index.now c.args.p c.in-Some.place c.loop-place.reached (record { marked = c.loop-place.reached.marked; waiting = c.pop.new.self }) c.visit.new.reached refl c.in-Some.ensures.items c.loop-place.invariant.sound
-    c.in_ok-visit.ensures in
+pub loop-visited-smaller : goal.loop-visited-smaller
+loop-visited-smaller c =
+    let inside : c.loop-visited.visited < length c.loop-visited.members = omega (arith, c.loop-visited-test.true, ap length c.as_slice.ensures) in
+    let few = members_few c.args.index.now c.args.p c.loop-visited.members c.loop-visited.visited c.requires c.loop-visited.invariant in
+    let less : length c.args.index.now.packages - (c.loop-visited.visited + 1) < length c.args.index.now.packages - c.loop-visited.visited = omega (arith, inside, few) in
     less
+
+pub loop-visited-preserved : goal.loop-visited-preserved
+loop-visited-preserved c =
+    let inside : c.loop-visited.visited < length c.loop-visited.members = omega (arith, c.loop-visited-test.true, ap length c.as_slice.ensures) in
+    visited_more c.args.index.now c.args.p c.loop-visited.members c.visit.new.members c.loop-visited.visited (get_or c.as_slice-in-loop-visited.result.now c.loop-visited.visited 0) inside
+    (ap (λ list. get_or list c.loop-visited.visited 0) (sym c.as_slice-in-loop-visited.ensures)) c.loop-visited.invariant c.in_ok-visit.ensures
 
 pub returns-clause-least : goal.returns-clause-least
 returns-clause-least c =
-    let none : length c.loop-place.reached.waiting.items ≡ 0 = omega (arith, c.in_default.ensures.cases, c.loop-place.reached.waiting.ok) in
-    reached c.args.index.now c.args.p (marked_in c.loop-place.reached) (waiting_in c.loop-place.reached) c.loop-place.invariant.reaching (none_waits c.loop-place.reached none)
+    visited_all c.args.index.now c.args.p c.loop-visited.members c.loop-visited.visited (omega (arith, c.loop-visited-test.false, ap length c.as_slice.ensures)) c.loop-visited.invariant
+
+pub returns-clause-within : goal.returns-clause-within
+returns-clause-within c = members_are_places c.args.index.now c.args.p c.loop-visited.members c.requires c.loop-visited.invariant.reaching.least

@@ -1,9 +1,16 @@
 use Rattle.std.proofs.Common.{◌≡◌, ◌<◌, ℕ, List, true, map, get_or, take, slice_get, Some, subst, length, sym, ap, ◌∙◌, arith}
 use Rattle.sat_solve.specs.Sets.{members_of}
+use Rattle.deb_verdict.specs.Reduction.{all_below}
+use Rattle.deb_verdict.specs.Groups.{HasNoTrueSet}
 use Rattle.deb_verdict.proofs.AddSteps.{take_whole}
 use Rattle.deb_verdict.proofs.Encoded.{at_members_of}
 use Rattle.deb_verdict.proofs.Whole.{first_groups_below, named_more}
 use Rattle.deb_verdict.proofs.unsolvable.blocking.Goals as goal
+
+pub first_failing-requires-clause-fails : goal.first_failing-requires-clause-fails
+first_failing-requires-clause-fails c =
+    let Fails : ℕ → Type 0 = λ count. HasNoTrueSet c.args.formula.now c.args.must (all_below count) in
+    subst Fails (sym c.groups.ensures) c.requires.none
 
 pub bounds-constraints-group : goal.bounds-constraints-group
 bounds-constraints-group c =

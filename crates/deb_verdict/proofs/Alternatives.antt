@@ -1,0 +1,37 @@
+-- Which places answer a group, alternative by alternative.
+use Rattle.std.proofs.Common.{◌≡◌, ◌⊎◌, ℕ, zero, suc, ◌+◌, ◌<◌, ◌≤◌, Bool, true, false, ◌||◌, not, eqb, List, [], ◌∷◌, ◌++◌, length, get_or, take, map, Some, All, ◌↔◌, refl, sym, subst, ◌∙◌, ap, inl, inr, arith, append_assoc}
+use Rattle.std.specs.List.{list_any}
+use Rattle.std.proofs.lemmas.Bool.{cases_Bool, false≢true, or_cases, or_left, or_right}
+use Rattle.std.proofs.lemmas.List.{take_more, map-append, length-take-le, get_or_default}
+use Rattle.std.proofs.lemmas.List.Elements.{All-append, All-map, All-take, All-same}
+use Rattle.std.proofs.lemmas.List.Folds.{list_any-append, list_any_more}
+use Rattle.deb_relation.specs.declared.atom.Atom.{Atom}
+use Rattle.deb_relation.specs.AtomView.{atom_view}
+use Rattle.deb_relation.specs.Relationship.{AtomText}
+use Rattle.deb_index.specs.declared.constraint.Constraint.{Constraint}
+use Rattle.deb_index.specs.declared.constraint.Constraint.TheVariants.{Essential, Need, Apart, Only}
+use Rattle.deb_index.specs.Packages.{IndexView, name_at, is_named, places_of, apart_at}
+use Rattle.deb_index.specs.Meets.{meets, meets_at, satisfiers}
+use Rattle.deb_index.specs.Constraints.{Holds, answers}
+use Rattle.deb_index.proofs.MemberLemmas.{below-places_where}
+use Rattle.sat_solve.specs.declared.Lit.{Lit}
+use Rattle.sat_solve.specs.Sets.{NumberSet, members_of}
+use Rattle.sat_solve.specs.Clauses.{Clause, Clauses, clause_holds}
+use Rattle.deb_verdict.proofs.Members.{any_member, member_any}
+use Rattle.deb_verdict.proofs.Encoded.{at_members_of}
+use Rattle.deb_verdict.proofs.IndexFacts.{member_named, member_satisfiers, some_named, answers_is_place}
+use Rattle.deb_verdict.proofs.AddSteps.{list_any-map}
+
+pub answers_more : (index : IndexView) (found met found_then : List ℕ) (atoms : List Atom) (i : ℕ) (atom : Atom) → found_then ≡ found ++ met → met ≡ satisfiers index (atom_view atom)
+    → i < length atoms → atom ≡ get_or atoms i atom
+    → ((q : ℕ) → members_of found q ≡ list_any (meets_at index q) (map atom_view (take i atoms)))
+    → (q : ℕ) → members_of found_then q ≡ list_any (meets_at index q) (map atom_view (take (i + 1) atoms))
+answers_more index found met found_then atoms i atom joined met_is inside here so_far q =
+    let test : Atom → Bool = λ a. meets_at index q (atom_view a) in
+    let last : members_of met q ≡ test (get_or atoms i atom) = ap (λ list. members_of list q) met_is ∙ (member_satisfiers index (atom_view atom) q ∙ ap test here) in
+    let whole : list_any (meets_at index q) (map atom_view (take (i + 1) atoms)) ≡ (list_any test (take i atoms) || test (get_or atoms i atom)) =
+    list_any-map (meets_at index q) atom_view (take (i + 1) atoms) ∙ list_any_more test atoms i atom inside in
+    ap (λ list. members_of list q) joined
+    ∙ (list_any-append (λ member. eqb member q) found met
+    ∙ (ap (λ b. b || members_of met q) (so_far q ∙ list_any-map (meets_at index q) atom_view (take i atoms))
+    ∙ (ap (λ b. list_any test (take i atoms) || b) last ∙ sym whole)))

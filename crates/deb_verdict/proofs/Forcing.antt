@@ -1,0 +1,132 @@
+-- Places that are in every healthy set with p: one step more.
+use Rattle.std.proofs.Common.{◌≡◌, ℕ, ◌<◌, true, false, eqb, List, [], ◌∷◌, length, get_or, Option, Some, None, slice_get, refl, sym, subst, ◌∙◌, ap, inl, inr, Contains}
+use Rattle.std.specs.List.{list_any}
+use Rattle.std.specs.Option.{option_map_or}
+use Rattle.std.proofs.lemmas.Bool.{false≢true, or_cases, or_left, or_right, eqb-true, eq-eqb}
+use Rattle.std.proofs.lemmas.List.Elements.{Contains-get_or}
+use Rattle.deb_relation.specs.Relationship.{AtomText}
+use Rattle.deb_index.specs.Packages.{IndexView, PackageView, name_at, places_of, essential_names, needs_at, need_at}
+use Rattle.deb_index.specs.Meets.{meets, group_satisfiers}
+use Rattle.deb_index.specs.Constraints.{has_name, answers}
+use Rattle.deb_index.proofs.MemberLemmas.{member-places_where}
+use Rattle.sat_solve.specs.Sets.{members_of}
+use Rattle.deb_verdict.specs.PlaceSets.{with_place}
+use Rattle.deb_verdict.specs.Gathering.{Follows, all_of, none_of}
+use Rattle.deb_verdict.specs.Growing.{AreForced, KeepsForced, TakesOnly}
+use Rattle.deb_verdict.specs.Growing.TakesOnly.{Same, Took}
+use Rattle.deb_verdict.proofs.IndexFacts.{member_named, named_is_place, answers_is_place}
+use Rattle.deb_verdict.proofs.Placing.{grows_none, grows_both, grows_with, grows_keeps, with_place_has, with_place_only}
+use Rattle.deb_verdict.proofs.Standing.{need_stands, essential_stands}
+use Rattle.deb_verdict.proofs.Units.{with_one, last_answer, last_essential, follows_start}
+
+-- ---- what stands in a row
+
+none_meets : (group : List AtomText) → list_any (λ atom. false) group ≡ false
+none_meets [] = refl
+none_meets (atom ∷ group) = none_meets group
+
+group_met : (arch : List ℕ) (group : List AtomText) (found : Option PackageView)
+    → option_map_or (λ item. list_any (meets arch item) group) found false ≡ list_any (λ atom. option_map_or (λ item. meets arch item atom) found false) group
+group_met arch group None = sym (none_meets group)
+group_met arch group (Some item) = refl
+
+-- the places of a need's row are those that answer it
+pub member_answers : (index : IndexView) (p j q : ℕ) → members_of (group_satisfiers index (need_at index p j)) q ≡ answers index p j q
+member_answers index p j q =
+    member-places_where (λ item. list_any (meets index.arch item) (need_at index p j)) index.packages q
+    ∙ group_met index.arch (need_at index p j) (slice_get index.packages q)
+
+in_single : (only q : ℕ) → members_of (only ∷ []) q ≡ true → q ≡ only
+in_single only q is_in =
+    elim (or_cases (eqb only q) false is_in) [
+      | inl here ↦ sym (eqb-true only q here)
+      | inr never ↦ absurd (false≢true never)
+    ]
+
+single_has : (only : ℕ) → members_of (only ∷ []) only ≡ true
+single_has only = or_left (eqb only only) false (eq-eqb only only refl)
+
+-- ---- steps
+
+pub forced_none : (index : IndexView) (places : List ℕ) → KeepsForced index places places
+forced_none index places = record { grows = grows_none (length index.packages) places; forced = λ p forced. forced }
+
+pub forced_both : (index : IndexView) (before between after : List ℕ) → KeepsForced index before between → KeepsForced index between after → KeepsForced index before after
+forced_both index before between after first second = record {
+  grows = grows_both (length index.packages) before between after first.grows second.grows;
+  forced = λ p forced. second.forced p (first.forced p forced);
+}
+
+follows_with : (index : IndexView) (p q : ℕ) (places : List ℕ) → Follows index p all_of (with_one (members_of places) q) none_of → Follows index p all_of (members_of (with_place places q)) none_of
+follows_with index p q places follows set has_p meets =
+    let old = follows set has_p meets in
+    record {
+      has_ins = λ number is_in.
+          elim (with_place_only places q number is_in) [
+            | inl before ↦ old.has_ins number (or_left (members_of places number) (eqb q number) before)
+            | inr here ↦ old.has_ins number (or_right (members_of places number) (eqb q number) (eq-eqb q number here))
+          ];
+      lacks_outs = old.lacks_outs;
+    }
+
+forced_with : (index : IndexView) (places : List ℕ) (q : ℕ) → q < length index.packages
+    → ((p : ℕ) → AreForced index p places → Follows index p all_of (with_one (members_of places) q) none_of) → KeepsForced index places (with_place places q)
+forced_with index places q is_place follows = record {
+  grows = grows_with (length index.packages) places q is_place;
+  forced = λ p forced. record {
+    start = grows_keeps (length index.packages) places (with_place places q) (grows_with (length index.packages) places q is_place) p forced.start;
+    follows = follows_with index p q places (follows p forced);
+  };
+}
+
+pub forced_moved : (index : IndexView) (before after other : List ℕ) → after ≡ other → KeepsForced index before other → KeepsForced index before after
+forced_moved index before after other same keeps =
+    let To : List ℕ → Type 0 = λ list. KeepsForced index before list in
+    subst To (sym same) keeps
+
+-- the only answer to a need of a place that is in
+pub forced_by_need : (index : IndexView) (member j : ℕ) (row before after : List ℕ) → member < length index.packages → j < length (needs_at index member) → members_of before member ≡ true
+    → row ≡ group_satisfiers index (need_at index member j) → TakesOnly row before after → KeepsForced index before after
+forced_by_need index member j row before after is_place inside is_in row_is (Same same) = forced_moved index before after before same (forced_none index before)
+forced_by_need index member j row before after is_place inside is_in row_is (Took only single taken) =
+    let alone : (q : ℕ) → members_of (only ∷ []) q ≡ answers index member j q = λ q. ap (λ list. members_of list q) (sym single ∙ row_is) ∙ member_answers index member j q in
+    let there = need_stands index member j is_place inside in
+    forced_moved index before after (with_place before only) taken
+    (forced_with index before only (answers_is_place index member j only (sym (alone only) ∙ single_has only))
+    (λ p forced.
+    last_answer index p all_of (members_of before) none_of forced.follows there.0 member j only refl there.1 is_in
+    (λ other answered. inl (in_single only other (alone other ∙ answered)))))
+
+-- the only package of an essential name
+pub forced_by_name : (index : IndexView) (number : ℕ) (row before after : List ℕ) → Contains (essential_names index) number → row ≡ places_of index (name_at index number)
+    → TakesOnly row before after → KeepsForced index before after
+forced_by_name index number row before after named row_is (Same same) = forced_moved index before after before same (forced_none index before)
+forced_by_name index number row before after named row_is (Took only single taken) =
+    let alone : (q : ℕ) → members_of (only ∷ []) q ≡ has_name index q number = λ q. ap (λ list. members_of list q) (sym single ∙ row_is) ∙ member_named index number q in
+    let there = essential_stands index number named in
+    forced_moved index before after (with_place before only) taken
+    (forced_with index before only (named_is_place index only number (sym (alone only) ∙ single_has only))
+    (λ p forced.
+    last_essential index p all_of (members_of before) none_of forced.follows there.0 number only refl there.1
+    (λ other has. inl (in_single only other (alone other ∙ has)))))
+
+pub forced_by_names : (index : IndexView) (list : List ℕ) (number : ℕ) (row before between after : List ℕ) → number < length list → list ≡ essential_names index
+    → row ≡ places_of index (name_at index (get_or list number 0)) → KeepsForced index before between → TakesOnly row between after → KeepsForced index before after
+forced_by_names index list number row before between after inside list_is row_is so_far taken =
+    let In : List ℕ → Type 0 = λ xs. Contains xs (get_or list number 0) in
+    forced_both index before between after so_far
+    (forced_by_name index (get_or list number 0) row between after (subst In list_is (Contains-get_or list number 0 inside)) row_is taken)
+
+-- at first p alone is there
+pub forced_start : (index : IndexView) (p : ℕ) (places : List ℕ) → places ≡ with_place [] p → AreForced index p places
+forced_start index p places is_that =
+    let For : List ℕ → Type 0 = λ list. AreForced index p list in
+    subst For (sym is_that) (record {
+      start = with_place_has [] p;
+      follows = λ set has_p meets.
+          (let old = follows_start index p all_of set has_p meets in
+          record {
+            has_ins = λ number is_in. old.has_ins number (eq-eqb p number (sym (in_single p number is_in)));
+            lacks_outs = old.lacks_outs;
+          });
+    })

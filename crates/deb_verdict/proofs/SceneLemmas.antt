@@ -1,0 +1,43 @@
+-- How places stand, read off the list of those that are in and the list of those that have variables.
+use Rattle.std.proofs.Common.{◌≡◌, ℕ, zero, suc, ◌+◌, ◌<◌, ◌≤◌, Bool, true, false, ◌||◌, List, length, get_or, Some, slice_get, All, refl, sym, ◌∙◌, ap, arith}
+use Rattle.std.specs.List.Sorted.{IsStrictlyIncreasing}
+use Rattle.std.proofs.lemmas.Bool.{both_ways, or_left, false_from_ne_true}
+use Rattle.std.proofs.lemmas.Option.{slice_get_within, get_or_from_slice_get}
+use Rattle.sat_solve.specs.Sets.{NumberSet, members_of}
+use Rattle.deb_verdict.specs.Encoding.{positions_of}
+use Rattle.deb_verdict.specs.Play.{placed}
+use Rattle.deb_verdict.proofs.CoreCarried.{group_at, same_position}
+use Rattle.deb_verdict.proofs.Encoded.{at_members_of}
+
+placed_free : (ins members : List ℕ) (vars : NumberSet) (place : ℕ) → members_of ins place ≡ false → placed ins members vars place ≡ positions_of members vars place
+placed_free ins members vars place out = ap (λ b. b || positions_of members vars place) out
+
+-- a place that is not in, and is a member, is in where its variable is
+pub placed_variable : (ins members : List ℕ) → IsStrictlyIncreasing members → (place number : ℕ) → members_of ins place ≡ false → slice_get members number ≡ Some place
+    → (vars : NumberSet) → placed ins members vars place ≡ vars number
+placed_variable ins members rising place number out there vars =
+    let inside : number < length members = slice_get_within members number place there in
+    let here : get_or members number 0 ≡ place = get_or_from_slice_get members number place 0 there in
+    placed_free ins members vars place out ∙ (ap (positions_of members vars) (sym here) ∙ same_position members rising vars number inside)
+
+-- one that is neither is in no set
+pub placed_out : (ins members : List ℕ) (place : ℕ) → members_of ins place ≡ false → members_of members place ≡ false → (vars : NumberSet) → placed ins members vars place ≡ false
+placed_out ins members place out free vars =
+    placed_free ins members vars place out
+    ∙ false_from_ne_true (positions_of members vars place) (λ is_in.
+    let at = group_at members vars place is_in in
+    both_ways (members_of members place) free (ap (members_of members) (sym at.3) ∙ at_members_of members at.0 at.1))
+
+-- a rising list of numbers below a bound is no longer than the bound
+rising_above : (xs : List ℕ) → IsStrictlyIncreasing xs → (k : ℕ) → k < length xs → k ≤ get_or xs k 0
+rising_above xs rising zero inside = omega arith
+rising_above xs rising (suc k) inside =
+    let next : suc k ≡ k + 1 = omega arith in
+    omega (arith, rising_above xs rising k (omega arith), rising k (omega arith), ap (λ m. get_or xs m 0) next)
+
+last_above : (xs : List ℕ) (size : ℕ) → length xs ≡ size → IsStrictlyIncreasing xs → (bound : ℕ) → All (λ q. q < bound) xs → size ≤ bound
+last_above xs zero size_is rising bound below = omega arith
+last_above xs (suc size) size_is rising bound below = omega (arith, rising_above xs rising size (omega arith), below size 0 (omega arith))
+
+pub rising_length : (xs : List ℕ) → IsStrictlyIncreasing xs → (bound : ℕ) → All (λ q. q < bound) xs → length xs ≤ bound
+rising_length xs rising bound below = last_above xs (length xs) refl rising bound below

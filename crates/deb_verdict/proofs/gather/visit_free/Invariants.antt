@@ -1,0 +1,13 @@
+use Rattle.std.proofs.Common.{◌-◌, ◌≤◌, length}
+use Rattle.sat_solve.specs.Sets.{members_of}
+use Rattle.deb_verdict.proofs.Bringing.{VisitsList}
+use Rattle.deb_verdict.proofs.gather.visit_free.Given as goal
+
+abbrev pub invariant-loop-visited : goal.invariant-loop-visited
+invariant-loop-visited l = record {
+  reached : l.visited ≤ length l.free;
+  so_far : VisitsList l.index (members_of l.ins) l.free l.visited l.initial.free l.free;
+}
+
+abbrev pub decreases-loop-visited : goal.decreases-loop-visited
+decreases-loop-visited l = length l.index.packages - l.visited

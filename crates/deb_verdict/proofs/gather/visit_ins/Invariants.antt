@@ -1,0 +1,6 @@
+use Rattle.sat_solve.specs.Sets.{members_of}
+use Rattle.deb_verdict.proofs.Bringing.{VisitsList}
+use Rattle.deb_verdict.proofs.gather.visit_ins.Given as goal
+
+abbrev pub invariant-loop-place : goal.invariant-loop-place
+invariant-loop-place l = VisitsList l.index (members_of l.ins) l.place-items l.place-index l.initial.free l.free

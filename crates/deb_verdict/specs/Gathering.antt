@@ -1,0 +1,31 @@
+-- What is known of all healthy sets with a package, and parts of the index that are enough to look at.
+use Rattle.std.specs.Prelude.{◌≡◌, ◌⊎◌, ℕ, true, false, Contains}
+use Rattle.deb_index.specs.Packages.{IndexView, essential_names}
+use Rattle.deb_index.specs.Constraints.{has_name, answers}
+use Rattle.sat_solve.specs.Sets.{NumberSet}
+use Rattle.deb_verdict.specs.Health.{MeetsAt}
+use Rattle.deb_verdict.specs.Closure.{IsWithin}
+
+-- no numbers, and all numbers
+abbrev pub none_of : NumberSet
+none_of number = false
+
+abbrev pub all_of : NumberSet
+all_of number = true
+
+-- the set holds all that is in, and nothing that is out
+pub record Respects (ins outs set : NumberSet) : Type 0 where
+  pub has_ins : IsWithin ins set
+  pub lacks_outs : (q : ℕ) → outs q ≡ true → set q ≡ false
+
+-- all sets that contain p and meet the constraints at these positions respect what is in and what is out
+abbrev pub Follows : IndexView → ℕ → NumberSet → NumberSet → NumberSet → Type 0
+Follows index p positions ins outs = (set : NumberSet) → set p ≡ true → MeetsAt index set positions → Respects ins outs set
+
+-- a part of the places in which what is in answers each need of a member, or else all that may answer it are members too
+pub record IsEnough (index : IndexView) (ins outs within : NumberSet) : Type 0 where
+  pub has_ins : IsWithin ins within
+  pub essential : (number : ℕ) → Contains (essential_names index) number
+      → ((q : ℕ) × (ins q ≡ true) × (has_name index q number ≡ true)) ⊎ ((q : ℕ) → has_name index q number ≡ true → outs q ≡ false → within q ≡ true)
+  pub answered : (member j : ℕ) → within member ≡ true
+      → ((q : ℕ) × (ins q ≡ true) × (answers index member j q ≡ true)) ⊎ ((q : ℕ) → answers index member j q ≡ true → outs q ≡ false → within q ≡ true)

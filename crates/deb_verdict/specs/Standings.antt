@@ -1,0 +1,41 @@
+-- How places stand in the sets that are looked for, and what such sets say of a place and others.
+use Rattle.std.specs.Prelude.{◌≡◌, ℕ, ◌<◌, Bool, true, false, ◌||◌, List, All, length}
+use Rattle.deb_index.specs.declared.constraint.Constraint.TheVariants.{Need, Apart}
+use Rattle.deb_index.specs.Packages.{IndexView, package_at, places_of, needs_at, aparts_at}
+use Rattle.deb_index.specs.Constraints.{Holds}
+use Rattle.sat_solve.specs.declared.Lit.{Lit}
+use Rattle.sat_solve.specs.Sets.{NumberSet, members_of}
+use Rattle.sat_solve.specs.Clauses.{clause_holds}
+use Rattle.deb_verdict.specs.declared.scene.Standing.{Standing}
+use Rattle.deb_verdict.specs.declared.scene.Standing.TheVariants.{In, Variable, Out}
+
+-- whether a place that stands so is in, where the set of variables is this one
+abbrev pub is_in : Standing → NumberSet → Bool
+is_in In vars = true
+is_in (Variable var) vars = vars var
+is_in Out vars = false
+
+-- its variable, if it has one, is below the count
+abbrev pub IsBelow : ℕ → Standing → Type 0
+IsBelow count In = Unit {0}
+IsBelow count (Variable var) = var < count
+IsBelow count Out = Unit {0}
+
+-- a clause was made to hold where a test passes, too: it does so by its literals, or it holds anyway
+pub record Widens (test : NumberSet → Bool) (count : ℕ) (before after : List Lit) (anyway : Bool) : Type 0 where
+  pub in_range : All (λ literal. literal.var < count) before → All (λ literal. literal.var < count) after
+  pub says : (vars : NumberSet) → (anyway || clause_holds vars after) ≡ (clause_holds vars before || test vars)
+
+-- where something holds, none of these places is in the set
+abbrev pub IsClear : Bool → NumberSet → NumberSet → Type 0
+IsClear holds places set = holds ≡ true → (q : ℕ) → places q ≡ true → set q ≡ true → ⊥
+
+-- where the set has a place, it has no earlier place of the same name
+abbrev pub HasNoEarlier : IndexView → NumberSet → ℕ → Type 0
+HasNoEarlier index set place = set place ≡ true → (q : ℕ) → q < place → members_of (places_of index (package_at index place).name) q ≡ true → set q ≡ true → ⊥
+
+-- the set meets all that the package at a place asks for, and has no earlier place of its name with it
+pub record MeetsPlace (index : IndexView) (set : NumberSet) (place : ℕ) : Type 0 where
+  pub needs : (j : ℕ) → j < length (needs_at index place) → Holds index set (Need place j)
+  pub aparts : (j : ℕ) → j < length (aparts_at index place) → Holds index set (Apart place j)
+  pub earlier : HasNoEarlier index set place

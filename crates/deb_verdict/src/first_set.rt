@@ -1,0 +1,77 @@
+//! The first healthy set that contains a package.
+
+ghost use Rattle.std.specs.Prelude.{◌≡◌, ℕ, ◌<◌, All, IfOk, OnOk, IfSome, IfNone, length};
+ghost use Rattle.std.specs.List.Sorted.{IsStrictlyIncreasing};
+ghost use Rattle.sat_solve.specs.Sets.{NumberSet, members_of};
+ghost use Rattle.deb_verdict.specs.Health.{IsInstallation};
+ghost use Rattle.deb_verdict.specs.Play.{placed};
+ghost use Rattle.deb_verdict.specs.Verdicts.{IsFirstInstallation};
+
+use crate::describe::describe;
+use crate::gather::gather;
+use crate::place_set::PlaceSet;
+use crate::workspace::Workspace;
+use deb_index::Index;
+use std::alloc::{AllocError, Global};
+
+/// How many members there are, which are places of the index.
+pub(crate) fn count_of(index: &Index, members: &[u32]) -> u32
+    requires within { All (λ q. q < length index.now.packages) members.now }
+    requires rising { IsStrictlyIncreasing members.now }
+    ensures { result ≡ length members.now }
+{
+    let count = members.len();
+    let packages = index.len();
+    prove!(count <= packages as usize);
+    count as u32
+}
+
+/// Puts in the members with these numbers.
+fn add_members(ins: &mut PlaceSet, members: &[u32], vars: &[u32]) -> Result<(), AllocError>
+    requires { All (λ var. var < length members.now) vars.now }
+    ensures { OnOk result ((q : ℕ) → members_of ins.new q ≡ placed ins.old members.now (members_of vars.now) q) }
+{
+    for var in vars {
+        ins.insert(members[*var as usize])?;
+    }
+    Ok(())
+}
+
+/// The places, rising, of the first healthy set that contains the package at a place; `None` where there is none.
+pub(crate) fn first_set(
+    alloc: Global,
+    workspace: &mut Workspace,
+    index: &Index,
+    p: u32,
+) -> Result<Option<Vec<u32>>, AllocError>
+    requires { p < length index.now.packages }
+    ensures first { IfOk result (λ found. IfSome found (λ places. IsFirstInstallation index.now p places.items)) }
+    ensures within { IfOk result (λ found. IfSome found (λ places. All (λ place. place < length index.now.packages) places.items)) }
+    ensures none { IfOk result (λ found. IfNone found ((set : NumberSet) → IsInstallation index.now p set → ⊥)) }
+{
+    gather(alloc, index, p, &mut workspace.ins, &mut workspace.members)?;
+    workspace.members.sort();
+    let count = count_of(index, workspace.members.as_slice());
+    workspace.formula.restart(count, 1);
+    describe(
+        alloc,
+        index,
+        &workspace.ins,
+        &workspace.members,
+        &mut workspace.clause,
+        &mut workspace.formula,
+    )?;
+    let must = workspace.members.number_of(p).unwrap();
+    let found = workspace
+        .formula
+        .solve_in(alloc, &mut workspace.solver, &[true], must as u32)?;
+    match found {
+        Some(vars) => {
+            add_members(&mut workspace.ins, workspace.members.as_slice(), &vars)?;
+            workspace.ins.sort();
+            let places = Vec::from_slice(alloc, workspace.ins.as_slice())?;
+            Ok(Some(places))
+        }
+        None => Ok(None),
+    }
+}

@@ -1,0 +1,54 @@
+//! What is gathered from small indexes, compared with lists that were found by hand.
+
+use crate::gather::gather;
+use crate::place_set::PlaceSet;
+use crate::tests::read;
+use deb_index::Index;
+use std::alloc::Global;
+use std::process::Abort;
+use std::test::Fail;
+
+fn expect_gathered(
+    rt: &impl Abort,
+    alloc: Global,
+    index: &Index,
+    p: u32,
+    wanted_ins: &[u32],
+    wanted_free: &[u32],
+) -> Result<(), Fail> {
+    assert!(rt; p < index.len());
+    let mut ins = PlaceSet::new(alloc);
+    let mut free = PlaceSet::new(alloc);
+    gather(alloc, index, p, &mut ins, &mut free)?;
+    assert!(rt; ins.as_slice() == wanted_ins);
+    assert!(rt; free.as_slice() == wanted_free);
+    Ok(())
+}
+
+#[test]
+fn alternatives_are_free(rt: HostRuntime) -> Result<(), Fail> {
+    let text =
+        b"Package: a\nVersion: 1\nArchitecture: all\nDepends: b | c\n\nPackage: b\nVersion: 1\nArchitecture: all\nPre-Depends: d | f\n\nPackage: c\nVersion: 1\nArchitecture: all\nDepends: b | e\n\nPackage: d\nVersion: 1\nArchitecture: all\n\nPackage: e\nVersion: 1\nArchitecture: all\nEssential: yes\nDepends: a | h\n\nPackage: f\nVersion: 1\nArchitecture: all\n\nPackage: h\nVersion: 1\nArchitecture: all\n";
+    let index = read(rt.alloc(), text, true)?;
+    expect_gathered(&rt, rt.alloc(), &index, 0, &[0, 4], &[0, 1, 2, 3, 5])?;
+    expect_gathered(&rt, rt.alloc(), &index, 2, &[2, 4], &[2, 0, 6])?;
+    expect_gathered(&rt, rt.alloc(), &index, 4, &[4], &[4, 0, 6, 1, 2, 3, 5])
+}
+
+#[test]
+fn all_versions_of_an_essential_name(rt: HostRuntime) -> Result<(), Fail> {
+    let text =
+        b"Package: a\nVersion: 1\nArchitecture: all\n\nPackage: n\nVersion: 1\nArchitecture: all\nEssential: yes\nDepends: b | c\n\nPackage: n\nVersion: 2\nArchitecture: all\n\nPackage: b\nVersion: 1\nArchitecture: all\n\nPackage: c\nVersion: 1\nArchitecture: all\n";
+    let index = read(rt.alloc(), text, true)?;
+    expect_gathered(&rt, rt.alloc(), &index, 0, &[0], &[0, 1, 2, 3, 4])?;
+    expect_gathered(&rt, rt.alloc(), &index, 2, &[2], &[2])
+}
+
+#[test]
+fn needs_with_one_answer(rt: HostRuntime) -> Result<(), Fail> {
+    let text =
+        b"Package: a\nVersion: 1\nArchitecture: all\nDepends: b, c | d\n\nPackage: b\nVersion: 1\nArchitecture: all\nDepends: e\n\nPackage: c\nVersion: 1\nArchitecture: all\nDepends: b\n\nPackage: d\nVersion: 1\nArchitecture: all\n\nPackage: e\nVersion: 1\nArchitecture: all\nPre-Depends: c\n\nPackage: g\nVersion: 1\nArchitecture: all\nEssential: yes\nDepends: h | i\n\nPackage: h\nVersion: 1\nArchitecture: all\n\nPackage: i\nVersion: 1\nArchitecture: all\nDepends: d\n";
+    let index = read(rt.alloc(), text, true)?;
+    expect_gathered(&rt, rt.alloc(), &index, 0, &[0, 5, 1, 4, 2], &[0, 6, 7, 3])?;
+    expect_gathered(&rt, rt.alloc(), &index, 7, &[7, 5, 3], &[7])
+}
