@@ -4,17 +4,22 @@ ghost use Rattle.work_draw.specs.Checks.{AnswersEach, IsFound, chunk_of};
 
 use crate::gate::Gate;
 use deb_index::Index;
-use deb_verdict::{Verdict, verdict};
+use deb_verdict::{Verdict, Workspace, verdict_in};
 use std::alloc::{AllocError, Global};
 
-/// The verdict of each place.
-fn verdicts_of(alloc: Global, index: &Index, places: &[u32]) -> Result<Vec<Verdict>, AllocError>
+/// The verdict of each place, found in one workspace.
+fn verdicts_of(
+    alloc: Global,
+    workspace: &mut Workspace,
+    index: &Index,
+    places: &[u32],
+) -> Result<Vec<Verdict>, AllocError>
     requires { All (λ place. place < length index.now.packages) places.now }
     ensures { IfOk result (λ v. AnswersEach (IsFound index.now) places.now v.items) }
 {
     let mut verdicts = Vec::with_capacity(alloc, places.len())?;
     for place in places {
-        verdicts.push(verdict(alloc, index, *place)?)?;
+        verdicts.push(verdict_in(alloc, workspace, index, *place)?)?;
     }
     Ok(verdicts)
 }
@@ -22,6 +27,7 @@ fn verdicts_of(alloc: Global, index: &Index, places: &[u32]) -> Result<Vec<Verdi
 /// The verdicts of the chunk with a number, which the gate is told of before and, if all were found, after.
 pub(crate) fn check_chunk<G: Gate>(
     alloc: Global,
+    workspace: &mut Workspace,
     index: &Index,
     asked: &[u32],
     chunk: u32,
@@ -35,7 +41,7 @@ pub(crate) fn check_chunk<G: Gate>(
     gate.before(number);
     let rest = &asked[number as usize * chunk as usize..];
     let size = rest.len().min(chunk as usize);
-    let verdicts = verdicts_of(alloc, index, &rest[..size])?;
+    let verdicts = verdicts_of(alloc, workspace, index, &rest[..size])?;
     gate.after(number);
     Ok(verdicts)
 }

@@ -9,15 +9,15 @@ use crate::chunks::check_chunk;
 use crate::gate::Gate;
 use crate::piece::{Drawn, Piece};
 use deb_index::Index;
+use deb_verdict::Workspace;
 use std::alloc::{AllocError, Global};
 use std::thread;
 use std::thread::Threads;
 
-/// What each worker runs: draws until no number is left, and makes a piece of each, in the order of the draws.
-/// Where memory is refused it stops with `refused`, and the last number drawn may lack its piece; else the drawer is done.
-/// It waits for the gate alone.
-pub fn draw_pieces<G: Gate>(
+/// Draws until no number is left, or memory is refused, and makes a piece of each number in the workspace.
+fn draw_with<G: Gate>(
     alloc: Global,
+    workspace: &mut Workspace,
     index: &Index,
     asked: &[u32],
     chunk: u32,
@@ -36,7 +36,7 @@ pub fn draw_pieces<G: Gate>(
 {
     let mut pieces = Vec::new(alloc);
     while let Some(number) = board.draw(&mut drawer) {
-        let Ok(verdicts) = check_chunk(alloc, index, asked, chunk, number, gate) else {
+        let Ok(verdicts) = check_chunk(alloc, workspace, index, asked, chunk, number, gate) else {
             return Drawn {
                 drawer,
                 pieces,
@@ -55,6 +55,40 @@ pub fn draw_pieces<G: Gate>(
         drawer,
         pieces,
         refused: false,
+    }
+}
+
+/// What each worker runs, in one workspace: draws until no number is left, and makes a piece of each, in the order of the draws.
+/// Where memory is refused it stops with `refused`, and the last number drawn may lack its piece; else the drawer is done.
+/// It waits for the gate alone.
+pub fn draw_pieces<G: Gate>(
+    alloc: Global,
+    index: &Index,
+    asked: &[u32],
+    chunk: u32,
+    board: &Board,
+    drawer: Drawer,
+    gate: &G,
+) -> Drawn
+    requires board { drawer.board ≡ board.now }
+    requires places { All (λ place. place < length index.now.packages) asked.now }
+    requires chunk { 0 < chunk }
+    requires total { board.now.total ≡ chunk_count asked.now chunk }
+    ensures same { result.drawer ≡ record drawer { numbers = result.drawer.numbers; done = result.drawer.done } }
+    ensures gained { result.refused ≡ false → (result.drawer.done ≡ true) × Gains drawer.numbers result.pieces.items result.drawer.numbers }
+    ensures refused { GainsButLast drawer.numbers result.pieces.items result.drawer.numbers }
+    ensures found { AreFound index.now asked.now chunk result.pieces.items }
+{
+    match Workspace::new(alloc) {
+        Ok(mut workspace) => {
+            let workspace = &mut workspace;
+            draw_with(alloc, workspace, index, asked, chunk, board, drawer, gate)
+        }
+        Err(_) => Drawn {
+            drawer,
+            pieces: Vec::new(alloc),
+            refused: true,
+        },
     }
 }
 

@@ -1,7 +1,7 @@
 use Rattle.std.proofs.Common.{◌≡◌, ◌-◌}
 use Rattle.work_draw.specs.Pieces.{AreFound, Gains}
 use Rattle.work_draw.proofs.Bounds.{bound_of}
-use Rattle.work_draw.proofs.workers.draw_pieces.Given as goal
+use Rattle.work_draw.proofs.workers.draw_with.Given as goal
 
 abbrev pub invariant-loop-number : goal.invariant-loop-number
 invariant-loop-number g l = record {
