@@ -1,5 +1,7 @@
 mod AskedLemmas
 mod DeviceLemmas
+mod LineFacts
+mod LineLemmas
 mod ListLemmas
 mod OneReport
 mod PlaceLemmas

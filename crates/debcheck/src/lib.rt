@@ -8,6 +8,8 @@ mod fault;
 mod input;
 pub mod laws;
 mod layout;
+mod line;
+mod options;
 mod output;
 mod phases;
 mod reasons;
@@ -15,6 +17,7 @@ mod std_device;
 mod summary;
 #[cfg(test)]
 mod tests;
+mod values;
 
 pub use asked::asked_places;
 pub use config::{Config, Show};
@@ -22,6 +25,7 @@ pub use device::{DeviceFault, Sink, Source};
 pub use fault::{RunFault, fault_line, status};
 pub use input::read_all;
 pub use layout::report;
+pub use line::{LineFault, line_status, read_line, write_line_fault};
 pub use output::write_fault;
 pub use phases::run;
 pub use std_device::Std;

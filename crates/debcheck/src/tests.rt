@@ -2,6 +2,9 @@
 
 ghost use Rattle.std.specs.Prelude.{◌≡◌, IfOk, None, false};
 
+mod line;
+mod parts;
+
 use crate::config::{Config, Show};
 use crate::device::{DeviceFault, Sink, Source};
 use crate::fault::{RunFault, fault_line, status};

@@ -1,0 +1,201 @@
+-- What a command line asks for.
+use Rattle.std.specs.Prelude.{◌≡◌, ◌≢◌, ℕ, ◌==◌, nat_le, Bool, true, false, not, ◌&&◌, ◌||◌, List, [], ◌∷◌, length, Some, codes, ◌++◌, Option, string_bytes, map}
+use Rattle.std.specs.Char.{is_ascii_alphanumeric, is_ascii_digit}
+use Rattle.std.specs.List.{list_all, list_any, slice_split}
+use Rattle.std.specs.Option.{option_map, option_map_or, unwrap_or}
+use Rattle.std.specs.Str.{bytes_eq}
+use Rattle.std.specs.Str.Parse.{digits_value}
+use Rattle.clap.specs.Words.{App, Row, Rule, Text, fault_of, first_of, matches_of, new_app, new_rule}
+use Rattle.clap.specs.declared.builder.action.ArgAction.TheVariants as action
+use Rattle.clap.specs.declared.error.kind.ErrorKind.{ErrorKind}
+use Rattle.clap.specs.declared.error.kind.ErrorKind.TheVariants as kind
+use Rattle.deb_relation.specs.Relationship.{is_name}
+use Rattle.debcheck.specs.declared.config.Config.{Config}
+use Rattle.debcheck.specs.declared.config.Show.{Show}
+use Rattle.debcheck.specs.declared.config.Show.TheVariants.{All, Failures, Successes}
+use Rattle.debcheck.specs.declared.line.LineFault.{LineFault}
+use Rattle.debcheck.specs.declared.line.LineFault.TheVariants.{Refused, Help, Memory}
+use Rattle.std.specs.Io.KnownBytes.{Appends}
+use Rattle.debcheck.specs.declared.fault.RunFault.TheVariants as run_fault
+use Rattle.debcheck.specs.Faults.{fault_line}
+use Rattle.debcheck.specs.Run.{Settings, settings_of, usual_settings}
+
+-- all that a configuration says
+pub record Request : Type 0 where
+  pub settings : Settings
+  pub workers : ℕ
+  pub chunk : ℕ
+
+abbrev pub request_of : Config → Request
+request_of config = record { settings = settings_of config; workers = config.workers; chunk = config.chunk }
+
+-- ---- the options
+
+-- an option with a value
+abbrev pub value_rule : Text → Rule
+value_rule name = record (new_rule name) { long = Some name; action = Some action.Set; value_names = 1 }
+
+-- an option without one
+abbrev pub flag_rule : Text → Rule
+flag_rule name = record (new_rule name) { long = Some name; action = Some action.SetTrue }
+
+abbrev pub help_rule : Rule
+help_rule = record (new_rule (codes "help")) { long = Some (codes "help"); action = Some action.Help }
+
+-- the architecture has to be said, the numbers have usual values
+abbrev pub first_rules : List Rule
+first_rules = record (value_rule (codes "arch")) { required = true }
+    ∷ record (value_rule (codes "workers")) { defaults = codes "4" ∷ [] }
+    ∷ record (value_rule (codes "chunk")) { defaults = codes "64" ∷ [] } ∷ []
+
+abbrev pub other_rules : List Rule
+other_rules = flag_rule (codes "explain") ∷ flag_rule (codes "failures") ∷ flag_rule (codes "successes") ∷ flag_rule (codes "ignore-essential")
+    ∷ value_rule (codes "checkonly") ∷ help_rule ∷ []
+
+-- the program's command with these options, whose words come without the program's name
+abbrev pub app_with : List Rule → App
+app_with rules = let new = new_app (codes "debcheck") in
+    record new { top = record new.top { rules = rules; no_binary_name = true; disable_help_flag = true } }
+
+-- each option has its long name alone
+abbrev pub line_app : App
+line_app = app_with (first_rules ++ other_rules)
+
+-- ---- the values
+
+-- the bytes of an architecture
+abbrev pub is_architecture_byte : ℕ → Bool
+is_architecture_byte b = is_ascii_alphanumeric b || b == 45
+
+-- what is no architecture, though its bytes may be: the empty text, and the words for all and for any of them
+abbrev pub is_excluded : List ℕ → Bool
+is_excluded text = length text == 0 || bytes_eq text (codes "all") || bytes_eq text (codes "any")
+
+-- an architecture is made of letters, digits and `-`, and neither `all` nor `any` is one
+abbrev pub is_architecture : List ℕ → Bool
+is_architecture text = not (is_excluded text) && list_all is_architecture_byte text
+
+-- decimal digits of a number from 1 to this one
+abbrev pub is_count : ℕ → List ℕ → Bool
+is_count most text = list_all is_ascii_digit text && not (length text == 0)
+    && nat_le 1 (digits_value 10 text) && nat_le (digits_value 10 text) most
+
+-- the names of a list stand between its commas
+abbrev pub names_in : List ℕ → List (List ℕ)
+names_in text = slice_split (λ b. b == 44) text
+
+-- the value of an option that has one
+abbrev pub value_of : Text → List Row → List ℕ
+value_of name rows = unwrap_or (first_of name rows) []
+
+abbrev pub is_set : Text → List Row → Bool
+is_set name rows = option_map_or (λ value. bytes_eq value (codes "true")) (first_of name rows) false
+
+-- the names that are asked, where some are, are names of packages
+abbrev pub has_good_names : List Row → Bool
+has_good_names rows = option_map_or (λ text. list_all is_name (names_in text)) (first_of (codes "checkonly") rows) true
+
+-- the values are of their forms
+abbrev pub has_good_values : List Row → Bool
+has_good_values rows = is_architecture (value_of (codes "arch") rows)
+    && is_count 64 (value_of (codes "workers") rows)
+    && is_count 1000000 (value_of (codes "chunk") rows)
+    && has_good_names rows
+
+-- which packages are shown, by whether failures and successes are asked for: all for both or neither
+abbrev pub show_of : Bool → Bool → Show
+show_of true false = Failures
+show_of false true = Successes
+show_of _ _ = All
+
+-- what the options ask for
+abbrev pub asked_by : List Row → Request
+asked_by rows = record {
+  settings = record {
+    arch = value_of (codes "arch") rows;
+    explain = is_set (codes "explain") rows;
+    show = show_of (is_set (codes "failures") rows) (is_set (codes "successes") rows);
+    essential = not (is_set (codes "ignore-essential") rows);
+    only = option_map names_in (first_of (codes "checkonly") rows);
+  };
+  workers = digits_value 10 (value_of (codes "workers") rows);
+  chunk = digits_value 10 (value_of (codes "chunk") rows);
+}
+
+-- ---- the line
+
+-- the request where nothing is said
+abbrev pub usual_request : Request
+usual_request = record { settings = usual_settings; workers = 4; chunk = 64 }
+
+-- the options that the words give, by the conventions of long options
+unfoldable pub line_rows : List Text → List Row
+line_rows words = matches_of line_app words
+
+-- what is wrong with the words, by these conventions; help counts as wrong
+unfoldable pub line_faults : List Text → List ErrorKind
+line_faults words = fault_of line_app words
+
+abbrev pub is_help : ErrorKind → Bool
+is_help kind.DisplayHelp = true
+is_help _ = false
+
+abbrev pub asks_help : List Text → Bool
+asks_help words = list_any is_help (line_faults words)
+
+-- the words are options with values of their forms
+abbrev pub is_accepted : List Text → Bool
+is_accepted words = length (line_faults words) == 0 && has_good_values (line_rows words)
+
+-- a word is wrong, or a value isn't of its form
+abbrev pub is_refused : List Text → Bool
+is_refused words = list_any (λ k. not (is_help k)) (line_faults words)
+    || (length (line_faults words) == 0 && not (has_good_values (line_rows words)))
+
+-- the configuration is what the words ask for; no words ask for the usual one
+abbrev pub Accepts : List Text → Config → Type 0
+Accepts [] config = request_of config ≡ usual_request
+Accepts (word ∷ words) config = (is_accepted (word ∷ words) ≡ true) × (request_of config ≡ asked_by (line_rows (word ∷ words)))
+
+-- why the words give no configuration
+abbrev pub RefusesLine : List Text → LineFault → Type 0
+RefusesLine [] fault = fault ≡ Memory
+RefusesLine (word ∷ words) (Refused text) = is_refused (word ∷ words) ≡ true
+RefusesLine (word ∷ words) (Help text) = asks_help (word ∷ words) ≡ true
+RefusesLine (word ∷ words) Memory = Unit {0}
+
+-- a refusal of a value, and no answer to help
+abbrev pub IsRefusal : LineFault → Type 0
+IsRefusal (Refused text) = Unit {0}
+IsRefusal (Help text) = ⊥
+IsRefusal Memory = ⊥
+
+-- a value is refused only where the test fails
+abbrev pub RefusesUnless : Bool → LineFault → Type 0
+RefusesUnless good (Refused text) = good ≡ false
+RefusesUnless good (Help text) = ⊥
+RefusesUnless good Memory = Unit {0}
+
+-- what an error of this kind comes to
+abbrev pub IsFaultOf : ErrorKind → LineFault → Type 0
+IsFaultOf k (Refused text) = (is_help k ≡ false) × (k ≢ kind.OutOfMemory)
+IsFaultOf k (Help text) = is_help k ≡ true
+IsFaultOf k Memory = k ≡ kind.OutOfMemory
+
+-- the exit status where there is no configuration
+abbrev pub line_status_of : LineFault → ℕ
+line_status_of (Refused text) = 64
+line_status_of (Help text) = 0
+line_status_of Memory = 69
+
+-- where the text on a fault of the line goes: help to the output, all else to the errors
+abbrev pub TellsLine : LineFault → Option (List ℕ) → Option (List ℕ) → Option (List ℕ) → Option (List ℕ) → Type 0
+TellsLine (Help text) output now errors later = Appends output now (string_bytes text)
+TellsLine (Refused text) output now errors later = Appends errors later (string_bytes text)
+TellsLine Memory output now errors later = Appends errors later (fault_line run_fault.Memory)
+
+-- the other device is left as it was
+abbrev pub KeepsOther : LineFault → Option (List ℕ) → Option (List ℕ) → Option (List ℕ) → Option (List ℕ) → Type 0
+KeepsOther (Help text) output now errors later = later ≡ errors
+KeepsOther (Refused text) output now errors later = now ≡ output
+KeepsOther Memory output now errors later = now ≡ output

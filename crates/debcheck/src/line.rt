@@ -1,0 +1,221 @@
+//! The command line.
+
+ghost use Rattle.std.specs.Prelude.{◌≡◌, ◌<◌, ◌≤◌, ℕ, All, IfOk, IfErr, IfSome, OnOk, codes, map, option_map, string_bytes, true, false};
+ghost use Rattle.std.specs.Str.Parse.{digits_value};
+ghost use Rattle.clap.specs.Words.{first_of, found_of, kind_of, rows_of};
+ghost use Rattle.deb_relation.specs.Relationship.{is_name};
+ghost use Rattle.debcheck.specs.Line.{Accepts, IsFaultOf, IsRefusal, KeepsOther, RefusesLine, RefusesUnless, TellsLine, asked_by, has_good_names, has_good_values, is_architecture, is_count, is_set, line_status_of, names_in, request_of, show_of, value_of};
+ghost use Rattle.debcheck.specs.Run.{settings_of};
+ghost use Rattle.debcheck.specs.declared.line.LineFault.TheVariants.{Memory};
+
+use crate::config::{Config, Show};
+use crate::device::{DeviceFault, Sink};
+use crate::options::{command, given, is_set, value_of};
+use crate::output::write_all;
+use crate::values::{count_of, is_architecture, names_of};
+use clap::ArgMatches;
+use clap::error::ErrorKind;
+use std::alloc::{AllocError, AllocFailed, Global};
+use thiserror::Error;
+
+/// Why a command line gives no configuration.
+#[derive(Debug, Drop, Error)]
+pub enum LineFault {
+    /// A word or a value isn't of the form that the program takes. The text for standard error says what is wrong and what is allowed.
+    #[error("the command line is refused")]
+    Refused { text: String },
+    /// Help was asked for: the text for standard output.
+    #[error("help was asked for")]
+    Help { text: String },
+    /// Some growth was refused.
+    #[error("out of memory")]
+    Memory,
+}
+
+impl From<AllocError> for LineFault {
+    ghost from_gives = { λ _ e. e ≡ Memory };
+
+    fn from(_e: AllocError) -> LineFault {
+        LineFault::Memory
+    }
+}
+
+impl<T: Drop> From<AllocFailed<T>> for LineFault {
+    ghost from_gives = { λ _ e. e ≡ Memory };
+
+    fn from(_e: AllocFailed<T>) -> LineFault {
+        LineFault::Memory
+    }
+}
+
+/// The exit status where a command line gives no configuration: 64 where it is refused, 0 for help, 69 for want of memory.
+pub fn line_status(fault: &LineFault) -> u8
+    ensures { result ≡ line_status_of fault.now }
+{
+    match fault {
+        LineFault::Refused { .. } => 64,
+        LineFault::Help { .. } => 0,
+        LineFault::Memory => 69,
+    }
+}
+
+// What a parse that gives no matches comes to.
+fn fault_from(alloc: Global, error: &clap::Error) -> Result<LineFault, AllocError>
+    ensures { IfOk result (IsFaultOf (kind_of error.now)) }
+{
+    let text = error.to_string(alloc)?;
+    Ok(match error.kind() {
+        ErrorKind::OutOfMemory => LineFault::Memory,
+        ErrorKind::DisplayHelp => LineFault::Help { text },
+        _ => LineFault::Refused { text },
+    })
+}
+
+// The refusal of a value that isn't of its option's form.
+fn refusal(alloc: Global, option: &str, value: &str, allowed: &str) -> Result<LineFault, AllocError>
+    ensures { IfOk result IsRefusal }
+{
+    let text = format!(in alloc;
+        "error: invalid value {value:?} for '{option}': {allowed}\n\nFor more information, try '--help'.\n"
+    )?;
+    Ok(LineFault::Refused { text })
+}
+
+fn architecture(alloc: Global, matches: &ArgMatches<'_>) -> Result<String, LineFault>
+    ensures value { IfOk result (λ arch. string_bytes arch ≡ value_of (codes "arch") (rows_of (found_of matches.now))) }
+    ensures good { OnOk result (is_architecture (value_of (codes "arch") (rows_of (found_of matches.now))) ≡ true) }
+    ensures refused { IfErr result (RefusesUnless (is_architecture (value_of (codes "arch") (rows_of (found_of matches.now))))) }
+{
+    let arch = value_of(matches, "arch");
+    if is_architecture(arch) {
+        return Ok(String::from_str(alloc, arch)?);
+    }
+    let allowed = "one or more letters, digits and -, neither all nor any";
+    Err(refusal(alloc, "--arch <A>", arch, allowed)?)
+}
+
+fn workers(alloc: Global, matches: &ArgMatches<'_>) -> Result<u32, LineFault>
+    ensures value { IfOk result (λ count. count ≡ digits_value 10 (value_of (codes "workers") (rows_of (found_of matches.now)))) }
+    ensures good { OnOk result (is_count 64 (value_of (codes "workers") (rows_of (found_of matches.now))) ≡ true) }
+    ensures refused { IfErr result (RefusesUnless (is_count 64 (value_of (codes "workers") (rows_of (found_of matches.now))))) }
+{
+    let value = value_of(matches, "workers");
+    match count_of(value, 64) {
+        Some(count) => Ok(count),
+        None => Err(refusal(alloc, "--workers <N>", value, "a number from 1 to 64")?),
+    }
+}
+
+fn chunk(alloc: Global, matches: &ArgMatches<'_>) -> Result<u32, LineFault>
+    ensures value { IfOk result (λ count. count ≡ digits_value 10 (value_of (codes "chunk") (rows_of (found_of matches.now)))) }
+    ensures good { OnOk result (is_count 1000000 (value_of (codes "chunk") (rows_of (found_of matches.now))) ≡ true) }
+    ensures refused { IfErr result (RefusesUnless (is_count 1000000 (value_of (codes "chunk") (rows_of (found_of matches.now))))) }
+{
+    let value = value_of(matches, "chunk");
+    match count_of(value, 1_000_000) {
+        Some(count) => Ok(count),
+        None => Err(refusal(alloc, "--chunk <K>", value, "a number from 1 to 1000000")?),
+    }
+}
+
+fn only(alloc: Global, matches: &ArgMatches<'_>) -> Result<Option<Vec<Vec<u8>>>, LineFault>
+    ensures value { IfOk result (λ only. option_map (λ names. map (λ name. name.items) names.items) only ≡ option_map names_in (first_of (codes "checkonly") (rows_of (found_of matches.now)))) }
+    ensures good { OnOk result (has_good_names (rows_of (found_of matches.now)) ≡ true) }
+    ensures refused { IfErr result (RefusesUnless (has_good_names (rows_of (found_of matches.now)))) }
+{
+    let Some(list) = given(matches, "checkonly") else {
+        return Ok(None);
+    };
+    match names_of(alloc, list)? {
+        Some(names) => Ok(Some(names)),
+        None => Err(refusal(
+            alloc,
+            "--checkonly <N1,N2,..>",
+            list,
+            "package names with commas between them",
+        )?),
+    }
+}
+
+fn show(matches: &ArgMatches<'_>) -> Show
+    ensures { result ≡ show_of (is_set (codes "failures") (rows_of (found_of matches.now))) (is_set (codes "successes") (rows_of (found_of matches.now))) }
+{
+    match (is_set(matches, "failures"), is_set(matches, "successes")) {
+        (true, false) => Show::Failures,
+        (false, true) => Show::Successes,
+        _ => Show::All,
+    }
+}
+
+// The configuration that the options and their values say.
+fn config_of(alloc: Global, matches: &ArgMatches<'_>) -> Result<Config, LineFault>
+    ensures good { OnOk result (has_good_values (rows_of (found_of matches.now)) ≡ true) }
+    ensures request { IfOk result (λ config. request_of config ≡ asked_by (rows_of (found_of matches.now))) }
+    ensures refused { IfErr result (RefusesUnless (has_good_values (rows_of (found_of matches.now)))) }
+{
+    Ok(Config {
+        arch: architecture(alloc, matches)?,
+        workers: workers(alloc, matches)?,
+        chunk: chunk(alloc, matches)?,
+        explain: is_set(matches, "explain"),
+        show: show(matches),
+        essential: !is_set(matches, "ignore-essential"),
+        only: only(alloc, matches)?,
+    })
+}
+
+// The configuration that the words ask for.
+fn read_words(alloc: Global, words: &[String]) -> Result<Config, LineFault>
+    ensures accepted { IfOk result (Accepts (map string_bytes words.now)) }
+    ensures refused { IfErr result (RefusesLine (map string_bytes words.now)) }
+    ensures architecture { IfOk result (λ config. is_architecture (string_bytes config.arch) ≡ true) }
+    ensures workers { IfOk result (λ config. (0 < config.workers) × (config.workers ≤ 64)) }
+    ensures chunk { IfOk result (λ config. (0 < config.chunk) × (config.chunk ≤ 1000000)) }
+    ensures only { IfOk result (λ config. IfSome (settings_of config).only (All (λ name. is_name name ≡ true))) }
+{
+    if words.is_empty() {
+        return Ok(Config::usual(alloc)?);
+    }
+    match command(alloc)?.try_get_matches_from(words) {
+        Ok(matches) => config_of(alloc, &matches),
+        Err(error) => Err(fault_from(alloc, &error)?),
+    }
+}
+
+/// The configuration that the words after the program's name ask for. No words mean `Config::usual`.
+///
+/// `--arch A` has to be said: one or more letters, digits and `-`, neither `all` nor `any`. `--workers N` (1 to 64, 4 where it isn't said)
+/// and `--chunk K` (1 to 1,000,000, 64) take decimal digits alone. `--explain` tells sets and reasons, `--failures` and `--successes` say which
+/// packages are shown (all for both or neither), `--ignore-essential` asks for no essential packages, and `--checkonly N1,N2,..` takes
+/// package names with commas between them. A value comes as the next word or after `=`; one that begins with `-` comes after `=`.
+///
+/// `Help` is the answer to `--help`, `Refused` to words or values of another form, with a text that says what is wrong. The words are consumed.
+pub fn read_line(alloc: Global, words: Vec<String>) -> Result<Config, LineFault>
+    ensures accepted { IfOk result (Accepts (map string_bytes words.items)) }
+    ensures refused { IfErr result (RefusesLine (map string_bytes words.items)) }
+    ensures architecture { IfOk result (λ config. is_architecture (string_bytes config.arch) ≡ true) }
+    ensures workers { IfOk result (λ config. (0 < config.workers) × (config.workers ≤ 64)) }
+    ensures chunk { IfOk result (λ config. (0 < config.chunk) × (config.chunk ≤ 1000000)) }
+    ensures only { IfOk result (λ config. IfSome (settings_of config).only (All (λ name. is_name name ≡ true))) }
+{
+    read_words(alloc, words.as_slice())
+}
+
+/// Writes what there is to say of a line that gives no configuration, and flushes: help to the output, a refusal's text or the line of want of
+/// memory to the errors. Nothing comes to the other device.
+///
+/// `DeviceFault` where the writer failed or took no byte.
+pub fn write_line_fault<K: Sink, E: Sink>(
+    output: &mut K,
+    errors: &mut E,
+    fault: &LineFault,
+) -> Result<(), DeviceFault>
+    ensures told { OnOk result (TellsLine fault.now (K.contents output.old) (K.contents output.new) (E.contents errors.old) (E.contents errors.new)) }
+    ensures kept { KeepsOther fault.now (K.contents output.old) (K.contents output.new) (E.contents errors.old) (E.contents errors.new) }
+{
+    match fault {
+        LineFault::Help { text } => write_all(output, text.as_str().as_bytes()),
+        LineFault::Refused { text } => write_all(errors, text.as_str().as_bytes()),
+        LineFault::Memory => write_all(errors, b"debcheck: out of memory\n"),
+    }
+}
