@@ -2,7 +2,7 @@
 #![tactic(auto)]
 
 use deb_index::Index;
-use deb_verdict::{Verdict, Workspace, verdict_in};
+use deb_verdict::{Groundwork, Verdict, Workspace, verdict_in};
 use std::alloc::{AllocError, Global};
 use std::io;
 use std::io::Read;
@@ -23,6 +23,7 @@ struct Counts {
 }
 
 fn count(alloc: Global, index: &Index) -> Result<Counts, AllocError> {
+    let groundwork = Groundwork::new(alloc, index)?;
     let mut workspace = Workspace::new(alloc)?;
     let mut counts = Counts {
         found: 0,
@@ -30,7 +31,7 @@ fn count(alloc: Global, index: &Index) -> Result<Counts, AllocError> {
         reasons: 0,
     };
     for place in 0..index.len() {
-        match verdict_in(alloc, &mut workspace, index, place)? {
+        match verdict_in(alloc, &mut workspace, &groundwork, place)? {
             Verdict::Ok(places) => {
                 counts.found = counts.found.saturating_add(1);
                 counts.members = counts.members.saturating_add(places.len());

@@ -50,33 +50,8 @@ more_answered Then Now i still so_far here k below =
 pub brings_none : (count : ℕ) (ins row free : List ℕ) → list_any (members_of ins) row ≡ true → Brings count (members_of ins) (members_of row) free free
 brings_none count ins row free some = record { grows = grows_none count free; answered = inl (any_member (members_of ins) row some) }
 
-pub grows_row : (row before between after : List ℕ) (i q : ℕ) → i < length row → get_or row i 0 ≡ q → after ≡ with_place between q
-    → ((count : ℕ) → All (λ place. place < count) row → Grows count before between)
-    → (count : ℕ) → All (λ place. place < count) row → Grows count before after
-grows_row row before between after i q inside here placed so_far count all =
-    let To : List ℕ → Type 0 = λ list. Grows count between list in
-    grows_both count before between after (so_far count all) (subst To (sym placed) (grows_with count between q (omega (arith, all i 0 inside))))
-
-pub all_of_row : (row between after : List ℕ) (i q : ℕ) → i < length row → get_or row i 0 ≡ q → after ≡ with_place between q
-    → IsWithin (members_of (take i row)) (members_of between) → IsWithin (members_of (take (i + 1) row)) (members_of after)
-all_of_row row between after i q inside here placed so_far r is_in =
-    let joined : members_of (take i row ++ get_or row i 0 ∷ []) r ≡ true = sym (ap (λ list. members_of list r) (take_more row i 0 inside)) ∙ is_in in
-    elim (or_cases (members_of (take i row) r) (eqb (get_or row i 0) r || false) (sym (members_of_push (take i row) (get_or row i 0) r) ∙ joined)) [
-      | inl old ↦ ap (λ list. members_of list r) placed ∙ grows_keeps (q + 1) between (with_place between q) (grows_with (q + 1) between q (omega arith)) r (so_far r old)
-      | inr added ↦ elim (or_cases (eqb (get_or row i 0) r) false added) [
-        | inl last ↦
-            let same : q ≡ r = sym here ∙ eqb-true (get_or row i 0) r last in
-            ap (λ list. members_of list r) placed ∙ (ap (members_of (with_place between q)) (sym same) ∙ with_place_has between q)
-        | inr never ↦ absurd (false≢true never)
-      ]
-    ]
-
-pub brings_all : (count : ℕ) (ins : NumberSet) (row before after : List ℕ) (i : ℕ) → length row ≤ i → IsWithin (members_of (take i row)) (members_of after) → Grows count before after
-    → Brings count ins (members_of row) before after
-brings_all count ins row before after i past all grows = record {
-  grows = grows;
-  answered = inr (λ q is_in. all q (ap (λ list. members_of list q) (take_whole row i past) ∙ is_in));
-}
+pub brings_all : (count : ℕ) (ins : NumberSet) (row before after : List ℕ) → IsWithin (members_of row) (members_of after) → Grows count before after → Brings count ins (members_of row) before after
+brings_all count ins row before after all grows = record { grows = grows; answered = inr all }
 
 -- ---- the needs of a place
 
@@ -110,7 +85,7 @@ visits_more index ins place number before between after visits brings = record {
 }
 
 -- past the last group nothing is asked
-no_answer : (index : IndexView) (place j q : ℕ) → length (needs_at index place) ≤ j → answers index place j q ≡ true → ⊥
+pub no_answer : (index : IndexView) (place j q : ℕ) → length (needs_at index place) ≤ j → answers index place j q ≡ true → ⊥
 no_answer index place j q past answered =
     false≢true (sym (ap (λ (group : List AtomText). list_any (meets_at index q) group) (get_or_past (needs_at index place) j [] past)) ∙ answered)
 

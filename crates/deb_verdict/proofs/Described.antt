@@ -11,7 +11,7 @@ use Rattle.sat_solve.specs.Clauses.{Clause, Clauses}
 use Rattle.deb_verdict.specs.Adding.{Adds, AllHold}
 use Rattle.deb_verdict.specs.Health.{IsHealthy}
 use Rattle.deb_verdict.specs.Play.{placed, AddsPlaces, Describes}
-use Rattle.deb_verdict.specs.Standings.{HasNoEarlier, MeetsPlace}
+use Rattle.deb_verdict.specs.Standings.{HasNoEarlier, MeetsNeeds, MeetsConflicts, MeetsPlace}
 use Rattle.deb_verdict.proofs.AddLemmas.{adds_none, adds_both, adds_as, in_push, front_in, last_in}
 use Rattle.deb_verdict.proofs.AddSteps.{take_whole}
 use Rattle.deb_verdict.proofs.Encoded.{members_of_at}
@@ -85,30 +85,49 @@ module _ (index : IndexView) (ins members : List ℕ) where
   abbrev pub meaning_of_essential : ℕ → NumberSet → Type 0
   meaning_of_essential number vars = Holds index (placed ins members vars) (Essential number)
 
+  abbrev pub meaning_of_needs : ℕ → NumberSet → Type 0
+  meaning_of_needs place vars = MeetsNeeds index (placed ins members vars) place
+
+  abbrev pub meaning_of_conflicts : ℕ → NumberSet → Type 0
+  meaning_of_conflicts place vars = MeetsConflicts index (placed ins members vars) place
+
   abbrev pub meaning_of_place : ℕ → NumberSet → Type 0
   meaning_of_place place vars = MeetsPlace index (placed ins members vars) place
 
   abbrev pub meaning_of_versions : ℕ → NumberSet → Type 0
   meaning_of_versions place vars = HasNoEarlier index (placed ins members vars) place
 
-  -- all that a package asks for
-  pub place_added : (group place needs aparts : ℕ) (before first second after : Clauses) → needs ≡ length (needs_at index place) → aparts ≡ length (aparts_at index place)
-      → AddsBelow group (meaning_of_need place) needs before first → AddsBelow group (meaning_of_apart place) aparts first second → Adds group (meaning_of_versions place) second after
-      → Adds group (meaning_of_place place) before after
-  place_added group place needs aparts before first second after needs_are aparts_are one two three =
-      let Needs : NumberSet → Type 0 = λ vars. (j : ℕ) → j < needs → meaning_of_need place j vars in
+  -- what a package depends on
+  pub needs_added : (group place needs : ℕ) (before after : Clauses) → needs ≡ length (needs_at index place) → AddsBelow group (meaning_of_need place) needs before after
+      → Adds group (meaning_of_needs place) before after
+  needs_added group place needs before after needs_are adds =
+      let For : ℕ → Type 0 = λ count. AddsBelow group (meaning_of_need place) count before after in
+      subst For needs_are adds
+
+  -- what it keeps out
+  pub conflicts_added : (group place aparts : ℕ) (before between after : Clauses) → aparts ≡ length (aparts_at index place)
+      → AddsBelow group (meaning_of_apart place) aparts before between → Adds group (meaning_of_versions place) between after
+      → Adds group (meaning_of_conflicts place) before after
+  conflicts_added group place aparts before between after aparts_are first second =
       let Aparts : NumberSet → Type 0 = λ vars. (j : ℕ) → j < aparts → meaning_of_apart place j vars in
       let Versions : NumberSet → Type 0 = λ vars. meaning_of_versions place vars in
-      adds_as group (λ vars. (Needs vars × Aparts vars) × Versions vars) (meaning_of_place place) before after
+      adds_as group (λ vars. Aparts vars × Versions vars) (meaning_of_conflicts place) before after
       (λ vars. (
-        λ all. record {
-          needs = λ j less. all.0.0 j (omega (arith, needs_are));
-          aparts = λ j less. all.0.1 j (omega (arith, aparts_are));
-          earlier = all.1;
+        λ both. record {
+          aparts = λ j less. both.0 j (omega (arith, aparts_are));
+          earlier = both.1;
         },
-        λ all. ((λ j less. all.needs j (omega (arith, needs_are)), λ j less. all.aparts j (omega (arith, aparts_are))), all.earlier),
+        λ all. (λ j less. all.aparts j (omega (arith, aparts_are)), all.earlier),
       ))
-      (adds_both group (λ vars. Needs vars × Aparts vars) Versions before second after (adds_both group Needs Aparts before first second one two) three)
+      (adds_both group Aparts Versions before between after first second)
+
+  -- all that it asks for
+  pub place_added : (group place : ℕ) (before between after : Clauses) → Adds group (meaning_of_needs place) before between → Adds group (meaning_of_conflicts place) between after
+      → Adds group (meaning_of_place place) before after
+  place_added group place before between after first second =
+      adds_as group (λ vars. meaning_of_needs place vars × meaning_of_conflicts place vars) (meaning_of_place place) before after
+      (λ vars. (λ both. record { needs = both.0; conflicts = both.1 }, λ all. (all.needs, all.conflicts)))
+      (adds_both group (meaning_of_needs place) (meaning_of_conflicts place) before between after first second)
 
   -- at most one package of a name
   pub only_added : (group number : ℕ) (row : List ℕ) (before after : Clauses) → row ≡ places_of index (name_at index number) → AddsEach group meaning_of_versions row before after

@@ -10,14 +10,15 @@ use Rattle.deb_index.specs.Meets.{meets, group_satisfiers}
 use Rattle.deb_index.specs.Constraints.{has_name, answers}
 use Rattle.deb_index.proofs.MemberLemmas.{member-places_where}
 use Rattle.sat_solve.specs.Sets.{members_of}
+use Rattle.deb_verdict.specs.Closure.{IsWithin}
 use Rattle.deb_verdict.specs.PlaceSets.{with_place}
 use Rattle.deb_verdict.specs.Gathering.{Follows, all_of, none_of}
-use Rattle.deb_verdict.specs.Growing.{AreForced, KeepsForced, TakesOnly}
+use Rattle.deb_verdict.specs.Growing.{KeepsForced, TakesOnly}
 use Rattle.deb_verdict.specs.Growing.TakesOnly.{Same, Took}
 use Rattle.deb_verdict.proofs.IndexFacts.{member_named, named_is_place, answers_is_place}
-use Rattle.deb_verdict.proofs.Placing.{grows_none, grows_both, grows_with, grows_keeps, with_place_has, with_place_only}
+use Rattle.deb_verdict.proofs.Placing.{grows_none, grows_both, grows_with, grows_keeps, with_place_only}
 use Rattle.deb_verdict.proofs.Standing.{need_stands, essential_stands}
-use Rattle.deb_verdict.proofs.Units.{with_one, last_answer, last_essential, follows_start}
+use Rattle.deb_verdict.proofs.Units.{with_one, one_in, last_answer, last_essential}
 
 -- ---- what stands in a row
 
@@ -70,13 +71,10 @@ follows_with index p q places follows set has_p meets =
     }
 
 forced_with : (index : IndexView) (places : List ℕ) (q : ℕ) → q < length index.packages
-    → ((p : ℕ) → AreForced index p places → Follows index p all_of (with_one (members_of places) q) none_of) → KeepsForced index places (with_place places q)
+    → ((p : ℕ) → Follows index p all_of (members_of places) none_of → Follows index p all_of (with_one (members_of places) q) none_of) → KeepsForced index places (with_place places q)
 forced_with index places q is_place follows = record {
   grows = grows_with (length index.packages) places q is_place;
-  forced = λ p forced. record {
-    start = grows_keeps (length index.packages) places (with_place places q) (grows_with (length index.packages) places q is_place) p forced.start;
-    follows = follows_with index p q places (follows p forced);
-  };
+  forced = λ p forced. follows_with index p q places (follows p forced);
 }
 
 pub forced_moved : (index : IndexView) (before after other : List ℕ) → after ≡ other → KeepsForced index before other → KeepsForced index before after
@@ -94,7 +92,7 @@ forced_by_need index member j row before after is_place inside is_in row_is (Too
     forced_moved index before after (with_place before only) taken
     (forced_with index before only (answers_is_place index member j only (sym (alone only) ∙ single_has only))
     (λ p forced.
-    last_answer index p all_of (members_of before) none_of forced.follows there.0 member j only refl there.1 is_in
+    last_answer index p all_of (members_of before) none_of forced there.0 member j only refl there.1 is_in
     (λ other answered. inl (in_single only other (alone other ∙ answered)))))
 
 -- the only package of an essential name
@@ -107,7 +105,7 @@ forced_by_name index number row before after named row_is (Took only single take
     forced_moved index before after (with_place before only) taken
     (forced_with index before only (named_is_place index only number (sym (alone only) ∙ single_has only))
     (λ p forced.
-    last_essential index p all_of (members_of before) none_of forced.follows there.0 number only refl there.1
+    last_essential index p all_of (members_of before) none_of forced there.0 number only refl there.1
     (λ other has. inl (in_single only other (alone other ∙ has)))))
 
 pub forced_by_names : (index : IndexView) (list : List ℕ) (number : ℕ) (row before between after : List ℕ) → number < length list → list ≡ essential_names index
@@ -117,16 +115,15 @@ forced_by_names index list number row before between after inside list_is row_is
     forced_both index before between after so_far
     (forced_by_name index (get_or list number 0) row between after (subst In list_is (Contains-get_or list number 0 inside)) row_is taken)
 
--- at first p alone is there
-pub forced_start : (index : IndexView) (p : ℕ) (places : List ℕ) → places ≡ with_place [] p → AreForced index p places
-forced_start index p places is_that =
-    let For : List ℕ → Type 0 = λ list. AreForced index p list in
-    subst For (sym is_that) (record {
-      start = with_place_has [] p;
-      follows = λ set has_p meets.
-          (let old = follows_start index p all_of set has_p meets in
-          record {
-            has_ins = λ number is_in. old.has_ins number (eq-eqb p number (sym (in_single p number is_in)));
-            lacks_outs = old.lacks_outs;
-          });
-    })
+-- ---- what is known before p comes, and p
+
+-- of a list with fewer places no more is known
+pub forced_fewer : (index : IndexView) (p : ℕ) (places fewer : List ℕ) → IsWithin (members_of fewer) (members_of places) → Follows index p all_of (members_of places) none_of
+    → Follows index p all_of (members_of fewer) none_of
+forced_fewer index p places fewer within follows set has_p meets =
+    let all = follows set has_p meets in
+    record { has_ins = λ number is_in. all.has_ins number (within number is_in); lacks_outs = all.lacks_outs }
+
+pub forced_start : (index : IndexView) (p : ℕ) (places : List ℕ) → Follows index p all_of (members_of places) none_of → Follows index p all_of (members_of (with_place places p)) none_of
+forced_start index p places follows =
+    follows_with index p p places (one_in index p all_of (members_of places) none_of follows p (λ set has_p meets. has_p))

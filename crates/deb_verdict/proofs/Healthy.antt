@@ -134,7 +134,7 @@ module _ (index : IndexView) where
         (only_says at.0).1 (all at.0 at.1) p (ap (λ name. members_of (places_of index name) p) at.2 ∙ itself_version p inside)
 
     only_from_earlier : (number : ℕ) → ((q : ℕ) → set q ≡ true → MeetsPlace index set q) → Holds index set (Only number)
-    only_from_earlier number each = (only_says number).0 (λ q is_place there. (each q there).earlier there)
+    only_from_earlier number each = (only_says number).0 (λ q is_place there. (each q there).conflicts.earlier there)
 
     -- ---- the whole list
 
@@ -169,8 +169,10 @@ module _ (index : IndexView) where
               let aparts : List Constraint = map (λ j. Apart p j) (below (length (aparts_at index p))) in
               record {
                 needs = below_all (Holds index set) (λ j. Need p j) (length (needs_at index p)) (All-front (Holds index set) needs aparts at);
-                aparts = below_all (Holds index set) (λ j. Apart p j) (length (aparts_at index p)) (All-back (Holds index set) needs aparts at);
-                earlier = earlier_from_only only p inside;
+                conflicts = record {
+                  aparts = below_all (Holds index set) (λ j. Apart p j) (length (aparts_at index p)) (All-back (Holds index set) needs aparts at);
+                  earlier = earlier_from_only only p inside;
+                };
               },
         )
 
@@ -179,7 +181,7 @@ module _ (index : IndexView) where
     healthy_at each p =
         All-append (Holds index set) (map (λ j. Need p j) (below (length (needs_at index p)))) (map (λ j. Apart p j) (below (length (aparts_at index p))))
         (All-below (Holds index set) (λ j. Need p j) (length (needs_at index p)) (λ j less has. (each p has).needs j less has))
-        (All-below (Holds index set) (λ j. Apart p j) (length (aparts_at index p)) (λ j less has. (each p has).aparts j less has))
+        (All-below (Holds index set) (λ j. Apart p j) (length (aparts_at index p)) (λ j less has. (each p has).conflicts.aparts j less has))
 
     pub healthy_from_parts : ((number : ℕ) → members_of (essential_names index) number ≡ true → Holds index set (Essential number)) → ((q : ℕ) → set q ≡ true → MeetsPlace index set q) → IsHealthy index set
     unfolding constraints_of

@@ -23,10 +23,10 @@ pub record AreForced (index : IndexView) (p : ℕ) (places : List ℕ) : Type 0 
   pub start : members_of places p ≡ true
   pub follows : Follows index p all_of (members_of places) none_of
 
--- places came to the list; where those that it had are forced by p, all of them are
+-- places came to the list; where all sets that contain p and meet all constraints have what it had, they have all that it has now
 pub record KeepsForced (index : IndexView) (before after : List ℕ) : Type 0 where
   pub grows : Grows (length index.packages) before after
-  pub forced : (p : ℕ) → AreForced index p before → AreForced index p after
+  pub forced : (p : ℕ) → Follows index p all_of (members_of before) none_of → Follows index p all_of (members_of after) none_of
 
 -- at most the only place of a row came
 pub data TakesOnly (row before after : List ℕ) : Type 0 where

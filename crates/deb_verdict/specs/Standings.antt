@@ -34,8 +34,16 @@ IsClear holds places set = holds ≡ true → (q : ℕ) → places q ≡ true �
 abbrev pub HasNoEarlier : IndexView → NumberSet → ℕ → Type 0
 HasNoEarlier index set place = set place ≡ true → (q : ℕ) → q < place → members_of (places_of index (package_at index place).name) q ≡ true → set q ≡ true → ⊥
 
--- the set meets all that the package at a place asks for, and has no earlier place of its name with it
-pub record MeetsPlace (index : IndexView) (set : NumberSet) (place : ℕ) : Type 0 where
-  pub needs : (j : ℕ) → j < length (needs_at index place) → Holds index set (Need place j)
+-- the set meets each need of the package at a place
+abbrev pub MeetsNeeds : IndexView → NumberSet → ℕ → Type 0
+MeetsNeeds index set place = (j : ℕ) → j < length (needs_at index place) → Holds index set (Need place j)
+
+-- the set has nothing that an entry of the package at a place hits, and no earlier place of its name with it
+pub record MeetsConflicts (index : IndexView) (set : NumberSet) (place : ℕ) : Type 0 where
   pub aparts : (j : ℕ) → j < length (aparts_at index place) → Holds index set (Apart place j)
   pub earlier : HasNoEarlier index set place
+
+-- the set meets all that the package at a place asks for, and has no earlier place of its name with it
+pub record MeetsPlace (index : IndexView) (set : NumberSet) (place : ℕ) : Type 0 where
+  pub needs : MeetsNeeds index set place
+  pub conflicts : MeetsConflicts index set place

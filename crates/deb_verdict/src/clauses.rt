@@ -310,7 +310,7 @@ fn add_earlier_among(
 }
 
 /// Whether a row has a place before another one.
-fn has_earlier(row: &[u32], place: u32) -> bool
+pub(crate) fn has_earlier(row: &[u32], place: u32) -> bool
     ensures { result ≡ list_any (λ other. ltb other place) row.now }
 {
     row.iter().any(|other| *other < place)

@@ -10,6 +10,7 @@ ghost use Rattle.deb_verdict.specs.Verdicts.{IsVerdict, SpeaksOf, verdict_view};
 use crate::answer::Verdict;
 use crate::first_core::first_core;
 use crate::first_set::first_set;
+use crate::groundwork::Groundwork;
 use crate::place_set::PlaceSet;
 use crate::reach::reach;
 use crate::workspace::Workspace;
@@ -40,27 +41,28 @@ pub fn verdict(alloc: Global, index: &Index, p: u32) -> Result<Verdict, AllocErr
     ensures verdict { IfOk result (λ found. IsVerdict index.now p (verdict_view found)) }
     ensures within { IfOk result (λ found. SpeaksOf index.now (verdict_view found)) }
 {
+    let groundwork = Groundwork::new(alloc, index)?;
     let mut workspace = Workspace::new(alloc)?;
-    verdict_in(alloc, &mut workspace, index, p)
+    verdict_in(alloc, &mut workspace, &groundwork, p)
 }
 
-/// What `verdict` gives, found in the buffers of an earlier verdict, of whatever package and index.
+/// What `verdict` gives for the index of a groundwork, found in the buffers of an earlier verdict, of whatever package and index.
 ///
 /// The answer does not depend on what the workspace was used for.
 pub fn verdict_in(
     alloc: Global,
     workspace: &mut Workspace,
-    index: &Index,
+    groundwork: &Groundwork<'_>,
     p: u32,
 ) -> Result<Verdict, AllocError>
-    requires { p < length index.now.packages }
-    ensures verdict { IfOk result (λ found. IsVerdict index.now p (verdict_view found)) }
-    ensures within { IfOk result (λ found. SpeaksOf index.now (verdict_view found)) }
+    requires { p < length groundwork.now.index.now.packages }
+    ensures verdict { IfOk result (λ found. IsVerdict groundwork.now.index.now p (verdict_view found)) }
+    ensures within { IfOk result (λ found. SpeaksOf groundwork.now.index.now (verdict_view found)) }
 {
-    match first_set(alloc, workspace, index, p)? {
+    match first_set(alloc, workspace, groundwork, p)? {
         Some(places) => Ok(Verdict::Ok(places)),
         None => {
-            let core = first_core(alloc, workspace, index, p)?;
+            let core = first_core(alloc, workspace, groundwork.index, p)?;
             Ok(Verdict::Broken(core))
         }
     }

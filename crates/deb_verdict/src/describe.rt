@@ -5,10 +5,12 @@ ghost use Rattle.std.specs.List.Sorted.{IsStrictlyIncreasing};
 ghost use Rattle.deb_index.specs.Packages.{names};
 ghost use Rattle.deb_index.specs.Constraints.{Holds, IsOfIndex};
 ghost use Rattle.sat_solve.specs.Sets.{members_of};
+ghost use Rattle.deb_verdict.specs.Closure.{IsWithin};
 ghost use Rattle.deb_verdict.specs.Play.{AddsPlaces, Describes, TellsPlaces};
-ghost use Rattle.deb_verdict.specs.Standings.{MeetsPlace};
+ghost use Rattle.deb_verdict.specs.Standings.{MeetsNeeds, MeetsConflicts, MeetsPlace};
 
 use crate::clauses::{add_apart, add_essential, add_need, add_versions};
+use crate::groundwork::Groundwork;
 use crate::place_set::PlaceSet;
 use crate::scene::Scene;
 use deb_index::{Constraint, Index};
@@ -19,33 +21,42 @@ use std::alloc::{AllocError, Global};
 /// variables whose places are healthy. `clause` is a buffer.
 pub(crate) fn describe(
     alloc: Global,
-    index: &Index,
+    groundwork: &Groundwork<'_>,
     ins: &PlaceSet,
     members: &PlaceSet,
     clause: &mut Vec<Lit>,
     formula: &mut Formula,
 ) -> Result<(), AllocError>
     requires empty { formula.old ≡ record { vars = length members.now; groups = 1; clauses = [] } }
-    requires ins_within { All (λ q. q < length index.now.packages) ins.now }
-    requires members_within { All (λ q. q < length index.now.packages) members.now }
+    requires ground { IsWithin (members_of groundwork.now.forced) (members_of ins.now) }
+    requires ins_within { All (λ q. q < length groundwork.now.index.now.packages) ins.now }
+    requires members_within { All (λ q. q < length groundwork.now.index.now.packages) members.now }
     requires rising { IsStrictlyIncreasing members.now }
     ensures vars { OnOk result (formula.new.vars ≡ length members.now) }
     ensures groups { OnOk result (formula.new.groups ≡ 1) }
     ensures in_group { OnOk result (All (λ clause. clause.group ≡ 0) formula.new.clauses) }
-    ensures describes { OnOk result (Describes index.now ins.now members.now formula.new.clauses) }
+    ensures describes { OnOk result (Describes groundwork.now.index.now ins.now members.now formula.new.clauses) }
 {
-    let scene = Scene::new(index, ins, members);
-    for name in index.essential_names() {
+    let scene = Scene::new(groundwork.index, ins, members);
+    for name in groundwork.index.essential_names() {
         add_essential(&scene, 0, *name, clause, formula)?;
     }
-    add_places(alloc, &scene, ins.as_slice(), clause, formula)?;
-    add_places(alloc, &scene, members.as_slice(), clause, formula)?;
+    add_places(alloc, groundwork, &scene, ins.as_slice(), clause, formula)?;
+    add_places(
+        alloc,
+        groundwork,
+        &scene,
+        members.as_slice(),
+        clause,
+        formula,
+    )?;
     Ok(())
 }
 
 /// Adds what the packages at these places ask for, and that each of them has no earlier one of its name with it.
 fn add_places(
     alloc: Global,
+    groundwork: &Groundwork<'_>,
     scene: &Scene<'_>,
     places: &[u32],
     clause: &mut Vec<Lit>,
@@ -53,18 +64,22 @@ fn add_places(
 ) -> Result<(), AllocError>
     requires group { 0 < formula.old.groups }
     requires vars { formula.old.vars ≡ length scene.now.members.now }
+    requires index { groundwork.now.index.now ≡ scene.now.index.now }
+    requires ground { IsWithin (members_of groundwork.now.forced) (members_of scene.now.ins.now) }
     requires places { All (λ q. q < length scene.now.index.now.packages) places.now }
     ensures { OnOk result (AddsPlaces 0 scene.now.ins.now scene.now.members.now (λ set. (q : ℕ) → members_of places.now q ≡ true → MeetsPlace scene.now.index.now set q) formula.old formula.new) }
 {
     for place in places {
-        add_place(alloc, scene, *place, clause, formula)?;
+        add_needs(alloc, groundwork, scene, *place, clause, formula)?;
+        add_conflicts(groundwork, scene, *place, clause, formula)?;
     }
     Ok(())
 }
 
-/// Adds what the package at a place asks for, and that it has no earlier one of its name with it.
-fn add_place(
+/// Adds what the package at a place depends on. Nothing, where what is in anyway answers each need.
+fn add_needs(
     alloc: Global,
+    groundwork: &Groundwork<'_>,
     scene: &Scene<'_>,
     place: u32,
     clause: &mut Vec<Lit>,
@@ -72,13 +87,38 @@ fn add_place(
 ) -> Result<(), AllocError>
     requires group { 0 < formula.old.groups }
     requires vars { formula.old.vars ≡ length scene.now.members.now }
+    requires index { groundwork.now.index.now ≡ scene.now.index.now }
+    requires ground { IsWithin (members_of groundwork.now.forced) (members_of scene.now.ins.now) }
     requires place { place < length scene.now.index.now.packages }
-    ensures { OnOk result (AddsPlaces 0 scene.now.ins.now scene.now.members.now (λ set. MeetsPlace scene.now.index.now set place) formula.old formula.new) }
+    ensures { OnOk result (AddsPlaces 0 scene.now.ins.now scene.now.members.now (λ set. MeetsNeeds scene.now.index.now set place) formula.old formula.new) }
 {
-    'needs: for number in 0..scene.index.need_count(place) {
+    if groundwork.is_met(place) {
+        return Ok(());
+    }
+    for number in 0..scene.index.need_count(place) {
         add_need(alloc, scene, 0, place, number, clause, formula)?;
     }
-    'aparts: for number in 0..scene.index.apart_count(place) {
+    Ok(())
+}
+
+/// Adds what the package at a place keeps out, and that it has no earlier one of its name with it. Nothing, where there is no such package.
+fn add_conflicts(
+    groundwork: &Groundwork<'_>,
+    scene: &Scene<'_>,
+    place: u32,
+    clause: &mut Vec<Lit>,
+    formula: &mut Formula,
+) -> Result<(), AllocError>
+    requires group { 0 < formula.old.groups }
+    requires vars { formula.old.vars ≡ length scene.now.members.now }
+    requires index { groundwork.now.index.now ≡ scene.now.index.now }
+    requires place { place < length scene.now.index.now.packages }
+    ensures { OnOk result (AddsPlaces 0 scene.now.ins.now scene.now.members.now (λ set. MeetsConflicts scene.now.index.now set place) formula.old formula.new) }
+{
+    if groundwork.is_alone(place) {
+        return Ok(());
+    }
+    for number in 0..scene.index.apart_count(place) {
         add_apart(scene, 0, place, number, clause, formula)?;
     }
     add_versions(scene, 0, place, clause, formula)?;

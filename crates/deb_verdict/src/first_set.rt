@@ -9,6 +9,7 @@ ghost use Rattle.deb_verdict.specs.Verdicts.{IsFirstInstallation};
 
 use crate::describe::describe;
 use crate::gather::gather;
+use crate::groundwork::Groundwork;
 use crate::place_set::PlaceSet;
 use crate::workspace::Workspace;
 use deb_index::Index;
@@ -41,21 +42,27 @@ fn add_members(ins: &mut PlaceSet, members: &[u32], vars: &[u32]) -> Result<(), 
 pub(crate) fn first_set(
     alloc: Global,
     workspace: &mut Workspace,
-    index: &Index,
+    groundwork: &Groundwork<'_>,
     p: u32,
 ) -> Result<Option<Vec<u32>>, AllocError>
-    requires { p < length index.now.packages }
-    ensures first { IfOk result (λ found. IfSome found (λ places. IsFirstInstallation index.now p places.items)) }
-    ensures within { IfOk result (λ found. IfSome found (λ places. All (λ place. place < length index.now.packages) places.items)) }
-    ensures none { IfOk result (λ found. IfNone found ((set : NumberSet) → IsInstallation index.now p set → ⊥)) }
+    requires { p < length groundwork.now.index.now.packages }
+    ensures first { IfOk result (λ found. IfSome found (λ places. IsFirstInstallation groundwork.now.index.now p places.items)) }
+    ensures within { IfOk result (λ found. IfSome found (λ places. All (λ place. place < length groundwork.now.index.now.packages) places.items)) }
+    ensures none { IfOk result (λ found. IfNone found ((set : NumberSet) → IsInstallation groundwork.now.index.now p set → ⊥)) }
 {
-    gather(alloc, index, p, &mut workspace.ins, &mut workspace.members)?;
+    gather(
+        alloc,
+        groundwork,
+        p,
+        &mut workspace.ins,
+        &mut workspace.members,
+    )?;
     workspace.members.sort();
-    let count = count_of(index, workspace.members.as_slice());
+    let count = count_of(groundwork.index, workspace.members.as_slice());
     workspace.formula.restart(count, 1);
     describe(
         alloc,
-        index,
+        groundwork,
         &workspace.ins,
         &workspace.members,
         &mut workspace.clause,

@@ -1,6 +1,7 @@
 //! What is gathered from small indexes, compared with lists that were found by hand.
 
 use crate::gather::gather;
+use crate::groundwork::Groundwork;
 use crate::place_set::PlaceSet;
 use crate::tests::read;
 use deb_index::Index;
@@ -17,9 +18,10 @@ fn expect_gathered(
     wanted_free: &[u32],
 ) -> Result<(), Fail> {
     assert!(rt; p < index.len());
+    let groundwork = Groundwork::new(alloc, index)?;
     let mut ins = PlaceSet::new(alloc);
     let mut free = PlaceSet::new(alloc);
-    gather(alloc, index, p, &mut ins, &mut free)?;
+    gather(alloc, &groundwork, p, &mut ins, &mut free)?;
     assert!(rt; ins.as_slice() == wanted_ins);
     assert!(rt; free.as_slice() == wanted_free);
     Ok(())

@@ -7,7 +7,9 @@ mod decision;
 mod describe;
 mod first_core;
 mod first_set;
+mod forced;
 mod gather;
+mod groundwork;
 mod kept_constraints;
 pub mod laws;
 mod marks;
@@ -20,6 +22,7 @@ mod workspace;
 
 pub use answer::Verdict;
 pub use decision::{closure, verdict, verdict_in};
+pub use groundwork::Groundwork;
 pub use workspace::Workspace;
 
 #[cfg(test)]

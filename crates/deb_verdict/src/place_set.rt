@@ -1,8 +1,10 @@
 //! A set of places, in the order in which they came.
 
-ghost use Rattle.std.specs.Prelude.{◌≡◌, ℕ, ◌<◌, ◌≤◌, ◌^◌, List, [], false, All, length, slice_get, Some, IfSome, IfNone, OnOk};
+ghost use Rattle.std.specs.Prelude.{◌≡◌, ◌⊎◌, ℕ, ◌<◌, ◌≤◌, ◌^◌, List, [], true, false, All, length, slice_get, Some, IfSome, IfNone, OnOk};
 ghost use Rattle.std.specs.List.Sorted.{IsStrictlyIncreasing};
 ghost use Rattle.sat_solve.specs.Sets.{members_of};
+ghost use Rattle.deb_verdict.specs.Closure.{IsWithin};
+ghost use Rattle.deb_verdict.specs.Growing.{Grows};
 ghost use Rattle.deb_verdict.specs.PlaceSets.{with_place, IsNumbered};
 
 use std::alloc::{AllocError, Global};
@@ -107,6 +109,18 @@ impl PlaceSet {
         make_room(&mut self.numbers, place)?;
         self.places.push(place)?;
         self.numbers[place as usize] = (self.places.len() - 1) as u32;
+        Ok(())
+    }
+
+    /// Puts in each of these places, last, that isn't there.
+    pub(crate) fn extend(&mut self, places: &[u32]) -> Result<(), AllocError>
+        ensures grows { OnOk result ((count : ℕ) → All (λ place. place < count) places.now → Grows count self.old self.new) }
+        ensures has { OnOk result (IsWithin (members_of places.now) (members_of self.new)) }
+        ensures only { OnOk result ((q : ℕ) → members_of self.new q ≡ true → (members_of self.old q ≡ true) ⊎ (members_of places.now q ≡ true)) }
+    {
+        for place in places {
+            self.insert(*place)?;
+        }
         Ok(())
     }
 

@@ -227,17 +227,74 @@ fn expect_same(
     rt: &impl Abort,
     alloc: Global,
     workspace: &mut Workspace,
-    index: &Index,
+    groundwork: &Groundwork<'_>,
 ) -> Result<(), Fail> {
-    for p in 0..index.len() {
-        let kept = verdict_in(alloc, workspace, index, p)?;
-        let fresh = verdict(alloc, index, p)?;
+    for p in 0..groundwork.index.len() {
+        let kept = verdict_in(alloc, workspace, groundwork, p)?;
+        let fresh = verdict(alloc, groundwork.index, p)?;
         match &fresh {
             Verdict::Ok(places) => assert!(rt; is_found(&kept, places)),
             Verdict::Broken(core) => assert!(rt; is_broken(&kept, core)),
         }
     }
     Ok(())
+}
+
+/// Verdicts of two indexes by turns: an agent that is broken, one that is forced, and a set between them.
+fn expect_by_turns(
+    rt: &impl Abort,
+    alloc: Global,
+    workspace: &mut Workspace,
+    agents: &Groundwork<'_>,
+    versions: &Groundwork<'_>,
+) -> Result<(), Fail> {
+    assert!(rt; versions.index.len() == 4 && agents.index.len() == 5);
+    let first = verdict_in(alloc, workspace, versions, 3)?;
+    assert!(rt; is_found(&first, &[1, 3]));
+    let broken = verdict_in(alloc, workspace, agents, 3)?;
+    let core = [
+        Constraint::Apart(2, 0),
+        Constraint::Need(3, 0),
+        Constraint::Need(3, 1),
+    ];
+    assert!(rt; is_broken(&broken, &core));
+    let forced = verdict_in(alloc, workspace, agents, 1)?;
+    assert!(rt; is_found(&forced, &[0, 1, 4]));
+    Ok(())
+}
+
+fn expect_all_by_turns(
+    rt: &impl Abort,
+    alloc: Global,
+    workspace: &mut Workspace,
+    agents: &Groundwork<'_>,
+    versions: &Groundwork<'_>,
+) -> Result<(), Fail> {
+    expect_same(rt, alloc, workspace, agents)?;
+    expect_same(rt, alloc, workspace, versions)?;
+    expect_same(rt, alloc, workspace, agents)?;
+    expect_by_turns(rt, alloc, workspace, agents, versions)
+}
+
+fn in_one_workspace(
+    rt: &impl Abort,
+    alloc: Global,
+    agents: &Groundwork<'_>,
+    versions: &Groundwork<'_>,
+) -> Result<(), Fail> {
+    let mut workspace = Workspace::new(alloc)?;
+    expect_all_by_turns(rt, alloc, &mut workspace, agents, versions)
+}
+
+fn on_their_groundworks(
+    rt: &impl Abort,
+    alloc: Global,
+    agents: &Index,
+    versions: &Index,
+) -> Result<(), Fail> {
+    let of_agents = Groundwork::new(alloc, agents)?;
+    let of_versions = Groundwork::new(alloc, versions)?;
+    in_one_workspace(rt, alloc, &of_agents, &of_versions)
 }
 
 #[test]
@@ -252,27 +309,7 @@ fn one_workspace_for_all(rt: HostRuntime) -> Result<(), Fail> {
         b"Package: n\nVersion: 1\nArchitecture: all\n\nPackage: n\nVersion: 2\nArchitecture: all\n\nPackage: a\nVersion: 1\nArchitecture: all\nDepends: n (= 1), b\n\nPackage: b\nVersion: 1\nArchitecture: all\nDepends: n (= 2)\n",
         true,
     )?;
-    let mut workspace = Workspace::new(rt.alloc())?;
-    expect_same(&rt, rt.alloc(), &mut workspace, &agents)?;
-    expect_same(&rt, rt.alloc(), &mut workspace, &versions)?;
-    expect_same(&rt, rt.alloc(), &mut workspace, &agents)?;
-    assert!(rt; versions.len() == 4 && agents.len() == 5);
-    let first = verdict_in(rt.alloc(), &mut workspace, &versions, 3)?;
-    assert!(rt; is_found(&first, &[1, 3]));
-    let broken = verdict_in(rt.alloc(), &mut workspace, &agents, 3)?;
-    assert!(rt;
-        is_broken(
-            &broken,
-            &[
-                Constraint::Apart(2, 0),
-                Constraint::Need(3, 0),
-                Constraint::Need(3, 1)
-            ]
-        )
-    );
-    let forced = verdict_in(rt.alloc(), &mut workspace, &agents, 1)?;
-    assert!(rt; is_found(&forced, &[0, 1, 4]));
-    Ok(())
+    on_their_groundworks(&rt, rt.alloc(), &agents, &versions)
 }
 
 #[test]

@@ -3,23 +3,22 @@ ghost use Rattle.std.specs.Prelude.{◌<◌, ◌*◌, All, IfOk, length};
 ghost use Rattle.work_draw.specs.Checks.{AnswersEach, IsFound, chunk_of};
 
 use crate::gate::Gate;
-use deb_index::Index;
-use deb_verdict::{Verdict, Workspace, verdict_in};
+use deb_verdict::{Groundwork, Verdict, Workspace, verdict_in};
 use std::alloc::{AllocError, Global};
 
 /// The verdict of each place, found in one workspace.
 fn verdicts_of(
     alloc: Global,
     workspace: &mut Workspace,
-    index: &Index,
+    groundwork: &Groundwork<'_>,
     places: &[u32],
 ) -> Result<Vec<Verdict>, AllocError>
-    requires { All (λ place. place < length index.now.packages) places.now }
-    ensures { IfOk result (λ v. AnswersEach (IsFound index.now) places.now v.items) }
+    requires { All (λ place. place < length groundwork.now.index.now.packages) places.now }
+    ensures { IfOk result (λ v. AnswersEach (IsFound groundwork.now.index.now) places.now v.items) }
 {
     let mut verdicts = Vec::with_capacity(alloc, places.len())?;
     for place in places {
-        verdicts.push(verdict_in(alloc, workspace, index, *place)?)?;
+        verdicts.push(verdict_in(alloc, workspace, groundwork, *place)?)?;
     }
     Ok(verdicts)
 }
@@ -28,20 +27,20 @@ fn verdicts_of(
 pub(crate) fn check_chunk<G: Gate>(
     alloc: Global,
     workspace: &mut Workspace,
-    index: &Index,
+    groundwork: &Groundwork<'_>,
     asked: &[u32],
     chunk: u32,
     number: u32,
     gate: &G,
 ) -> Result<Vec<Verdict>, AllocError>
     requires begins { number * chunk < length asked.now }
-    requires places { All (λ place. place < length index.now.packages) asked.now }
-    ensures { IfOk result (λ v. AnswersEach (IsFound index.now) (chunk_of asked.now chunk number) v.items) }
+    requires places { All (λ place. place < length groundwork.now.index.now.packages) asked.now }
+    ensures { IfOk result (λ v. AnswersEach (IsFound groundwork.now.index.now) (chunk_of asked.now chunk number) v.items) }
 {
     gate.before(number);
     let rest = &asked[number as usize * chunk as usize..];
     let size = rest.len().min(chunk as usize);
-    let verdicts = verdicts_of(alloc, workspace, index, &rest[..size])?;
+    let verdicts = verdicts_of(alloc, workspace, groundwork, &rest[..size])?;
     gate.after(number);
     Ok(verdicts)
 }

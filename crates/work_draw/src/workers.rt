@@ -9,7 +9,7 @@ use crate::chunks::check_chunk;
 use crate::gate::Gate;
 use crate::piece::{Drawn, Piece};
 use deb_index::Index;
-use deb_verdict::Workspace;
+use deb_verdict::{Groundwork, Workspace};
 use std::alloc::{AllocError, Global};
 use std::thread;
 use std::thread::Threads;
@@ -18,7 +18,7 @@ use std::thread::Threads;
 fn draw_with<G: Gate>(
     alloc: Global,
     workspace: &mut Workspace,
-    index: &Index,
+    groundwork: &Groundwork<'_>,
     asked: &[u32],
     chunk: u32,
     board: &Board,
@@ -26,17 +26,18 @@ fn draw_with<G: Gate>(
     gate: &G,
 ) -> Drawn
     requires board { drawer.board ≡ board.now }
-    requires places { All (λ place. place < length index.now.packages) asked.now }
+    requires places { All (λ place. place < length groundwork.now.index.now.packages) asked.now }
     requires chunk { 0 < chunk }
     requires total { board.now.total ≡ chunk_count asked.now chunk }
     ensures same { result.drawer ≡ record drawer { numbers = result.drawer.numbers; done = result.drawer.done } }
     ensures gained { result.refused ≡ false → (result.drawer.done ≡ true) × Gains drawer.numbers result.pieces.items result.drawer.numbers }
     ensures refused { GainsButLast drawer.numbers result.pieces.items result.drawer.numbers }
-    ensures found { AreFound index.now asked.now chunk result.pieces.items }
+    ensures found { AreFound groundwork.now.index.now asked.now chunk result.pieces.items }
 {
     let mut pieces = Vec::new(alloc);
     while let Some(number) = board.draw(&mut drawer) {
-        let Ok(verdicts) = check_chunk(alloc, workspace, index, asked, chunk, number, gate) else {
+        let Ok(verdicts) = check_chunk(alloc, workspace, groundwork, asked, chunk, number, gate)
+        else {
             return Drawn {
                 drawer,
                 pieces,
@@ -58,8 +59,17 @@ fn draw_with<G: Gate>(
     }
 }
 
-/// What each worker runs, in one workspace: draws until no number is left, and makes a piece of each, in the order of the draws.
-/// Where memory is refused it stops with `refused`, and the last number drawn may lack its piece; else the drawer is done.
+/// The workspace and the groundwork of a worker, for all its chunks.
+fn workplace<'a>(alloc: Global, index: &'a Index) -> Result<(Workspace, Groundwork<'a>), AllocError>
+    ensures { IfOk result (λ r. r.1.index.now ≡ index.now) }
+{
+    let workspace = Workspace::new(alloc)?;
+    let groundwork = Groundwork::new(alloc, index)?;
+    Ok((workspace, groundwork))
+}
+
+/// What each worker runs, in one workspace and on one groundwork: draws until no number is left, and makes a piece of each, in the order
+/// of the draws. Where memory is refused it stops with `refused`, and the last number drawn may lack its piece; else the drawer is done.
 /// It waits for the gate alone.
 pub fn draw_pieces<G: Gate>(
     alloc: Global,
@@ -79,11 +89,17 @@ pub fn draw_pieces<G: Gate>(
     ensures refused { GainsButLast drawer.numbers result.pieces.items result.drawer.numbers }
     ensures found { AreFound index.now asked.now chunk result.pieces.items }
 {
-    match Workspace::new(alloc) {
-        Ok(mut workspace) => {
-            let workspace = &mut workspace;
-            draw_with(alloc, workspace, index, asked, chunk, board, drawer, gate)
-        }
+    match workplace(alloc, index) {
+        Ok((mut workspace, groundwork)) => draw_with(
+            alloc,
+            &mut workspace,
+            &groundwork,
+            asked,
+            chunk,
+            board,
+            drawer,
+            gate,
+        ),
         Err(_) => Drawn {
             drawer,
             pieces: Vec::new(alloc),

@@ -1,10 +1,12 @@
-use Rattle.deb_verdict.proofs.Described.{each_more, each_whole, meaning_of_place}
+use Rattle.deb_verdict.proofs.Described.{each_more, each_whole, meaning_of_place, place_added}
 use Rattle.deb_verdict.proofs.describe.add_places.Goals as goal
 
 pub loop-place-preserved : goal.loop-place-preserved
 loop-place-preserved c =
     each_more 0 (meaning_of_place c.args.scene.now.index.now c.args.scene.now.ins.now c.args.scene.now.members.now) c.args.places.now c.loop-place.place-index
-    c.args.formula.now c.loop-place.formula c.add_place.new.formula c.loop-place-test.true c.loop-place.invariant c.in_ok-add_place.ensures
+    c.args.formula.now c.loop-place.formula c.add_conflicts.new.formula c.loop-place-test.true c.loop-place.invariant
+    (place_added c.args.scene.now.index.now c.args.scene.now.ins.now c.args.scene.now.members.now 0 _ c.loop-place.formula c.add_needs.new.formula c.add_conflicts.new.formula
+    c.in_ok-add_needs.ensures c.in_ok-add_conflicts.ensures)
 
 pub returns : goal.returns
 returns c =

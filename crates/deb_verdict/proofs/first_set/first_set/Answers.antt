@@ -49,8 +49,8 @@ returns-in_ok-places-in-Some-clause-first c =
     ∙ (c.in_ok-add_members-in-Some.ensures q
     ∙ (ap (λ list. placed ins list (members_of c.deref.result.now) q) c.as_slice-in-Some.ensures
     ∙ ap (λ list. placed ins members (members_of list) q) c.deref.ensures.value)) in
-    subst (IsFirstInstallation c.args.index.now c.args.p) (sym (c.in_ok-places-in-Some.ensures.items ∙ c.as_slice-in-Some-2.ensures))
-    (first_answer c.args.index.now c.args.p ins c.gather.new.free members c.describe.new.formula.clauses c.unwrap-must.result c.in_ok-gather.ensures.follows
+    subst (IsFirstInstallation c.args.groundwork.now.index.now c.args.p) (sym (c.in_ok-places-in-Some.ensures.items ∙ c.as_slice-in-Some-2.ensures))
+    (first_answer c.args.groundwork.now.index.now c.args.p ins c.gather.new.free members c.describe.new.formula.clauses c.unwrap-must.result c.in_ok-gather.ensures.follows
     c.in_ok-gather.ensures.enough c.sort.ensures.same c.sort.ensures.rising there c.in_ok-describe.ensures.in_group c.in_ok-describe.ensures.describes
     c.describe.new.formula.vars c.in_ok-describe.ensures.vars vars c.sort-in-Some.new.self (rw c.in-Some.is at c.in_ok-found.ensures.first)
     c.sort-in-Some.ensures.rising listed)
@@ -72,6 +72,6 @@ returns-in_ok-places-in-Some-clause-within c =
 pub returns-in-None-clause-none : goal.returns-in-None-clause-none
 returns-in-None-clause-none c =
     let there : slice_get c.sort.new.self c.unwrap-must.result ≡ Some c.args.p = rw c.unwrap-must.ensures at c.number_of.ensures.some in
-    no_answer c.args.index.now c.args.p c.gather.new.ins c.gather.new.free c.sort.new.self c.describe.new.formula.clauses c.unwrap-must.result c.in_ok-gather.ensures.follows
+    no_answer c.args.groundwork.now.index.now c.args.p c.gather.new.ins c.gather.new.free c.sort.new.self c.describe.new.formula.clauses c.unwrap-must.result c.in_ok-gather.ensures.follows
     c.in_ok-gather.ensures.enough c.sort.ensures.same c.sort.ensures.rising there c.in_ok-describe.ensures.in_group c.in_ok-describe.ensures.describes
     c.describe.new.formula.vars c.in_ok-describe.ensures.vars (rw c.in-None.is at c.in_ok-found.ensures.none)

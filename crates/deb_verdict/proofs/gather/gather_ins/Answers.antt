@@ -1,20 +1,30 @@
-use Rattle.std.proofs.Common.{◌≡◌, ◌∙◌, ap, List, ℕ, length, []}
+use Rattle.std.proofs.Common.{◌≡◌, ◌⊎◌, ◌<◌, ◌∙◌, ap, sym, subst, List, ℕ, length, [], true, false, All, inl, inr}
+use Rattle.std.proofs.lemmas.Bool.{false≢true}
+use Rattle.sat_solve.specs.Sets.{members_of}
+use Rattle.deb_verdict.specs.Closure.{IsWithin}
 use Rattle.deb_verdict.specs.PlaceSets.{with_place}
-use Rattle.deb_verdict.proofs.Placing.{places_first}
-use Rattle.deb_verdict.proofs.Forcing.{forced_start}
+use Rattle.deb_verdict.specs.Growing.{ArePlaces, AreForced}
+use Rattle.deb_verdict.specs.Gathering.{Follows, all_of, none_of}
+use Rattle.deb_verdict.proofs.Gathered.{first_places, first_forced, first_ground}
 use Rattle.deb_verdict.proofs.gather.gather_ins.Goals as goal
 
-pub force_all-requires : goal.force_all-requires
-force_all-requires c =
-    let first : c.insert.new.self ≡ with_place [] c.args.p = c.in_ok-insert.ensures ∙ ap (λ (list : List ℕ). with_place list c.args.p) c.clear.ensures in
-    c.in_ok-force_essential.ensures.grows.places (places_first (length c.args.index.now.packages) c.args.p c.insert.new.self c.requires first)
+pub force_from-requires : goal.force_from-requires
+force_from-requires c =
+    first_places c.args.groundwork.now.index.now c.args.p c.args.groundwork.now.forced c.as_slice.result.now c.clear.new.self c.extend.new.self c.insert.new.self c.requires
+    c.args.groundwork.now.places c.as_slice.ensures c.clear.ensures c.in_ok-extend.ensures.grows c.in_ok-insert.ensures
 
 pub returns-clause-forced : goal.returns-clause-forced
 returns-clause-forced c =
-    let first : c.insert.new.self ≡ with_place [] c.args.p = c.in_ok-insert.ensures ∙ ap (λ (list : List ℕ). with_place list c.args.p) c.clear.ensures in
-    c.in_ok-force_all.ensures.forced c.args.p (c.in_ok-force_essential.ensures.forced c.args.p (forced_start c.args.index.now c.args.p c.insert.new.self first))
+    first_forced c.args.groundwork.now.index.now c.args.p c.args.groundwork.now.forced c.as_slice.result.now c.clear.new.self c.extend.new.self c.insert.new.self c.force_from.new.ins
+    (c.args.groundwork.now.in_all c.args.p) c.as_slice.ensures c.clear.ensures c.in_ok-extend.ensures.only c.in_ok-insert.ensures c.in_ok-force_from.ensures
 
 pub returns-clause-places : goal.returns-clause-places
 returns-clause-places c =
-    let first : c.insert.new.self ≡ with_place [] c.args.p = c.in_ok-insert.ensures ∙ ap (λ (list : List ℕ). with_place list c.args.p) c.clear.ensures in
-    c.in_ok-force_all.ensures.grows.places (c.in_ok-force_essential.ensures.grows.places (places_first (length c.args.index.now.packages) c.args.p c.insert.new.self c.requires first))
+    c.in_ok-force_from.ensures.grows.places
+    (first_places c.args.groundwork.now.index.now c.args.p c.args.groundwork.now.forced c.as_slice.result.now c.clear.new.self c.extend.new.self c.insert.new.self c.requires
+    c.args.groundwork.now.places c.as_slice.ensures c.clear.ensures c.in_ok-extend.ensures.grows c.in_ok-insert.ensures)
+
+pub returns-clause-ground : goal.returns-clause-ground
+returns-clause-ground c =
+    first_ground c.args.groundwork.now.index.now c.args.p c.args.groundwork.now.forced c.as_slice.result.now c.extend.new.self c.insert.new.self c.force_from.new.ins
+    c.as_slice.ensures c.in_ok-extend.ensures.has c.in_ok-insert.ensures c.in_ok-force_from.ensures

@@ -3,4 +3,4 @@ use Rattle.deb_verdict.proofs.Bringing.{VisitsBelow}
 use Rattle.deb_verdict.proofs.gather.visit.Given as goal
 
 abbrev pub invariant-loop-number : goal.invariant-loop-number
-invariant-loop-number l = VisitsBelow l.index (members_of l.ins) l.place l.number l.initial.free l.free
+invariant-loop-number l = VisitsBelow l.groundwork.index.now (members_of l.ins) l.place l.number l.initial.free l.free

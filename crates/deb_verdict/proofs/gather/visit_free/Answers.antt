@@ -7,20 +7,20 @@ use Rattle.deb_verdict.proofs.gather.visit_free.Goals as goal
 pub loop-visited-smaller : goal.loop-visited-smaller
 loop-visited-smaller c =
     let inside : c.loop-visited.visited < length c.loop-visited.free = omega (arith, ap length c.as_slice.ensures) in
-    let within : c.loop-visited.visited < length c.args.index.now.packages =
-    number_within (length c.args.index.now.packages) c.loop-visited.free c.loop-visited.visited (get_or c.loop-visited.free c.loop-visited.visited 0) inside refl (c.loop-visited.invariant.so_far.grows.places c.requires) in
-    let less : length c.args.index.now.packages - (c.loop-visited.visited + 1) < length c.args.index.now.packages - c.loop-visited.visited = omega arith in
+    let within : c.loop-visited.visited < length c.args.groundwork.now.index.now.packages =
+    number_within (length c.args.groundwork.now.index.now.packages) c.loop-visited.free c.loop-visited.visited (get_or c.loop-visited.free c.loop-visited.visited 0) inside refl (c.loop-visited.invariant.so_far.grows.places c.requires.places) in
+    let less : length c.args.groundwork.now.index.now.packages - (c.loop-visited.visited + 1) < length c.args.groundwork.now.index.now.packages - c.loop-visited.visited = omega arith in
     less
 
 pub loop-visited-preserved : goal.loop-visited-preserved
 loop-visited-preserved c =
-    let count : ℕ = length c.args.index.now.packages in
+    let count : ℕ = length c.args.groundwork.now.index.now.packages in
     let inside : c.loop-visited.visited < length c.loop-visited.free = omega (arith, ap length c.as_slice.ensures) in
     let longer : length c.loop-visited.free ≤ length c.visit.new.free = grows_longer count c.loop-visited.free c.visit.new.free c.in_ok-visit.ensures.grows in
     record {
       reached = omega (arith, inside, longer);
       so_far =
-          list_more c.args.index.now (members_of c.args.ins.now) c.loop-visited.free c.visit.new.free c.loop-visited.visited _ c.args.free.now c.loop-visited.free c.visit.new.free
+          list_more c.args.groundwork.now.index.now (members_of c.args.ins.now) c.loop-visited.free c.visit.new.free c.loop-visited.visited _ c.args.free.now c.loop-visited.free c.visit.new.free
           (sym (ap (λ (list : List ℕ). get_or list c.loop-visited.visited 0) c.as_slice-in-loop-visited.ensures))
           (λ k below. grows_at count c.loop-visited.free c.visit.new.free k c.in_ok-visit.ensures.grows (omega (arith, inside, below)))
           c.loop-visited.invariant.so_far c.in_ok-visit.ensures;
@@ -29,4 +29,4 @@ loop-visited-preserved c =
 pub returns : goal.returns
 returns c =
     let past : length c.loop-visited.free ≤ c.loop-visited.visited = omega (arith, ap length c.as_slice.ensures) in
-    list_visited c.args.index.now (members_of c.args.ins.now) c.loop-visited.free c.loop-visited.visited c.args.free.now c.loop-visited.free past c.loop-visited.invariant.so_far
+    list_visited c.args.groundwork.now.index.now (members_of c.args.ins.now) c.loop-visited.free c.loop-visited.visited c.args.free.now c.loop-visited.free past c.loop-visited.invariant.so_far

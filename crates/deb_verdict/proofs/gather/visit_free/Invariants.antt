@@ -6,8 +6,8 @@ use Rattle.deb_verdict.proofs.gather.visit_free.Given as goal
 abbrev pub invariant-loop-visited : goal.invariant-loop-visited
 invariant-loop-visited l = record {
   reached : l.visited ≤ length l.free;
-  so_far : VisitsList l.index (members_of l.ins) l.free l.visited l.initial.free l.free;
+  so_far : VisitsList l.groundwork.index.now (members_of l.ins) l.free l.visited l.initial.free l.free;
 }
 
 abbrev pub decreases-loop-visited : goal.decreases-loop-visited
-decreases-loop-visited l = length l.index.packages - l.visited
+decreases-loop-visited l = length l.groundwork.index.now.packages - l.visited

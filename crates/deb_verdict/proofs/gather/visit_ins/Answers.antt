@@ -6,11 +6,11 @@ use Rattle.deb_verdict.proofs.gather.visit_ins.Goals as goal
 
 pub loop-place-preserved : goal.loop-place-preserved
 loop-place-preserved c =
-    list_more c.args.index.now (members_of c.args.ins.now) c.as_slice-place-items.result.now c.as_slice-place-items.result.now c.loop-place.place-index _ c.args.free.now c.loop-place.free c.visit.new.free
+    list_more c.args.groundwork.now.index.now (members_of c.args.ins.now) c.as_slice-place-items.result.now c.as_slice-place-items.result.now c.loop-place.place-index _ c.args.free.now c.loop-place.free c.visit.new.free
     refl (λ k below. refl) c.loop-place.invariant c.in_ok-visit.ensures
 
 pub returns : goal.returns
 returns c =
-    let For : List ℕ → Type 0 = λ list. Visits c.args.index.now (members_of c.args.ins.now) (members_of list) c.args.free.now c.loop-place.free in
+    let For : List ℕ → Type 0 = λ list. Visits c.args.groundwork.now.index.now (members_of c.args.ins.now) (members_of list) c.args.free.now c.loop-place.free in
     subst For c.as_slice-place-items.ensures
-    (list_visited c.args.index.now (members_of c.args.ins.now) c.as_slice-place-items.result.now c.loop-place.place-index c.args.free.now c.loop-place.free c.loop-place-test.false c.loop-place.invariant)
+    (list_visited c.args.groundwork.now.index.now (members_of c.args.ins.now) c.as_slice-place-items.result.now c.loop-place.place-index c.args.free.now c.loop-place.free c.loop-place-test.false c.loop-place.invariant)

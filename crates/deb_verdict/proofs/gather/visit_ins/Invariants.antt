@@ -3,4 +3,4 @@ use Rattle.deb_verdict.proofs.Bringing.{VisitsList}
 use Rattle.deb_verdict.proofs.gather.visit_ins.Given as goal
 
 abbrev pub invariant-loop-place : goal.invariant-loop-place
-invariant-loop-place l = VisitsList l.index (members_of l.ins) l.place-items l.place-index l.initial.free l.free
+invariant-loop-place l = VisitsList l.groundwork.index.now (members_of l.ins) l.place-items l.place-index l.initial.free l.free

@@ -6,5 +6,5 @@ use Rattle.work_draw.proofs.chunks.verdicts_of.Goals as goal
 
 pub loop-place-preserved : goal.loop-place-preserved
 loop-place-preserved c =
-    subst (λ (l : List Verdict). AnswersEach (IsFound c.args.index.now) (take (c.loop-place.place-index + 1) c.args.places.now) l) (sym c.in_ok-push.ensures.items)
-    (AnswersEach_more (IsFound c.args.index.now) c.args.places.now c.loop-place.place-index 0 c.loop-place.verdicts.items c.in_ok-verdict_in.field-0 (omega arith) c.loop-place.invariant (c.in_ok-verdict_in.ensures.verdict, c.in_ok-verdict_in.ensures.within))
+    subst (λ (l : List Verdict). AnswersEach (IsFound c.args.groundwork.now.index.now) (take (c.loop-place.place-index + 1) c.args.places.now) l) (sym c.in_ok-push.ensures.items)
+    (AnswersEach_more (IsFound c.args.groundwork.now.index.now) c.args.places.now c.loop-place.place-index 0 c.loop-place.verdicts.items c.in_ok-verdict_in.field-0 (omega arith) c.loop-place.invariant (c.in_ok-verdict_in.ensures.verdict, c.in_ok-verdict_in.ensures.within))

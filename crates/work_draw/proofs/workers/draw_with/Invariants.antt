@@ -7,7 +7,7 @@ abbrev pub invariant-loop-number : goal.invariant-loop-number
 invariant-loop-number g l = record {
   same : l.drawer ≡ record l.fn.drawer { numbers = l.drawer.numbers; done = l.drawer.done };
   gained : Gains l.fn.drawer.numbers l.pieces.items l.drawer.numbers;
-  found : AreFound l.index l.asked l.chunk l.pieces.items;
+  found : AreFound l.groundwork.index.now l.asked l.chunk l.pieces.items;
 }
 
 abbrev pub decreases-loop-number : goal.decreases-loop-number

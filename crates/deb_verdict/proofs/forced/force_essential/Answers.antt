@@ -1,6 +1,6 @@
 use Rattle.deb_verdict.proofs.ReachLemmas.{essential_below}
 use Rattle.deb_verdict.proofs.Forcing.{forced_by_names}
-use Rattle.deb_verdict.proofs.gather.force_essential.Goals as goal
+use Rattle.deb_verdict.proofs.forced.force_essential.Goals as goal
 
 pub places_named-requires : goal.places_named-requires
 places_named-requires c =

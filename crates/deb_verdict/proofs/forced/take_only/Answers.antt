@@ -1,7 +1,7 @@
 use Rattle.std.proofs.Common.{arith}
 use Rattle.deb_verdict.specs.Growing.TakesOnly.{Took}
 use Rattle.deb_verdict.proofs.Placing.{single_row}
-use Rattle.deb_verdict.proofs.gather.take_only.Goals as goal
+use Rattle.deb_verdict.proofs.forced.take_only.Goals as goal
 
 pub returns-in_ok-insert-in-len1 : goal.returns-in_ok-insert-in-len1
 returns-in_ok-insert-in-len1 c = Took _ (single_row c.args.row.now (omega arith)) c.in_ok-insert-in-len1.ensures

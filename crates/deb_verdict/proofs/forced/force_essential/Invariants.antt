@@ -1,5 +1,5 @@
 use Rattle.deb_verdict.specs.Growing.{KeepsForced}
-use Rattle.deb_verdict.proofs.gather.force_essential.Given as goal
+use Rattle.deb_verdict.proofs.forced.force_essential.Given as goal
 
 abbrev pub invariant-loop-name : goal.invariant-loop-name
 invariant-loop-name l = KeepsForced l.index l.initial.ins l.ins

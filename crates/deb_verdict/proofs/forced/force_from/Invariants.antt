@@ -1,6 +1,6 @@
 use Rattle.std.proofs.Common.{◌-◌, length}
 use Rattle.deb_verdict.specs.Growing.{KeepsForced}
-use Rattle.deb_verdict.proofs.gather.force_all.Given as goal
+use Rattle.deb_verdict.proofs.forced.force_from.Given as goal
 
 abbrev pub invariant-loop-visited : goal.invariant-loop-visited
 invariant-loop-visited l = KeepsForced l.index l.initial.ins l.ins

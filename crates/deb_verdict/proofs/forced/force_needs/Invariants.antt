@@ -1,5 +1,5 @@
 use Rattle.deb_verdict.specs.Growing.{KeepsForced}
-use Rattle.deb_verdict.proofs.gather.force_needs.Given as goal
+use Rattle.deb_verdict.proofs.forced.force_needs.Given as goal
 
 abbrev pub invariant-loop-number : goal.invariant-loop-number
 invariant-loop-number l = KeepsForced l.index l.initial.ins l.ins

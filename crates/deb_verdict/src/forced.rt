@@ -1,0 +1,58 @@
+//! Places that are in every healthy set.
+
+ghost use Rattle.std.specs.Prelude.{◌≡◌, ◌<◌, true, OnOk, length};
+ghost use Rattle.sat_solve.specs.Sets.{members_of};
+ghost use Rattle.deb_verdict.specs.Growing.{ArePlaces, KeepsForced, TakesOnly};
+
+use crate::place_set::PlaceSet;
+use deb_index::Index;
+use std::alloc::AllocError;
+
+/// Puts in the only place of a row, if it has one only.
+fn take_only(row: &[u32], ins: &mut PlaceSet) -> Result<(), AllocError>
+    ensures { OnOk result (TakesOnly row.now ins.old ins.new) }
+{
+    match row {
+        [only] => ins.insert(*only)?,
+        _ => {}
+    }
+    Ok(())
+}
+
+/// Puts in what alone answers a need of the place, which is in.
+fn force_needs(index: &Index, place: u32, ins: &mut PlaceSet) -> Result<(), AllocError>
+    requires place { place < length index.now.packages }
+    requires known { members_of ins.old place ≡ true }
+    ensures { OnOk result (KeepsForced index.now ins.old ins.new) }
+{
+    for number in 0..index.need_count(place) {
+        if let Some(row) = index.answer_row(place, number) {
+            take_only(row, ins)?;
+        }
+    }
+    Ok(())
+}
+
+/// Puts in the only package of each essential name that has one only.
+pub(crate) fn force_essential(index: &Index, ins: &mut PlaceSet) -> Result<(), AllocError>
+    ensures { OnOk result (KeepsForced index.now ins.old ins.new) }
+{
+    for name in index.essential_names() {
+        take_only(index.places_named(*name), ins)?;
+    }
+    Ok(())
+}
+
+/// Puts in what alone answers a need of a place that is in, as long as places come. The first places of the list are not asked again.
+pub(crate) fn force_from(index: &Index, start: usize, ins: &mut PlaceSet) -> Result<(), AllocError>
+    requires { ArePlaces (length index.now.packages) ins.old }
+    ensures { OnOk result (KeepsForced index.now ins.old ins.new) }
+{
+    let mut visited = start;
+    while visited < ins.as_slice().len() {
+        let place = ins.as_slice()[visited];
+        force_needs(index, place, ins)?;
+        visited += 1;
+    }
+    Ok(())
+}

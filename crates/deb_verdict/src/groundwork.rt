@@ -1,0 +1,161 @@
+//! What the verdicts of an index have in common.
+
+ghost use Rattle.std.specs.Prelude.{◌≡◌, ℕ, ◌<◌, ◌==◌, true, IfOk, length};
+ghost use Rattle.std.specs.List.{list_all};
+ghost use Rattle.std.proofs.Props.{props};
+ghost use Rattle.deb_index.specs.Packages.{needs_at, aparts_at};
+ghost use Rattle.deb_index.specs.Constraints.{answers, hits};
+ghost use Rattle.sat_solve.specs.Sets.{members_of};
+ghost use Rattle.deb_verdict.specs.Growing.{ArePlaces};
+ghost use Rattle.deb_verdict.specs.Groundwork.{IsInAll, IsMet, HasAnswers, IsAlone, MarksOnly};
+
+use crate::clauses::has_earlier;
+use crate::forced::{force_essential, force_from};
+use crate::gather::has_any;
+use crate::place_set::PlaceSet;
+use deb_index::Index;
+use std::alloc::{AllocError, Global};
+
+/// What the verdicts of an index have in common, found once for all of them: which packages its essential ones ask for, and which packages
+/// have constraints that hold anyway.
+#[derive(Drop)]
+pub struct Groundwork<'a> {
+    pub(crate) index: &'a Index,
+    /// Places that are in every healthy set.
+    pub(crate) forced: PlaceSet,
+    /// By place: what is in every healthy set answers each need.
+    met: Vec<bool>,
+    /// By place: no other package is hit by an entry, and none of the name is before it.
+    alone: Vec<bool>,
+    ghost places: { ArePlaces (length index.now.packages) forced } by { Prim.hlevel props },
+    ghost in_all: { IsInAll index.now (members_of forced) },
+    ghost marks_met: { MarksOnly (HasAnswers index.now (members_of forced)) met.items },
+    ghost marks_alone: { MarksOnly (IsAlone index.now) alone.items },
+}
+
+/// Whether a place that is in answers a need. `false` where the answers are too many for a row.
+fn is_answered(index: &Index, ins: &PlaceSet, place: u32, number: u32) -> bool
+    requires place { place < length index.now.packages }
+    requires number { number < length (needs_at index.now place) }
+    ensures { result ≡ true → (q : ℕ) × (members_of ins.now q ≡ true) × (answers index.now place number q ≡ true) }
+{
+    match index.answer_row(place, number) {
+        Some(row) => has_any(ins, row),
+        None => false,
+    }
+}
+
+/// Whether places that are in answer each need of a place.
+fn is_met(index: &Index, ins: &PlaceSet, place: u32) -> bool
+    requires { place < length index.now.packages }
+    ensures { result ≡ true → IsMet index.now (members_of ins.now) place }
+{
+    for number in 0..index.need_count(place) {
+        if !is_answered(index, ins, place, number) {
+            return false;
+        }
+    }
+    true
+}
+
+/// Whether a row has no place but one.
+fn has_only(row: &[u32], place: u32) -> bool
+    ensures { result ≡ list_all (λ other. other == place) row.now }
+{
+    row.iter().all(|other| *other == place)
+}
+
+/// Whether an entry hits no place but its own. `false` where what it hits is too much for a row.
+fn hits_none(index: &Index, place: u32, number: u32) -> bool
+    requires place { place < length index.now.packages }
+    requires number { number < length (aparts_at index.now place) }
+    ensures { result ≡ true → (q : ℕ) → hits index.now place number q ≡ true → q ≡ place }
+{
+    match index.hit_row(place, number) {
+        Some(row) => has_only(row, place),
+        None => false,
+    }
+}
+
+/// Whether no entry of a place hits another one, and none of its name is before it.
+fn is_alone(index: &Index, place: u32) -> bool
+    requires { place < length index.now.packages }
+    ensures { result ≡ true → IsAlone index.now place }
+{
+    for number in 0..index.apart_count(place) {
+        if !hits_none(index, place, number) {
+            return false;
+        }
+    }
+    !has_earlier(index.versions_of(place), place)
+}
+
+/// Marks the places whose needs are answered by places that are in.
+fn mark_met(alloc: Global, index: &Index, ins: &PlaceSet) -> Result<Vec<bool>, AllocError>
+    ensures { IfOk result (λ marks. MarksOnly (IsMet index.now (members_of ins.now)) marks.items) }
+{
+    let mut marks = Vec::with_capacity(alloc, index.len() as usize)?;
+    for place in 0..index.len() {
+        marks.push(is_met(index, ins, place))?;
+    }
+    Ok(marks)
+}
+
+/// Marks the places whose entries hit no other one, and that have none of their name before them.
+fn mark_alone(alloc: Global, index: &Index) -> Result<Vec<bool>, AllocError>
+    ensures { IfOk result (λ marks. MarksOnly (IsAlone index.now) marks.items) }
+{
+    let mut marks = Vec::with_capacity(alloc, index.len() as usize)?;
+    for place in 0..index.len() {
+        marks.push(is_alone(index, place))?;
+    }
+    Ok(marks)
+}
+
+/// Finds places that are in every healthy set.
+fn force(alloc: Global, index: &Index) -> Result<PlaceSet, AllocError>
+    ensures places { IfOk result (λ forced. ArePlaces (length index.now.packages) forced) }
+    ensures in_all { IfOk result (λ forced. IsInAll index.now (members_of forced)) }
+{
+    let mut forced = PlaceSet::new(alloc);
+    force_essential(index, &mut forced)?;
+    force_from(index, 0, &mut forced)?;
+    Ok(forced)
+}
+
+impl<'a> Groundwork<'a> {
+    /// Goes once through the packages of the index. The error is want of memory.
+    pub fn new(alloc: Global, index: &'a Index) -> Result<Groundwork<'a>, AllocError>
+        ensures { IfOk result (λ groundwork. groundwork.index.now ≡ index.now) }
+    {
+        let forced = force(alloc, index)?;
+        let met = mark_met(alloc, index, &forced)?;
+        let alone = mark_alone(alloc, index)?;
+        Ok(Groundwork {
+            index,
+            forced,
+            met,
+            alone,
+        })
+    }
+
+    /// Whether what is in every healthy set is known to answer each need of a place.
+    pub(crate) fn is_met(&self, place: u32) -> bool
+        ensures { result ≡ true → IsMet self.now.index.now (members_of self.now.forced) place }
+    {
+        match self.met.get(place as usize) {
+            Some(met) => *met,
+            None => false,
+        }
+    }
+
+    /// Whether a place is known to keep out no other one, and to have none of its name before it.
+    pub(crate) fn is_alone(&self, place: u32) -> bool
+        ensures { result ≡ true → IsAlone self.now.index.now place }
+    {
+        match self.alone.get(place as usize) {
+            Some(alone) => *alone,
+            None => false,
+        }
+    }
+}
