@@ -27,14 +27,27 @@ fn expect_gathered(
     Ok(())
 }
 
+fn expect_alternatives_are_free(rt: &impl Abort, alloc: Global, index: &Index) -> Result<(), Fail> {
+    expect_gathered(rt, alloc, index, 0, &[4, 0], &[0, 1, 2, 3, 5])?;
+    expect_gathered(rt, alloc, index, 2, &[4, 2], &[2, 0, 6])?;
+    expect_gathered(rt, alloc, index, 4, &[4], &[4, 0, 6, 1, 2, 3, 5])
+}
+
 #[test]
 fn alternatives_are_free(rt: HostRuntime) -> Result<(), Fail> {
     let text =
         b"Package: a\nVersion: 1\nArchitecture: all\nDepends: b | c\n\nPackage: b\nVersion: 1\nArchitecture: all\nPre-Depends: d | f\n\nPackage: c\nVersion: 1\nArchitecture: all\nDepends: b | e\n\nPackage: d\nVersion: 1\nArchitecture: all\n\nPackage: e\nVersion: 1\nArchitecture: all\nEssential: yes\nDepends: a | h\n\nPackage: f\nVersion: 1\nArchitecture: all\n\nPackage: h\nVersion: 1\nArchitecture: all\n";
     let index = read(rt.alloc(), text, true)?;
-    expect_gathered(&rt, rt.alloc(), &index, 0, &[0, 4], &[0, 1, 2, 3, 5])?;
-    expect_gathered(&rt, rt.alloc(), &index, 2, &[2, 4], &[2, 0, 6])?;
-    expect_gathered(&rt, rt.alloc(), &index, 4, &[4], &[4, 0, 6, 1, 2, 3, 5])
+    expect_alternatives_are_free(&rt, rt.alloc(), &index)
+}
+
+fn expect_all_versions_of_an_essential_name(
+    rt: &impl Abort,
+    alloc: Global,
+    index: &Index,
+) -> Result<(), Fail> {
+    expect_gathered(rt, alloc, index, 0, &[0], &[0, 1, 2, 3, 4])?;
+    expect_gathered(rt, alloc, index, 2, &[2], &[2])
 }
 
 #[test]
@@ -42,8 +55,12 @@ fn all_versions_of_an_essential_name(rt: HostRuntime) -> Result<(), Fail> {
     let text =
         b"Package: a\nVersion: 1\nArchitecture: all\n\nPackage: n\nVersion: 1\nArchitecture: all\nEssential: yes\nDepends: b | c\n\nPackage: n\nVersion: 2\nArchitecture: all\n\nPackage: b\nVersion: 1\nArchitecture: all\n\nPackage: c\nVersion: 1\nArchitecture: all\n";
     let index = read(rt.alloc(), text, true)?;
-    expect_gathered(&rt, rt.alloc(), &index, 0, &[0], &[0, 1, 2, 3, 4])?;
-    expect_gathered(&rt, rt.alloc(), &index, 2, &[2], &[2])
+    expect_all_versions_of_an_essential_name(&rt, rt.alloc(), &index)
+}
+
+fn expect_needs_with_one_answer(rt: &impl Abort, alloc: Global, index: &Index) -> Result<(), Fail> {
+    expect_gathered(rt, alloc, index, 0, &[5, 0, 1, 4, 2], &[0, 6, 7, 3])?;
+    expect_gathered(rt, alloc, index, 7, &[5, 7, 3], &[7])
 }
 
 #[test]
@@ -51,6 +68,5 @@ fn needs_with_one_answer(rt: HostRuntime) -> Result<(), Fail> {
     let text =
         b"Package: a\nVersion: 1\nArchitecture: all\nDepends: b, c | d\n\nPackage: b\nVersion: 1\nArchitecture: all\nDepends: e\n\nPackage: c\nVersion: 1\nArchitecture: all\nDepends: b\n\nPackage: d\nVersion: 1\nArchitecture: all\n\nPackage: e\nVersion: 1\nArchitecture: all\nPre-Depends: c\n\nPackage: g\nVersion: 1\nArchitecture: all\nEssential: yes\nDepends: h | i\n\nPackage: h\nVersion: 1\nArchitecture: all\n\nPackage: i\nVersion: 1\nArchitecture: all\nDepends: d\n";
     let index = read(rt.alloc(), text, true)?;
-    expect_gathered(&rt, rt.alloc(), &index, 0, &[0, 5, 1, 4, 2], &[0, 6, 7, 3])?;
-    expect_gathered(&rt, rt.alloc(), &index, 7, &[7, 5, 3], &[7])
+    expect_needs_with_one_answer(&rt, rt.alloc(), &index)
 }

@@ -69,15 +69,19 @@ fn expect_closure(
     Ok(())
 }
 
+fn expect_alternatives(rt: &impl Abort, alloc: Global, index: &Index) -> Result<(), Fail> {
+    expect_set(rt, alloc, index, 0, &[0, 2])?;
+    expect_set(rt, alloc, index, 1, &[1])?;
+    expect_closure(rt, alloc, index, 0, &[0, 1, 2])?;
+    expect_closure(rt, alloc, index, 2, &[2])
+}
+
 #[test]
 fn alternatives(rt: HostRuntime) -> Result<(), Fail> {
     let text =
         b"Package: a\nVersion: 1\nArchitecture: all\nDepends: b | c\n\nPackage: b\nVersion: 1\nArchitecture: all\n\nPackage: c\nVersion: 1\nArchitecture: all\n";
     let index = read(rt.alloc(), text, true)?;
-    expect_set(&rt, rt.alloc(), &index, 0, &[0, 2])?;
-    expect_set(&rt, rt.alloc(), &index, 1, &[1])?;
-    expect_closure(&rt, rt.alloc(), &index, 0, &[0, 1, 2])?;
-    expect_closure(&rt, rt.alloc(), &index, 2, &[2])
+    expect_alternatives(&rt, rt.alloc(), &index)
 }
 
 #[test]
@@ -87,34 +91,34 @@ fn first_core_lacks_the_earlier(rt: HostRuntime) -> Result<(), Fail> {
     expect_core(&rt, rt.alloc(), &index, 0, &[Constraint::Need(0, 1)])
 }
 
+fn expect_missing_further_down(rt: &impl Abort, alloc: Global, index: &Index) -> Result<(), Fail> {
+    expect_core(
+        rt,
+        alloc,
+        index,
+        0,
+        &[Constraint::Need(0, 0), Constraint::Need(1, 0)],
+    )?;
+    expect_core(rt, alloc, index, 1, &[Constraint::Need(1, 0)])?;
+    expect_set(rt, alloc, index, 2, &[2])?;
+    expect_closure(rt, alloc, index, 0, &[0, 1])
+}
+
 #[test]
 fn missing_further_down(rt: HostRuntime) -> Result<(), Fail> {
     let text =
         b"Package: a\nVersion: 1\nArchitecture: all\nDepends: b\n\nPackage: b\nVersion: 1\nArchitecture: all\nDepends: c (>= 2)\n\nPackage: c\nVersion: 1\nArchitecture: all\n";
     let index = read(rt.alloc(), text, true)?;
-    expect_core(
-        &rt,
-        rt.alloc(),
-        &index,
-        0,
-        &[Constraint::Need(0, 0), Constraint::Need(1, 0)],
-    )?;
-    expect_core(&rt, rt.alloc(), &index, 1, &[Constraint::Need(1, 0)])?;
-    expect_set(&rt, rt.alloc(), &index, 2, &[2])?;
-    expect_closure(&rt, rt.alloc(), &index, 0, &[0, 1])
+    expect_missing_further_down(&rt, rt.alloc(), &index)
 }
 
-#[test]
-fn mail_agents(rt: HostRuntime) -> Result<(), Fail> {
-    let text =
-        b"Package: m1\nVersion: 1\nArchitecture: all\nProvides: mail-agent\nConflicts: mail-agent\n\nPackage: m2\nVersion: 1\nArchitecture: all\nProvides: mail-agent\nConflicts: mail-agent\n\nPackage: u\nVersion: 1\nArchitecture: all\nDepends: m1, m2\n";
-    let index = read(rt.alloc(), text, true)?;
-    expect_set(&rt, rt.alloc(), &index, 0, &[0])?;
-    expect_set(&rt, rt.alloc(), &index, 1, &[1])?;
+fn expect_mail_agents(rt: &impl Abort, alloc: Global, index: &Index) -> Result<(), Fail> {
+    expect_set(rt, alloc, index, 0, &[0])?;
+    expect_set(rt, alloc, index, 1, &[1])?;
     expect_core(
-        &rt,
-        rt.alloc(),
-        &index,
+        rt,
+        alloc,
+        index,
         2,
         &[
             Constraint::Apart(1, 0),
@@ -125,15 +129,19 @@ fn mail_agents(rt: HostRuntime) -> Result<(), Fail> {
 }
 
 #[test]
-fn two_versions(rt: HostRuntime) -> Result<(), Fail> {
+fn mail_agents(rt: HostRuntime) -> Result<(), Fail> {
     let text =
-        b"Package: n\nVersion: 1\nArchitecture: all\n\nPackage: n\nVersion: 2\nArchitecture: all\n\nPackage: a\nVersion: 1\nArchitecture: all\nDepends: n (= 1), b\n\nPackage: b\nVersion: 1\nArchitecture: all\nDepends: n (= 2)\n";
+        b"Package: m1\nVersion: 1\nArchitecture: all\nProvides: mail-agent\nConflicts: mail-agent\n\nPackage: m2\nVersion: 1\nArchitecture: all\nProvides: mail-agent\nConflicts: mail-agent\n\nPackage: u\nVersion: 1\nArchitecture: all\nDepends: m1, m2\n";
     let index = read(rt.alloc(), text, true)?;
-    expect_set(&rt, rt.alloc(), &index, 1, &[1])?;
+    expect_mail_agents(&rt, rt.alloc(), &index)
+}
+
+fn expect_two_versions(rt: &impl Abort, alloc: Global, index: &Index) -> Result<(), Fail> {
+    expect_set(rt, alloc, index, 1, &[1])?;
     expect_core(
-        &rt,
-        rt.alloc(),
-        &index,
+        rt,
+        alloc,
+        index,
         2,
         &[
             Constraint::Need(2, 0),
@@ -142,7 +150,32 @@ fn two_versions(rt: HostRuntime) -> Result<(), Fail> {
             Constraint::Only(0),
         ],
     )?;
-    expect_set(&rt, rt.alloc(), &index, 3, &[1, 3])
+    expect_set(rt, alloc, index, 3, &[1, 3])
+}
+
+#[test]
+fn two_versions(rt: HostRuntime) -> Result<(), Fail> {
+    let text =
+        b"Package: n\nVersion: 1\nArchitecture: all\n\nPackage: n\nVersion: 2\nArchitecture: all\n\nPackage: a\nVersion: 1\nArchitecture: all\nDepends: n (= 1), b\n\nPackage: b\nVersion: 1\nArchitecture: all\nDepends: n (= 2)\n";
+    let index = read(rt.alloc(), text, true)?;
+    expect_two_versions(&rt, rt.alloc(), &index)
+}
+
+fn expect_essential_conflict(rt: &impl Abort, alloc: Global, index: &Index) -> Result<(), Fail> {
+    expect_set(rt, alloc, index, 0, &[0])?;
+    expect_core(
+        rt,
+        alloc,
+        index,
+        1,
+        &[Constraint::Essential(0), Constraint::Apart(1, 0)],
+    )?;
+    expect_closure(rt, alloc, index, 1, &[0, 1])
+}
+
+fn expect_no_essential_conflict(rt: &impl Abort, alloc: Global, index: &Index) -> Result<(), Fail> {
+    expect_set(rt, alloc, index, 1, &[1])?;
+    expect_closure(rt, alloc, index, 1, &[1])
 }
 
 #[test]
@@ -150,43 +183,34 @@ fn essential_conflict(rt: HostRuntime) -> Result<(), Fail> {
     let text =
         b"Package: base\nVersion: 1\nArchitecture: all\nEssential: yes\n\nPackage: x\nVersion: 1\nArchitecture: all\nConflicts: base\n";
     let index = read(rt.alloc(), text, true)?;
-    expect_set(&rt, rt.alloc(), &index, 0, &[0])?;
-    expect_core(
-        &rt,
-        rt.alloc(),
-        &index,
-        1,
-        &[Constraint::Essential(0), Constraint::Apart(1, 0)],
-    )?;
-    expect_closure(&rt, rt.alloc(), &index, 1, &[0, 1])?;
+    expect_essential_conflict(&rt, rt.alloc(), &index)?;
     let without = read(rt.alloc(), text, false)?;
-    expect_set(&rt, rt.alloc(), &without, 1, &[1])?;
-    expect_closure(&rt, rt.alloc(), &without, 1, &[1])
+    expect_no_essential_conflict(&rt, rt.alloc(), &without)
 }
 
-#[test]
-fn essential_packages_in_conflict(rt: HostRuntime) -> Result<(), Fail> {
-    let text =
-        b"Package: e1\nVersion: 1\nArchitecture: all\nEssential: yes\nConflicts: e2\n\nPackage: e2\nVersion: 1\nArchitecture: all\nEssential: yes\n\nPackage: z\nVersion: 1\nArchitecture: all\n";
-    let index = read(rt.alloc(), text, true)?;
+fn expect_essential_packages_in_conflict(
+    rt: &impl Abort,
+    alloc: Global,
+    index: &Index,
+) -> Result<(), Fail> {
     expect_core(
-        &rt,
-        rt.alloc(),
-        &index,
+        rt,
+        alloc,
+        index,
         0,
         &[Constraint::Essential(1), Constraint::Apart(0, 0)],
     )?;
     expect_core(
-        &rt,
-        rt.alloc(),
-        &index,
+        rt,
+        alloc,
+        index,
         1,
         &[Constraint::Essential(0), Constraint::Apart(0, 0)],
     )?;
     expect_core(
-        &rt,
-        rt.alloc(),
-        &index,
+        rt,
+        alloc,
+        index,
         2,
         &[
             Constraint::Essential(0),
@@ -197,21 +221,29 @@ fn essential_packages_in_conflict(rt: HostRuntime) -> Result<(), Fail> {
 }
 
 #[test]
+fn essential_packages_in_conflict(rt: HostRuntime) -> Result<(), Fail> {
+    let text =
+        b"Package: e1\nVersion: 1\nArchitecture: all\nEssential: yes\nConflicts: e2\n\nPackage: e2\nVersion: 1\nArchitecture: all\nEssential: yes\n\nPackage: z\nVersion: 1\nArchitecture: all\n";
+    let index = read(rt.alloc(), text, true)?;
+    expect_essential_packages_in_conflict(&rt, rt.alloc(), &index)
+}
+
+#[test]
 fn own_dependency(rt: HostRuntime) -> Result<(), Fail> {
     let text = b"Package: s\nVersion: 1\nArchitecture: all\nDepends: s, v\nProvides: v\n";
     let index = read(rt.alloc(), text, true)?;
     expect_set(&rt, rt.alloc(), &index, 0, &[0])
 }
 
-#[test]
-fn pre_depends_and_breaks(rt: HostRuntime) -> Result<(), Fail> {
-    let text =
-        b"Package: a\nVersion: 1\nArchitecture: all\nDepends: c\nPre-Depends: b\n\nPackage: b\nVersion: 1\nArchitecture: all\n\nPackage: c\nVersion: 1\nArchitecture: all\nBreaks: b (<< 2)\n";
-    let index = read(rt.alloc(), text, true)?;
+fn expect_pre_depends_and_breaks(
+    rt: &impl Abort,
+    alloc: Global,
+    index: &Index,
+) -> Result<(), Fail> {
     expect_core(
-        &rt,
-        rt.alloc(),
-        &index,
+        rt,
+        alloc,
+        index,
         0,
         &[
             Constraint::Need(0, 0),
@@ -219,8 +251,16 @@ fn pre_depends_and_breaks(rt: HostRuntime) -> Result<(), Fail> {
             Constraint::Apart(2, 0),
         ],
     )?;
-    expect_set(&rt, rt.alloc(), &index, 2, &[2])?;
-    expect_closure(&rt, rt.alloc(), &index, 0, &[0, 1, 2])
+    expect_set(rt, alloc, index, 2, &[2])?;
+    expect_closure(rt, alloc, index, 0, &[0, 1, 2])
+}
+
+#[test]
+fn pre_depends_and_breaks(rt: HostRuntime) -> Result<(), Fail> {
+    let text =
+        b"Package: a\nVersion: 1\nArchitecture: all\nDepends: c\nPre-Depends: b\n\nPackage: b\nVersion: 1\nArchitecture: all\n\nPackage: c\nVersion: 1\nArchitecture: all\nBreaks: b (<< 2)\n";
+    let index = read(rt.alloc(), text, true)?;
+    expect_pre_depends_and_breaks(&rt, rt.alloc(), &index)
 }
 
 fn expect_same(
