@@ -1,25 +1,13 @@
 -- Which places answer a group, alternative by alternative.
-use Rattle.std.proofs.Common.{◌≡◌, ◌⊎◌, ℕ, zero, suc, ◌+◌, ◌<◌, ◌≤◌, Bool, true, false, ◌||◌, not, eqb, List, [], ◌∷◌, ◌++◌, length, get_or, take, map, Some, All, ◌↔◌, refl, sym, subst, ◌∙◌, ap, inl, inr, arith, append_assoc}
+use Rattle.std.proofs.Common.{◌≡◌, ℕ, ◌+◌, ◌<◌, Bool, ◌||◌, eqb, List, ◌++◌, length, get_or, take, map, sym, ◌∙◌, ap}
 use Rattle.std.specs.List.{list_any}
-use Rattle.std.proofs.lemmas.Bool.{cases_Bool, false≢true, or_cases, or_left, or_right}
-use Rattle.std.proofs.lemmas.List.{take_more, map-append, length-take-le, get_or_default}
-use Rattle.std.proofs.lemmas.List.Elements.{All-append, All-map, All-take, All-same}
 use Rattle.std.proofs.lemmas.List.Folds.{list_any-append, list_any_more}
 use Rattle.deb_relation.specs.declared.atom.Atom.{Atom}
 use Rattle.deb_relation.specs.AtomView.{atom_view}
-use Rattle.deb_relation.specs.Relationship.{AtomText}
-use Rattle.deb_index.specs.declared.constraint.Constraint.{Constraint}
-use Rattle.deb_index.specs.declared.constraint.Constraint.TheVariants.{Essential, Need, Apart, Only}
-use Rattle.deb_index.specs.Packages.{IndexView, name_at, is_named, places_of, apart_at}
-use Rattle.deb_index.specs.Meets.{meets, meets_at, satisfiers}
-use Rattle.deb_index.specs.Constraints.{Holds, answers}
-use Rattle.deb_index.proofs.MemberLemmas.{below-places_where}
-use Rattle.sat_solve.specs.declared.Lit.{Lit}
-use Rattle.sat_solve.specs.Sets.{NumberSet, members_of}
-use Rattle.sat_solve.specs.Clauses.{Clause, Clauses, clause_holds}
-use Rattle.deb_verdict.proofs.Members.{any_member, member_any}
-use Rattle.deb_verdict.proofs.Encoded.{at_members_of}
-use Rattle.deb_verdict.proofs.IndexFacts.{member_named, member_satisfiers, some_named, answers_is_place}
+use Rattle.deb_index.specs.Packages.{IndexView}
+use Rattle.deb_index.specs.Meets.{meets_at, satisfiers}
+use Rattle.sat_solve.specs.Sets.{members_of}
+use Rattle.deb_verdict.proofs.IndexFacts.{member_satisfiers}
 use Rattle.deb_verdict.proofs.AddSteps.{list_any-map}
 
 pub answers_more : (index : IndexView) (found met found_then : List ℕ) (atoms : List Atom) (i : ℕ) (atom : Atom) → found_then ≡ found ++ met → met ≡ satisfiers index (atom_view atom)

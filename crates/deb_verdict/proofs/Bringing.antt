@@ -1,25 +1,23 @@
 -- Places that come into play, so that needs are answered.
-use Rattle.std.proofs.Common.{◌≡◌, ◌⊎◌, ℕ, ◌+◌, ◌<◌, ◌≤◌, true, false, ◌||◌, eqb, List, [], ◌∷◌, ◌++◌, length, get_or, take, All, refl, sym, subst, ◌∙◌, ap, inl, inr, arith}
+use Rattle.std.proofs.Common.{◌≡◌, ◌⊎◌, ℕ, ◌+◌, ◌<◌, ◌≤◌, true, false, eqb, List, [], length, get_or, All, refl, sym, subst, ◌∙◌, ap, inl, inr, arith}
 use Rattle.std.specs.List.{list_any}
 use Rattle.std.proofs.lemmas.Bool.{cases_lt, false≢true, or_cases, or_left, or_right, eqb-true, eq-eqb}
-use Rattle.std.proofs.lemmas.List.{get_or_past, get_or_default, take_more}
+use Rattle.std.proofs.lemmas.List.{get_or_past, get_or_default}
 use Rattle.deb_relation.specs.Relationship.{AtomText}
 use Rattle.deb_index.specs.Packages.{IndexView, name_at, places_of, essential_names, needs_at, need_at}
 use Rattle.deb_index.specs.Meets.{meets_at, group_satisfiers}
 use Rattle.deb_index.specs.Constraints.{has_name, answers}
 use Rattle.sat_solve.specs.Sets.{NumberSet, members_of}
-use Rattle.sat_solve.proofs.MembersLemmas.{members_of_push}
 use Rattle.deb_verdict.specs.Closure.{IsWithin}
 use Rattle.deb_verdict.specs.Encoding.{places_in_play}
 use Rattle.deb_verdict.specs.Gathering.{IsEnough, none_of}
-use Rattle.deb_verdict.specs.PlaceSets.{with_place}
 use Rattle.deb_verdict.specs.Growing.{Grows, IsAnswered, Brings, IsVisited, BringsEssential, Visits}
-use Rattle.deb_verdict.proofs.AddSteps.{take_whole, below_members}
+use Rattle.deb_verdict.proofs.AddSteps.{below_members}
 use Rattle.deb_verdict.proofs.Encoded.{members_of_at}
 use Rattle.deb_verdict.proofs.IndexFacts.{member_named, answers_is_place}
 use Rattle.deb_verdict.proofs.Members.{any_member}
 use Rattle.deb_verdict.proofs.Forcing.{member_answers}
-use Rattle.deb_verdict.proofs.Placing.{grows_none, grows_both, grows_with, grows_keeps, with_place_has}
+use Rattle.deb_verdict.proofs.Placing.{grows_none, grows_both, grows_keeps}
 
 -- ---- what is answered
 
@@ -38,7 +36,7 @@ brings_as count ins row other before after same brings = record {
 }
 
 -- each that came before is answered still, and one more
-more_answered : (Then Now : ℕ → Type 0) (i : ℕ) → ((k : ℕ) → k < i → Then k → Now k) → ((k : ℕ) → k < i → Then k) → Now i → (k : ℕ) → k < i + 1 → Now k
+pub more_answered : (Then Now : ℕ → Type 0) (i : ℕ) → ((k : ℕ) → k < i → Then k → Now k) → ((k : ℕ) → k < i → Then k) → Now i → (k : ℕ) → k < i + 1 → Now k
 more_answered Then Now i still so_far here k below =
     elim (cases_lt k i) [
       | inl earlier ↦ still k earlier (so_far k earlier)

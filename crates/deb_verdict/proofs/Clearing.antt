@@ -1,15 +1,12 @@
 -- Places that are not in together.
-use Rattle.std.proofs.Common.{◌≡◌, ◌⊎◌, ℕ, ◌+◌, ◌<◌, ◌≤◌, Bool, true, false, ◌||◌, ◌&&◌, not, eqb, ltb, List, [], ◌∷◌, ◌++◌, length, get_or, take, All, ◌↔◌, refl, sym, subst, ◌∙◌, ap, inl, inr, arith}
-use Rattle.std.specs.Str.{bytes_eq}
+use Rattle.std.proofs.Common.{◌≡◌, ◌⊎◌, ℕ, ◌+◌, ◌<◌, ◌≤◌, Bool, true, false, ◌||◌, ◌&&◌, not, List, [], ◌∷◌, ◌++◌, length, get_or, take, ◌↔◌, sym, subst, ◌∙◌, ap, inl, inr}
 use Rattle.std.proofs.lemmas.Bool.{cases_Bool, false≢true, both_ways, or_cases, or_left, or_right, not-true, not_from_false, and_parts, and_from}
 use Rattle.std.proofs.lemmas.List.{take_more}
 use Rattle.sat_solve.specs.declared.Lit.{Lit}
 use Rattle.sat_solve.specs.Sets.{NumberSet, members_of}
 use Rattle.sat_solve.specs.Clauses.{Clauses, clause_holds}
-use Rattle.deb_verdict.specs.declared.scene.Standing.{Standing}
 use Rattle.deb_verdict.specs.Adding.{Adds}
-use Rattle.deb_verdict.specs.Play.{placed}
-use Rattle.deb_verdict.specs.Standings.{is_in, Widens, IsClear}
+use Rattle.deb_verdict.specs.Standings.{Widens, IsClear}
 use Rattle.deb_verdict.proofs.AddLemmas.{adds_none, adds_both, adds_as, in_push, front_in, last_in}
 use Rattle.deb_verdict.proofs.AddSteps.{take_whole}
 use Rattle.deb_verdict.proofs.Widening.{settled_passes, pair_adds}

@@ -1,13 +1,12 @@
 -- Sets of places cut down to those that matter.
-use Rattle.std.proofs.Common.{◌≡◌, ℕ, ◌<◌, true, false, refl, sym, ◌∙◌, ap, inl, inr, ◌⊎◌, Contains}
+use Rattle.std.proofs.Common.{◌≡◌, ℕ, ◌<◌, true, false, refl, sym, ◌∙◌, ap, inl, inr}
 use Rattle.std.specs.Prelude.{length, slice_index_or}
 use Rattle.std.specs.List.{list_any}
 use Rattle.std.proofs.lemmas.Bool.{cases_Bool, false≢true, true≢false, and_parts, and_from, both_ways, false_from_ne_true}
 use Rattle.std.proofs.lemmas.Option.{slice_get-get_or}
 use Rattle.deb_index.specs.declared.constraint.Constraint.{Constraint}
 use Rattle.deb_index.specs.declared.constraint.Constraint.TheVariants.{Essential, Need, Apart, Only}
-use Rattle.deb_index.specs.Packages.{IndexView, essential_names, places_of, name_at}
-use Rattle.deb_index.specs.Constraints.{has_name, answers}
+use Rattle.deb_index.specs.Packages.{IndexView, places_of, name_at}
 use Rattle.deb_index.specs.Constraints.{Holds, constraints_of}
 use Rattle.sat_solve.specs.Sets.{NumberSet, IsFirst}
 use Rattle.sat_solve.proofs.SetLemmas.{first_within}

@@ -1,5 +1,5 @@
 -- Clauses that are added for one number after the other, and what they say together.
-use Rattle.std.proofs.Common.{◌≡◌, ◌⊎◌, ℕ, ◌+◌, ◌<◌, ◌≤◌, true, false, List, [], ◌∷◌, ◌++◌, length, get_or, take, All, ◌↔◌, refl, sym, subst, ◌∙◌, ap, inl, inr, arith}
+use Rattle.std.proofs.Common.{◌≡◌, ℕ, ◌+◌, ◌<◌, ◌≤◌, true, List, [], ◌∷◌, ◌++◌, length, get_or, take, All, ◌↔◌, sym, subst, ◌∙◌, ap, inl, inr, arith}
 use Rattle.std.proofs.lemmas.Bool.{false≢true, cases_lt}
 use Rattle.std.proofs.lemmas.List.{take_more}
 use Rattle.deb_index.specs.declared.constraint.Constraint.{Constraint}
@@ -10,7 +10,7 @@ use Rattle.sat_solve.specs.Sets.{NumberSet, members_of}
 use Rattle.sat_solve.specs.Clauses.{Clause, Clauses}
 use Rattle.deb_verdict.specs.Adding.{Adds, AllHold}
 use Rattle.deb_verdict.specs.Health.{IsHealthy}
-use Rattle.deb_verdict.specs.Play.{placed, AddsPlaces, Describes}
+use Rattle.deb_verdict.specs.Play.{placed, AddsPlaces}
 use Rattle.deb_verdict.specs.Standings.{HasNoEarlier, MeetsNeeds, MeetsConflicts, MeetsPlace}
 use Rattle.deb_verdict.proofs.AddLemmas.{adds_none, adds_both, adds_as, in_push, front_in, last_in}
 use Rattle.deb_verdict.proofs.AddSteps.{take_whole}

@@ -1,5 +1,5 @@
 -- Places of a row that come to a list, one after another.
-use Rattle.std.proofs.Common.{◌≡◌, ◌⊎◌, ℕ, ◌+◌, ◌<◌, ◌≤◌, true, ◌||◌, false, eqb, List, [], ◌∷◌, ◌++◌, length, get_or, take, All, refl, sym, subst, ◌∙◌, ap, inl, inr, arith}
+use Rattle.std.proofs.Common.{◌≡◌, ◌⊎◌, ℕ, ◌+◌, ◌<◌, ◌≤◌, true, ◌||◌, false, eqb, List, [], ◌∷◌, ◌++◌, length, get_or, take, All, sym, subst, ◌∙◌, ap, inl, inr, arith}
 use Rattle.std.proofs.lemmas.Bool.{false≢true, or_cases, eqb-true}
 use Rattle.std.proofs.lemmas.List.{take_more}
 use Rattle.sat_solve.specs.Sets.{members_of}

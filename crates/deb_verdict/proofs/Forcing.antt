@@ -16,7 +16,7 @@ use Rattle.deb_verdict.specs.Gathering.{Follows, all_of, none_of}
 use Rattle.deb_verdict.specs.Growing.{KeepsForced, TakesOnly}
 use Rattle.deb_verdict.specs.Growing.TakesOnly.{Same, Took}
 use Rattle.deb_verdict.proofs.IndexFacts.{member_named, named_is_place, answers_is_place}
-use Rattle.deb_verdict.proofs.Placing.{grows_none, grows_both, grows_with, grows_keeps, with_place_only}
+use Rattle.deb_verdict.proofs.Placing.{grows_none, grows_both, grows_with, with_place_only}
 use Rattle.deb_verdict.proofs.Standing.{need_stands, essential_stands}
 use Rattle.deb_verdict.proofs.Units.{with_one, one_in, last_answer, last_essential}
 

@@ -1,14 +1,13 @@
 -- What is in with p, from what is in every healthy set; and needs that this answers already.
-use Rattle.std.proofs.Common.{◌≡◌, ◌⊎◌, ℕ, ◌+◌, ◌<◌, ◌≤◌, ◌∙◌, true, false, eqb, ap, sym, subst, List, [], length, All, inl, inr, arith}
+use Rattle.std.proofs.Common.{◌≡◌, ◌⊎◌, ℕ, ◌+◌, ◌<◌, ◌∙◌, true, eqb, ap, sym, subst, List, [], length, All, inl, inr, arith}
 use Rattle.std.proofs.lemmas.Bool.{false≢true, cases_lt, eqb-true}
 use Rattle.deb_index.specs.Packages.{IndexView, needs_at}
-use Rattle.deb_index.specs.Constraints.{answers}
 use Rattle.sat_solve.specs.Sets.{NumberSet, members_of}
 use Rattle.deb_verdict.specs.Closure.{IsWithin}
 use Rattle.deb_verdict.specs.PlaceSets.{with_place}
 use Rattle.deb_verdict.specs.Gathering.{Follows, all_of, none_of}
 use Rattle.deb_verdict.specs.Groundwork.{IsMet}
-use Rattle.deb_verdict.specs.Growing.{ArePlaces, AreForced, Grows, KeepsForced, IsAnswered, IsVisited, Visits}
+use Rattle.deb_verdict.specs.Growing.{ArePlaces, AreForced, Grows, KeepsForced, IsVisited, Visits}
 use Rattle.deb_verdict.proofs.Placing.{grows_none, grows_with, grows_keeps, with_place_has, places_empty}
 use Rattle.deb_verdict.proofs.Forcing.{forced_fewer, forced_start}
 use Rattle.deb_verdict.proofs.Bringing.{no_answer}

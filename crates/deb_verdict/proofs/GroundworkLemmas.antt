@@ -1,11 +1,11 @@
 -- What is found of an index once for all verdicts.
-use Rattle.std.proofs.Common.{◌≡◌, ℕ, ◌+◌, ◌<◌, ◌≤◌, Bool, true, false, not, ltb, eqb, List, [], ◌∷◌, ◌++◌, length, get_or, Option, Some, None, slice_get, refl, sym, subst, ◌∙◌, ap, inl, inr, arith}
+use Rattle.std.proofs.Common.{◌≡◌, ℕ, ◌+◌, ◌<◌, ◌≤◌, Bool, true, false, not, ltb, eqb, List, [], ◌∷◌, ◌++◌, length, get_or, Some, refl, sym, subst, ◌∙◌, ap, inl, inr, arith}
 use Rattle.std.specs.List.{list_any, list_all}
 use Rattle.std.proofs.lemmas.Bool.{cases_lt, false≢true, both_ways, not-true, or_cases, and_parts, lt-ltb, eqb-true}
 use Rattle.std.proofs.lemmas.List.{get_or_append_left, get_or_push, length_push}
 use Rattle.std.proofs.lemmas.Option.{slice_get_within, get_or_from_slice_get, slice_get-get_or}
-use Rattle.deb_index.specs.Packages.{IndexView, PackageView, package_at, places_of, aparts_at, need_at, apart_at}
-use Rattle.deb_index.specs.Meets.{meets, satisfiers, group_satisfiers}
+use Rattle.deb_index.specs.Packages.{IndexView, package_at, places_of, aparts_at, need_at, apart_at}
+use Rattle.deb_index.specs.Meets.{satisfiers, group_satisfiers}
 use Rattle.deb_index.specs.Constraints.{answers, hits}
 use Rattle.sat_solve.specs.Sets.{NumberSet, members_of}
 use Rattle.deb_verdict.specs.Groundwork.{IsInAll, IsMet, HasAnswers, IsAlone, MarksOnly}
@@ -34,15 +34,6 @@ answers_from_met index ins place met j inside =
 
 pub met_from_answers : (index : IndexView) (ins : NumberSet) (place : ℕ) → HasAnswers index ins place → IsMet index ins place
 met_from_answers index ins place has j inside = answered_by_row index ins place j (group_satisfiers index (need_at index place j)) refl (has j inside)
-
--- ---- one number more
-
-pub below_more : (Property : ℕ → Type 0) (n : ℕ) → ((j : ℕ) → j < n → Property j) → Property n → (j : ℕ) → j < n + 1 → Property j
-below_more Property n so_far here j below =
-    elim (cases_lt j n) [
-      | inl before ↦ so_far j before
-      | inr past ↦ let same : n ≡ j = omega (arith, past, below) in subst Property same here
-    ]
 
 -- ---- entries that hit no other place, and names that no earlier place has
 

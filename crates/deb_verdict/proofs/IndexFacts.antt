@@ -1,16 +1,16 @@
 -- What the definitions of an index give.
-use Rattle.std.proofs.Common.{◌≡◌, ℕ, ◌<◌, Bool, true, false, List, [], ◌∷◌, ◌++◌, length, map, Option, Some, None, slice_get, refl, sym, subst, ◌∙◌, ap, inl, inr, arith, All, Contains}
+use Rattle.std.proofs.Common.{◌≡◌, ℕ, ◌<◌, Bool, true, false, List, [], ◌∷◌, ◌++◌, length, map, Option, Some, None, slice_get, refl, subst, ◌∙◌, inl, inr, arith, All, Contains}
 use Rattle.std.specs.List.{list_any, flat_map}
 use Rattle.std.specs.Option.{option_map_or}
-use Rattle.std.proofs.lemmas.Bool.{both_ways, false≢true, or_cases}
+use Rattle.std.proofs.lemmas.Bool.{false≢true, or_cases}
 use Rattle.std.proofs.lemmas.List.Elements.{All-append, All-map, All-contains_itself}
 use Rattle.std.proofs.lemmas.Option.{slice_get_within, get_or_from_slice_get}
 use Rattle.deb_relation.specs.Relationship.{AtomText}
 use Rattle.deb_index.specs.declared.constraint.Constraint.{Constraint}
 use Rattle.deb_index.specs.declared.constraint.Constraint.TheVariants.{Essential, Need, Apart, Only}
-use Rattle.deb_index.specs.Packages.{IndexView, PackageView, names, name_at, is_named, places_of, essential_names, needs_at, aparts_at, need_at, apart_at}
+use Rattle.deb_index.specs.Packages.{IndexView, names, name_at, is_named, places_of, essential_names, needs_at, aparts_at, need_at}
 use Rattle.deb_index.specs.Meets.{meets, meets_at, satisfiers}
-use Rattle.deb_index.specs.Constraints.{constraints_at, constraints_of, below, has_name, answers, hits}
+use Rattle.deb_index.specs.Constraints.{constraints_at, constraints_of, below, has_name, answers}
 use Rattle.deb_index.proofs.MemberLemmas.{member-places_where}
 use Rattle.sat_solve.specs.Sets.{NumberSet, members_of}
 use Rattle.deb_verdict.proofs.Members.{member_any}

@@ -1,9 +1,9 @@
 -- A closure found by marking places and visiting each marked one.
-use Rattle.std.proofs.Common.{◌≡◌, ◌⊎◌, ℕ, true, false, ap, sym, ◌∙◌, inl, inr, Contains}
-use Rattle.deb_index.specs.Packages.{IndexView, essential_names}
-use Rattle.deb_index.specs.Constraints.{has_name, answers}
+use Rattle.std.proofs.Common.{◌≡◌, ◌⊎◌, ℕ, true, false, ap, sym, ◌∙◌, inl, inr}
+use Rattle.deb_index.specs.Packages.{IndexView}
+use Rattle.deb_index.specs.Constraints.{answers}
 use Rattle.sat_solve.specs.Sets.{NumberSet}
-use Rattle.deb_verdict.specs.Closure.{IsWithin, IsClosed, IsClosure}
+use Rattle.deb_verdict.specs.Closure.{IsWithin, IsClosure}
 use Rattle.deb_verdict.specs.Reach.{IsReaching}
 
 -- a waiting place was visited: what answers it is marked, and what is new waits

@@ -1,5 +1,5 @@
 -- What the clauses that are added say of a constraint, or of a place and the earlier ones of its name.
-use Rattle.std.proofs.Common.{◌≡◌, ◌⊎◌, ℕ, ◌<◌, Bool, true, false, ◌||◌, ◌&&◌, not, eqb, ltb, List, length, All, ◌↔◌, refl, sym, subst, ◌∙◌, ap, inl, inr, arith}
+use Rattle.std.proofs.Common.{◌≡◌, ◌⊎◌, ℕ, ◌<◌, Bool, true, false, ◌||◌, ◌&&◌, not, eqb, ltb, List, length, ◌↔◌, sym, subst, ◌∙◌, ap, inl, inr, arith}
 use Rattle.std.specs.List.{list_any}
 use Rattle.std.specs.Option.{option_map_or}
 use Rattle.std.specs.Str.{bytes_eq}

@@ -1,5 +1,5 @@
 -- Clauses in the making, and what is added with them.
-use Rattle.std.proofs.Common.{◌≡◌, ◌⊎◌, ℕ, zero, suc, ◌+◌, ◌<◌, ◌≤◌, Bool, true, false, ◌||◌, not, List, [], ◌∷◌, length, get_or, take, map, All, Option, Some, None, slice_get, ◌↔◌, refl, sym, subst, ◌∙◌, ap, inl, inr, arith}
+use Rattle.std.proofs.Common.{◌≡◌, ℕ, zero, suc, ◌+◌, ◌<◌, ◌≤◌, Bool, true, false, ◌||◌, not, List, [], ◌∷◌, length, get_or, take, map, All, Option, Some, None, slice_get, ◌↔◌, refl, sym, subst, ◌∙◌, ap, inl, inr, arith}
 use Rattle.std.specs.List.{list_any}
 use Rattle.std.specs.Option.{option_map_or}
 use Rattle.std.proofs.lemmas.Bool.{cases_Bool, false≢true, both_ways, or_cases, or_left, or_right, not-true, not_from_false}
@@ -7,7 +7,6 @@ use Rattle.std.proofs.lemmas.List.Folds.{list_any_more}
 use Rattle.deb_relation.specs.declared.atom.Atom.{Atom}
 use Rattle.deb_relation.specs.AtomView.{atom_view}
 use Rattle.deb_relation.specs.Relationship.{AtomText}
-use Rattle.deb_index.specs.declared.constraint.Constraint.{Constraint}
 use Rattle.deb_index.specs.declared.constraint.Constraint.TheVariants.{Essential, Need}
 use Rattle.deb_index.specs.Packages.{IndexView, PackageView, name_at, places_of, need_at}
 use Rattle.deb_index.specs.Meets.{meets, meets_at, satisfiers, group_satisfiers}
@@ -17,11 +16,10 @@ use Rattle.sat_solve.specs.declared.Lit.{Lit}
 use Rattle.sat_solve.specs.Sets.{NumberSet, members_of}
 use Rattle.sat_solve.specs.Clauses.{Clauses, clause_holds}
 use Rattle.deb_verdict.specs.Adding.{Adds}
-use Rattle.deb_verdict.specs.Play.{placed, AddsPlaces}
 use Rattle.deb_verdict.specs.Standings.{Widens}
 use Rattle.deb_verdict.proofs.Members.{any_member, member_any}
 use Rattle.deb_verdict.proofs.IndexFacts.{member_named, member_satisfiers, some_named}
-use Rattle.deb_verdict.proofs.AddLemmas.{adds_none, adds_as}
+use Rattle.deb_verdict.proofs.AddLemmas.{adds_as}
 use Rattle.deb_verdict.proofs.AddSteps.{take_whole, list_any-map}
 
 or_assoc : (a b c : Bool) → ((a || b) || c) ≡ (a || (b || c))

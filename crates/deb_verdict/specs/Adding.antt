@@ -1,12 +1,7 @@
 -- Clauses that are added to a formula, and what they say of a set.
-use Rattle.std.specs.Prelude.{◌≡◌, ℕ, ◌<◌, ◌↔◌, ◌++◌, true, false, List, All, Some, length, slice_get}
-use Rattle.deb_index.specs.declared.constraint.Constraint.{Constraint}
-use Rattle.deb_index.specs.Packages.{IndexView}
-use Rattle.deb_index.specs.Constraints.{Holds}
-use Rattle.sat_solve.specs.declared.Lit.{Lit}
-use Rattle.sat_solve.specs.Sets.{NumberSet, members_of}
+use Rattle.std.specs.Prelude.{◌≡◌, ℕ, ◌↔◌, ◌++◌, true, List, All}
+use Rattle.sat_solve.specs.Sets.{NumberSet}
 use Rattle.sat_solve.specs.Clauses.{Clause, Clauses, clause_holds}
-use Rattle.deb_verdict.specs.Encoding.{GroupHolds}
 
 -- all clauses hold in the set
 abbrev pub AllHold : List Clause → NumberSet → Type 0

@@ -35,7 +35,7 @@ pub fn closure(alloc: Global, index: &Index, p: u32) -> Result<Vec<u32>, AllocEr
 /// The verdict of the package at a place: the first healthy set that contains it, or, where there is none, the first set of constraints that
 /// no set with it meets. Of two sets of numbers the first is the one that lacks the least number in which they differ.
 ///
-/// `p` is a place of the index, counted from 0 and below `index.len()`. The one error is want of memory.
+/// It goes through the whole index first; for many packages of one index, `verdict_in` goes through it once. `p` is a place of the index, counted from 0 and below `index.len()`. The one error is want of memory.
 pub fn verdict(alloc: Global, index: &Index, p: u32) -> Result<Verdict, AllocError>
     requires { p < length index.now.packages }
     ensures verdict { IfOk result (λ found. IsVerdict index.now p (verdict_view found)) }
@@ -48,7 +48,8 @@ pub fn verdict(alloc: Global, index: &Index, p: u32) -> Result<Verdict, AllocErr
 
 /// What `verdict` gives for the index of a groundwork, found in the buffers of an earlier verdict, of whatever package and index.
 ///
-/// The answer does not depend on what the workspace was used for.
+/// The answer does not depend on what the workspace was used for. `p` is a place of that index, counted from 0 and below its `len()`. The
+/// one error is want of memory.
 pub fn verdict_in(
     alloc: Global,
     workspace: &mut Workspace,

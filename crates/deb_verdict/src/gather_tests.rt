@@ -70,3 +70,24 @@ fn needs_with_one_answer(rt: HostRuntime) -> Result<(), Fail> {
     let index = read(rt.alloc(), text, true)?;
     expect_needs_with_one_answer(&rt, rt.alloc(), &index)
 }
+
+fn expect_known(rt: &impl Abort, groundwork: &Groundwork<'_>) -> Result<(), Fail> {
+    assert!(rt; groundwork.forced.as_slice() == [0, 1].as_slice());
+    let met = [true, true, false, true, false, true];
+    let alone = [true, true, true, false, true, false];
+    for place in 0..6 {
+        assert!(rt; groundwork.is_met(place) == met[place as usize]);
+        assert!(rt; groundwork.is_alone(place) == alone[place as usize]);
+    }
+    assert!(rt; !groundwork.is_met(6) && !groundwork.is_alone(6));
+    Ok(())
+}
+
+#[test]
+fn what_is_known_of_all_sets(rt: HostRuntime) -> Result<(), Fail> {
+    let text =
+        b"Package: e\nVersion: 1\nArchitecture: all\nEssential: yes\nDepends: l, l | n\n\nPackage: l\nVersion: 1\nArchitecture: all\nConflicts: absent, l\n\nPackage: n\nVersion: 1\nArchitecture: all\nDepends: e, o\n\nPackage: o\nVersion: 1\nArchitecture: all\nDepends: l (>= 1)\nConflicts: n\n\nPackage: q\nVersion: 1\nArchitecture: all\nDepends: absent\n\nPackage: n\nVersion: 2\nArchitecture: all\n";
+    let index = read(rt.alloc(), text, true)?;
+    let groundwork = Groundwork::new(rt.alloc(), &index)?;
+    expect_known(&rt, &groundwork)
+}

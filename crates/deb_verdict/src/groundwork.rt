@@ -17,7 +17,7 @@ use deb_index::Index;
 use std::alloc::{AllocError, Global};
 
 /// What the verdicts of an index have in common, found once for all of them: which packages its essential ones ask for, and which packages
-/// have constraints that hold anyway.
+/// have constraints that hold anyway (Debian Policy 7.2, 7.4 and 3.8 on essential packages).
 #[derive(Drop)]
 pub struct Groundwork<'a> {
     pub(crate) index: &'a Index,
@@ -124,7 +124,7 @@ fn force(alloc: Global, index: &Index) -> Result<PlaceSet, AllocError>
 }
 
 impl<'a> Groundwork<'a> {
-    /// Goes once through the packages of the index. The error is want of memory.
+    /// Goes once through the packages of the index, which stays as it is. The error is want of memory.
     pub fn new(alloc: Global, index: &'a Index) -> Result<Groundwork<'a>, AllocError>
         ensures { IfOk result (λ groundwork. groundwork.index.now ≡ index.now) }
     {

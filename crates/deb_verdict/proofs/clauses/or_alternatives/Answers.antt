@@ -1,4 +1,4 @@
-use Rattle.std.proofs.Common.{◌≡◌, Bool, length, sym, ap, ◌∙◌, get_or}
+use Rattle.std.proofs.Common.{◌≡◌, Bool, length, ap, ◌∙◌, get_or}
 use Rattle.std.specs.List.{list_any}
 use Rattle.deb_relation.specs.declared.atom.Atom.{Atom}
 use Rattle.deb_relation.specs.AtomView.{atom_view}
@@ -6,7 +6,6 @@ use Rattle.deb_index.specs.Packages.{need_at}
 use Rattle.deb_index.specs.Meets.{satisfiers, group_satisfiers}
 use Rattle.sat_solve.specs.Sets.{NumberSet}
 use Rattle.deb_verdict.specs.Play.{placed}
-use Rattle.deb_verdict.specs.Standings.{Widens}
 use Rattle.deb_verdict.proofs.Widening.{widens_as, some_settled, some_open, some_whole, alternatives}
 use Rattle.deb_verdict.proofs.clauses.or_alternatives.Goals as goal
 

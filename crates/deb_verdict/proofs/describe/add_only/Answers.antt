@@ -1,4 +1,4 @@
-use Rattle.std.proofs.Common.{◌≡◌, refl, length, All}
+use Rattle.std.proofs.Common.{refl, length}
 use Rattle.deb_index.specs.Packages.{places_of, name_at}
 use Rattle.deb_verdict.proofs.AddSteps.{below_moved, named_below}
 use Rattle.deb_verdict.proofs.Described.{each_more, each_whole, meaning_of_versions, only_added}

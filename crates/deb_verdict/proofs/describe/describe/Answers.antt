@@ -1,4 +1,4 @@
-use Rattle.std.proofs.Common.{◌≡◌, length, sym, ap, ◌∙◌}
+use Rattle.std.proofs.Common.{length, sym, ap, ◌∙◌}
 use Rattle.deb_index.specs.Packages.{IndexView, names, essential_names}
 use Rattle.deb_verdict.specs.Health.{IsHealthy}
 use Rattle.deb_verdict.specs.Play.{placed, AddsPlaces}

@@ -1,5 +1,4 @@
-use Rattle.std.proofs.Common.{◌<◌, length, get_or, ap, ◌∙◌, arith}
-use Rattle.deb_index.specs.declared.constraint.Constraint.TheVariants.{Only}
+use Rattle.std.proofs.Common.{◌<◌, length, ap, ◌∙◌, arith}
 use Rattle.sat_solve.specs.Clauses.{Clauses}
 use Rattle.deb_verdict.proofs.AddSteps.{tells_step}
 use Rattle.deb_verdict.proofs.Described.{constraint_moved}

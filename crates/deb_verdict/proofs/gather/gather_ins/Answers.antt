@@ -1,10 +1,3 @@
-use Rattle.std.proofs.Common.{◌≡◌, ◌⊎◌, ◌<◌, ◌∙◌, ap, sym, subst, List, ℕ, length, [], true, false, All, inl, inr}
-use Rattle.std.proofs.lemmas.Bool.{false≢true}
-use Rattle.sat_solve.specs.Sets.{members_of}
-use Rattle.deb_verdict.specs.Closure.{IsWithin}
-use Rattle.deb_verdict.specs.PlaceSets.{with_place}
-use Rattle.deb_verdict.specs.Growing.{ArePlaces, AreForced}
-use Rattle.deb_verdict.specs.Gathering.{Follows, all_of, none_of}
 use Rattle.deb_verdict.proofs.Gathered.{first_places, first_forced, first_ground}
 use Rattle.deb_verdict.proofs.gather.gather_ins.Goals as goal
 

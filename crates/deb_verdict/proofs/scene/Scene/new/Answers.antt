@@ -1,4 +1,4 @@
-use Rattle.std.proofs.Common.{◌<◌, ◌≤◌, length, arith}
+use Rattle.std.proofs.Common.{◌≤◌, length, arith}
 use Rattle.deb_verdict.proofs.SceneLemmas.{rising_length}
 use Rattle.deb_verdict.proofs.scene.Scene.new.Goals as goal
 
