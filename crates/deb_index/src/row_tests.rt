@@ -1,31 +1,14 @@
 //! Rows of places, against each package asked in turn.
-use super::*;
-use deb_relation::Atom;
-use std::alloc::{AllocError, Global};
-use std::test::Fail;
+ghost use Rattle.std.specs.Prelude.{◌<◌};
 
-const BYTE_LIMIT: usize = 268_435_456;
+use super::*;
+use crate::tests::{asked_in_turn, read};
+use std::alloc::{AllocError, Global};
+use std::process::Abort;
+use std::test::Fail;
 
 const MIXED: &str =
     "Package: a\nVersion: 1\nArchitecture: all\nPre-Depends: v | w (>= 2), a\nDepends: w | v, v | v, none, none | w:any (<< 2), w:i386 | v:amd64 (= 2)\nConflicts: a, v\nBreaks: w (<< 2), none\nProvides: a (= 7), v (= 2)\n\nPackage: w\nVersion: 1\nArchitecture: amd64\nProvides: v\nDepends: a (= 7)\n\nPackage: v\nVersion: 3\nArchitecture: all\n\nPackage: w\nVersion: 2\nArchitecture: all\nConflicts: v (>> 2), w\nDepends: a (= 1) | a (>> 1) | w, v\n";
-
-fn read(alloc: Global, text: &[u8]) -> Result<Index, IndexError> {
-    if text.len() > BYTE_LIMIT {
-        return Err(IndexError::Memory);
-    }
-    Index::read(alloc, text, "amd64", true)
-}
-
-// The places of the packages that meet one of some atoms, each package asked in turn.
-fn asked_in_turn(alloc: Global, index: &Index, atoms: &[Atom]) -> Result<Vec<u32>, AllocError> {
-    let mut found = Vec::new(alloc);
-    for place in 0..index.len() {
-        if atoms.iter().any(|atom| index.meets(place, atom)) {
-            found.push(place)?;
-        }
-    }
-    Ok(found)
-}
 
 // Whether a row is there and has these places.
 fn is_row(row: Option<&[u32]>, places: &[u32]) -> bool {
@@ -35,14 +18,11 @@ fn is_row(row: Option<&[u32]>, places: &[u32]) -> bool {
     }
 }
 
-#[test]
-fn rows_of_groups(rt: HostRuntime) -> Result<(), Fail> {
-    let alloc = rt.alloc();
-    let index = read(alloc, MIXED.as_bytes())?;
+fn expect_rows_of_groups(rt: &(impl Abort + AllocGlobal), index: &Index) -> Result<(), Fail> {
     assert!(rt; index.len() == 4);
     for place in 0..index.len() {
         for number in 0..index.need_count(place) {
-            let asked = asked_in_turn(alloc, &index, index.need(place, number))?;
+            let asked = asked_in_turn(rt.alloc(), index, index.need(place, number))?;
             assert!(rt; is_row(index.answer_row(place, number), &asked));
         }
     }
@@ -57,13 +37,16 @@ fn rows_of_groups(rt: HostRuntime) -> Result<(), Fail> {
 }
 
 #[test]
-fn rows_of_entries(rt: HostRuntime) -> Result<(), Fail> {
-    let alloc = rt.alloc();
-    let index = read(alloc, MIXED.as_bytes())?;
+fn rows_of_groups(rt: HostRuntime) -> Result<(), Fail> {
+    let index = read(rt.alloc(), MIXED.as_bytes(), true)?;
+    expect_rows_of_groups(&rt, &index)
+}
+
+fn expect_rows_of_entries(rt: &(impl Abort + AllocGlobal), index: &Index) -> Result<(), Fail> {
     assert!(rt; index.len() == 4);
     for place in 0..index.len() {
         for number in 0..index.apart_count(place) {
-            let found = index.satisfiers(alloc, index.apart(place, number))?;
+            let found = index.satisfiers(rt.alloc(), index.apart(place, number))?;
             assert!(rt; is_row(index.hit_row(place, number), &found));
         }
     }
@@ -74,8 +57,12 @@ fn rows_of_entries(rt: HostRuntime) -> Result<(), Fail> {
 }
 
 #[test]
-fn names_by_place(rt: HostRuntime) -> Result<(), Fail> {
-    let index = read(rt.alloc(), MIXED.as_bytes())?;
+fn rows_of_entries(rt: HostRuntime) -> Result<(), Fail> {
+    let index = read(rt.alloc(), MIXED.as_bytes(), true)?;
+    expect_rows_of_entries(&rt, &index)
+}
+
+fn expect_names_by_place(rt: &impl Abort, index: &Index) {
     assert!(rt; index.len() == 4);
     assert!(rt; index.name_count() == 3);
     assert!(rt; index.places_named(0) == [0].as_slice());
@@ -85,6 +72,12 @@ fn names_by_place(rt: HostRuntime) -> Result<(), Fail> {
     assert!(rt; index.versions_of(1) == [1, 3].as_slice());
     assert!(rt; index.versions_of(2) == [2].as_slice());
     assert!(rt; index.versions_of(3) == [1, 3].as_slice());
+}
+
+#[test]
+fn names_by_place(rt: HostRuntime) -> Result<(), Fail> {
+    let index = read(rt.alloc(), MIXED.as_bytes(), true)?;
+    expect_names_by_place(&rt, &index);
     Ok(())
 }
 
@@ -103,23 +96,29 @@ fn providers(alloc: Global, count: u32) -> Result<Vec<u8>, AllocError> {
     Ok(text)
 }
 
+fn expect_long_rows(rt: &impl Abort, index: &Index, len: u32, alone: bool, beside: bool)
+    requires { 0 < len }
+{
+    assert!(rt; index.len() == len);
+    assert!(rt; index.need_count(0) == 3);
+    assert!(rt; index.apart_count(0) == 1);
+    assert!(rt; index.answer_row(0, 0).is_some() == alone);
+    assert!(rt; index.hit_row(0, 0).is_some() == alone);
+    assert!(rt; index.answer_row(0, 1).is_some() == beside);
+    assert!(rt; is_row(index.answer_row(0, 2), &[0]));
+}
+
 #[test]
 fn long_rows(rt: HostRuntime) -> Result<(), Fail> {
-    let alloc = rt.alloc();
     for (count, alone, beside) in [
         (70, false, false),
         (65, false, false),
         (64, true, false),
         (63, true, true),
     ] {
-        let index = read(alloc, &providers(alloc, count)?)?;
-        assert!(rt; index.len() == count + 1);
-        assert!(rt; index.need_count(0) == 3);
-        assert!(rt; index.apart_count(0) == 1);
-        assert!(rt; index.answer_row(0, 0).is_some() == alone);
-        assert!(rt; index.hit_row(0, 0).is_some() == alone);
-        assert!(rt; index.answer_row(0, 1).is_some() == beside);
-        assert!(rt; is_row(index.answer_row(0, 2), &[0]));
+        let text = providers(rt.alloc(), count)?;
+        let index = read(rt.alloc(), &text, true)?;
+        expect_long_rows(&rt, &index, count + 1, alone, beside);
     }
     Ok(())
 }

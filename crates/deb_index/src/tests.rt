@@ -2,6 +2,7 @@
 use super::*;
 use deb_relation::{Atom, parse_list};
 use std::alloc::{AllocError, Global};
+use std::process::Abort;
 use std::test::Fail;
 
 const BYTE_LIMIT: usize = 268_435_456;
@@ -28,104 +29,114 @@ const MIXED: &str =
     "Package: p\nVersion: 1\nArchitecture: all\nBreaks: b1 (< 1)\nDepends: d1 | d2\nPre-Depends: e1, e2 (> 2)\nConflicts: c1\n";
 
 // The index of a text, or a refusal.
-fn read(alloc: Global, text: &str, essential: bool) -> Result<Index, IndexError> {
+pub fn read(alloc: Global, text: &[u8], essential: bool) -> Result<Index, IndexError> {
     if text.len() > BYTE_LIMIT {
         return Err(IndexError::Memory);
     }
-    Index::read(alloc, text.as_bytes(), "amd64", essential)
+    Index::read(alloc, text, "amd64", essential)
 }
 
-// The places that meet an atom, each package asked in turn.
-fn asked_in_turn(alloc: Global, index: &Index, atom: &Atom) -> Result<Vec<u32>, AllocError> {
+// The places of the packages that meet one of some atoms, each package asked in turn.
+pub fn asked_in_turn(alloc: Global, index: &Index, atoms: &[Atom]) -> Result<Vec<u32>, AllocError> {
     let mut found = Vec::new(alloc);
     for place in 0..index.len() {
-        if index.meets(place, atom) {
+        if atoms.iter().any(|atom| index.meets(place, atom)) {
             found.push(place)?;
         }
     }
     Ok(found)
 }
 
-// Whether these places meet an atom, by the tables and by the packages in turn.
-fn are_satisfiers(alloc: Global, index: &Index, atom: &[u8], places: &[u32]) -> bool {
-    let Ok(atoms) = parse_list(alloc, atom) else {
-        return false;
-    };
-    let [atom] = atoms.as_slice() else {
-        return false;
-    };
-    let (Ok(found), Ok(compared)) = (
-        index.satisfiers(alloc, atom),
-        asked_in_turn(alloc, index, atom),
-    ) else {
-        return false;
-    };
-    found.as_slice() == places && compared.as_slice() == places
+// Each atom is met at the places beside it, by the tables and by the packages in turn.
+fn expect_satisfiers(
+    rt: &(impl Abort + AllocGlobal),
+    index: &Index,
+    cases: &[(&[u8], &[u32])],
+) -> Result<(), Fail> {
+    for (atom, places) in cases {
+        let atoms = parse_list(rt.alloc(), atom)?;
+        assert!(rt; atoms.len() == 1);
+        let found = index.satisfiers(rt.alloc(), &atoms[0])?;
+        assert!(rt; found.as_slice() == *places);
+        let compared = asked_in_turn(rt.alloc(), index, &atoms)?;
+        assert!(rt; compared.as_slice() == *places);
+    }
+    Ok(())
 }
 
-// Whether these are the constraints of a text.
-fn are_constraints(alloc: Global, text: &str, essential: bool, constraints: &[Constraint]) -> bool {
-    let Ok(index) = read(alloc, text, essential) else {
-        return false;
-    };
-    match index.constraints(alloc) {
-        Ok(found) => found.as_slice() == constraints,
-        Err(_) => false,
-    }
+fn expect_satisfiers_in(
+    rt: &(impl Abort + AllocGlobal),
+    text: &str,
+    cases: &[(&[u8], &[u32])],
+) -> Result<(), Fail> {
+    let index = read(rt.alloc(), text.as_bytes(), true)?;
+    expect_satisfiers(rt, &index, cases)
 }
 
 #[test]
 fn versioned_provides(rt: HostRuntime) -> Result<(), Fail> {
-    let alloc = rt.alloc();
-    let index = read(alloc, VERSIONED, true)?;
-    assert!(rt; are_satisfiers(alloc, &index, b"bar (>= 1.0)", &[2]));
-    assert!(rt; are_satisfiers(alloc, &index, b"bar", &[1, 2]));
-    assert!(rt; are_satisfiers(alloc, &index, b"bar (<< 1.0)", &[1]));
-    assert!(rt; are_satisfiers(alloc, &index, b"Bar", &[]));
-    let index = read(alloc, UNVERSIONED, true)?;
-    assert!(rt; are_satisfiers(alloc, &index, b"bar (>= 1.0)", &[]));
-    assert!(rt; are_satisfiers(alloc, &index, b"bar", &[1, 2]));
-    Ok(())
+    expect_satisfiers_in(
+        &rt,
+        VERSIONED,
+        &[
+            (b"bar (>= 1.0)", &[2]),
+            (b"bar", &[1, 2]),
+            (b"bar (<< 1.0)", &[1]),
+            (b"Bar", &[]),
+        ],
+    )?;
+    expect_satisfiers_in(
+        &rt,
+        UNVERSIONED,
+        &[(b"bar (>= 1.0)", &[]), (b"bar", &[1, 2])],
+    )
+}
+
+fn expect_several_provides(rt: &(impl Abort + AllocGlobal), index: &Index) -> Result<(), Fail> {
+    assert!(rt; index.provides_of(b"v") == [(0, 0), (0, 1), (1, 1), (1, 2)].as_slice());
+    assert!(rt; index.provides_of(b"w") == [].as_slice());
+    assert!(rt; index.places_of(b"v") == [0, 2].as_slice());
+    expect_satisfiers(
+        rt,
+        index,
+        &[
+            (b"v", &[0, 1, 2]),
+            (b"v:any", &[0, 1, 2]),
+            (b"v:amd64 (>> 2)", &[1, 2]),
+            (b"v (= 1)", &[0]),
+            (b"v (= 2)", &[0]),
+            (b"v (= 6)", &[]),
+            (b"v:all", &[]),
+            (b"v:i386", &[]),
+            (b"x", &[1]),
+            (b"V", &[]),
+        ],
+    )
 }
 
 #[test]
 fn several_provides(rt: HostRuntime) -> Result<(), Fail> {
-    let alloc = rt.alloc();
-    let index = read(alloc, TWICE, true)?;
-    assert!(rt; index.provides_of(b"v") == [(0, 0), (0, 1), (1, 1), (1, 2)].as_slice());
-    assert!(rt; index.provides_of(b"w") == [].as_slice());
-    assert!(rt; index.places_of(b"v") == [0, 2].as_slice());
-    for (atom, places) in [
-        (b"v".as_slice(), [0, 1, 2].as_slice()),
-        (b"v:any", &[0, 1, 2]),
-        (b"v:amd64 (>> 2)", &[1, 2]),
-        (b"v (= 1)", &[0]),
-        (b"v (= 2)", &[0]),
-        (b"v (= 6)", &[]),
-        (b"v:all", &[]),
-        (b"v:i386", &[]),
-        (b"x", &[1]),
-        (b"V", &[]),
-    ] {
-        assert!(rt; are_satisfiers(alloc, &index, atom, places));
-    }
-    Ok(())
+    let index = read(rt.alloc(), TWICE.as_bytes(), true)?;
+    expect_several_provides(&rt, &index)
+}
+
+fn expect_mail_agents(rt: &(impl Abort + AllocGlobal), index: &Index) -> Result<(), Fail> {
+    assert!(rt; index.provides_of(b"mail-agent") == [(0, 0), (1, 0)].as_slice());
+    assert!(rt; index.places_of(b"mail-agent") == [].as_slice());
+    expect_satisfiers(
+        rt,
+        index,
+        &[(b"mail-agent", &[0, 1]), (b"mail-agent (= 1)", &[])],
+    )
 }
 
 #[test]
 fn mail_agents(rt: HostRuntime) -> Result<(), Fail> {
-    let alloc = rt.alloc();
-    let index = read(alloc, MAIL_AGENTS, true)?;
-    assert!(rt; index.provides_of(b"mail-agent") == [(0, 0), (1, 0)].as_slice());
-    assert!(rt; index.places_of(b"mail-agent") == [].as_slice());
-    assert!(rt; are_satisfiers(alloc, &index, b"mail-agent", &[0, 1]));
-    assert!(rt; are_satisfiers(alloc, &index, b"mail-agent (= 1)", &[]));
-    Ok(())
+    let index = read(rt.alloc(), MAIL_AGENTS.as_bytes(), true)?;
+    expect_mail_agents(&rt, &index)
 }
 
-#[test]
-fn duplicates_and_skipped(rt: HostRuntime) -> Result<(), Fail> {
-    let index = read(rt.alloc(), SPELLED, true)?;
+fn expect_spelled(rt: &impl Abort, index: &Index) {
     assert!(rt; index.len() == 2);
     assert_eq!(rt; index.stanzas(), 4);
     assert_eq!(rt; index.skipped(), 1);
@@ -137,38 +148,65 @@ fn duplicates_and_skipped(rt: HostRuntime) -> Result<(), Fail> {
     assert!(rt; index.name_number(b"A").is_none());
     assert!(rt; index.name_text(0) == b"a".as_slice());
     assert!(rt; index.package(1).version.text() == b"1.00".as_slice());
+}
+
+#[test]
+fn duplicates_and_skipped(rt: HostRuntime) -> Result<(), Fail> {
+    let index = read(rt.alloc(), SPELLED.as_bytes(), true)?;
+    expect_spelled(&rt, &index);
     Ok(())
+}
+
+fn expect_essential(rt: &impl Abort, index: &Index, names: &[u32]) {
+    assert!(rt; index.essential_names() == names);
+    assert!(rt; index.places_of(b"base") == [1, 2].as_slice());
 }
 
 #[test]
 fn essential_names(rt: HostRuntime) -> Result<(), Fail> {
-    let alloc = rt.alloc();
-    let index = read(alloc, ESSENTIALS, true)?;
-    assert!(rt; index.essential_names() == [1].as_slice());
-    assert!(rt; index.places_of(b"base") == [1, 2].as_slice());
-    let index = read(alloc, ESSENTIALS, false)?;
-    assert!(rt; index.essential_names() == [].as_slice());
+    for (essential, names) in [(true, [1].as_slice()), (false, &[])] {
+        let index = read(rt.alloc(), ESSENTIALS.as_bytes(), essential)?;
+        expect_essential(&rt, &index, names);
+    }
+    Ok(())
+}
+
+// These are the constraints of a text.
+fn expect_constraints(
+    rt: &(impl Abort + AllocGlobal),
+    text: &[u8],
+    essential: bool,
+    wanted: &[Constraint],
+) -> Result<(), Fail> {
+    let index = read(rt.alloc(), text, essential)?;
+    expect_constraints_of(rt, &index, wanted)
+}
+
+fn expect_constraints_of(
+    rt: &(impl Abort + AllocGlobal),
+    index: &Index,
+    wanted: &[Constraint],
+) -> Result<(), Fail> {
+    let found = index.constraints(rt.alloc())?;
+    assert!(rt; found.as_slice() == wanted);
     Ok(())
 }
 
 #[test]
-fn constraints(rt: HostRuntime) {
+fn constraints(rt: HostRuntime) -> Result<(), Fail> {
     use Constraint::{Apart, Essential, Need, Only};
-    let alloc = rt.alloc();
-    let lacking = "Package: a\nVersion: 1\nArchitecture: all\nDepends: x, y\n";
-    assert!(rt; are_constraints(alloc, lacking, true, &[Need(0, 0), Need(0, 1), Only(0)]));
+    let lacking = b"Package: a\nVersion: 1\nArchitecture: all\nDepends: x, y\n";
+    expect_constraints(&rt, lacking, true, &[Need(0, 0), Need(0, 1), Only(0)])?;
     let base =
-        "Package: base\nVersion: 1\nArchitecture: all\nEssential: yes\n\nPackage: x\nVersion: 1\nArchitecture: all\nConflicts: base\n";
-    assert!(rt;
-        are_constraints(
-            alloc,
-            base,
-            true,
-            &[Essential(0), Apart(1, 0), Only(0), Only(1)]
-        )
-    );
-    assert!(rt; are_constraints(alloc, base, false, &[Apart(1, 0), Only(0), Only(1)]));
-    assert!(rt; are_constraints(alloc, "", true, &[]));
+        b"Package: base\nVersion: 1\nArchitecture: all\nEssential: yes\n\nPackage: x\nVersion: 1\nArchitecture: all\nConflicts: base\n";
+    expect_constraints(
+        &rt,
+        base,
+        true,
+        &[Essential(0), Apart(1, 0), Only(0), Only(1)],
+    )?;
+    expect_constraints(&rt, base, false, &[Apart(1, 0), Only(0), Only(1)])?;
+    expect_constraints(&rt, b"", true, &[])
 }
 
 // Whether atoms have these names.
@@ -184,9 +222,7 @@ fn are_named(atoms: &[Atom], names: &[&[u8]]) -> bool {
     true
 }
 
-#[test]
-fn fields_in_order(rt: HostRuntime) -> Result<(), Fail> {
-    let index = read(rt.alloc(), MIXED, true)?;
+fn expect_mixed(rt: &impl Abort, index: &Index) {
     assert!(rt; index.len() == 1);
     let asking = index.package(0);
     assert!(rt; asking.pre_depends.len() == 2);
@@ -198,62 +234,68 @@ fn fields_in_order(rt: HostRuntime) -> Result<(), Fail> {
     assert!(rt; asking.breaks.len() == 1);
     assert!(rt; index.apart(0, 0).name.as_slice() == b"c1".as_slice());
     assert!(rt; index.apart(0, 1).name.as_slice() == b"b1".as_slice());
-    Ok(())
 }
 
 #[test]
+fn fields_in_order(rt: HostRuntime) -> Result<(), Fail> {
+    let index = read(rt.alloc(), MIXED.as_bytes(), true)?;
+    expect_mixed(&rt, &index);
+    Ok(())
+}
+
+const REFUSED: [(&str, IndexError); 10] = [
+    (" x", IndexError::BadLine { stanza: 1 }),
+    (
+        "Package: a\nVersion: 1\nArchitecture: all\nDepends: b (>=",
+        IndexError::BadRelation {
+            stanza: 1,
+            field: RelField::Depends,
+        },
+    ),
+    (
+        "Package: a!\nArchitecture: all\n",
+        IndexError::MissingField { stanza: 1 },
+    ),
+    (
+        "Package: a\nPackage: b\nno colon here",
+        IndexError::BadLine { stanza: 1 },
+    ),
+    (
+        "Package: a!\nArchitecture: all\n\n x",
+        IndexError::MissingField { stanza: 1 },
+    ),
+    (
+        "Package: a\nVersion: 1\nArchitecture: all\nProvides: v (>= 1)\n",
+        IndexError::BadRelation {
+            stanza: 1,
+            field: RelField::Provides,
+        },
+    ),
+    (
+        "Package: a\nVersion: 1_2\nArchitecture: all\n",
+        IndexError::BadVersion { stanza: 1 },
+    ),
+    (
+        "Package: a!\nVersion: 1\nArchitecture: all\n",
+        IndexError::BadName { stanza: 1 },
+    ),
+    (
+        "Package: a\nVersion: 1\nArchitecture: all\npackage: a\n",
+        IndexError::RepeatedField { stanza: 1 },
+    ),
+    (
+        "Package: a\nVersion: 1\nArchitecture: all\n\nPackage: b\nVersion: 1\nArchitecture: i386\n\nPackage: a\nVersion: 1\nArchitecture: all\nBreaks: b |\n",
+        IndexError::BadRelation {
+            stanza: 3,
+            field: RelField::Breaks,
+        },
+    ),
+];
+
+#[test]
 fn refusals(rt: HostRuntime) {
-    let alloc = rt.alloc();
-    let stanza = 1;
-    for (text, fault) in [
-        (" x", IndexError::BadLine { stanza }),
-        (
-            "Package: a\nVersion: 1\nArchitecture: all\nDepends: b (>=",
-            IndexError::BadRelation {
-                stanza,
-                field: RelField::Depends,
-            },
-        ),
-        (
-            "Package: a!\nArchitecture: all\n",
-            IndexError::MissingField { stanza },
-        ),
-        (
-            "Package: a\nPackage: b\nno colon here",
-            IndexError::BadLine { stanza },
-        ),
-        (
-            "Package: a!\nArchitecture: all\n\n x",
-            IndexError::MissingField { stanza },
-        ),
-        (
-            "Package: a\nVersion: 1\nArchitecture: all\nProvides: v (>= 1)\n",
-            IndexError::BadRelation {
-                stanza,
-                field: RelField::Provides,
-            },
-        ),
-        (
-            "Package: a\nVersion: 1_2\nArchitecture: all\n",
-            IndexError::BadVersion { stanza },
-        ),
-        (
-            "Package: a!\nVersion: 1\nArchitecture: all\n",
-            IndexError::BadName { stanza },
-        ),
-        (
-            "Package: a\nVersion: 1\nArchitecture: all\npackage: a\n",
-            IndexError::RepeatedField { stanza },
-        ),
-        (
-            "Package: a\nVersion: 1\nArchitecture: all\n\nPackage: b\nVersion: 1\nArchitecture: i386\n\nPackage: a\nVersion: 1\nArchitecture: all\nBreaks: b |\n",
-            IndexError::BadRelation {
-                stanza: 3,
-                field: RelField::Breaks,
-            },
-        ),
-    ] {
-        assert!(rt; read(alloc, text, true).err() == Some(fault));
+    for (text, fault) in REFUSED {
+        assert!(rt; read(rt.alloc(), text.as_bytes(), true).err() == Some(fault));
     }
 }
 
@@ -266,18 +308,26 @@ fn copies(alloc: Global, count: u32) -> Result<Vec<u8>, AllocError> {
     Ok(text)
 }
 
-#[test]
-fn a_stanza_too_many(rt: HostRuntime) -> Result<(), Fail> {
-    let alloc = rt.alloc();
-    let mut text = copies(alloc, 1_048_576)?;
+fn expect_as_many_as_may_be(rt: &(impl Abort + AllocGlobal), text: &[u8]) -> Result<(), Fail> {
     assert!(rt; text.len() <= BYTE_LIMIT);
-    let index = Index::read(alloc, &text, "amd64", true)?;
+    let index = Index::read(rt.alloc(), text, "amd64", true)?;
+    expect_one_package(rt, &index);
+    Ok(())
+}
+
+fn expect_one_package(rt: &impl Abort, index: &Index) {
     assert_eq!(rt; index.len(), 1);
     assert_eq!(rt; index.stanzas(), 1_048_576);
     assert_eq!(rt; index.duplicates(), 1_048_575);
+}
+
+#[test]
+fn a_stanza_too_many(rt: HostRuntime) -> Result<(), Fail> {
+    let mut text = copies(rt.alloc(), 1_048_576)?;
+    expect_as_many_as_may_be(&rt, &text)?;
     text.extend_from_slice(b"no stanza")?;
     assert!(rt; text.len() <= BYTE_LIMIT);
-    let fault = Index::read(alloc, &text, "amd64", true).err();
+    let fault = Index::read(rt.alloc(), &text, "amd64", true).err();
     assert!(rt; fault == Some(IndexError::TooManyStanzas { stanza: 1_048_577 }));
     Ok(())
 }

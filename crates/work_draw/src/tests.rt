@@ -4,9 +4,11 @@ use super::*;
 use deb_index::Index;
 use deb_verdict::Verdict;
 use std::alloc::{AllocError, Global};
+use std::process::Abort;
 use std::sync::atomic::{AtomicBool, AtomicU32, Ordering};
 use std::test::Fail;
 use std::thread;
+use std::thread::Threads;
 
 #[test]
 fn deals_three_numbers(rt: HostRuntime) -> Result<(), Fail> {
@@ -71,6 +73,14 @@ fn draw_all(
     Ok((drawer, numbers))
 }
 
+fn expect_each_below_a_thousand(rt: &impl Abort, numbers: &[u32]) -> Result<(), Fail> {
+    assert_eq!(rt; numbers.len(), 1000);
+    for (at, number) in numbers.iter().enumerate() {
+        assert_eq!(rt; u64::from(*number), at as u64);
+    }
+    Ok(())
+}
+
 #[test]
 fn two_threads_draw_each_number_once(rt: HostRuntime) -> Result<(), Fail> {
     let alloc = rt.alloc();
@@ -86,15 +96,11 @@ fn two_threads_draw_each_number_once(rt: HostRuntime) -> Result<(), Fail> {
     let (drawer, mut more) = second?;
     numbers.append(&mut more)?;
     numbers.sort()?;
-    assert_eq!(rt; numbers.len(), 1000);
-    for (at, number) in numbers.iter().enumerate() {
-        assert_eq!(rt; u64::from(*number), at as u64);
-    }
     let mut drawer = board.join(drawer, other);
     assert_eq!(rt; board.draw(&mut drawer), None);
     assert_eq!(rt; drawer.held(), 2);
     assert!(rt; board.close(drawer));
-    Ok(())
+    expect_each_below_a_thousand(&rt, &numbers)
 }
 
 /// Splits a drawer until no part of it can be split, and adds the parts.
@@ -135,6 +141,15 @@ fn draw_from_each(
     Ok((whole, drawn))
 }
 
+/// The first ten of 64 draws took the numbers in their order.
+fn expect_ten_in_order(rt: &impl Abort, drawn: &[Option<u32>]) -> Result<(), Fail> {
+    assert_eq!(rt; drawn.len(), 64);
+    for (at, number) in drawn.iter().enumerate() {
+        assert_eq!(rt; *number, if at < 10 { Some(at as u32) } else { None });
+    }
+    Ok(())
+}
+
 #[test]
 fn sixty_four_drawers_draw_once_each(rt: HostRuntime) -> Result<(), Fail> {
     let (board, drawer) = new_board(rt.alloc(), 10)?;
@@ -144,15 +159,11 @@ fn sixty_four_drawers_draw_once_each(rt: HostRuntime) -> Result<(), Fail> {
     assert_eq!(rt; first.spare(), 0);
     assert_eq!(rt; parts.len(), 63);
     let (whole, drawn) = draw_from_each(rt.alloc(), &board, first, parts)?;
-    assert_eq!(rt; drawn.len(), 64);
-    for (at, number) in drawn.iter().enumerate() {
-        assert_eq!(rt; *number, if at < 10 { Some(at as u32) } else { None });
-    }
     assert_eq!(rt; whole.spare(), 0);
     assert_eq!(rt; whole.held(), 64);
     assert!(rt; whole.is_done());
     assert!(rt; board.close(whole));
-    Ok(())
+    expect_ten_in_order(&rt, &drawn)
 }
 
 /// The index of three packages; the first depends on the second or the third.
@@ -194,70 +205,103 @@ fn are_sets(found: &[Verdict], wanted: &[&[u32]]) -> bool {
     true
 }
 
-#[test]
-fn makes_a_piece_of_each_number(rt: HostRuntime) -> Result<(), Fail> {
-    let alloc = rt.alloc();
-    let index = three_packages(alloc)?;
+fn expect_piece(
+    rt: &impl Abort,
+    piece: &Piece,
+    number: u32,
+    wanted: &[&[u32]],
+) -> Result<(), Fail> {
+    assert_eq!(rt; piece.number, number);
+    assert!(rt; are_sets(&piece.verdicts, wanted));
+    Ok(())
+}
+
+/// The pieces of three asked packages, two to a chunk.
+fn expect_both_pieces(rt: &impl Abort, pieces: &[Piece]) -> Result<(), Fail> {
+    assert_eq!(rt; pieces.len(), 2);
+    expect_piece(rt, &pieces[0], 0, &[&[0, 2], &[1]])?;
+    expect_piece(rt, &pieces[1], 1, &[&[2]])
+}
+
+fn expect_a_piece_of_each_number(
+    rt: &(impl Abort + AllocGlobal),
+    index: &Index,
+) -> Result<(), Fail> {
     let asked = [0u32, 1, 2];
-    check_places(&index, &asked)?;
-    let (board, drawer) = new_board(alloc, 2)?;
-    let drawn = draw_pieces(alloc, &index, &asked, 2, &board, drawer, &OpenGate);
+    check_places(index, &asked)?;
+    let (board, drawer) = new_board(rt.alloc(), 2)?;
+    let drawn = draw_pieces(rt.alloc(), index, &asked, 2, &board, drawer, &OpenGate);
     let Drawn {
         drawer,
         pieces,
         refused,
     } = drawn;
     assert!(rt; !refused);
-    assert_eq!(rt; pieces.len(), 2);
-    assert_eq!(rt; pieces[0].number, 0);
-    assert!(rt; are_sets(&pieces[0].verdicts, &[&[0, 2], &[1]]));
-    assert_eq!(rt; pieces[1].number, 1);
-    assert!(rt; are_sets(&pieces[1].verdicts, &[&[2]]));
     assert!(rt; board.close(drawer));
-    Ok(())
+    expect_both_pieces(rt, &pieces)
+}
+
+#[test]
+fn makes_a_piece_of_each_number(rt: HostRuntime) -> Result<(), Fail> {
+    let index = three_packages(rt.alloc())?;
+    expect_a_piece_of_each_number(&rt, &index)
+}
+
+fn expect_no_piece_of_an_earlier_number(
+    rt: &(impl Abort + AllocGlobal),
+    index: &Index,
+) -> Result<(), Fail> {
+    let asked = [0u32, 1, 2];
+    check_places(index, &asked)?;
+    let (board, mut drawer) = new_board(rt.alloc(), 2)?;
+    assert_eq!(rt; board.draw(&mut drawer), Some(0));
+    let drawn = draw_pieces(rt.alloc(), index, &asked, 2, &board, drawer, &OpenGate);
+    let Drawn {
+        drawer,
+        pieces,
+        refused,
+    } = drawn;
+    assert!(rt; !refused);
+    assert!(rt; board.close(drawer));
+    assert_eq!(rt; pieces.len(), 1);
+    expect_piece(rt, &pieces[0], 1, &[&[2]])
 }
 
 #[test]
 fn makes_no_piece_of_an_earlier_number(rt: HostRuntime) -> Result<(), Fail> {
-    let alloc = rt.alloc();
-    let index = three_packages(alloc)?;
-    let asked = [0u32, 1, 2];
-    check_places(&index, &asked)?;
-    let (board, mut drawer) = new_board(alloc, 2)?;
-    assert_eq!(rt; board.draw(&mut drawer), Some(0));
-    let drawn = draw_pieces(alloc, &index, &asked, 2, &board, drawer, &OpenGate);
-    let Drawn {
-        drawer,
-        pieces,
-        refused,
-    } = drawn;
-    assert!(rt; !refused);
-    assert_eq!(rt; pieces.len(), 1);
-    assert_eq!(rt; pieces[0].number, 1);
-    assert!(rt; are_sets(&pieces[0].verdicts, &[&[2]]));
-    assert!(rt; board.close(drawer));
-    Ok(())
+    let index = three_packages(rt.alloc())?;
+    expect_no_piece_of_an_earlier_number(&rt, &index)
 }
 
-#[test]
-fn two_workers_make_both_pieces(rt: HostRuntime) -> Result<(), Fail> {
-    let alloc = rt.alloc();
-    let index = three_packages(alloc)?;
-    let asked = [0u32, 1, 2];
-    check_places(&index, &asked)?;
-    let (board, drawer) = new_board(alloc, 2)?;
-    let (drawer, mut pieces) = crew(&rt, alloc, &index, &asked, 2, &board, drawer, 2, &OpenGate)?;
-    pieces.sort_unstable_by_key(|piece| piece.number);
-    assert_eq!(rt; pieces.len(), 2);
-    assert_eq!(rt; pieces[0].number, 0);
-    assert!(rt; are_sets(&pieces[0].verdicts, &[&[0, 2], &[1]]));
-    assert_eq!(rt; pieces[1].number, 1);
-    assert!(rt; are_sets(&pieces[1].verdicts, &[&[2]]));
+/// The drawer that two workers leave holds two of the 64 parts, and closes the board.
+fn expect_all_drawn_by_two(rt: &impl Abort, board: Board, drawer: Drawer) -> Result<(), Fail>
+    requires { drawer.board ≡ board }
+{
     assert_eq!(rt; drawer.spare(), 62);
     assert_eq!(rt; drawer.held(), 2);
     assert!(rt; drawer.is_done());
     assert!(rt; board.close(drawer));
     Ok(())
+}
+
+fn expect_both_pieces_of_two_workers(
+    rt: &(impl Abort + Threads + Sync + AllocGlobal),
+    index: &Index,
+) -> Result<(), Fail> {
+    let alloc = rt.alloc();
+    let asked = [0u32, 1, 2];
+    check_places(index, &asked)?;
+    let (board, drawer) = new_board(alloc, 2)?;
+    let (drawer, mut pieces) = crew(rt, alloc, index, &asked, 2, &board, drawer, 2, &OpenGate)?;
+    expect_all_drawn_by_two(rt, board, drawer)?;
+    pieces.sort_unstable_by_key(|piece| piece.number);
+    expect_both_pieces(rt, &pieces)
+}
+
+#[test]
+fn two_workers_make_both_pieces(rt: HostRuntime) -> Result<(), Fail> {
+    let index = three_packages(rt.alloc())?;
+    expect_both_pieces_of_two_workers(&rt, &index)
 }
 
 /// A piece with a set of one place for each of these places.
@@ -284,18 +328,24 @@ fn gathers_by_number(rt: HostRuntime) -> Result<(), Fail> {
     Ok(())
 }
 
-#[test]
-fn checks_a_place_as_often_as_asked(rt: HostRuntime) -> Result<(), Fail> {
-    let alloc = rt.alloc();
-    let text = b"Package: a\nVersion: 1\nArchitecture: all\n";
-    let index = Index::read(alloc, text, "amd64", true)?;
+fn expect_a_verdict_as_often_as_asked(
+    rt: &(impl Abort + Threads + Sync + AllocGlobal),
+    index: &Index,
+) -> Result<(), Fail> {
     let asked = [0u32, 0];
-    check_places(&index, &asked)?;
-    let found = check_all(&rt, alloc, &index, &asked, 2, 1, &OpenGate)?;
+    check_places(index, &asked)?;
+    let found = check_all(rt, rt.alloc(), index, &asked, 2, 1, &OpenGate)?;
     assert!(rt; are_sets(&found, &[&[0], &[0]]));
-    let none = check_all(&rt, alloc, &index, &[], 2, 1, &OpenGate)?;
+    let none = check_all(rt, rt.alloc(), index, &[], 2, 1, &OpenGate)?;
     assert!(rt; none.is_empty());
     Ok(())
+}
+
+#[test]
+fn checks_a_place_as_often_as_asked(rt: HostRuntime) -> Result<(), Fail> {
+    let text = b"Package: a\nVersion: 1\nArchitecture: all\n";
+    let index = Index::read(rt.alloc(), text, "amd64", true)?;
+    expect_a_verdict_as_often_as_asked(&rt, &index)
 }
 
 /// How often each of three chunks was begun and ended, and whether a worker gave up waiting.
@@ -369,18 +419,35 @@ impl Gate for Meeting {
     }
 }
 
-#[test]
-fn two_workers_meet(rt: HostRuntime) -> Result<(), Fail> {
-    let index = three_packages(rt.alloc())?;
+/// The verdicts of three packages, by two workers and one package to a chunk.
+fn verdicts_of_three<G: Gate + Sync>(
+    rt: &(impl Threads + Sync + AllocGlobal),
+    index: &Index,
+    gate: &G,
+) -> Result<Vec<Verdict>, Fail> {
     let asked = [0u32, 1, 2];
-    check_places(&index, &asked)?;
+    check_places(index, &asked)?;
+    let found = check_all(rt, rt.alloc(), index, &asked, 2, 1, gate)?;
+    Ok(found)
+}
+
+fn expect_two_workers_to_meet(
+    rt: &(impl Abort + Threads + Sync + AllocGlobal),
+    index: &Index,
+) -> Result<(), Fail> {
     let gate = Meeting {
         tally: Tally::new(),
     };
-    let found = check_all(&rt, rt.alloc(), &index, &asked, 2, 1, &gate)?;
+    let found = verdicts_of_three(rt, index, &gate)?;
     assert!(rt; are_sets(&found, &[&[0, 2], &[1], &[2]]));
     assert!(rt; gate.tally.is_complete());
     Ok(())
+}
+
+#[test]
+fn two_workers_meet(rt: HostRuntime) -> Result<(), Fail> {
+    let index = three_packages(rt.alloc())?;
+    expect_two_workers_to_meet(&rt, &index)
 }
 
 /// Lets one chunk through only after the two others were ended.
@@ -407,22 +474,36 @@ impl Gate for LastOfThree {
     }
 }
 
+fn expect_all_with_one_held_back(
+    rt: &(impl Abort + Threads + Sync + AllocGlobal),
+    index: &Index,
+    held: u32,
+) -> Result<(), Fail> {
+    let gate = LastOfThree {
+        held,
+        tally: Tally::new(),
+    };
+    let found = verdicts_of_three(rt, index, &gate)?;
+    assert!(rt;
+        are_sets(&found, &[&[0, 2], &[1], &[2]]),
+        "with {held} held back"
+    );
+    assert!(rt; gate.tally.is_complete(), "with {held} held back");
+    Ok(())
+}
+
+fn expect_all_with_each_held_back(
+    rt: &(impl Abort + Threads + Sync + AllocGlobal),
+    index: &Index,
+) -> Result<(), Fail> {
+    for held in 0..3u32 {
+        expect_all_with_one_held_back(rt, index, held)?;
+    }
+    Ok(())
+}
+
 #[test]
 fn one_worker_takes_what_another_leaves(rt: HostRuntime) -> Result<(), Fail> {
     let index = three_packages(rt.alloc())?;
-    let asked = [0u32, 1, 2];
-    check_places(&index, &asked)?;
-    for held in 0..3u32 {
-        let gate = LastOfThree {
-            held,
-            tally: Tally::new(),
-        };
-        let found = check_all(&rt, rt.alloc(), &index, &asked, 2, 1, &gate)?;
-        assert!(rt;
-            are_sets(&found, &[&[0, 2], &[1], &[2]]),
-            "with {held} held back"
-        );
-        assert!(rt; gate.tally.is_complete(), "with {held} held back");
-    }
-    Ok(())
+    expect_all_with_each_held_back(&rt, &index)
 }
