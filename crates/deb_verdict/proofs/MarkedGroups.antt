@@ -1,9 +1,11 @@
 -- The marks of the kept groups, set one after another.
-use Rattle.std.proofs.Common.{◌≡◌, ℕ, ◌+◌, ◌<◌, ◌≤◌, Bool, true, false, ◌&&◌, ◌||◌, leb, ltb, eqb, List, [], ◌∷◌, ◌++◌, length, get_or, set, take, refl, sym, ◌∙◌, ap, inl, inr, arith}
-use Rattle.std.proofs.lemmas.Bool.{cases_eq, or_left, or_right, ne_eqb, eq-eqb, lt-ltb}
+use Rattle.std.proofs.Common.{◌≡◌, ℕ, ◌+◌, ◌<◌, ◌≤◌, min, Bool, true, false, ◌&&◌, ◌||◌, leb, ltb, eqb, List, [], length, get_or, set, take, map, refl, sym, ◌∙◌, ap, inl, inr, arith}
+use Rattle.std.specs.List.{range_with_len}
+use Rattle.std.proofs.Math.Nat.{min-le_left, le-min}
+use Rattle.std.proofs.lemmas.Bool.{cases_eq, cases_lt, or_left, or_right, ne_eqb, eq-eqb, lt-ltb, le-leb, lt-leb}
 use Rattle.std.proofs.lemmas.List.{length-set, get_or-set_same, get_or-set_other}
 use Rattle.std.proofs.lemmas.List.Folds.{list_any_more}
-use Rattle.std.proofs.lemmas.List.FromFn.{map-range_with_len_more, fill_by_all, get_or-map-range_with_len, length-map-range_with_len}
+use Rattle.std.proofs.lemmas.List.FromFn.{fill_by_all, get_or-map-range_with_len, length-map-range_with_len}
 use Rattle.sat_solve.specs.Sets.{NumberSet, members_of}
 use Rattle.deb_verdict.specs.Reduction.{left, between}
 use Rattle.deb_verdict.proofs.GroupLemmas.{marks_of}
@@ -17,16 +19,35 @@ or_nothing true b lacks = refl
 or_nothing false b lacks = lacks
 
 module _ (groups rest : ℕ) where
-  -- one group more, where none is kept
-  pub rest_more : (group : ℕ) (keep keep_then : List Bool) → group < groups → keep ≡ marks_of (left groups (members_of []) rest) group
-      → keep_then ≡ keep ++ leb rest group ∷ [] → keep_then ≡ marks_of (left groups (members_of []) rest) (group + 1)
-  rest_more group keep keep_then inside so_far pushed =
-      let stays : NumberSet = left groups (members_of []) rest in
-      let here : stays group ≡ leb rest group = and_true (leb rest group) (ltb group groups) (lt-ltb group groups inside) in
-      pushed
-      ∙ (ap (λ marks. marks ++ leb rest group ∷ []) so_far
-      ∙ (ap (λ mark. marks_of stays group ++ mark ∷ []) (sym here)
-      ∙ sym (map-range_with_len_more stays 0 group group (omega arith))))
+  from_rest : (group : ℕ) → min rest groups ≤ group → group < groups → rest ≤ group
+  from_rest group past below =
+      elim (cases_lt group rest) [
+        | inl under ↦ let over : group + 1 ≤ min rest groups = le-min {k = group + 1} {a = rest} {b = groups} (omega arith) (omega arith) in absurd (omega arith)
+        | inr from ↦ from
+      ]
+
+  -- marks that are false below a number, and true from it on
+  pub filled : (low : ℕ) (first whole : List Bool) → low ≡ min rest groups → length whole ≡ groups
+      → ((group : ℕ) → group < low → get_or first group true ≡ false)
+      → ((group : ℕ) → group < groups → group < low → get_or whole group true ≡ get_or first group true)
+      → ((group : ℕ) → low ≤ group → group < groups → get_or whole group true ≡ true)
+      → whole ≡ map (leb rest) (range_with_len 0 groups)
+  filled low first whole low_is size lacks same holds =
+      fill_by_all (leb rest) whole groups true size
+      (λ group below.
+      elim (cases_lt group low) [
+        | inl under ↦ same group below under ∙ (lacks group under ∙ sym (lt-leb rest group (omega (arith, min-le_left rest groups))))
+        | inr past ↦ holds group past below ∙ sym (le-leb rest group (from_rest group (omega (arith, low_is)) below))
+      ])
+
+  -- where none is kept
+  pub none_kept : (keep : List Bool) → keep ≡ map (leb rest) (range_with_len 0 groups) → keep ≡ marks_of (left groups (members_of []) rest) groups
+  none_kept keep are =
+      fill_by_all (left groups (members_of []) rest) keep groups true (ap length are ∙ length-map-range_with_len (leb rest) 0 groups)
+      (λ group below.
+      ap (λ marks. get_or marks group true) are
+      ∙ (get_or-map-range_with_len (leb rest) 0 groups group group true below (omega arith)
+      ∙ sym (and_true (leb rest group) (ltb group groups) (lt-ltb group groups below))))
 
   module _ (kept : List ℕ) (i : ℕ) (inside : i < length kept) where
     abbrev pub before : NumberSet

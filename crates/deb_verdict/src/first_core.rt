@@ -66,13 +66,16 @@ pub(crate) fn first_core(
     let constraints = kept_constraints(alloc, index, workspace.members.as_slice())?;
     describe_members(alloc, index, workspace, &constraints)?;
     let must = workspace.members.number_of(p).unwrap();
+    let cuts = workspace.guess.cuts_in(&constraints, p)?;
     let core = blocking(
         alloc,
         &workspace.formula,
         &constraints,
         must as u32,
+        cuts,
         &mut workspace.keep,
         &mut workspace.solver,
     )?;
+    workspace.guess.learn(&core)?;
     Ok(core)
 }

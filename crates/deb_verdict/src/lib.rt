@@ -10,6 +10,7 @@ mod first_set;
 mod forced;
 mod gather;
 mod groundwork;
+mod guess;
 mod kept_constraints;
 pub mod laws;
 mod marks;

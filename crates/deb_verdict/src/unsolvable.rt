@@ -40,12 +40,14 @@ impl<'a> Question for Unsolvable<'a> {
     }
 }
 
-/// The constraints of the first groups that have no true set with a variable, where all groups have none. `keep` and `solver` are buffers.
+/// The constraints of the first groups that have no true set with a variable, where all groups have none. Blocks of groups end at
+/// the cuts; these change the work, and not the answer. `keep` and `solver` are buffers.
 pub fn blocking(
     alloc: Global,
     formula: &Formula,
     constraints: &[Constraint],
     must: u32,
+    cuts: &[u32],
     keep: &mut Vec<bool>,
     solver: &mut sat_solve::Workspace,
 ) -> Result<Vec<Constraint>, AllocError>
@@ -60,7 +62,7 @@ pub fn blocking(
         keep,
         solver,
     };
-    let groups = first_failing(alloc, &mut question, formula.groups())?;
+    let groups = first_failing(alloc, &mut question, formula.groups(), cuts)?;
     let mut core = Vec::new(alloc);
     for group in &groups {
         core.push(constraints[*group as usize])?;

@@ -1,5 +1,6 @@
 //! The buffers of a verdict.
 
+use crate::guess::Guess;
 use crate::place_set::PlaceSet;
 use sat_solve::{Formula, Lit};
 use std::alloc::{AllocError, Global};
@@ -14,6 +15,7 @@ pub struct Workspace {
     pub(crate) formula: Formula,
     pub(crate) clause: Vec<Lit>,
     pub(crate) keep: Vec<bool>,
+    pub(crate) guess: Guess,
     pub(crate) solver: sat_solve::Workspace,
 }
 
@@ -26,6 +28,7 @@ impl Workspace {
             formula: Formula::new(alloc, 0, 0)?,
             clause: Vec::new(alloc),
             keep: Vec::new(alloc),
+            guess: Guess::new(alloc),
             solver: sat_solve::Workspace::new(alloc),
         })
     }

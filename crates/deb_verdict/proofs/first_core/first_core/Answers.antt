@@ -77,10 +77,10 @@ returns-clause-first c =
     let must_there : slice_get members c.unwrap-must.result ≡ Some c.args.p = sym (ap (λ list. slice_get list c.unwrap-must.result) c.in_ok-describe_members.ensures.members) ∙ there in
     let Found : List Constraint → Type 0 = λ list. IsFirstUnsolvable formula c.unwrap-must.result list c.in_ok-core.core.items in
     core_settled index c.args.p members constraints formula c.unwrap-must.result closed c.sort.ensures.rising kept_is c.in_ok-describe_members.ensures.vars groups_are tells must_there
-    c.in_ok-core.core.items (subst Found c.deref-2.ensures.value c.in_ok-core.ensures)
+    c.in_ok-core.core.items (subst Found c.deref-3.ensures.value c.in_ok-core.ensures)
 
 pub returns-clause-within : goal.returns-clause-within
 returns-clause-within c =
     let OfIndex : List Constraint → Type 0 = λ list. All (IsOfIndex c.args.index.now) list in
-    named_all (IsOfIndex c.args.index.now) c.deref-2.result.now c.in_ok-core.core.items c.in_ok-core.ensures.positions
-    (subst OfIndex (sym c.deref-2.ensures.value) c.in_ok-constraints.ensures.within) c.in_ok-core.ensures.stand_there
+    named_all (IsOfIndex c.args.index.now) c.deref-3.result.now c.in_ok-core.core.items c.in_ok-core.ensures.positions
+    (subst OfIndex (sym c.deref-3.ensures.value) c.in_ok-constraints.ensures.within) c.in_ok-core.ensures.stand_there

@@ -4,13 +4,9 @@ use Rattle.sat_solve.specs.Sets.{members_of}
 use Rattle.deb_verdict.specs.Reduction.{left}
 use Rattle.deb_verdict.proofs.AddSteps.{take_whole}
 use Rattle.deb_verdict.proofs.GroupLemmas.{marks_of}
-use Rattle.deb_verdict.proofs.MarkedGroups.{rest_more, kept_more, past_more, before}
+use Rattle.deb_verdict.proofs.MarkedGroups.{none_kept, kept_more, past_more, before}
 use Rattle.deb_verdict.proofs.marks.mark.Goals as goal
 use Rattle.deb_verdict.proofs.marks.mark.Goals.{then-number-groups, else-number-groups}
-
-pub loop-group-preserved : goal.loop-group-preserved
-loop-group-preserved c =
-    rest_more c.args.groups c.args.rest c.loop-group.group c.loop-group.keep.items c.push.new.self.items (omega arith) c.loop-group.invariant c.in_ok-push.ensures.items
 
 pub index_mut-requires : goal.index_mut-requires
 index_mut-requires c =
@@ -34,3 +30,6 @@ pub returns : goal.returns
 returns c =
     let Marked : List ℕ → Type 0 = λ kept. c.loop-number.keep.items ≡ marks_of (left c.args.groups (members_of kept) c.args.rest) c.args.groups in
     subst Marked (take_whole c.args.kept.now c.loop-number.number-index c.loop-number-test.false) c.loop-number.invariant
+
+pub loop-number-init : goal.loop-number-init
+loop-number-init c = none_kept c.args.groups c.args.rest c.mark_from.new.keep.items c.in_ok-mark_from.ensures
