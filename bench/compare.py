@@ -139,6 +139,13 @@ class Index:
                 self.labels[label] = fields.get("package", "")
         return self.labels
 
+    def first_name(self, arch):
+        """The name of the first stanza of this architecture or of all."""
+        for label, name in self.names_of_labels().items():
+            if label.endswith((".all", "." + arch)):
+                return name
+        raise Failed("%s has no package for %s" % (self.path, arch))
+
 
 class Answer:
     """A run of one program; `names` counts the broken packages by name, None where it was stopped."""
@@ -155,8 +162,10 @@ class Bench:
         self.options, self.program, self.folder = options, program, folder
         self.arch, self.limit = options.arch, options.limit
 
-    def debcheck(self, index, ignore, workers=1):
+    def debcheck(self, index, ignore, workers=1, name=None):
+        """A run over all packages, or over those of one name alone."""
         words = ["--failures", "--explain", "--workers", str(workers)] + (["--ignore-essential"] if ignore else [])
+        words += ["--checkonly", name] if name else []
         run, report = debcheck_program.check(self.program, words, self.arch, index.path, self.folder, self.limit)
         names = report and collections.Counter(name for name, _, _ in report.shown)
         return Answer("debcheck", run, names)
@@ -257,26 +266,44 @@ def digest(path):
         return hashlib.sha256(file.read()).digest()
 
 
-def worker_row(bench, title, index, ignore):
-    """Prints the least wall time of some runs for each number of workers; whether all reports are the same."""
+def fastest(bench, index, ignore, workers, name=None):
+    """The run of the least wall time of some, or None where one was stopped; and the digests of their reports."""
+    best, reports = None, set()
+    for turn in range(WORKER_RUNS):
+        answer = bench.debcheck(index, ignore, workers, name)
+        if answer.names is None:
+            return None, reports
+        reports.add(digest(os.path.join(bench.folder, "debcheck.out")))
+        if best is None or answer.run.wall < best.wall:
+            best = answer.run
+        if answer.run.wall > LONG_RUN:
+            break
+    return best, reports
+
+
+def print_row(title, cells, times):
+    """Prints a row of wall times, with the ratio of the first to the last."""
+    faster = "%.2f" % (times[0] / times[-1]) if times[0] and times[-1] and times[-1] > 0 else "-"
+    print("  %-34s %s %9s" % (title, " ".join("%17s" % cell for cell in cells), faster), flush=True)
+
+
+def worker_rows(bench, title, index, ignore):
+    """Prints wall times for each number of workers, and what is left of them without reading; whether all reports are the same.
+
+    Reading is what a run takes that is asked for one name alone, with one worker.
+    """
+    say("%s: debcheck, one name" % title)
+    reading, _ = fastest(bench, index, ignore, 1, index.first_name(bench.arch))
     row, reports = [], set()
     for workers in bench.options.workers:
         say("%s: debcheck --workers %d" % (title, workers))
-        best = None
-        for turn in range(WORKER_RUNS):
-            answer = bench.debcheck(index, ignore, workers)
-            if answer.names is None:
-                best = None
-                break
-            reports.add(digest(os.path.join(bench.folder, "debcheck.out")))
-            if best is None or answer.run.wall < best.wall:
-                best = answer.run
-            if answer.run.wall > LONG_RUN:
-                break
+        best, digests = fastest(bench, index, ignore, workers)
         row.append(best)
-    cells = ["%8.2f (%6.2f)" % (run.wall, run.cpu) if run else "%17s" % "stopped" for run in row]
-    faster = "%.2f" % (row[0].wall / row[-1].wall) if row[0] and row[-1] and row[-1].wall > 0 else "-"
-    print("  %-34s %s %9s" % (title, " ".join(cells), faster), flush=True)
+        reports |= digests
+    print_row(title, ["%.2f (%6.2f)" % (run.wall, run.cpu) if run else "stopped" for run in row], [run and run.wall for run in row])
+    if reading:
+        rest = [run and max(run.wall - reading.wall, 0) for run in row]
+        print_row("  without the %.2f s of reading" % reading.wall, ["-" if wall is None else "%.2f         " % wall for wall in rest], rest)
     if len(reports) > 1:
         print("    the reports of these runs differ")
     return len(reports) <= 1
@@ -331,7 +358,7 @@ def compare(options, folder):
     print("\ndebcheck with more workers: wall s (CPU s), the least wall time of %d runs\n" % WORKER_RUNS)
     heads = " ".join("%17s" % ("1 worker" if count == 1 else "%d workers" % count) for count in options.workers)
     print("  %-34s %s %9s" % ("", heads, "faster by"))
-    same = [worker_row(bench, title, index, ignore) for title, index, ignore in variants]
+    same = [worker_rows(bench, title, index, ignore) for title, index, ignore in variants]
     if not all(agreed + same):
         return 1
     if programs and not agreed:
