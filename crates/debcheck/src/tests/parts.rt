@@ -6,6 +6,7 @@ use crate::fault::RunFault;
 use crate::layout::report;
 use crate::tests::named;
 use deb_index::Index;
+use std::alloc::{AllocError, Global};
 use std::process::Abort;
 use std::test::Fail;
 use std::thread::Threads;
@@ -33,10 +34,26 @@ fn report_of(
     config: &Config,
 ) -> Result<Vec<u8>, Fail> {
     let index = index_of(rt, text)?;
-    let asked = asked_places(rt.alloc(), &index, config)?;
+    report_on(rt, &index, config)
+}
+
+fn report_on(
+    rt: &(impl Abort + Threads + Sync + AllocGlobal),
+    index: &Index,
+    config: &Config,
+) -> Result<Vec<u8>, Fail> {
+    let asked = asked_places(rt.alloc(), index, config)?;
     let asked = asked.as_slice();
-    let verdicts = check_all(rt, rt.alloc(), &index, asked, 2, 1, &OpenGate)?;
-    Ok(report(rt.alloc(), &index, asked, verdicts.as_slice(), config)?)
+    let verdicts = check_all(rt, rt.alloc(), index, asked, 2, 1, &OpenGate)?;
+    Ok(report(rt.alloc(), index, asked, verdicts.as_slice(), config)?)
+}
+
+// The usual configuration, for these names alone.
+fn config_for(alloc: Global, names: &[&[u8]]) -> Result<Config, AllocError> {
+    let only = named(alloc, names)?;
+    let mut config = Config::usual(alloc)?;
+    config.only = Some(only);
+    Ok(config)
 }
 
 fn is_unknown(answer: &Result<Vec<u32>, RunFault>, wanted: &[u8]) -> bool {
@@ -46,21 +63,55 @@ fn is_unknown(answer: &Result<Vec<u32>, RunFault>, wanted: &[u8]) -> bool {
     }
 }
 
+fn expect_places(
+    rt: &(impl Abort + AllocGlobal),
+    index: &Index,
+    config: &Config,
+    wanted: &[u32],
+) -> Result<(), Fail> {
+    let places = asked_places(rt.alloc(), index, config)?;
+    assert_eq!(rt; places.as_slice(), wanted);
+    Ok(())
+}
+
+fn expect_all_places(rt: &(impl Abort + AllocGlobal), index: &Index) -> Result<(), Fail> {
+    let config = Config::usual(rt.alloc())?;
+    expect_places(rt, index, &config, &[0, 1, 2, 3, 4, 5, 6])
+}
+
+fn expect_places_of(
+    rt: &(impl Abort + AllocGlobal),
+    index: &Index,
+    names: &[&[u8]],
+    wanted: &[u32],
+) -> Result<(), Fail> {
+    let config = config_for(rt.alloc(), names)?;
+    expect_places(rt, index, &config, wanted)
+}
+
+fn expect_unknown(
+    rt: &(impl Abort + AllocGlobal),
+    index: &Index,
+    names: &[&[u8]],
+    wanted: &[u8],
+) -> Result<(), Fail> {
+    let config = config_for(rt.alloc(), names)?;
+    let refused = asked_places(rt.alloc(), index, &config);
+    assert!(rt; is_unknown(&refused, wanted));
+    Ok(())
+}
+
+fn expect_rising_places(rt: &(impl Abort + AllocGlobal), index: &Index) -> Result<(), Fail> {
+    expect_all_places(rt, index)?;
+    expect_places_of(rt, index, &[b"e", b"n", b"a", b"e"], &[0, 1, 2, 6])?;
+    expect_places_of(rt, index, &[], &[])?;
+    expect_unknown(rt, index, &[b"a", b"zz", b"b", b"yy"], b"zz")
+}
+
 #[test]
 fn places_of_names_rise(rt: HostRuntime) -> Result<(), Fail> {
     let index = index_of(&rt, RELATED)?;
-    let mut config = Config::usual(rt.alloc())?;
-    let all = asked_places(rt.alloc(), &index, &config)?;
-    assert_eq!(rt; all.as_slice(), [0, 1, 2, 3, 4, 5, 6].as_slice());
-    config.only = Some(named(rt.alloc(), &[b"e", b"n", b"a", b"e"])?);
-    let some = asked_places(rt.alloc(), &index, &config)?;
-    assert_eq!(rt; some.as_slice(), [0, 1, 2, 6].as_slice());
-    config.only = Some(named(rt.alloc(), &[])?);
-    assert!(rt; asked_places(rt.alloc(), &index, &config)?.is_empty());
-    config.only = Some(named(rt.alloc(), &[b"a", b"zz", b"b", b"yy"])?);
-    let refused = asked_places(rt.alloc(), &index, &config);
-    assert!(rt; is_unknown(&refused, b"zz"));
-    Ok(())
+    expect_rising_places(&rt, &index)
 }
 
 const HEAD: &str = "architecture: amd64\nreport:\n";
