@@ -19,7 +19,9 @@ ABOUT = """Runs debcheck, dose-debcheck and installcheck on this machine's own m
 index and on a copy of it that lacks 1 % of the stanzas. Prints what each run
 used and whether the programs name the same broken packages. Each program
 gives the reasons of the broken packages. debcheck has one worker there; how
-its wall time falls with more stands in a table of its own.
+its wall time falls with more stands in a table of its own. Runs of a few
+seconds are made three times, the programs in turn, and the one of the least CPU
+time is shown.
 
 The copy is checked twice, with and without regard for essential packages: where
 one that they need is among the deleted, every package is broken the first time.
@@ -39,7 +41,8 @@ report depends on the number of workers. 2: nothing could be compared."""
 PACKAGES = {"dose-debcheck": "dose-distcheck", "installcheck": "libsolv-tools"}
 OTHER_SUITES = re.compile(r"-(security|updates|proposed-updates|backports|backports-sloppy|debug)\b|/")
 SHOWN_DIFFERENCES = 10
-WORKER_RUNS = 3
+ROUNDS = 3
+SHORT_RUN = 8
 LONG_RUN = 30
 
 
@@ -266,19 +269,21 @@ def digest(path):
         return hashlib.sha256(file.read()).digest()
 
 
-def fastest(bench, index, ignore, workers, name=None):
-    """The run of the least wall time of some, or None where one was stopped; and the digests of their reports."""
-    best, reports = None, set()
-    for turn in range(WORKER_RUNS):
-        answer = bench.debcheck(index, ignore, workers, name)
-        if answer.names is None:
-            return None, reports
-        reports.add(digest(os.path.join(bench.folder, "debcheck.out")))
-        if best is None or answer.run.wall < best.wall:
-            best = answer.run
-        if answer.run.wall > LONG_RUN:
+def fastest(bench, title, index, ignore):
+    """The runs of the least wall time of some rounds: one for each number of workers, and one that is asked for one name alone, None where
+    one was stopped; and the digests of the reports on all packages."""
+    asks = [(1, index.first_name(bench.arch))] + [(workers, None) for workers in bench.options.workers]
+    best, reports = [[] for _ in asks], set()
+    for turn in range(ROUNDS):
+        say("%s: debcheck with each number of workers, round %d" % (title, turn + 1))
+        for runs, (workers, name) in zip(best, asks):
+            answer = bench.debcheck(index, ignore, workers, name)
+            runs.append(answer.run if answer.names is not None else None)
+            if name is None and answer.names is not None:
+                reports.add(digest(os.path.join(bench.folder, "debcheck.out")))
+        if any(runs[-1] is None or runs[-1].wall > LONG_RUN for runs in best):
             break
-    return best, reports
+    return [None if None in runs else min(runs, key=lambda run: run.wall) for runs in best], reports
 
 
 def print_row(title, cells, times):
@@ -292,14 +297,7 @@ def worker_rows(bench, title, index, ignore):
 
     Reading is what a run takes that is asked for one name alone, with one worker.
     """
-    say("%s: debcheck, one name" % title)
-    reading, _ = fastest(bench, index, ignore, 1, index.first_name(bench.arch))
-    row, reports = [], set()
-    for workers in bench.options.workers:
-        say("%s: debcheck --workers %d" % (title, workers))
-        best, digests = fastest(bench, index, ignore, workers)
-        row.append(best)
-        reports |= digests
+    (reading, *row), reports = fastest(bench, title, index, ignore)
     print_row(title, ["%.2f (%6.2f)" % (run.wall, run.cpu) if run else "stopped" for run in row], [run and run.wall for run in row])
     if reading:
         rest = [run and max(run.wall - reading.wall, 0) for run in row]
@@ -326,20 +324,37 @@ def prepare(options, folder):
 
 
 def answers_of(bench, programs, title, index, ignore, kept):
-    """Each program's answer; installcheck's is kept for its index, since it has no second way to check it."""
-    say(title + ": debcheck")
-    answers = [bench.debcheck(index, ignore)]
+    """Each program's answer, of the run of least CPU time where the runs are short; they take turns, since a machine's speed may drift.
+
+    installcheck's is kept for its index, since it has no second way to check it.
+    """
+    asks = {"debcheck": lambda: bench.debcheck(index, ignore)}
     if "dose-debcheck" in programs:
-        say(title + ": dose-debcheck")
-        answers.append(bench.dose(index, ignore))
-    if "installcheck" in programs:
-        if index.title in kept:
-            kept[index.title].note = "  (the run above)"
-        else:
-            say(title + ": installcheck")
-            kept[index.title] = bench.installcheck(index)
-        answers.append(kept[index.title])
-    return answers
+        asks["dose-debcheck"] = lambda: bench.dose(index, ignore)
+    if "installcheck" in programs and index.title not in kept:
+        asks["installcheck"] = lambda: bench.installcheck(index)
+    best = {}
+    for turn in range(ROUNDS):
+        for program, ask in asks.items():
+            if program in best and best[program].run.wall > SHORT_RUN:
+                continue
+            say("%s: %s, run %d" % (title, program, turn + 1))
+            best[program] = better(best.get(program), ask())
+    if "installcheck" in best:
+        kept[index.title] = best["installcheck"]
+    elif "installcheck" in programs:
+        kept[index.title].note = "  (the run above)"
+        best["installcheck"] = kept[index.title]
+    return list(best.values())
+
+
+def better(one, two):
+    """Of two answers of a program the one that took less CPU time; they have the same names, unless they were stopped."""
+    if one is None:
+        return two
+    if one.names is not None and two.names is not None and one.names != two.names:
+        raise Failed("%s named other packages in its next run" % one.program)
+    return two if one.names is None or (two.names is not None and two.run.cpu < one.run.cpu) else one
 
 
 def compare(options, folder):
@@ -355,7 +370,7 @@ def compare(options, folder):
         print_table(title, answers, options.limit)
         agreed += print_pairs(answers, ignore, index is copy and not ignore)
 
-    print("\ndebcheck with more workers: wall s (CPU s), the least wall time of %d runs\n" % WORKER_RUNS)
+    print("\ndebcheck with more workers: wall s (CPU s), the least wall time of %d runs\n" % ROUNDS)
     heads = " ".join("%17s" % ("1 worker" if count == 1 else "%d workers" % count) for count in options.workers)
     print("  %-34s %s %9s" % ("", heads, "faster by"))
     same = [worker_rows(bench, title, index, ignore) for title, index, ignore in variants]

@@ -11,8 +11,9 @@ from debcheck_program import Failed
 ABOUT = """Makes indexes that are hard on a checker, each in a size n and in 2n, runs
 debcheck on them with one worker, and prints its CPU seconds and their ratio.
 Where the time grows with the size, the ratio is about 2; where it grows with
-the square of the size, about 4. Below some hundredths of a second it says
-nothing.
+the square of the size, about 4. Short runs are made five times, the two sizes
+in turn, and the least time counts. Below some hundredths of a second the ratio
+says nothing.
 
 A run that reaches the limit is stopped and said to be; the larger size is
 then left out. Each answer is compared with the known one. Files are written to
@@ -21,6 +22,9 @@ end.
 
 Status 0: all answers were right. 1: some run was stopped. 2: an answer was
 wrong, or debcheck could not be run."""
+
+ROUNDS = 5
+SHORT_RUN = 0.5
 
 
 def stanza(name, version="1", **fields):
@@ -99,6 +103,10 @@ def run_shape(shape, n, program, options, folder):
     return run, report is not None
 
 
+def lesser(one, two):
+    return two if two.cpu < one.cpu else one
+
+
 def cell(run, done):
     return "%9.2f" % run.cpu if done else "%9s" % (">%.0f" % run.cpu)
 
@@ -115,14 +123,17 @@ def show_shape(shape, program, options, folder):
 def show_row(shape, program, options, folder):
     """Prints the row; true unless a run was stopped."""
     one, done = run_shape(shape, shape.n, program, options, folder)
-    row = "%-16s %8s %s" % (shape.name, format(shape.n, ","), cell(one, done))
+    row = "%-16s %8s" % (shape.name, format(shape.n, ","))
     if not done:
-        print("%s %9s %9s %9.1f  %s; 2n left out" % (row, "-", "-", one.peak, one.ending(options.limit)), flush=True)
+        print("%s %s %9s %9s %9.1f  %s; 2n left out" % (row, cell(one, done), "-", "-", one.peak, one.ending(options.limit)), flush=True)
         return False
     two, done = run_shape(shape, 2 * shape.n, program, options, folder)
+    for _ in range(ROUNDS - 1 if done and two.cpu < SHORT_RUN else 0):
+        one = lesser(one, run_shape(shape, shape.n, program, options, folder)[0])
+        two = lesser(two, run_shape(shape, 2 * shape.n, program, options, folder)[0])
     ratio = "%9.1f" % (two.cpu / one.cpu) if done and one.cpu > 0 else "%9s" % "-"
     note = "" if done else "  2n " + two.ending(options.limit)
-    print("%s %s %s %9.1f%s" % (row, cell(two, done), ratio, two.peak, note), flush=True)
+    print("%s %s %s %s %9.1f%s" % (row, cell(one, True), cell(two, done), ratio, two.peak, note), flush=True)
     return done
 
 
