@@ -26,7 +26,7 @@ fn is_need_of(constraint: &Constraint, place: u32) -> bool {
     }
 }
 
-/// Cuts before and behind what the package at a place depends on, which is in most of its cores.
+/// Adds cuts before and behind what the package at a place depends on: some of that is in most of its cores.
 fn push_around_needs(list: &[Constraint], place: u32, cuts: &mut Vec<u32>) -> Result<(), AllocError>
     requires { length list.now < 2 ^ 32 }
 {

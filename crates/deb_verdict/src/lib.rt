@@ -33,4 +33,6 @@ mod counting;
 #[cfg(test)]
 mod gather_tests;
 #[cfg(test)]
+mod guess_tests;
+#[cfg(test)]
 mod tests;

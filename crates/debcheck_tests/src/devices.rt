@@ -3,7 +3,7 @@
 use debcheck::{DeviceFault, Sink};
 use std::alloc::Global;
 
-/// Keeps what is written, at most `step` bytes a call.
+/// Keeps what is written, at most `step` bytes a call. A contract sees the bytes.
 #[derive(Drop)]
 pub struct Kept {
     pub bytes: Vec<u8>,
@@ -13,10 +13,12 @@ pub struct Kept {
 }
 
 impl Kept {
-    ghost use Rattle.std.specs.Prelude.{◌≡◌, false};
+    ghost use Rattle.std.specs.Prelude.{◌≡◌, [], false};
 
+    /// Nothing written yet, and no call has failed.
     pub fn new(alloc: Global, step: usize) -> Kept
-        ensures { result.failed ≡ false }
+        ensures empty { result.bytes.items ≡ [] }
+        ensures failed { result.failed ≡ false }
     {
         Kept {
             bytes: Vec::new(alloc),
@@ -28,9 +30,9 @@ impl Kept {
 }
 
 impl Sink for Kept {
-    ghost use Rattle.std.specs.Prelude.{None};
+    ghost use Rattle.std.specs.Prelude.{Some};
 
-    ghost contents = { λ _. None };
+    ghost contents = { λ s. Some s.bytes.items };
 
     ghost failed = { λ s. s.failed };
 

@@ -3,8 +3,7 @@
 
 #[cfg(test)]
 mod cut_texts;
-#[cfg(test)]
-mod devices;
+pub mod devices;
 #[cfg(test)]
 mod example;
 #[cfg(test)]
