@@ -8,7 +8,7 @@ use Rattle.deb_relation.specs.Relationship.{AtomText}
 use Rattle.deb_index.specs.declared.constraint.Constraint.{Constraint}
 use Rattle.deb_index.specs.declared.constraint.Constraint.TheVariants.{Essential, Need, Apart, Only}
 use Rattle.deb_index.specs.Packages.{IndexView, PackageView, apart_at, is_named, name_at, need_at, places_of, places_where}
-use Rattle.deb_index.specs.Meets.{group_satisfiers, meets, satisfiers}
+use Rattle.deb_index.specs.Meets.{group_satisfiers, meets, meets_need, satisfiers}
 use Rattle.deb_index.specs.Constraints.{Holds, answers, is_holding}
 use Rattle.deb_index.proofs.MemberLemmas.{member-places_where}
 use Rattle.deb_index.proofs.RisingLemmas.{any-member, member-any, where-rising}
@@ -19,7 +19,7 @@ none-meets [] = refl
 none-meets (a ∷ group) = none-meets group
 
 -- a package meets an alternative of a group, asked of the package or of its place
-group-at : (arch : List ℕ) (group : List AtomText) (o : Option PackageView) → option_map_or (λ q. list_any (meets arch q) group) o false ≡ list_any (λ a. option_map_or (λ q. meets arch q a) o false) group
+group-at : (arch : List ℕ) (group : List AtomText) (o : Option PackageView) → option_map_or (λ q. list_any (meets_need arch q) group) o false ≡ list_any (λ a. option_map_or (λ q. meets_need arch q a) o false) group
 group-at arch group None = none-meets group
 group-at arch group (Some q) = refl
 
@@ -28,7 +28,7 @@ module _ (index : IndexView) (set : ℕ → Bool) where
   at test q = option_map_or test (slice_get index.packages q) false
 
   abbrev answering : ℕ → ℕ → PackageView → Bool
-  answering p j = λ q. list_any (meets index.arch q) (need_at index p j)
+  answering p j = λ q. list_any (meets_need index.arch q) (need_at index p j)
 
   abbrev hit_by : ℕ → ℕ → PackageView → Bool
   hit_by p j = λ q. meets index.arch q (apart_at index p j)

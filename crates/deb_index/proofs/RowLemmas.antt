@@ -12,9 +12,9 @@ use Rattle.deb_relation.specs.declared.atom.Atom.{Atom}
 use Rattle.deb_relation.specs.AtomView.{atom_view}
 use Rattle.deb_relation.specs.Relationship.{AtomText}
 use Rattle.deb_index.specs.Packages.{IndexView, PackageView, places_where}
-use Rattle.deb_index.specs.Meets.{group_satisfiers, meets, satisfiers}
+use Rattle.deb_index.specs.Meets.{group_satisfiers, meets_need, satisfiers}
 use Rattle.deb_index.specs.Reading.{stanza_limit}
-use Rattle.deb_index.specs.Rows.{answer_row, candidate_count, group_candidates, hit_row, row_limit}
+use Rattle.deb_index.specs.Rows.{answer_row, candidate_count, group_candidates, hit_row, row_as, row_limit}
 use Rattle.deb_index.proofs.ConstraintLemmas.{where-short}
 
 none-some : (x : List ℕ) → None ≡ Some x → ⊥
@@ -62,14 +62,14 @@ module _ (index : IndexView) where
   or-none false = refl
 
   -- a group of one alternative has the row of that
-  pub group-of-one : (atom : AtomText) → answer_row index (atom ∷ []) ≡ hit_row index atom
+  pub group-of-one : (atom : AtomText) → answer_row index (atom ∷ []) ≡ row_as true index atom
   group-of-one atom =
       let same : group_candidates index (atom ∷ []) ≡ candidate_count index atom = omega (arith, sum_by-cons (candidate_count index) atom []) in
-      λ i. cond (leb (same i) row_limit) (Some (places_where (λ q. or-none (meets index.arch q atom) i) index.packages)) None
+      λ i. cond (leb (same i) row_limit) (Some (places_where (λ q. or-none (meets_need index.arch q atom) i) index.packages)) None
 
-  any-push : (q : PackageView) (group : List AtomText) (a : AtomText) → list_any (meets index.arch q) (group ++ a ∷ []) ≡ (list_any (meets index.arch q) group || meets index.arch q a)
-  any-push q [] a = or-none (meets index.arch q a)
-  any-push q (b ∷ group) a = ap (λ r. meets index.arch q b || r) (any-push q group a) ∙ assoc (meets index.arch q b) (list_any (meets index.arch q) group) (meets index.arch q a)
+  any-push : (q : PackageView) (group : List AtomText) (a : AtomText) → list_any (meets_need index.arch q) (group ++ a ∷ []) ≡ (list_any (meets_need index.arch q) group || meets_need index.arch q a)
+  any-push q [] a = or-none (meets_need index.arch q a)
+  any-push q (b ∷ group) a = ap (λ r. meets_need index.arch q b || r) (any-push q group a) ∙ assoc (meets_need index.arch q b) (list_any (meets_need index.arch q) group) (meets_need index.arch q a)
     where
       assoc : (x y z : Bool) → (x || (y || z)) ≡ ((x || y) || z)
       assoc true y z = refl
@@ -100,7 +100,7 @@ module _ (index : IndexView) where
     pub count-more : group_candidates index (map atom_view (take (i + 1) atoms)) ≡ group_candidates index (map atom_view (take i atoms)) + candidate_count index (atom_view a)
     count-more = ap (group_candidates index) more ∙ sum_by_push (candidate_count index) (map atom_view (take i atoms)) (atom_view a)
 
-    pub found-more : (found : List ℕ) → found ≡ places_where (λ q. list_any (meets index.arch q) (map atom_view (take i atoms)) || meets index.arch q (atom_view a)) index.packages
+    pub found-more : (found : List ℕ) → found ≡ places_where (λ q. list_any (meets_need index.arch q) (map atom_view (take i atoms)) || meets_need index.arch q (atom_view a)) index.packages
         → found ≡ group_satisfiers index (map atom_view (take (i + 1) atoms))
     found-more found e = e ∙ sym (ap (group_satisfiers index) more ∙ (λ j. places_where (λ q. any-push q (map atom_view (take i atoms)) (atom_view a) j) index.packages))
 

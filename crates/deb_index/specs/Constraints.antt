@@ -5,7 +5,7 @@ use Rattle.std.specs.Option.{option_map_or}
 use Rattle.deb_index.specs.declared.constraint.Constraint.{Constraint}
 use Rattle.deb_index.specs.declared.constraint.Constraint.TheVariants.{Essential, Need, Apart, Only}
 use Rattle.deb_index.specs.Packages.{IndexView, names, name_at, is_named, places_of, essential_names, needs_at, aparts_at, need_at, apart_at}
-use Rattle.deb_index.specs.Meets.{meets_at, satisfiers, group_satisfiers}
+use Rattle.deb_index.specs.Meets.{meets_at, meets_need_at, satisfiers, group_satisfiers}
 
 -- the numbers below a limit, rising
 abbrev pub below : ℕ → List ℕ
@@ -33,7 +33,7 @@ has_name index q n = option_map_or (is_named (name_at index n)) (slice_get index
 
 -- the package at place q meets an alternative of group j of the package at place p
 abbrev pub answers : IndexView → ℕ → ℕ → ℕ → Bool
-answers index p j q = list_any (meets_at index q) (need_at index p j)
+answers index p j q = list_any (meets_need_at index q) (need_at index p j)
 
 -- the package at place q meets entry j of the package at place p
 abbrev pub hits : IndexView → ℕ → ℕ → ℕ → Bool

@@ -1,12 +1,12 @@
 -- Which packages meet an atom.
-use Rattle.std.specs.Prelude.{ℕ, Bool, true, false, ◌&&◌, ◌||◌, List, map, Option, Some, None, slice_get}
+use Rattle.std.specs.Prelude.{ℕ, Bool, true, false, not, ◌&&◌, ◌||◌, List, map, Option, Some, None, slice_get}
 use Rattle.std.specs.List.{list_any, enumerate_from, flat_map}
 use Rattle.std.specs.Option.{option_map, option_map_or}
 use Rattle.std.specs.Str.{bytes_eq}
 use Rattle.deb_relation.specs.declared.bound.Op.{Op}
 use Rattle.deb_relation.specs.Bounds.{bound_holds}
 use Rattle.deb_relation.specs.Relationship.{AtomText}
-use Rattle.deb_relation.specs.Usable.{is_usable}
+use Rattle.deb_relation.specs.Usable.{is_any, is_usable}
 use Rattle.deb_index.specs.Packages.{PackageView, IndexView, places_where}
 
 -- whether a version, if there is one, meets a bound, if there is one
@@ -31,13 +31,33 @@ entry_meets arch atom entry = is_usable arch entry.qualifier && bytes_eq atom.na
 unfoldable pub meets : List ℕ → PackageView → AtomText → Bool
 meets arch q atom = is_usable arch atom.qualifier && (meets_itself q atom || list_any (entry_meets arch atom) q.provides)
 
+-- whether a package may stand for an alternative of a need: with the qualifier `any` only one that allows it
+abbrev pub allows : PackageView → AtomText → Bool
+allows q atom = not (is_any atom.qualifier) || q.multi_arch_allowed
+
+-- whether a package meets an atom as an alternative of a need
+unfoldable pub meets_need : List ℕ → PackageView → AtomText → Bool
+meets_need arch q atom = meets arch q atom && allows q atom
+
+-- as an alternative of a need, or as an entry
+abbrev pub meets_as : Bool → List ℕ → PackageView → AtomText → Bool
+meets_as true arch q atom = meets_need arch q atom
+meets_as false arch q atom = meets arch q atom
+
 -- the places of the packages that meet an atom, rising
 abbrev pub satisfiers : IndexView → AtomText → List ℕ
 satisfiers index atom = places_where (λ q. meets index.arch q atom) index.packages
 
+-- those that meet it as an alternative of a need
+abbrev pub need_satisfiers : IndexView → AtomText → List ℕ
+need_satisfiers index atom = places_where (λ q. meets_need index.arch q atom) index.packages
+
+abbrev pub satisfiers_as : Bool → IndexView → AtomText → List ℕ
+satisfiers_as need index atom = places_where (λ q. meets_as need index.arch q atom) index.packages
+
 -- the places of the packages that meet an alternative of a group
 abbrev pub group_satisfiers : IndexView → List AtomText → List ℕ
-group_satisfiers index group = places_where (λ q. list_any (meets index.arch q) group) index.packages
+group_satisfiers index group = places_where (λ q. list_any (meets_need index.arch q) group) index.packages
 
 -- the entries of a package's Provides that provide a name
 abbrev pub is_providing : List ℕ → List ℕ → AtomText → Bool
@@ -50,3 +70,9 @@ provided_at index name = flat_map (λ e. map (λ j. (e.0, j)) (places_where (is_
 -- whether the package at a place meets an atom
 abbrev pub meets_at : IndexView → ℕ → AtomText → Bool
 meets_at index p atom = option_map_or (λ q. meets index.arch q atom) (slice_get index.packages p) false
+
+abbrev pub meets_need_at : IndexView → ℕ → AtomText → Bool
+meets_need_at index p atom = option_map_or (λ q. meets_need index.arch q atom) (slice_get index.packages p) false
+
+abbrev pub meets_as_at : Bool → IndexView → ℕ → AtomText → Bool
+meets_as_at need index p atom = option_map_or (λ q. meets_as need index.arch q atom) (slice_get index.packages p) false

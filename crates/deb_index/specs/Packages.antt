@@ -12,6 +12,7 @@ pub record PackageView : Type 0 where
   pub version : List ℕ
   pub architecture : List ℕ
   pub essential : Bool
+  pub multi_arch_allowed : Bool
   pub pre_depends : List (List AtomText)
   pub depends : List (List AtomText)
   pub conflicts : List AtomText
@@ -24,6 +25,7 @@ package_view p = record {
   version = p.version;
   architecture = p.architecture.items;
   essential = p.essential;
+  multi_arch_allowed = p.multi_arch_allowed;
   pre_depends = map atoms_view p.pre_depends.items;
   depends = map atoms_view p.depends.items;
   conflicts = map atom_view p.conflicts.items;
@@ -49,7 +51,7 @@ aparts p = p.conflicts ++ p.breaks
 
 -- the package at a place; past the last place one without anything
 abbrev pub no_package : PackageView
-no_package = record { name = []; version = []; architecture = []; essential = false; pre_depends = []; depends = []; conflicts = []; breaks = []; provides = [] }
+no_package = record { name = []; version = []; architecture = []; essential = false; multi_arch_allowed = false; pre_depends = []; depends = []; conflicts = []; breaks = []; provides = [] }
 
 abbrev pub package_at : IndexView → ℕ → PackageView
 package_at index place = slice_index_or index.packages place no_package

@@ -128,6 +128,10 @@ provides_in n fields = do
 abbrev pub is_marked : List Entry → Bool
 is_marked fields = option_map_or (λ value. bytes_eq value (codes "yes")) (field_value fields (codes "Essential")) false
 
+-- the value `allowed` in these letters; any other counts as absent
+abbrev pub is_allowed : List Entry → Bool
+is_allowed fields = option_map_or (λ value. bytes_eq value (codes "allowed")) (field_value fields (codes "Multi-Arch")) false
+
 unfoldable pub package_of : ℕ → List Entry → HeadView → Result PackageView IndexError
 package_of n fields head = do
   pre_depends ← groups_in n fields PreDepends
@@ -135,7 +139,7 @@ package_of n fields head = do
   conflicts ← atoms_in n fields Conflicts
   breaks ← atoms_in n fields Breaks
   provides ← provides_in n fields
-  Ok (record { name = head.name; version = head.version; architecture = head.architecture; essential = is_marked fields; pre_depends = pre_depends; depends = depends; conflicts = conflicts; breaks = breaks; provides = provides })
+  Ok (record { name = head.name; version = head.version; architecture = head.architecture; essential = is_marked fields; multi_arch_allowed = is_allowed fields; pre_depends = pre_depends; depends = depends; conflicts = conflicts; breaks = breaks; provides = provides })
 
 -- whether a stanza counts for an architecture
 abbrev pub is_for : List ℕ → List ℕ → Bool

@@ -5,7 +5,7 @@ ghost use Rattle.std.specs.Str.{bytes_eq};
 ghost use Rattle.deb_relation.specs.AtomView.{atom_view};
 ghost use Rattle.deb_index.specs.Packages.{package_view, names, places_of, essential_names, needs_at, aparts_at, need_at, apart_at, package_at, name_at};
 ghost use Rattle.deb_index.specs.Reading.{Gives, index_of, byte_limit, stanza_limit};
-ghost use Rattle.deb_index.specs.Meets.{meets_at, satisfiers, group_satisfiers, provided_at};
+ghost use Rattle.deb_index.specs.Meets.{meets_at, meets_need_at, need_satisfiers, satisfiers, group_satisfiers, provided_at};
 ghost use Rattle.deb_index.specs.Constraints.{constraints_at, constraints_of, IsOfIndex};
 ghost use Rattle.deb_index.specs.Tables.{asked_count, asked_limit};
 ghost use Rattle.deb_index.specs.Rows.{candidate_count, group_candidates, row_limit};
@@ -251,6 +251,25 @@ impl Index {
         self.tables.meets(place, atom)
     }
 
+    /// Whether the package at a place meets an atom as an alternative of Pre-Depends or Depends: it meets the atom, and where the atom has
+    /// the qualifier `any`, its stanza says `Multi-Arch: allowed`.
+    pub fn meets_need(&self, place: u32, atom: &Atom) -> bool
+        requires { place < length self.now.packages }
+        ensures { result ≡ meets_need_at self.now place (atom_view atom.now) }
+    {
+        self.tables.meets_need(place, atom)
+    }
+
+    /// The places of all packages that meet an atom as an alternative of Pre-Depends or Depends, rising. The error is want of memory.
+    pub fn need_satisfiers(&self, alloc: Global, atom: &Atom) -> Result<Vec<u32>, AllocError>
+        ensures { IfOk result (λ v. v.items ≡ need_satisfiers self.now (atom_view atom.now)) }
+    {
+        let mut found = Vec::new(alloc);
+        let (named, provided) = (self.places_of(&atom.name), self.provides_of(&atom.name));
+        self.tables.find(true, atom, named, provided, &mut found)?;
+        Ok(found)
+    }
+
     /// The places of all packages that meet an atom, rising. The error is want of memory.
     ///
     /// Only the packages of the atom's name and those that provide it are looked at.
@@ -259,7 +278,7 @@ impl Index {
     {
         let mut found = Vec::new(alloc);
         let (named, provided) = (self.places_of(&atom.name), self.provides_of(&atom.name));
-        self.tables.find(atom, named, provided, &mut found)?;
+        self.tables.find(false, atom, named, provided, &mut found)?;
         Ok(found)
     }
 

@@ -1,5 +1,5 @@
 //! What an index looks up by place: the name of each package, and the rows of places for its groups and entries.
-ghost use Rattle.std.specs.Prelude.{◌≡◌, ◌<◌, ◌≤◌, ◌+◌, ◌++◌, ◌∷◌, [], IfOk, OnOk, length, map, sum_by, take};
+ghost use Rattle.std.specs.Prelude.{◌≡◌, ◌<◌, ◌≤◌, ◌+◌, ◌++◌, ◌∷◌, [], false, IfOk, OnOk, length, map, sum_by, take};
 ghost use Rattle.deb_relation.specs.AtomView.{atom_view};
 ghost use Rattle.deb_index.specs.Packages.{aparts, needs, package_view};
 ghost use Rattle.deb_index.specs.Reading.{stanza_limit};
@@ -91,7 +91,7 @@ struct Finder {
 }
 
 impl Finder {
-    ghost use Rattle.deb_index.specs.Rows.{answer_row, hit_row};
+    ghost use Rattle.deb_index.specs.Rows.{answer_row, row_as};
 
     fn new(alloc: Global) -> Finder {
         Finder {
@@ -127,23 +127,30 @@ impl Finder {
     ) -> Result<(), AllocError>
         requires few { length tables.now.packages ≤ stanza_limit }
         requires few_asked { asked_count (package_view asking.now) ≤ asked_limit }
-        ensures { OnOk result (rows.new ≡ rows.old ++ map (hit_row tables.now) (aparts (package_view asking.now))) }
+        ensures { OnOk result (rows.new ≡ rows.old ++ map (row_as false tables.now) (aparts (package_view asking.now))) }
     {
         for number in 0..asking.apart_count() {
-            self.add_entry(tables, asking.apart(number), rows)?;
+            self.add_atom(false, tables, asking.apart(number), rows)?;
         }
         Ok(())
     }
 
-    fn add_entry(&mut self, tables: &Tables, atom: &Atom, rows: &mut Rows) -> Result<(), AllocError>
+    // Adds the row of an atom, as an alternative of a need or as an entry.
+    fn add_atom(
+        &mut self,
+        need: bool,
+        tables: &Tables,
+        atom: &Atom,
+        rows: &mut Rows,
+    ) -> Result<(), AllocError>
         requires { length tables.now.packages ≤ stanza_limit }
-        ensures { OnOk result (rows.new ≡ rows.old ++ hit_row tables.now (atom_view atom.now) ∷ []) }
+        ensures { OnOk result (rows.new ≡ rows.old ++ row_as need tables.now (atom_view atom.now) ∷ []) }
     {
         let (named, provided) = (tables.places_of(&atom.name), tables.provides_of(&atom.name));
         if named.len() + provided.len() > ROW_LIMIT {
             return rows.leave_out();
         }
-        tables.find(atom, named, provided, &mut self.found)?;
+        tables.find(need, atom, named, provided, &mut self.found)?;
         rows.push(&self.found)
     }
 
@@ -157,7 +164,7 @@ impl Finder {
         ensures { OnOk result (rows.new ≡ rows.old ++ answer_row tables.now (map atom_view group.now) ∷ []) }
     {
         if let [atom] = group {
-            return self.add_entry(tables, atom, rows);
+            return self.add_atom(true, tables, atom, rows);
         }
         let mut count = 0;
         self.found.clear();
@@ -167,7 +174,7 @@ impl Finder {
             if count > ROW_LIMIT {
                 return rows.leave_out();
             }
-            tables.find(atom, named, provided, &mut self.more)?;
+            tables.find(true, atom, named, provided, &mut self.more)?;
             merge(&self.found, &self.more, &mut self.merged)?;
             mem::swap(&mut self.found, &mut self.merged);
         }

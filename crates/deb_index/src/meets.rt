@@ -3,7 +3,7 @@ ghost use Rattle.std.specs.Prelude.{◌≡◌, ◌<◌, ◌≤◌, length, map, 
 ghost use Rattle.std.specs.List.{list_any};
 ghost use Rattle.deb_relation.specs.AtomView.{atom_view, atoms_view};
 ghost use Rattle.deb_index.specs.Packages.{package_view, needs, aparts, no_atom};
-ghost use Rattle.deb_index.specs.Meets.{meets, meets_bound, meets_itself, entry_meets};
+ghost use Rattle.deb_index.specs.Meets.{meets, meets_need, meets_bound, meets_itself, entry_meets};
 ghost use Rattle.deb_index.specs.Meets as spec;
 ghost use Rattle.deb_index.specs.Tables.{asked_count, asked_limit};
 
@@ -62,6 +62,14 @@ impl Package {
         ensures { result ≡ meets arch.now (package_view self.now) (atom_view atom.now) }
     {
         atom.usable(arch) && (self.meets_itself(atom) || self.provides_for(arch, atom))
+    }
+
+    /// Whether the package meets an atom as an alternative of a need: with the qualifier `any` only if it allows that.
+    #[tactic(auto, unfolding(crate::specs::Meets::meets_need))]
+    pub(crate) fn meets_need(&self, arch: &[u8], atom: &Atom) -> bool
+        ensures { result ≡ meets_need arch.now (package_view self.now) (atom_view atom.now) }
+    {
+        self.meets(arch, atom) && (!atom.has_any() || self.multi_arch_allowed)
     }
 
     pub(crate) fn need_count(&self) -> u32

@@ -5,7 +5,7 @@ ghost use Rattle.std.specs.List.{list_all};
 ghost use Rattle.deb_control.specs.Fields.{field_value};
 ghost use Rattle.deb_relation.specs.AtomView.{atom_view, atoms_view};
 ghost use Rattle.deb_index.specs.Packages.{package_view};
-ghost use Rattle.deb_index.specs.Reading.{Gives, field_name, head_of, head_view, groups_in, atoms_in, is_for, is_marked, is_provided, provides_in, package_of, reading_of, reading_view, relation_text, good_version, next_reading};
+ghost use Rattle.deb_index.specs.Reading.{Gives, field_name, head_of, head_view, groups_in, atoms_in, is_allowed, is_for, is_marked, is_provided, provides_in, package_of, reading_of, reading_view, relation_text, good_version, next_reading};
 ghost use Rattle.deb_index.specs.Reading as spec;
 
 use crate::error::{IndexError, RelField};
@@ -24,6 +24,8 @@ pub struct Package {
     pub architecture: Vec<u8>,
     /// Whether the stanza says `Essential: yes` (Debian Policy 3.8); any other value means no.
     pub essential: bool,
+    /// Whether the stanza says `Multi-Arch: allowed`; any other value counts as none.
+    pub multi_arch_allowed: bool,
     /// Groups of alternatives, one of each of which has to be met.
     pub pre_depends: Vec<Vec<Atom>>,
     pub depends: Vec<Vec<Atom>>,
@@ -196,6 +198,15 @@ fn is_marked(stanza: &Stanza) -> bool
     }
 }
 
+fn is_allowed(stanza: &Stanza) -> bool
+    ensures { result ≡ is_allowed stanza.now }
+{
+    match stanza.field("Multi-Arch") {
+        Some(value) => value == b"allowed".as_slice(),
+        None => false,
+    }
+}
+
 #[tactic(auto, unfolding(crate::specs::Reading::package_of))]
 fn read_package(
     alloc: Global,
@@ -215,6 +226,7 @@ fn read_package(
         version: head.version,
         architecture: Vec::from_slice(alloc, head.architecture)?,
         essential: is_marked(stanza),
+        multi_arch_allowed: is_allowed(stanza),
         pre_depends,
         depends,
         conflicts,

@@ -5,7 +5,7 @@ use Rattle.std.proofs.lemmas.Bool.{cases_lt, false≢true, or_cases, or_left, or
 use Rattle.std.proofs.lemmas.List.{get_or_past, get_or_default}
 use Rattle.deb_relation.specs.Relationship.{AtomText}
 use Rattle.deb_index.specs.Packages.{IndexView, name_at, places_of, essential_names, needs_at, need_at}
-use Rattle.deb_index.specs.Meets.{meets_at, group_satisfiers}
+use Rattle.deb_index.specs.Meets.{meets_need_at, group_satisfiers}
 use Rattle.deb_index.specs.Constraints.{has_name, answers}
 use Rattle.sat_solve.specs.Sets.{NumberSet, members_of}
 use Rattle.deb_verdict.specs.Closure.{IsWithin}
@@ -85,7 +85,7 @@ visits_more index ins place number before between after visits brings = record {
 -- past the last group nothing is asked
 pub no_answer : (index : IndexView) (place j q : ℕ) → length (needs_at index place) ≤ j → answers index place j q ≡ true → ⊥
 no_answer index place j q past answered =
-    false≢true (sym (ap (λ (group : List AtomText). list_any (meets_at index q) group) (get_or_past (needs_at index place) j [] past)) ∙ answered)
+    false≢true (sym (ap (λ (group : List AtomText). list_any (meets_need_at index q) group) (get_or_past (needs_at index place) j [] past)) ∙ answered)
 
 pub visits_place : (index : IndexView) (ins : NumberSet) (place number : ℕ) (before after : List ℕ) → length (needs_at index place) ≤ number → VisitsBelow index ins place number before after
     → Visits index ins (λ q. eqb place q) before after

@@ -6,7 +6,7 @@ use Rattle.std.proofs.lemmas.Bool.{false≢true, or_cases, or_left, or_right, eq
 use Rattle.std.proofs.lemmas.List.Elements.{Contains-get_or}
 use Rattle.deb_relation.specs.Relationship.{AtomText}
 use Rattle.deb_index.specs.Packages.{IndexView, PackageView, name_at, places_of, essential_names, needs_at, need_at}
-use Rattle.deb_index.specs.Meets.{meets, group_satisfiers}
+use Rattle.deb_index.specs.Meets.{meets_need, group_satisfiers}
 use Rattle.deb_index.specs.Constraints.{has_name, answers}
 use Rattle.deb_index.proofs.MemberLemmas.{member-places_where}
 use Rattle.sat_solve.specs.Sets.{members_of}
@@ -27,14 +27,14 @@ none_meets [] = refl
 none_meets (atom ∷ group) = none_meets group
 
 group_met : (arch : List ℕ) (group : List AtomText) (found : Option PackageView)
-    → option_map_or (λ item. list_any (meets arch item) group) found false ≡ list_any (λ atom. option_map_or (λ item. meets arch item atom) found false) group
+    → option_map_or (λ item. list_any (meets_need arch item) group) found false ≡ list_any (λ atom. option_map_or (λ item. meets_need arch item atom) found false) group
 group_met arch group None = sym (none_meets group)
 group_met arch group (Some item) = refl
 
 -- the places of a need's row are those that answer it
 pub member_answers : (index : IndexView) (p j q : ℕ) → members_of (group_satisfiers index (need_at index p j)) q ≡ answers index p j q
 member_answers index p j q =
-    member-places_where (λ item. list_any (meets index.arch item) (need_at index p j)) index.packages q
+    member-places_where (λ item. list_any (meets_need index.arch item) (need_at index p j)) index.packages q
     ∙ group_met index.arch (need_at index p j) (slice_get index.packages q)
 
 in_single : (only q : ℕ) → members_of (only ∷ []) q ≡ true → q ≡ only

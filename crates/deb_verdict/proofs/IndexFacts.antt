@@ -9,7 +9,7 @@ use Rattle.deb_relation.specs.Relationship.{AtomText}
 use Rattle.deb_index.specs.declared.constraint.Constraint.{Constraint}
 use Rattle.deb_index.specs.declared.constraint.Constraint.TheVariants.{Essential, Need, Apart, Only}
 use Rattle.deb_index.specs.Packages.{IndexView, names, name_at, is_named, places_of, essential_names, needs_at, aparts_at, need_at}
-use Rattle.deb_index.specs.Meets.{meets, meets_at, satisfiers}
+use Rattle.deb_index.specs.Meets.{meets, meets_at, meets_need, meets_need_at, need_satisfiers, satisfiers}
 use Rattle.deb_index.specs.Constraints.{constraints_at, constraints_of, below, has_name, answers}
 use Rattle.deb_index.proofs.MemberLemmas.{member-places_where}
 use Rattle.sat_solve.specs.Sets.{NumberSet, members_of}
@@ -55,13 +55,13 @@ found_within test xs q None there holds = absurd (false≢true holds)
 pub named_is_place : (index : IndexView) (q number : ℕ) → has_name index q number ≡ true → q < length index.packages
 named_is_place index q number named = found_within (is_named (name_at index number)) index.packages q (slice_get index.packages q) refl named
 
-pub meets_is_place : (index : IndexView) (q : ℕ) (atom : AtomText) → meets_at index q atom ≡ true → q < length index.packages
-meets_is_place index q atom met = found_within (λ item. meets index.arch item atom) index.packages q (slice_get index.packages q) refl met
+pub meets_is_place : (index : IndexView) (q : ℕ) (atom : AtomText) → meets_need_at index q atom ≡ true → q < length index.packages
+meets_is_place index q atom met = found_within (λ item. meets_need index.arch item atom) index.packages q (slice_get index.packages q) refl met
 
-any_meets_is_place : (index : IndexView) (q : ℕ) (group : List AtomText) → list_any (meets_at index q) group ≡ true → q < length index.packages
+any_meets_is_place : (index : IndexView) (q : ℕ) (group : List AtomText) → list_any (meets_need_at index q) group ≡ true → q < length index.packages
 any_meets_is_place index q [] met = absurd (false≢true met)
 any_meets_is_place index q (atom ∷ group) met =
-    elim (or_cases (meets_at index q atom) (list_any (meets_at index q) group) met) [
+    elim (or_cases (meets_need_at index q atom) (list_any (meets_need_at index q) group) met) [
       | inl here ↦ meets_is_place index q atom here
       | inr later ↦ any_meets_is_place index q group later
     ]
@@ -72,6 +72,10 @@ answers_is_place index p j q answered = any_meets_is_place index q (need_at inde
 -- the places of a name are those that have it
 pub member_named : (index : IndexView) (number q : ℕ) → members_of (places_of index (name_at index number)) q ≡ has_name index q number
 member_named index number q = member-places_where (is_named (name_at index number)) index.packages q
+
+-- those of an alternative of a need
+pub member_need_satisfiers : (index : IndexView) (atom : AtomText) (q : ℕ) → members_of (need_satisfiers index atom) q ≡ meets_need_at index q atom
+member_need_satisfiers index atom q = member-places_where (λ item. meets_need index.arch item atom) index.packages q
 
 -- the satisfiers of an atom are the places that meet it
 pub member_satisfiers : (index : IndexView) (atom : AtomText) (q : ℕ) → members_of (satisfiers index atom) q ≡ meets_at index q atom

@@ -11,7 +11,7 @@ use Rattle.deb_relation.specs.declared.atom.Atom.{Atom}
 use Rattle.deb_relation.specs.AtomView.{atom_view}
 use Rattle.deb_relation.specs.Relationship.{AtomText}
 use Rattle.deb_index.specs.Packages.{IndexView, PackageView, needs_at, names, name_at, essential_names, is_essential, places_of}
-use Rattle.deb_index.specs.Meets.{meets, meets_at, satisfiers, group_satisfiers}
+use Rattle.deb_index.specs.Meets.{meets_need, meets_need_at, need_satisfiers, group_satisfiers}
 use Rattle.deb_index.specs.Constraints.{has_name, answers}
 use Rattle.deb_index.proofs.MemberLemmas.{below-places_where, member-places_where}
 use Rattle.sat_solve.specs.Sets.{NumberSet, members_of}
@@ -19,7 +19,7 @@ use Rattle.deb_verdict.specs.Closure.{IsWithin, IsClosed, IsClosure}
 use Rattle.deb_verdict.specs.Reduction.{all_below}
 use Rattle.deb_verdict.specs.Reach.{Joins, meeting, meeting_any, IsReaching}
 use Rattle.deb_verdict.proofs.AddSteps.{list_any-map, take_whole, below_members}
-use Rattle.deb_verdict.proofs.IndexFacts.{member_named, member_satisfiers, named_is_place, answers_is_place}
+use Rattle.deb_verdict.proofs.IndexFacts.{member_named, member_need_satisfiers, named_is_place, answers_is_place}
 use Rattle.deb_verdict.proofs.JoinLemmas.{joins_as, joins_both, joins_keep, joins_more}
 use Rattle.deb_verdict.proofs.PlaceSetLemmas.{few_below}
 use Rattle.deb_verdict.proofs.Reaching.{IsVisit, visit_reaches, reached}
@@ -52,29 +52,29 @@ start_joined index p first last with_p list i past list_is with_names =
 
 -- the places that meet one alternative more
 pub meeting_more : (index : IndexView) (atoms : List Atom) (i : ℕ) (atom : Atom) (met : List ℕ) (before between after : List ℕ) → i < length atoms → atom ≡ get_or atoms i atom
-    → met ≡ satisfiers index (atom_view atom) → Joins (meeting index (map atom_view (take i atoms))) before between → Joins (members_of met) between after
+    → met ≡ need_satisfiers index (atom_view atom) → Joins (meeting index (map atom_view (take i atoms))) before between → Joins (members_of met) between after
     → Joins (meeting index (map atom_view (take (i + 1) atoms))) before after
 meeting_more index atoms i atom met before between after inside here met_is so_far more =
-    let test : ℕ → Atom → Bool = λ q a. meets_at index q (atom_view a) in
+    let test : ℕ → Atom → Bool = λ q a. meets_need_at index q (atom_view a) in
     joins_as (λ q. list_any (test q) (take (i + 1) atoms)) (meeting index (map atom_view (take (i + 1) atoms))) before after
-    (λ q. sym (list_any-map (meets_at index q) atom_view (take (i + 1) atoms)))
+    (λ q. sym (list_any-map (meets_need_at index q) atom_view (take (i + 1) atoms)))
     (joins_more test atoms i atom before between after inside
-    (joins_as (meeting index (map atom_view (take i atoms))) (λ q. list_any (test q) (take i atoms)) before between (λ q. list_any-map (meets_at index q) atom_view (take i atoms)) so_far)
+    (joins_as (meeting index (map atom_view (take i atoms))) (λ q. list_any (test q) (take i atoms)) before between (λ q. list_any-map (meets_need_at index q) atom_view (take i atoms)) so_far)
     (joins_as (members_of met) (λ q. test q (get_or atoms i atom)) between after
-    (λ q. ap (λ xs. members_of xs q) met_is ∙ (member_satisfiers index (atom_view atom) q ∙ ap (test q) here)) more))
+    (λ q. ap (λ xs. members_of xs q) met_is ∙ (member_need_satisfiers index (atom_view atom) q ∙ ap (test q) here)) more))
 
 -- a row of places that meet a group
 pub row_joined : (index : IndexView) (group : List AtomText) (row before after : List ℕ) → row ≡ group_satisfiers index group → Joins (members_of row) before after → Joins (meeting index group) before after
 row_joined index group row before after is_that joins =
     joins_as (members_of row) (meeting index group) before after
-    (λ q. ap (λ list. members_of list q) is_that ∙ (member-places_where (λ item. list_any (meets index.arch item) group) index.packages q ∙ at_place (slice_get index.packages q) group)) joins
+    (λ q. ap (λ list. members_of list q) is_that ∙ (member-places_where (λ item. list_any (meets_need index.arch item) group) index.packages q ∙ at_place (slice_get index.packages q) group)) joins
   where
-    none : (group : List AtomText) → false ≡ list_any (λ atom. option_map_or (λ item. meets index.arch item atom) None false) group
+    none : (group : List AtomText) → false ≡ list_any (λ atom. option_map_or (λ item. meets_need index.arch item atom) None false) group
     none [] = refl
     none (atom ∷ group) = none group
 
     at_place : (found : Option PackageView) (group : List AtomText)
-        → option_map_or (λ item. list_any (meets index.arch item) group) found false ≡ list_any (λ atom. option_map_or (λ item. meets index.arch item atom) found false) group
+        → option_map_or (λ item. list_any (meets_need index.arch item) group) found false ≡ list_any (λ atom. option_map_or (λ item. meets_need index.arch item atom) found false) group
     at_place (Some item) group = refl
     at_place None group = none group
 

@@ -9,7 +9,7 @@ use Rattle.deb_relation.specs.AtomView.{atom_view}
 use Rattle.deb_relation.specs.Relationship.{AtomText}
 use Rattle.deb_index.specs.declared.constraint.Constraint.TheVariants.{Essential, Need}
 use Rattle.deb_index.specs.Packages.{IndexView, PackageView, name_at, places_of, need_at}
-use Rattle.deb_index.specs.Meets.{meets, meets_at, satisfiers, group_satisfiers}
+use Rattle.deb_index.specs.Meets.{meets_need, meets_need_at, need_satisfiers, group_satisfiers}
 use Rattle.deb_index.specs.Constraints.{Holds}
 use Rattle.deb_index.proofs.MemberLemmas.{member-places_where}
 use Rattle.sat_solve.specs.declared.Lit.{Lit}
@@ -18,7 +18,7 @@ use Rattle.sat_solve.specs.Clauses.{Clauses, clause_holds}
 use Rattle.deb_verdict.specs.Adding.{Adds}
 use Rattle.deb_verdict.specs.Standings.{Widens}
 use Rattle.deb_verdict.proofs.Members.{any_member, member_any}
-use Rattle.deb_verdict.proofs.IndexFacts.{member_named, member_satisfiers, some_named}
+use Rattle.deb_verdict.proofs.IndexFacts.{member_named, member_need_satisfiers, some_named}
 use Rattle.deb_verdict.proofs.AddLemmas.{adds_as}
 use Rattle.deb_verdict.proofs.AddSteps.{take_whole, list_any-map}
 
@@ -108,46 +108,46 @@ module _ (count : ℕ) where
 
 -- ---- the places that answer a group
 
-meets_some : (arch : List ℕ) (group : List AtomText) (there : Option PackageView) → list_any (λ (a : AtomText). option_map_or (λ (q : PackageView). meets arch q a) there false) group ≡ option_map_or (λ (q : PackageView). list_any (meets arch q) group) there false
+meets_some : (arch : List ℕ) (group : List AtomText) (there : Option PackageView) → list_any (λ (a : AtomText). option_map_or (λ (q : PackageView). meets_need arch q a) there false) group ≡ option_map_or (λ (q : PackageView). list_any (meets_need arch q) group) there false
 meets_some arch group (Some q) = refl
 meets_some arch [] None = refl
 meets_some arch (a ∷ group) None = meets_some arch group None
 
-member_answers : (index : IndexView) (group : List AtomText) (q : ℕ) → members_of (group_satisfiers index group) q ≡ list_any (meets_at index q) group
+member_answers : (index : IndexView) (group : List AtomText) (q : ℕ) → members_of (group_satisfiers index group) q ≡ list_any (meets_need_at index q) group
 member_answers index group q =
-    member-places_where (λ item. list_any (meets index.arch item) group) index.packages q ∙ sym (meets_some index.arch group (slice_get index.packages q))
+    member-places_where (λ item. list_any (meets_need index.arch item) group) index.packages q ∙ sym (meets_some index.arch group (slice_get index.packages q))
 
 module _ (index : IndexView) (set : NumberSet) where
-  alternative_met : (group : List AtomText) → list_any (λ atom. list_any set (satisfiers index atom)) group ≡ true → (q : ℕ) × (set q ≡ true) × (list_any (meets_at index q) group ≡ true)
+  alternative_met : (group : List AtomText) → list_any (λ atom. list_any set (need_satisfiers index atom)) group ≡ true → (q : ℕ) × (set q ≡ true) × (list_any (meets_need_at index q) group ≡ true)
   alternative_met [] holds = absurd (false≢true holds)
   alternative_met (atom ∷ group) holds =
-      elim (or_cases (list_any set (satisfiers index atom)) (list_any (λ other. list_any set (satisfiers index other)) group) holds) [
+      elim (or_cases (list_any set (need_satisfiers index atom)) (list_any (λ other. list_any set (need_satisfiers index other)) group) holds) [
         | inl here ↦
-            let at = any_member set (satisfiers index atom) here in
-            (at.0, at.1, or_left (meets_at index at.0 atom) (list_any (meets_at index at.0) group) (sym (member_satisfiers index atom at.0) ∙ at.2))
-        | inr later ↦ let at = alternative_met group later in (at.0, at.1, or_right (meets_at index at.0 atom) (list_any (meets_at index at.0) group) at.2)
+            let at = any_member set (need_satisfiers index atom) here in
+            (at.0, at.1, or_left (meets_need_at index at.0 atom) (list_any (meets_need_at index at.0) group) (sym (member_need_satisfiers index atom at.0) ∙ at.2))
+        | inr later ↦ let at = alternative_met group later in (at.0, at.1, or_right (meets_need_at index at.0 atom) (list_any (meets_need_at index at.0) group) at.2)
       ]
 
-  met_alternative : (group : List AtomText) (q : ℕ) → set q ≡ true → list_any (meets_at index q) group ≡ true → list_any (λ atom. list_any set (satisfiers index atom)) group ≡ true
+  met_alternative : (group : List AtomText) (q : ℕ) → set q ≡ true → list_any (meets_need_at index q) group ≡ true → list_any (λ atom. list_any set (need_satisfiers index atom)) group ≡ true
   met_alternative [] q is_there met = absurd (false≢true met)
   met_alternative (atom ∷ group) q is_there met =
-      elim (or_cases (meets_at index q atom) (list_any (meets_at index q) group) met) [
+      elim (or_cases (meets_need_at index q atom) (list_any (meets_need_at index q) group) met) [
         | inl here ↦
-            or_left (list_any set (satisfiers index atom)) (list_any (λ other. list_any set (satisfiers index other)) group)
-            (member_any set (satisfiers index atom) q is_there (member_satisfiers index atom q ∙ here))
-        | inr later ↦ or_right (list_any set (satisfiers index atom)) (list_any (λ other. list_any set (satisfiers index other)) group) (met_alternative group q is_there later)
+            or_left (list_any set (need_satisfiers index atom)) (list_any (λ other. list_any set (need_satisfiers index other)) group)
+            (member_any set (need_satisfiers index atom) q is_there (member_need_satisfiers index atom q ∙ here))
+        | inr later ↦ or_right (list_any set (need_satisfiers index atom)) (list_any (λ other. list_any set (need_satisfiers index other)) group) (met_alternative group q is_there later)
       ]
 
-  some_answer : (group : List AtomText) → list_any set (group_satisfiers index group) ≡ true → (q : ℕ) × (set q ≡ true) × (list_any (meets_at index q) group ≡ true)
+  some_answer : (group : List AtomText) → list_any set (group_satisfiers index group) ≡ true → (q : ℕ) × (set q ≡ true) × (list_any (meets_need_at index q) group ≡ true)
   some_answer group holds = let at = any_member set (group_satisfiers index group) holds in (at.0, at.1, sym (member_answers index group at.0) ∙ at.2)
 
-  answer_some : (group : List AtomText) (q : ℕ) → set q ≡ true → list_any (meets_at index q) group ≡ true → list_any set (group_satisfiers index group) ≡ true
+  answer_some : (group : List AtomText) (q : ℕ) → set q ≡ true → list_any (meets_need_at index q) group ≡ true → list_any set (group_satisfiers index group) ≡ true
   answer_some group q is_there met = member_any set (group_satisfiers index group) q is_there (member_answers index group q ∙ met)
 
   -- one alternative after the other finds the same
-  pub alternatives : (atoms : List Atom) (group : List AtomText) → map atom_view atoms ≡ group → list_any (λ (a : Atom). list_any set (satisfiers index (atom_view a))) atoms ≡ list_any set (group_satisfiers index group)
+  pub alternatives : (atoms : List Atom) (group : List AtomText) → map atom_view atoms ≡ group → list_any (λ (a : Atom). list_any set (need_satisfiers index (atom_view a))) atoms ≡ list_any set (group_satisfiers index group)
   alternatives atoms group same =
-      let each : NumberSet → AtomText → Bool = λ s atom. list_any s (satisfiers index atom) in
+      let each : NumberSet → AtomText → Bool = λ s atom. list_any s (need_satisfiers index atom) in
       sym (list_any-map (each set) atom_view atoms)
       ∙ (ap (list_any (each set)) same
       ∙ same_test (list_any (each set) group) (list_any set (group_satisfiers index group))

@@ -3,7 +3,7 @@ use Rattle.std.specs.Prelude.{◌≡◌, ℕ, ◌⊎◌, true, false, nat_eq, Li
 use Rattle.std.specs.List.{list_any, IsDistinct}
 use Rattle.deb_relation.specs.Relationship.{AtomText}
 use Rattle.deb_index.specs.Packages.{IndexView, essential_names}
-use Rattle.deb_index.specs.Meets.{meets_at}
+use Rattle.deb_index.specs.Meets.{meets_need_at}
 use Rattle.deb_index.specs.Constraints.{has_name, answers}
 use Rattle.sat_solve.specs.Sets.{NumberSet, members_of}
 use Rattle.deb_verdict.specs.Closure.{IsWithin, IsClosed}
@@ -18,11 +18,11 @@ pub record Joins (places : NumberSet) (before after : List ℕ) : Type 0 where
 
 -- the places that meet an alternative of the group
 abbrev pub meeting : IndexView → List AtomText → NumberSet
-meeting index group q = list_any (meets_at index q) group
+meeting index group q = list_any (meets_need_at index q) group
 
 -- the places that meet an alternative of one of the groups
 abbrev pub meeting_any : IndexView → List (List AtomText) → NumberSet
-meeting_any index groups q = list_any (λ group. list_any (meets_at index q) group) groups
+meeting_any index groups q = list_any (λ group. list_any (meets_need_at index q) group) groups
 
 -- the places that are in so far, and those of them that are still to be visited
 pub record IsReaching (index : IndexView) (p : ℕ) (marked waiting : NumberSet) : Type 0 where

@@ -51,7 +51,7 @@ fn or_alternatives(
     ensures { IfOk result (λ anyway. Widens (λ vars. list_any (placed scene.now.ins.now scene.now.members.now vars) (group_satisfiers scene.now.index.now (need_at scene.now.index.now place number))) (length scene.now.members.now) clause.old.items clause.new.items anyway) }
 {
     for atom in scene.index.need(place, number) {
-        let met = scene.index.satisfiers(alloc, atom)?;
+        let met = scene.index.need_satisfiers(alloc, atom)?;
         if or_some(scene, &met, clause)? {
             return Ok(true);
         }

@@ -57,7 +57,7 @@ fn answers_of(alloc: Global, index: &Index, place: u32, number: u32) -> Result<V
 {
     let mut found = Vec::new(alloc);
     for atom in index.need(place, number) {
-        let met = index.satisfiers(alloc, atom)?;
+        let met = index.need_satisfiers(alloc, atom)?;
         found.extend_from_slice(&met)?;
     }
     Ok(found)

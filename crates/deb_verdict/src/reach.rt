@@ -34,7 +34,7 @@ fn insert_meeting(
     ensures { OnOk result (Joins (meeting index.now (map atom_view group.now)) members.old members.new) }
 {
     for atom in group {
-        let met = index.satisfiers(alloc, atom)?;
+        let met = index.need_satisfiers(alloc, atom)?;
         insert_all(&met, members)?;
     }
     Ok(())

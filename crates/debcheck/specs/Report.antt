@@ -5,7 +5,7 @@ use Rattle.deb_relation.specs.Relationship.{AtomText, printed}
 use Rattle.deb_index.specs.declared.constraint.Constraint.{Constraint}
 use Rattle.deb_index.specs.declared.constraint.Constraint.TheVariants.{Essential, Need, Apart, Only}
 use Rattle.deb_index.specs.Packages.{IndexView, PackageView, package_at, name_at, need_at, apart_at}
-use Rattle.deb_index.specs.Meets.{satisfiers}
+use Rattle.deb_index.specs.Meets.{need_satisfiers}
 use Rattle.deb_verdict.specs.Verdicts.{VerdictView, Found, Blocked}
 use Rattle.debcheck.specs.declared.config.Show.{Show}
 use Rattle.debcheck.specs.declared.config.Show.TheVariants.{All, Failures, Successes}
@@ -37,7 +37,7 @@ is_empty places = length places == 0
 
 -- no package of the index meets any atom of the group
 unfoldable pub is_missing : IndexView → List AtomText → Bool
-is_missing index group = list_all (λ atom. is_empty (satisfiers index atom)) group
+is_missing index group = list_all (λ atom. is_empty (need_satisfiers index atom)) group
 
 -- the field that a group stands in: the groups of Pre-Depends come first
 unfoldable pub group_field : PackageView → ℕ → List ℕ

@@ -67,7 +67,7 @@ fn is_missing(alloc: Global, index: &Index, group: &[Atom]) -> Result<bool, Allo
     ensures { IfOk result (λ missing. missing ≡ is_missing index.now (map atom_view group.now)) }
 {
     for atom in group {
-        if !index.satisfiers(alloc, atom)?.is_empty() {
+        if !index.need_satisfiers(alloc, atom)?.is_empty() {
             return Ok(false);
         }
     }

@@ -4,7 +4,7 @@ use Rattle.deb_relation.specs.declared.atom.Atom.{Atom}
 use Rattle.std.proofs.lemmas.List.Folds.{list_all-map}
 use Rattle.std.specs.List.{list_all}
 use Rattle.deb_relation.specs.AtomView.{atom_view}
-use Rattle.deb_index.specs.Meets.{satisfiers}
+use Rattle.deb_index.specs.Meets.{need_satisfiers}
 use Rattle.debcheck.specs.Report.{is_missing, is_empty}
 use Rattle.debcheck.proofs.ReportLemmas.{list_all-fails}
 use Rattle.debcheck.proofs.reasons.is_missing.Goals as goal
@@ -12,9 +12,9 @@ use Rattle.debcheck.proofs.reasons.is_missing.Goals as goal
 pub returns-then-not-is_empty : goal.returns-then-not-is_empty
 unfolding is_missing
 returns-then-not-is_empty c =
-    let some : is_empty (satisfiers c.args.index.now (atom_view c.atom-item.result)) ≡ false = search rules in
+    let some : is_empty (need_satisfiers c.args.index.now (atom_view c.atom-item.result)) ≡ false = search rules in
     let within : c.loop-atom.atom-index < length c.args.group.now = search rules in
-    let P : Atom → Type 0 = λ atom. is_empty (satisfiers c.args.index.now (atom_view atom)) ≡ false in
+    let P : Atom → Type 0 = λ atom. is_empty (need_satisfiers c.args.index.now (atom_view atom)) ≡ false in
     sym (list_all-map _ atom_view c.args.group.now ∙ list_all-fails _ c.args.group.now _ c.atom-item.result within (subst P c.atom-item.is some))
 
 pub returns : goal.returns

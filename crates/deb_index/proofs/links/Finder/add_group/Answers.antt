@@ -3,7 +3,7 @@ use Rattle.std.specs.List.{list_any}
 use Rattle.std.proofs.lemmas.List.{take_all}
 use Rattle.deb_relation.specs.AtomView.{atom_view}
 use Rattle.deb_index.specs.Packages.{places_of}
-use Rattle.deb_index.specs.Meets.{group_satisfiers, meets, provided_at}
+use Rattle.deb_index.specs.Meets.{group_satisfiers, meets_need, provided_at}
 use Rattle.deb_index.specs.Rows.{answer_row}
 use Rattle.deb_index.proofs.LinkLemmas.{on-ok}
 use Rattle.deb_index.proofs.RowLemmas.{count-more, count-past, found-more, group-left, group-of-one, none-found, one-atom, row-short}
@@ -33,7 +33,7 @@ alternatives-preserved c =
     let within : i < length group = omega arith in
     let named = ap length (c.places_of-named.ensures ∙ ap (places_of index) c.deref.ensures.value) in
     let provided = ap length (c.provides_of-provided.ensures ∙ ap (provided_at index) c.deref-in-alternatives.ensures.value) in
-    let merged = c.in_ok-merge.ensures index.packages (λ q. list_any (meets index.arch q) (map atom_view (take i group))) (λ q. meets index.arch q (atom_view a))
+    let merged = c.in_ok-merge.ensures index.packages (λ q. list_any (meets_need index.arch q) (map atom_view (take i group))) (λ q. meets_need index.arch q (atom_view a))
     (c.deref-in-alternatives-2.ensures.value ∙ c.alternatives.invariant.1) (c.deref-in-alternatives-3.ensures.value ∙ c.in_ok-find.ensures) in (
       c.alternatives.invariant.0,
       found-more index group i a within c.index-group-number.is _ (ap (λ v. v.items) c.swap.ensures.x_after ∙ merged),
@@ -46,7 +46,7 @@ push-requires c =
     let index = c.args.tables.now in
     let group = c.args.group.now in
     let all : length group ≤ c.alternatives.number = omega arith in
-    row-short (λ q. list_any (meets index.arch q) (map atom_view group)) index.packages _ c.requires
+    row-short (λ q. list_any (meets_need index.arch q) (map atom_view group)) index.packages _ c.requires
     (c.deref-2.ensures.value ∙ c.alternatives.invariant.1 ∙ ap (λ l. group_satisfiers index (map atom_view l)) (take_all c.alternatives.number group all))
 
 pub returns-in-len1 : goal.returns-in-len1
@@ -54,4 +54,4 @@ returns-in-len1 c =
     let index = c.args.tables.now in
     let a = c.atom-item.result in
     let one = one-atom c.args.group.now a c.in-len1.len_at_least c.in-len1.len_below c.atom-item.is in
-    on-ok c.add_entry.result (λ e. e ∙ ap (λ r. c.args.rows.now ++ r ∷ []) (sym (ap (answer_row index) one ∙ group-of-one index (atom_view a)))) c.add_entry.ensures
+    on-ok c.add_atom.result (λ e. e ∙ ap (λ r. c.args.rows.now ++ r ∷ []) (sym (ap (answer_row index) one ∙ group-of-one index (atom_view a)))) c.add_atom.ensures
