@@ -19,10 +19,6 @@ size parts = sum_by (λ part. length part + 1) parts
 size-cons : {A : Type 0} (part : List A) (parts : List (List A)) → size (part ∷ parts) ≡ suc (length part + size parts)
 size-cons part parts = let k = sum_by-cons (λ part. length part + 1) part parts in omega (arith, k)
 
-size-onto : {A : Type 0} (x : A) (parts : List (List A)) → size (onto_first x parts) ≤ suc (suc (size parts))
-size-onto x [] = omega arith
-size-onto x (part ∷ parts) = omega (arith, size-cons (x ∷ part) parts, size-cons part parts)
-
 size-onto_some : {A : Type 0} (x : A) (part : List A) (parts : List (List A)) → size (onto_first x (part ∷ parts)) ≡ suc (size (part ∷ parts))
 size-onto_some x part parts = omega (arith, size-cons (x ∷ part) parts, size-cons part parts)
 

@@ -1,0 +1,40 @@
+//! One test for each call that can want memory; bench/growths runs them with each growth refused in turn.
+use crate::tests::{FOLDED, FOLDED_FIELDS, expect_folded, has_fields};
+use crate::{ControlError, Reader, stanzas};
+use std::test::Fail;
+
+/// The call that is refused memory may be made again, and then gives the stanza that was due.
+#[test]
+fn of_next_stanza(rt: HostRuntime) -> Result<(), Fail> {
+    let mut reader = Reader::new(FOLDED.as_bytes());
+    let mut refused = false;
+    for wanted in &FOLDED_FIELDS {
+        let answer = match reader.next_stanza(rt.alloc()) {
+            Err(ControlError::Memory) => {
+                refused = true;
+                reader.next_stanza(rt.alloc())
+            }
+            answer => answer,
+        };
+        match answer {
+            Ok(Some(stanza)) => assert!(rt; has_fields(&stanza, *wanted)),
+            _ => assert!(rt; false, "the stanza that was due is not given"),
+        }
+    }
+    assert!(rt; matches!(reader.next_stanza(rt.alloc()), Ok(None)));
+    assert!(rt; matches!(reader.next_stanza(rt.alloc()), Ok(None)));
+    if refused {
+        return Err(Fail::new("out of memory"));
+    }
+    Ok(())
+}
+
+#[test]
+fn of_stanzas(rt: HostRuntime) -> Result<(), Fail> {
+    match stanzas(rt.alloc(), FOLDED.as_bytes()) {
+        Ok(found) => expect_folded(&rt, &found),
+        Err(ControlError::Memory) => return Err(Fail::new("out of memory")),
+        Err(_) => assert!(rt; false, "a good text is refused"),
+    }
+    Ok(())
+}
