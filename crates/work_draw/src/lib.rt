@@ -1,4 +1,15 @@
 //! The verdicts of many packages by workers that draw chunks of them from one shared counter: each chunk once, none left out, in every order of events.
+//!
+//! To be read in this order:
+//!
+//! - `hand`: what a drawer knows, and the rule that ties the drawers of a board to its claim word.
+//! - `board`: the board and its drawers, which split, draw, join and close.
+//! - `gate`: what is told of each chunk.
+//! - `chunks`: the verdicts of one chunk of the asked places.
+//! - `piece`: what is made of the numbers that are drawn.
+//! - `workers`: a worker, who draws until no number is left, and a crew of them.
+//! - `ordered`: the pieces of all workers, in the order of their numbers.
+//! - `check`: all of it, from the asked places to their verdicts.
 #![tactic(auto)]
 
 mod board;
@@ -17,5 +28,7 @@ pub use ordered::gather;
 pub use piece::{Drawn, Piece};
 pub use workers::{crew, draw_pieces};
 
+#[cfg(test)]
+mod growths;
 #[cfg(test)]
 mod tests;

@@ -17,7 +17,7 @@ pub struct Piece {
 pub struct Drawn {
     /// The worker's drawer, with the numbers that it drew.
     pub drawer: Drawer,
-    /// A piece for each of them, in the order of the draws.
+    /// A piece for each number that was drawn in the call, in the order of the draws; none for those that the drawer had before.
     pub pieces: Vec<Piece>,
     /// Whether memory was refused; then the worker stopped, and the last number drawn may lack its piece.
     pub refused: bool,

@@ -10,11 +10,13 @@ use std::test::Fail;
 use std::thread;
 use std::thread::Threads;
 
-#[test]
-fn deals_three_numbers(rt: HostRuntime) -> Result<(), Fail> {
-    let (board, mut drawer) = new_board(rt.alloc(), 3)?;
+/// A board of three numbers deals each, and then no more.
+pub fn expect_three_numbers(rt: &impl Abort, board: Board, mut drawer: Drawer)
+    requires { drawer.board ≡ board }
+{
     assert_eq!(rt; drawer.spare(), 63);
     assert_eq!(rt; drawer.held(), 1);
+    assert!(rt; !drawer.is_done());
     assert_eq!(rt; board.draw(&mut drawer), Some(0));
     assert_eq!(rt; board.draw(&mut drawer), Some(1));
     assert_eq!(rt; board.draw(&mut drawer), Some(2));
@@ -22,14 +24,27 @@ fn deals_three_numbers(rt: HostRuntime) -> Result<(), Fail> {
     assert_eq!(rt; board.draw(&mut drawer), None);
     assert!(rt; drawer.is_done());
     assert!(rt; board.close(drawer));
+}
+
+/// A board of no numbers closes after one draw.
+pub fn expect_no_number(rt: &impl Abort, board: Board, mut drawer: Drawer)
+    requires { drawer.board ≡ board }
+{
+    assert_eq!(rt; board.draw(&mut drawer), None);
+    assert!(rt; board.close(drawer));
+}
+
+#[test]
+fn deals_three_numbers(rt: HostRuntime) -> Result<(), Fail> {
+    let (board, drawer) = new_board(rt.alloc(), 3)?;
+    expect_three_numbers(&rt, board, drawer);
     Ok(())
 }
 
 #[test]
 fn closes_an_empty_board(rt: HostRuntime) -> Result<(), Fail> {
-    let (board, mut drawer) = new_board(rt.alloc(), 0)?;
-    assert_eq!(rt; board.draw(&mut drawer), None);
-    assert!(rt; board.close(drawer));
+    let (board, drawer) = new_board(rt.alloc(), 0)?;
+    expect_no_number(&rt, board, drawer);
     Ok(())
 }
 
@@ -81,14 +96,20 @@ fn expect_each_below_a_thousand(rt: &impl Abort, numbers: &[u32]) -> Result<(), 
     Ok(())
 }
 
-#[test]
-fn two_threads_draw_each_number_once(rt: HostRuntime) -> Result<(), Fail> {
+/// Two threads, each with one of the drawers of a split, draw each of a thousand numbers once.
+pub fn expect_each_number_once(
+    rt: &(impl Abort + Threads + Sync + AllocGlobal),
+    board: Board,
+    drawer: Drawer,
+) -> Result<(), Fail>
+    requires board { drawer.board ≡ board }
+    requires room { 0 < drawer.spare }
+{
     let alloc = rt.alloc();
-    let (board, drawer) = new_board(alloc, 1000)?;
     let (mine, theirs) = board.split(drawer, 0);
     let shared = &board;
     let (first, second) = thread::join(
-        &rt,
+        rt,
         move || draw_all(alloc, shared, theirs),
         move || draw_all(alloc, shared, mine),
     );
@@ -100,24 +121,31 @@ fn two_threads_draw_each_number_once(rt: HostRuntime) -> Result<(), Fail> {
     assert_eq!(rt; board.draw(&mut drawer), None);
     assert_eq!(rt; drawer.held(), 2);
     assert!(rt; board.close(drawer));
-    expect_each_below_a_thousand(&rt, &numbers)
+    expect_each_below_a_thousand(rt, &numbers)
 }
 
-/// Splits a drawer until no part of it can be split, and adds the parts.
-fn split_up(board: &Board, drawer: Drawer, parts: &mut Vec<Drawer>) -> Result<(), AllocError>
+#[test]
+fn two_threads_draw_each_number_once(rt: HostRuntime) -> Result<(), Fail> {
+    let (board, drawer) = new_board(rt.alloc(), 1000)?;
+    expect_each_number_once(&rt, board, drawer)
+}
+
+/// Splits a drawer into halves, and these again, until nothing of them is spare. One is handed back, the others are added.
+fn split_up(board: &Board, drawer: Drawer, others: &mut Vec<Drawer>) -> Result<Drawer, AllocError>
     requires own { drawer.board ≡ board.now }
-    requires others { All (λ d. d.board ≡ board.now) parts.old.items }
-    ensures { OnOk result (All (λ d. d.board ≡ board.now) parts.new.items) }
+    requires others { All (λ d. d.board ≡ board.now) others.old.items }
+    ensures own { IfOk result (λ d. d.board ≡ board.now) }
+    ensures others { OnOk result (All (λ d. d.board ≡ board.now) others.new.items) }
 {
     if drawer.spare() == 0 {
-        parts.push(drawer)?;
-        return Ok(());
+        return Ok(drawer);
     }
     let give = (drawer.spare() - 1) / 2;
     let (kept, given) = board.split(drawer, give);
-    split_up(board, kept, parts)?;
-    split_up(board, given, parts)?;
-    Ok(())
+    let kept = split_up(board, kept, others)?;
+    let given = split_up(board, given, others)?;
+    others.push(given)?;
+    Ok(kept)
 }
 
 /// Draws once from each part and joins it into a drawer; also what was drawn, in the order of the parts.
@@ -153,12 +181,10 @@ fn expect_ten_in_order(rt: &impl Abort, drawn: &[Option<u32>]) -> Result<(), Fai
 #[test]
 fn sixty_four_drawers_draw_once_each(rt: HostRuntime) -> Result<(), Fail> {
     let (board, drawer) = new_board(rt.alloc(), 10)?;
-    let (first, other) = board.split(drawer, 62);
-    let mut parts = Vec::new(rt.alloc());
-    split_up(&board, other, &mut parts)?;
-    assert_eq!(rt; first.spare(), 0);
-    assert_eq!(rt; parts.len(), 63);
-    let (whole, drawn) = draw_from_each(rt.alloc(), &board, first, parts)?;
+    let mut others = Vec::new(rt.alloc());
+    let first = split_up(&board, drawer, &mut others)?;
+    assert_eq!(rt; others.len(), 63);
+    let (whole, drawn) = draw_from_each(rt.alloc(), &board, first, others)?;
     assert_eq!(rt; whole.spare(), 0);
     assert_eq!(rt; whole.held(), 64);
     assert!(rt; whole.is_done());
@@ -166,16 +192,28 @@ fn sixty_four_drawers_draw_once_each(rt: HostRuntime) -> Result<(), Fail> {
     expect_ten_in_order(&rt, &drawn)
 }
 
-/// The index of three packages; the first depends on the second or the third.
-fn three_packages(alloc: Global) -> Result<Index, Fail> {
-    let text =
-        b"Package: a\nVersion: 1\nArchitecture: all\nDepends: b | c\n\nPackage: b\nVersion: 1\nArchitecture: all\n\nPackage: c\nVersion: 1\nArchitecture: all\n";
-    let index = Index::read(alloc, text, "amd64", true)?;
+/// Three packages; the first depends on the second or the third.
+const THREE_PACKAGES: &[u8] = b"Package: a
+Version: 1
+Architecture: all
+Depends: b | c
+
+Package: b
+Version: 1
+Architecture: all
+
+Package: c
+Version: 1
+Architecture: all
+";
+
+pub fn three_packages(alloc: Global) -> Result<Index, Fail> {
+    let index = Index::read(alloc, THREE_PACKAGES, "amd64", true)?;
     Ok(index)
 }
 
 /// Refuses places that the index does not have.
-fn check_places(index: &Index, places: &[u32]) -> Result<(), &'static str>
+pub fn check_places(index: &Index, places: &[u32]) -> Result<(), &'static str>
     ensures { OnOk result (All (λ place. place < length index.now.packages) places.now) }
 {
     for place in places {
@@ -193,7 +231,7 @@ fn is_set(found: &Verdict, wanted: &[u32]) -> bool {
     }
 }
 
-fn are_sets(found: &[Verdict], wanted: &[&[u32]]) -> bool {
+pub fn are_sets(found: &[Verdict], wanted: &[&[u32]]) -> bool {
     if found.len() != wanted.len() {
         return false;
     }
@@ -205,7 +243,7 @@ fn are_sets(found: &[Verdict], wanted: &[&[u32]]) -> bool {
     true
 }
 
-fn expect_piece(
+pub fn expect_piece(
     rt: &impl Abort,
     piece: &Piece,
     number: u32,
@@ -217,95 +255,14 @@ fn expect_piece(
 }
 
 /// The pieces of three asked packages, two to a chunk.
-fn expect_both_pieces(rt: &impl Abort, pieces: &[Piece]) -> Result<(), Fail> {
+pub fn expect_both_pieces(rt: &impl Abort, pieces: &[Piece]) -> Result<(), Fail> {
     assert_eq!(rt; pieces.len(), 2);
     expect_piece(rt, &pieces[0], 0, &[&[0, 2], &[1]])?;
     expect_piece(rt, &pieces[1], 1, &[&[2]])
 }
 
-fn expect_a_piece_of_each_number(
-    rt: &(impl Abort + AllocGlobal),
-    index: &Index,
-) -> Result<(), Fail> {
-    let asked = [0u32, 1, 2];
-    check_places(index, &asked)?;
-    let (board, drawer) = new_board(rt.alloc(), 2)?;
-    let drawn = draw_pieces(rt.alloc(), index, &asked, 2, &board, drawer, &OpenGate);
-    let Drawn {
-        drawer,
-        pieces,
-        refused,
-    } = drawn;
-    assert!(rt; !refused);
-    assert!(rt; board.close(drawer));
-    expect_both_pieces(rt, &pieces)
-}
-
-#[test]
-fn makes_a_piece_of_each_number(rt: HostRuntime) -> Result<(), Fail> {
-    let index = three_packages(rt.alloc())?;
-    expect_a_piece_of_each_number(&rt, &index)
-}
-
-fn expect_no_piece_of_an_earlier_number(
-    rt: &(impl Abort + AllocGlobal),
-    index: &Index,
-) -> Result<(), Fail> {
-    let asked = [0u32, 1, 2];
-    check_places(index, &asked)?;
-    let (board, mut drawer) = new_board(rt.alloc(), 2)?;
-    assert_eq!(rt; board.draw(&mut drawer), Some(0));
-    let drawn = draw_pieces(rt.alloc(), index, &asked, 2, &board, drawer, &OpenGate);
-    let Drawn {
-        drawer,
-        pieces,
-        refused,
-    } = drawn;
-    assert!(rt; !refused);
-    assert!(rt; board.close(drawer));
-    assert_eq!(rt; pieces.len(), 1);
-    expect_piece(rt, &pieces[0], 1, &[&[2]])
-}
-
-#[test]
-fn makes_no_piece_of_an_earlier_number(rt: HostRuntime) -> Result<(), Fail> {
-    let index = three_packages(rt.alloc())?;
-    expect_no_piece_of_an_earlier_number(&rt, &index)
-}
-
-/// The drawer that two workers leave holds two of the 64 parts, and closes the board.
-fn expect_all_drawn_by_two(rt: &impl Abort, board: Board, drawer: Drawer) -> Result<(), Fail>
-    requires { drawer.board ≡ board }
-{
-    assert_eq!(rt; drawer.spare(), 62);
-    assert_eq!(rt; drawer.held(), 2);
-    assert!(rt; drawer.is_done());
-    assert!(rt; board.close(drawer));
-    Ok(())
-}
-
-fn expect_both_pieces_of_two_workers(
-    rt: &(impl Abort + Threads + Sync + AllocGlobal),
-    index: &Index,
-) -> Result<(), Fail> {
-    let alloc = rt.alloc();
-    let asked = [0u32, 1, 2];
-    check_places(index, &asked)?;
-    let (board, drawer) = new_board(alloc, 2)?;
-    let (drawer, mut pieces) = crew(rt, alloc, index, &asked, 2, &board, drawer, 2, &OpenGate)?;
-    expect_all_drawn_by_two(rt, board, drawer)?;
-    pieces.sort_unstable_by_key(|piece| piece.number);
-    expect_both_pieces(rt, &pieces)
-}
-
-#[test]
-fn two_workers_make_both_pieces(rt: HostRuntime) -> Result<(), Fail> {
-    let index = three_packages(rt.alloc())?;
-    expect_both_pieces_of_two_workers(&rt, &index)
-}
-
 /// A piece with a set of one place for each of these places.
-fn piece_of(alloc: Global, number: u32, places: &[u32]) -> Result<Piece, AllocError>
+pub fn piece_of(alloc: Global, number: u32, places: &[u32]) -> Result<Piece, AllocError>
     ensures { IfOk result (λ p. p.number ≡ number) }
 {
     let mut verdicts = Vec::new(alloc);
@@ -328,36 +285,16 @@ fn gathers_by_number(rt: HostRuntime) -> Result<(), Fail> {
     Ok(())
 }
 
-fn expect_a_verdict_as_often_as_asked(
-    rt: &(impl Abort + Threads + Sync + AllocGlobal),
-    index: &Index,
-) -> Result<(), Fail> {
-    let asked = [0u32, 0];
-    check_places(index, &asked)?;
-    let found = check_all(rt, rt.alloc(), index, &asked, 2, 1, &OpenGate)?;
-    assert!(rt; are_sets(&found, &[&[0], &[0]]));
-    let none = check_all(rt, rt.alloc(), index, &[], 2, 1, &OpenGate)?;
-    assert!(rt; none.is_empty());
-    Ok(())
-}
-
-#[test]
-fn checks_a_place_as_often_as_asked(rt: HostRuntime) -> Result<(), Fail> {
-    let text = b"Package: a\nVersion: 1\nArchitecture: all\n";
-    let index = Index::read(rt.alloc(), text, "amd64", true)?;
-    expect_a_verdict_as_often_as_asked(&rt, &index)
-}
-
-/// How often each of three chunks was begun and ended, and whether a worker gave up waiting.
+/// How often each of three chunks was begun and ended, and whether one was told of out of turn or waited for in vain.
 #[derive(Drop)]
-struct Tally {
+pub struct Tally {
     begun: [AtomicU32; 3],
     ended: [AtomicU32; 3],
     missed: AtomicBool,
 }
 
 impl Tally {
-    fn new() -> Tally {
+    pub fn new() -> Tally {
         Tally {
             begun: [AtomicU32::new(0), AtomicU32::new(0), AtomicU32::new(0)],
             ended: [AtomicU32::new(0), AtomicU32::new(0), AtomicU32::new(0)],
@@ -376,27 +313,58 @@ impl Tally {
         self.missed.store(true, Ordering::SeqCst);
     }
 
-    fn add(&self, counts: &[AtomicU32; 3], number: u32) {
+    /// Counts that the chunk is begun.
+    fn begin(&self, number: u32) {
         if number < 3 {
-            counts[number as usize].fetch_add(1, Ordering::SeqCst);
+            self.begun[number as usize].fetch_add(1, Ordering::SeqCst);
         } else {
             self.missed.store(true, Ordering::SeqCst);
         }
     }
 
-    /// Whether each chunk was begun and ended once, and no worker gave up.
-    fn is_complete(&self) -> bool {
+    /// Counts that the chunk is ended, if it was begun.
+    fn end(&self, number: u32) {
+        if number < 3 && self.begun[number as usize].load(Ordering::SeqCst) > 0 {
+            self.ended[number as usize].fetch_add(1, Ordering::SeqCst);
+        } else {
+            self.missed.store(true, Ordering::SeqCst);
+        }
+    }
+
+    /// Whether no chunk was begun or ended twice, none ended that was not begun, and none waited for in vain.
+    pub fn is_in_order(&self) -> bool {
         if self.missed.load(Ordering::SeqCst) {
             return false;
         }
         for number in 0..3usize {
             let begun = self.begun[number].load(Ordering::SeqCst);
             let ended = self.ended[number].load(Ordering::SeqCst);
-            if begun != 1 || ended != 1 {
+            if begun > 1 || ended > begun {
                 return false;
             }
         }
         true
+    }
+
+    /// Whether moreover each chunk was begun and ended.
+    pub fn is_complete(&self) -> bool {
+        for number in 0..3usize {
+            if self.ended[number].load(Ordering::SeqCst) != 1 {
+                return false;
+            }
+        }
+        self.is_in_order()
+    }
+}
+
+/// Counts, and lets each chunk through at once.
+impl Gate for Tally {
+    fn before(&self, number: u32) {
+        self.begin(number);
+    }
+
+    fn after(&self, number: u32) {
+        self.end(number);
     }
 }
 
@@ -408,14 +376,14 @@ struct Meeting {
 
 impl Gate for Meeting {
     fn before(&self, number: u32) {
-        self.tally.add(&self.tally.begun, number);
+        self.tally.begin(number);
         if number < 2 {
             self.tally.wait_for(&self.tally.begun[1 - number as usize]);
         }
     }
 
     fn after(&self, number: u32) {
-        self.tally.add(&self.tally.ended, number);
+        self.tally.end(number);
     }
 }
 
@@ -459,7 +427,7 @@ struct LastOfThree {
 
 impl Gate for LastOfThree {
     fn before(&self, number: u32) {
-        self.tally.add(&self.tally.begun, number);
+        self.tally.begin(number);
         if number == self.held {
             for other in 0..3u32 {
                 if other != number {
@@ -470,7 +438,7 @@ impl Gate for LastOfThree {
     }
 
     fn after(&self, number: u32) {
-        self.tally.add(&self.tally.ended, number);
+        self.tally.end(number);
     }
 }
 
