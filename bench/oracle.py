@@ -16,9 +16,10 @@ with that byte for byte, and its status. The definitions are those of
 docs/meaning.md, written anew. Each index is run with other words.
 
 An index has up to 9 packages of up to 5 names, with alternatives, bounds,
-qualifiers, virtual packages, essential packages, several versions of a name,
-repeated stanzas and other architectures. Its fields come in any order and
-spelling, with comments and folded values.
+qualifiers in all five relationship fields, virtual packages, essential
+packages, values of Multi-Arch, several versions of a name, repeated stanzas and
+other architectures. Its fields come in any order and spelling, with comments
+and folded values.
 
 Status 0: all reports agree. 1: some don't; the first such index is printed.
 2: debcheck could not be run."""
@@ -33,6 +34,9 @@ OPERATORS = {
 }
 SPELLINGS = {"<": "<=", ">": ">="}
 NEEDS, APARTS = ("Pre-Depends", "Depends"), ("Conflicts", "Breaks")
+QUALIFIERS = ["any"] * 6 + [ARCH, ARCH, "i386", "all", "Any"]
+# Values of Multi-Arch. The last one is folded, which takes nothing from it.
+MARKING, OTHERS, FOLDED = "allowed", ["same", "foreign", "no", "Allowed", "ALLOWED", "allowed same", "allowed,", "any", ""], "\n allowed"
 
 
 class Atom(NamedTuple):
@@ -62,6 +66,7 @@ class Package(NamedTuple):
     version: str
     arch: str
     essential: bool
+    multi_arch: str
     needs: dict
     aparts: dict
     provides: list
@@ -74,6 +79,12 @@ class Package(NamedTuple):
         entries = [entry for entry in self.provides if entry.name == atom.name and entry.usable()]
         return any(not atom.operator or (entry.operator and atom.bound_holds(entry.version)) for entry in entries)
 
+    def meets_as_a_need(self, atom):
+        return self.meets(atom) and (atom.qualifier != "any" or self.has_mark())
+
+    def has_mark(self):
+        return self.multi_arch.strip(" \t\n") == MARKING
+
 
 class Maker:
     """Random packages and their text."""
@@ -82,6 +93,7 @@ class Maker:
         self.chance = chance
         self.names = NAMES[:chance.randint(2, len(NAMES))]
         self.bounded, self.missing = chance.random(), chance.choice([0, 0.05, 0.2])
+        self.qualified, self.marked = chance.choice([0, 0.1, 0.3, 0.6]), chance.choice([0, 0.3, 0.6])
 
     def some(self, most, make):
         return [make() for _ in range(self.chance.randint(0, most))]
@@ -89,7 +101,7 @@ class Maker:
     def atom(self, names, operators):
         operator = self.chance.choice(operators) if self.chance.random() < self.bounded else ""
         name = self.chance.choice(MISSING if self.chance.random() < self.missing else names)
-        qualifier = self.chance.choice([""] * 6 + ["any", ARCH, "i386", "all"])
+        qualifier = self.chance.choice(QUALIFIERS) if self.chance.random() < self.qualified else ""
         return Atom(name, qualifier, operator, self.chance.choice(list(VERSIONS)))
 
     def wanted(self):
@@ -98,13 +110,18 @@ class Maker:
     def group(self):
         return [self.wanted() for _ in range(self.chance.choice([1, 1, 2, 3]))]
 
+    def multi_arch(self):
+        if self.chance.random() < self.marked:
+            return self.chance.choice([MARKING, MARKING, MARKING, FOLDED])
+        return self.chance.choice(OTHERS) if self.chance.random() < 0.4 else ""
+
     def package(self):
         chance = self.chance
         return Package(
             chance.choice(self.names), chance.choice(list(VERSIONS)[:chance.randint(1, len(VERSIONS))]),
-            chance.choice(["all"] * 5 + [ARCH] * 5 + ["i386"]), chance.random() < 0.1,
+            chance.choice(["all"] * 5 + [ARCH] * 5 + ["i386"]), chance.random() < 0.1, self.multi_arch(),
             {field: self.some(most, self.group) for field, most in zip(NEEDS, (1, 2))},
-            {field: self.some(1, self.wanted) if chance.random() < 0.4 else [] for field in APARTS},
+            {field: self.some(2, self.wanted) if chance.random() < 0.5 else [] for field in APARTS},
             self.some(2, lambda: self.atom(VIRTUAL + self.names, ["="])))
 
     def packages(self):
@@ -122,6 +139,8 @@ class Maker:
         lines = [self.line("Package", package.name), self.line("Version", package.version), self.line("Architecture", package.arch)]
         if package.essential or self.chance.random() < 0.1:
             lines.append(self.line("Essential", "yes" if package.essential else self.chance.choice(["no", "Yes"])))
+        if package.multi_arch or self.chance.random() < 0.05:
+            lines.append(self.line("Multi-Arch", package.multi_arch))
         lists = {field: [" | ".join(atom.spelled(atom.operator) for atom in group) for group in groups] for field, groups in package.needs.items()}
         lists.update({field: [atom.spelled(atom.operator) for atom in atoms] for field, atoms in package.aparts.items()})
         lists["Provides"] = [atom.spelled(atom.operator) for atom in package.provides]
@@ -168,7 +187,7 @@ class Index:
         bit, who = 1 << place, "%s %s " % (package.name, package.version)
         for field in NEEDS:
             for group in package.needs[field]:
-                row = self.places(lambda _, other: any(other.meets(atom) for atom in group))
+                row = self.places(lambda _, other: any(other.meets_as_a_need(atom) for atom in group))
                 line = "%s: %s%s: %s" % ("depends" if row else "missing", who, field, " | ".join(atom.printed() for atom in group))
                 yield line, lambda chosen, row=row: not chosen & bit or chosen & row != 0
         for field in APARTS:
