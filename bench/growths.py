@@ -22,15 +22,18 @@ with want of memory and nothing on standard output; it has 10 seconds.
 A test wants memory by status 101 and a line on standard error that says so: it has
 looked by then at what the call leaves behind. debcheck wants memory by status 69 and
 "debcheck: out of memory" on standard error. Where a fault was found and there is no
-memory for its line alone, that line stands in the place of it, with the fault's status.
+memory for its line alone, that line stands in its place, with the fault's status.
 debcheck is tried a second time with all later growths refused, too.
-
-The test programs are built where they aren't there yet (`rt test`, some minutes for
-each), and taken as they are where they are there.
 
 The columns of the table: growths that were refused; runs that had the answer all the
 same; runs that wanted memory; runs that ended in a third way; seconds in all. A growth
-is passed over where it only makes room beforehand, which is found again later.
+may be passed over: std's `collect` asks for all the room that a hint speaks of, and,
+refused, for the room of one element more (the words of the command line, the names of
+--checkonly, clap's look for a similar option); and where no thread can be started, its
+work is done by the thread that asked.
+
+The test programs are built (`rt test`, some minutes for each) where they aren't there
+yet or a source is newer.
 
 Status 0: no run ended in a third way. 1: some did; they are listed. 2: not all could
 be tried."""
@@ -39,12 +42,13 @@ CALLS = {
     "deb_control": ["next_stanza", "stanzas"],
     "deb_relation": ["parse", "parse_groups", "parse_list", "append_to"],
     "deb_index": ["read", "satisfiers", "need_satisfiers", "constraints"],
-    "sat_solve": ["new", "add", "solve"],
-    "deb_verdict": ["closure", "verdict"],
+    "sat_solve": ["new", "add", "add_to_others", "add_after_restart", "solve", "solve_in"],
+    "deb_verdict": ["closure", "verdict", "verdict_in", "groundwork", "workspace"],
     "work_draw": ["new_board", "gather", "check_all", "draw_pieces", "crew"],
     "debcheck": ["read_line", "read_all", "run", "asked_places", "report", "fault_line"],
 }
 PROGRAM = "debcheck_program"
+TOP = os.path.dirname(debcheck_program.default_path())
 SECONDS = 10  # for one run
 COUNTED = {"malloc", "realloc"}
 NOT_COUNTED = {"aligned_alloc", "calloc", "memalign", "mmap", "posix_memalign", "pvalloc", "reallocarray", "sbrk", "valloc"}
@@ -147,13 +151,34 @@ def check_imports(program):
         raise Failed("%s asks for memory by %s; refuse.c counts %s" % (program, ", ".join(sorted(names & (NOT_COUNTED | COUNTED))), " and ".join(sorted(COUNTED))))
 
 
-def tests_of(crate, folder):
-    """The crate's test program, built where it isn't there, and the calls that it has a test for."""
-    place = os.path.join(os.path.dirname(debcheck_program.default_path()), "crates", crate)
-    program = os.path.join(place, "out", crate + "_tests")
+def stands_on(crate):
+    """The crate and those of the repository below it."""
+    with open(os.path.join(TOP, "crates.txt")) as file:
+        lines = dict(line.split(":", 1) for line in file if ":" in line and not line.startswith("#"))
+    below = {line.split()[0]: names.split() for line, names in lines.items()}
+    found = [crate]
+    for name in found:
+        found += [other for other in below[name] if other in below and other not in found]
+    return found
+
+
+def is_current(program, crate):
+    """Whether the program is there, and no source is newer."""
     if not os.path.isfile(program):
+        return False
+    sources = [os.path.join(place, name) for one in stands_on(crate) for part in ("src", "specs", "proofs")
+               for place, _, names in os.walk(os.path.join(TOP, "crates", one, part)) for name in names]
+    return os.path.getmtime(program) >= max(os.path.getmtime(path) for path in sources)
+
+
+def tests_of(crate, folder):
+    """The crate's test program, built where it isn't there or a source is newer, and the calls that it has a test for."""
+    place = os.path.join(TOP, "crates", crate)
+    program = os.path.join(place, "out", crate + "_tests")
+    if not is_current(program, crate):
         script.say("growths", "building the tests of %s, which proves them and takes some minutes" % crate)
         build(["rt", "test"], place, folder)
+        os.utime(program)
     check_imports(program)
     listed = subprocess.run([program, "--list"], stdout=subprocess.PIPE, encoding="ascii", check=True).stdout
     return program, [name[len("growths::of_"):] for name in re.findall(r"^(growths::of_\w+): test$", listed, re.MULTILINE)]
@@ -193,9 +218,8 @@ def sample_report():
 
 def debcheck_trials(folder, refuser):
     """Of what debcheck says of its words the wording is free, so a run with memory tells it."""
-    place = debcheck_program.default_path()
-    debcheck_program.find(place, "amd64", folder)
-    program = os.path.join(os.path.dirname(place), "crates", PROGRAM, "out", PROGRAM)
+    debcheck_program.find(debcheck_program.default_path(), "amd64", folder)
+    program = os.path.join(TOP, "crates", PROGRAM, "out", PROGRAM)
     check_imports(program)
     text, asked = sample_text(), ["--arch", "amd64", "--explain"]
     report = Ending(1, sample_report(), b"")
@@ -204,6 +228,7 @@ def debcheck_trials(folder, refuser):
             ("an unknown name", asked + ["--checkonly", "zz"], text, Ending(66, b"", b"debcheck: unknown package zz\n")),
             ("a fault", asked, b" x\n", Ending(65, b"", b"debcheck: stanza 1: bad line\n"))]
     for title, words, status in (("--help", ["--help"], 0), ("an unknown option", ["--arch", "amd64", "--no"], 64),
+                                 ("a misspelt option", ["--arch", "amd64", "--exlain"], 64),
                                  ("a refused value", ["--arch", "all"], 64), ("a word of no text", [b"\xff"], 64)):
         told = refuser.run([program] + words, b"", 0).ending
         full, empty = (told.out, told.err) if status == 0 else (told.err, told.out)
@@ -237,7 +262,10 @@ def refuse_each(refuser, pool, trial):
 def tell(trial, run):
     """What ended in a third way."""
     status, out, err = run.ending
-    ending = "stopped after %d s" % SECONDS if status is None else "status %d" % status
+    if status is None:
+        ending = "stopped after %d s" % SECONDS
+    else:
+        ending = "status %d" % status if status >= 0 else "signal %d" % -status
     print("\n%s, %s, growth %d of %d: %s" % (trial.crate, trial.title, run.number, run.growths, ending))
     for title, part in (("output", out), ("errors", err)):
         if part:
