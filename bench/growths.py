@@ -44,8 +44,11 @@ CALLS = {
     "deb_index": ["read", "satisfiers", "need_satisfiers", "constraints"],
     "sat_solve": ["new", "add", "add_to_others", "add_after_restart", "solve", "solve_in"],
     "deb_verdict": ["closure", "verdict", "verdict_in", "groundwork", "workspace"],
-    "work_draw": ["new_board", "gather", "check_all", "draw_pieces", "crew"],
-    "debcheck": ["read_line", "read_all", "run", "asked_places", "report", "fault_line"],
+    "work_draw": ["new_board", "gather", "check_all", "check_all_with_a_gate", "draw_pieces", "crew"],
+    "debcheck": [
+        "read_line", "usual", "read_all", "asked_places", "report", "run", "run_with_a_failing_writer",
+        "run_on_the_sample_with_one_worker", "run_on_the_sample_with_two_workers", "fault_line", "write_fault",
+    ],
 }
 PROGRAM = "debcheck_program"
 TOP = os.path.dirname(debcheck_program.default_path())
@@ -283,7 +286,7 @@ def spans(numbers):
     return ", ".join("%d" % first if first == last else "%d-%d" % (first, last) for first, last in told)
 
 
-ROW = "%-17s %-31s %8s %9s %7s %6s %8s"
+ROW = "%-17s %-34s %8s %9s %7s %6s %8s"
 
 
 def sweep(refuser, pool, trial):
