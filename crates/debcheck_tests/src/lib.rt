@@ -1,4 +1,4 @@
-//! Worked examples over all crates: a text goes in, and the bytes of the report are compared.
+//! Worked examples over all crates: words and a text go in, and the bytes of the report are compared.
 #![tactic(auto)]
 
 #[cfg(test)]
@@ -7,7 +7,13 @@ pub mod devices;
 #[cfg(test)]
 mod example;
 #[cfg(test)]
+mod failing_devices;
+#[cfg(test)]
+mod large;
+#[cfg(test)]
 mod meanings;
+#[cfg(test)]
+mod qualifiers;
 #[cfg(test)]
 mod refusals;
 #[cfg(test)]
@@ -16,5 +22,7 @@ mod relations;
 mod reports;
 #[cfg(test)]
 mod sample;
+#[cfg(test)]
+mod settings;
 #[cfg(test)]
 mod workers;

@@ -1,10 +1,22 @@
-//! Texts about essential names, fields, duplicates and qualifiers, and what is written of them with explanations for amd64.
+//! Texts about essential names, fields and duplicates, and what is written of them with explanations for amd64.
 
-use crate::example::Example;
+use crate::example::{EXPLAINED, Example};
 
-pub const EXAMPLES: [Example; 7] = [
+pub const ESSENTIAL_CONFLICT: &str = "Package: base
+Version: 1
+Architecture: all
+Essential: yes
+
+Package: x
+Version: 1
+Architecture: all
+Conflicts: base
+";
+
+pub const EXAMPLES: [Example; 6] = [
     Example {
         name: "unversioned_provides",
+        words: EXPLAINED,
         text: "Package: foo
 Version: 1
 Architecture: all
@@ -53,16 +65,8 @@ broken: 1
     },
     Example {
         name: "essential_conflict",
-        text: "Package: base
-Version: 1
-Architecture: all
-Essential: yes
-
-Package: x
-Version: 1
-Architecture: all
-Conflicts: base
-",
+        words: EXPLAINED,
+        text: ESSENTIAL_CONFLICT,
         report: "architecture: amd64
 report:
  -
@@ -91,6 +95,7 @@ broken: 1
     },
     Example {
         name: "essential_names_apart",
+        words: EXPLAINED,
         text: "Package: e1
 Version: 1
 Architecture: all
@@ -144,6 +149,7 @@ broken: 3
     },
     Example {
         name: "folded_field_and_comment",
+        words: EXPLAINED,
         text: "Package: a
 Version: 1
 Architecture: all
@@ -196,6 +202,7 @@ broken: 0
     },
     Example {
         name: "duplicates_and_skipped",
+        words: EXPLAINED,
         text: "Package: a
 Version: 1.0
 Architecture: amd64
@@ -239,67 +246,8 @@ broken: 0
         status: 0,
     },
     Example {
-        name: "qualifiers",
-        text: "Package: a
-Version: 1
-Architecture: all
-Depends: python3:any
-
-Package: b
-Version: 1
-Architecture: all
-Depends: n:i386
-
-Package: python3
-Version: 3
-Architecture: all
-
-Package: n
-Version: 1
-Architecture: all
-",
-        report: "architecture: amd64
-report:
- -
-  package: a
-  version: 1
-  architecture: all
-  status: ok
-  installation-set:
-   - a 1
-   - python3 3
- -
-  package: b
-  version: 1
-  architecture: all
-  status: broken
-  reasons:
-   - missing: b 1 Depends: n:i386
- -
-  package: python3
-  version: 3
-  architecture: all
-  status: ok
-  installation-set:
-   - python3 3
- -
-  package: n
-  version: 1
-  architecture: all
-  status: ok
-  installation-set:
-   - n 1
-stanzas: 4
-skipped: 0
-duplicates: 0
-asked: 4
-broken: 1
-",
-        fault: "",
-        status: 1,
-    },
-    Example {
         name: "own_dependencies",
+        words: EXPLAINED,
         text: "Package: s
 Version: 1
 Architecture: all

@@ -1,10 +1,11 @@
 //! Texts that are refused, and the line of the fault.
 
-use crate::example::Example;
+use crate::example::{EXPLAINED, Example};
 
 pub const EXAMPLES: [Example; 9] = [
     Example {
         name: "bad_line",
+        words: EXPLAINED,
         text: " x",
         report: "",
         fault: "debcheck: stanza 1: bad line
@@ -13,6 +14,7 @@ pub const EXAMPLES: [Example; 9] = [
     },
     Example {
         name: "bad_relation",
+        words: EXPLAINED,
         text: "Package: a
 Version: 1
 Architecture: all
@@ -24,6 +26,7 @@ Depends: b (>=",
     },
     Example {
         name: "missing_field",
+        words: EXPLAINED,
         text: "Package: a!
 Architecture: all
 ",
@@ -34,6 +37,7 @@ Architecture: all
     },
     Example {
         name: "bad_line_before_repeated_field",
+        words: EXPLAINED,
         text: "Package: a
 Package: b
 no colon here
@@ -45,6 +49,7 @@ no colon here
     },
     Example {
         name: "first_stanza_decides",
+        words: EXPLAINED,
         text: "Package: a!
 Architecture: all
 
@@ -56,6 +61,7 @@ Architecture: all
     },
     Example {
         name: "provides_with_another_operator",
+        words: EXPLAINED,
         text: "Package: a
 Version: 1
 Architecture: all
@@ -68,6 +74,7 @@ Provides: v (>= 1)
     },
     Example {
         name: "bad_version",
+        words: EXPLAINED,
         text: "Package: a
 Version: 1_2
 Architecture: all
@@ -79,6 +86,7 @@ Architecture: all
     },
     Example {
         name: "bad_name",
+        words: EXPLAINED,
         text: "Package: a!
 Version: 1
 Architecture: all
@@ -90,6 +98,7 @@ Architecture: all
     },
     Example {
         name: "repeated_field",
+        words: EXPLAINED,
         text: "Package: a
 Version: 1
 Architecture: all

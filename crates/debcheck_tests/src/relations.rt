@@ -1,27 +1,78 @@
 //! Texts about dependencies and conflicts, and what is written of them with explanations for amd64.
 
-use crate::example::Example;
+use crate::example::{EXPLAINED, Example};
 
-pub const EXAMPLES: [Example; 9] = [
-    Example {
-        name: "empty_input",
-        text: "",
-        report: "architecture: amd64
+/// The report on no stanza.
+pub const EMPTY_REPORT: &str = "architecture: amd64
 report:
 stanzas: 0
 skipped: 0
 duplicates: 0
 asked: 0
 broken: 0
-",
+";
+
+pub const ONE_PACKAGE: &str = "Package: a
+Version: 1
+Architecture: amd64";
+
+pub const MISSING_DEPENDENCY: &str = "Package: a
+Version: 1
+Architecture: all
+Depends: b
+
+Package: b
+Version: 1
+Architecture: all
+Depends: c (>= 2)
+
+Package: c
+Version: 1
+Architecture: all
+";
+
+pub const ALTERNATIVES: &str = "Package: a
+Version: 1
+Architecture: all
+Depends: b | c
+
+Package: b
+Version: 1
+Architecture: all
+
+Package: c
+Version: 1
+Architecture: all
+";
+
+pub const CONFLICT_BETWEEN_DEPENDENCIES: &str = "Package: a
+Version: 1
+Architecture: all
+Depends: b, c
+
+Package: b
+Version: 1
+Architecture: all
+Conflicts: c
+
+Package: c
+Version: 1
+Architecture: all
+";
+
+pub const EXAMPLES: [Example; 9] = [
+    Example {
+        name: "empty_input",
+        words: EXPLAINED,
+        text: "",
+        report: EMPTY_REPORT,
         fault: "",
         status: 0,
     },
     Example {
         name: "one_package_without_last_line_feed",
-        text: "Package: a
-Version: 1
-Architecture: amd64",
+        words: EXPLAINED,
+        text: ONE_PACKAGE,
         report: "architecture: amd64
 report:
  -
@@ -42,20 +93,8 @@ broken: 0
     },
     Example {
         name: "missing_dependency",
-        text: "Package: a
-Version: 1
-Architecture: all
-Depends: b
-
-Package: b
-Version: 1
-Architecture: all
-Depends: c (>= 2)
-
-Package: c
-Version: 1
-Architecture: all
-",
+        words: EXPLAINED,
+        text: MISSING_DEPENDENCY,
         report: "architecture: amd64
 report:
  -
@@ -91,19 +130,8 @@ broken: 2
     },
     Example {
         name: "alternatives",
-        text: "Package: a
-Version: 1
-Architecture: all
-Depends: b | c
-
-Package: b
-Version: 1
-Architecture: all
-
-Package: c
-Version: 1
-Architecture: all
-",
+        words: EXPLAINED,
+        text: ALTERNATIVES,
         report: "architecture: amd64
 report:
  -
@@ -139,6 +167,7 @@ broken: 0
     },
     Example {
         name: "first_core_lacks_the_earlier",
+        words: EXPLAINED,
         text: "Package: a
 Version: 1
 Architecture: all
@@ -164,20 +193,8 @@ broken: 1
     },
     Example {
         name: "conflict_between_dependencies",
-        text: "Package: a
-Version: 1
-Architecture: all
-Depends: b, c
-
-Package: b
-Version: 1
-Architecture: all
-Conflicts: c
-
-Package: c
-Version: 1
-Architecture: all
-",
+        words: EXPLAINED,
+        text: CONFLICT_BETWEEN_DEPENDENCIES,
         report: "architecture: amd64
 report:
  -
@@ -214,6 +231,7 @@ broken: 1
     },
     Example {
         name: "mail_agents",
+        words: EXPLAINED,
         text: "Package: m1
 Version: 1
 Architecture: all
@@ -267,6 +285,7 @@ broken: 1
     },
     Example {
         name: "two_versions",
+        words: EXPLAINED,
         text: "Package: n
 Version: 1
 Architecture: all
@@ -330,6 +349,7 @@ broken: 1
     },
     Example {
         name: "versioned_provides",
+        words: EXPLAINED,
         text: "Package: foo
 Version: 1
 Architecture: all

@@ -1,7 +1,7 @@
 //! Each example gives its bytes.
 
 use crate::example::{Example, outcome_of};
-use crate::{meanings, refusals, relations};
+use crate::{meanings, qualifiers, refusals, relations, settings};
 use std::alloc::Global;
 use std::process::Abort;
 use std::test::Fail;
@@ -13,21 +13,10 @@ fn check<R: Abort + Threads + Sync>(
     examples: &[Example],
 ) -> Result<(), Fail> {
     for example in examples {
-        let found = outcome_of(rt, alloc, example.text, 1, 64)?;
+        let found = outcome_of(rt, alloc, example.words, example.text)?;
         assert!(rt;
-            found.report.as_slice() == example.report.as_bytes(),
-            "the report of {}",
-            example.name
-        );
-        assert!(rt;
-            found.fault.as_slice() == example.fault.as_bytes(),
-            "the fault of {}",
-            example.name
-        );
-        assert_eq!(rt;
-            found.status,
-            example.status,
-            "the status of {}",
+            found.is(example.report, example.fault, example.status),
+            "the report, the fault or the status of {}",
             example.name
         );
     }
@@ -42,6 +31,16 @@ fn relations_give_their_reports(rt: HostRuntime) -> Result<(), Fail> {
 #[test]
 fn meanings_give_their_reports(rt: HostRuntime) -> Result<(), Fail> {
     check(&rt, rt.alloc(), &meanings::EXAMPLES)
+}
+
+#[test]
+fn qualifiers_give_their_reports(rt: HostRuntime) -> Result<(), Fail> {
+    check(&rt, rt.alloc(), &qualifiers::EXAMPLES)
+}
+
+#[test]
+fn settings_give_their_reports(rt: HostRuntime) -> Result<(), Fail> {
+    check(&rt, rt.alloc(), &settings::EXAMPLES)
 }
 
 #[test]

@@ -1,10 +1,6 @@
-//! A text of seventeen stanzas, and what is written of it with explanations for amd64.
+//! A text of seventeen stanzas, and what is written of it with explanations for amd64. Six of its packages are broken.
 
-use crate::example::Example;
-
-pub const EXAMPLES: [Example; 1] = [Example {
-    name: "sample",
-    text: "Package: r3a
+pub const TEXT: &str = "Package: r3a
 Version: 1
 Architecture: all
 Depends: r3b
@@ -84,8 +80,9 @@ Package: r8b
 Version: 1
 Architecture: all
 Depends: r8n (= 2)
-",
-    report: "architecture: amd64
+";
+
+pub const REPORT: &str = "architecture: amd64
 report:
  -
   package: r3a
@@ -221,7 +218,4 @@ skipped: 0
 duplicates: 0
 asked: 17
 broken: 6
-",
-    fault: "",
-    status: 1,
-}];
+";
