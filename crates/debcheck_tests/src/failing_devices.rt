@@ -11,6 +11,18 @@ use std::test::Fail;
 use std::thread::Threads;
 
 #[test]
+fn bytes_within_a_limit_are_read(rt: HostRuntime) -> Result<(), Fail> {
+    let mut three = Std::new(b"abc".as_slice());
+    let bytes = read_all(rt.alloc(), &mut three, 3)?;
+    assert_eq!(rt; bytes.as_slice(), b"abc".as_slice());
+    let mut four = Std::new(b"abcd".as_slice());
+    assert!(rt; matches!(&read_all(rt.alloc(), &mut four, 3), Err(RunFault::TooLong)));
+    let mut torn = Torn::new(b"", 1);
+    assert!(rt; matches!(&read_all(rt.alloc(), &mut torn, 3), Err(RunFault::Read)));
+    Ok(())
+}
+
+#[test]
 fn an_endless_reader_is_read_one_byte_past_the_limit(rt: HostRuntime) -> Result<(), Fail> {
     let mut reader = Endless::new();
     let answer = read_all(rt.alloc(), &mut reader, 1_000);
