@@ -11,18 +11,24 @@ use Rattle.debcheck.specs.Run.{Fails, IsReport, Settings}
 pub refused-memory : (settings : Settings) (text output : List ℕ) (summary : Summary) (fault : RunFault)
     → IsReport settings text output summary → Fails settings (Some text) false false fault → fault ≡ Memory
 refused-memory settings text output summary Read report fails = cc
-refused-memory settings text output summary TooLong report fails = let within = report.within in absurd (omega arith)
+refused-memory settings text output summary TooLong report fails =
+    let within = report.within in
+    let over = fails.1 in
+    absurd (omega arith)
 refused-memory settings text output summary (Index fault) report fails =
-    let refused = fails.1 in
+    let refused = fails.1.1.1 in
     let accepted = report.is_index in
     cc
 refused-memory settings text output summary (UnknownAsked name) report fails =
     let accepted = report.is_index in
-    let other = fails.1 in
-    let same : fails.0 ≡ report.index = cc in
+    let found = fails.1.1 in
+    let other = found.1 in
+    let same : found.0 ≡ report.index = cc in
     let P : IndexView → Type 0 = λ index. asked_places index settings.only ≡ Err name.items in
-    let unknown = subst P same fails.2 in
+    let unknown = subst P same found.2 in
     let asked = report.is_report.is_asked in
     cc
 refused-memory settings text output summary Memory report fails = refl
-refused-memory settings text output summary Write report fails = cc
+refused-memory settings text output summary Write report fails =
+    let failed = fails.0 in
+    cc

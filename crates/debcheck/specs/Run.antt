@@ -1,7 +1,7 @@
 -- What a run answers and writes.
-use Rattle.std.specs.Prelude.{◌≡◌, ◌≢◌, ℕ, ◌<◌, ◌≤◌, Bool, true, List, Option, None, Ok, Err, IfSome, length, map, string_bytes, codes}
+use Rattle.std.specs.Prelude.{◌≡◌, ◌≢◌, ℕ, ◌+◌, ◌<◌, ◌≤◌, Bool, false, true, List, Option, None, Ok, Err, IfSome, length, map, string_bytes, codes}
 use Rattle.std.specs.Option.{option_map}
-use Rattle.std.specs.Io.KnownBytes.{Appends, Keeps}
+use Rattle.std.specs.Io.KnownBytes.{Appends, Consumes, Keeps}
 use Rattle.deb_index.specs.Packages.{IndexView}
 use Rattle.deb_index.specs.Reading.{byte_limit, index_of}
 use Rattle.deb_verdict.specs.Verdicts.{IsVerdict, VerdictView}
@@ -57,51 +57,48 @@ WritesReport settings text old new summary = IfSome text (λ bytes. (output : Li
 abbrev pub WritesFront : Settings → Option (List ℕ) → Option (List ℕ) → Option (List ℕ) → Type 0
 WritesFront settings text old new = IfSome text (λ bytes. (output : List ℕ) × (summary : Summary) × IsReport settings bytes output summary × AppendsPart old new output)
 
--- why reading stops: the reader failed, or had more bytes than the limit
-abbrev pub FailsToRead : Option (List ℕ) → Bool → ℕ → RunFault → Type 0
-FailsToRead text failed limit Read = failed ≡ true
-FailsToRead text failed limit TooLong = IfSome text (λ bytes. limit < length bytes)
-FailsToRead text failed limit Memory = Unit {0}
-FailsToRead text failed limit Write = ⊥
-FailsToRead text failed limit (Index fault) = ⊥
-FailsToRead text failed limit (UnknownAsked name) = ⊥
+-- the text was read: no read failed, and where it is told, it is within the limit and has this property
+abbrev pub IfRead : Option (List ℕ) → Bool → (List ℕ → Type 0) → Type 0
+IfRead text failed P = (failed ≡ false) × IfSome text (λ bytes. (length bytes ≤ byte_limit) × P bytes)
 
--- why there is no index
+-- it was read, and is accepted as an index with this property
+abbrev pub IfIndexed : Settings → Option (List ℕ) → Bool → (IndexView → Type 0) → Type 0
+IfIndexed settings text failed P = IfRead text failed (λ bytes. (index : IndexView) × (index_of bytes settings.arch settings.essential ≡ Ok index) × P index)
+
+-- why reading ends without a text, by the reader's marks before and after: a read failed; or none did, and there were more bytes than the limit, or memory was wanted
+abbrev pub FailsToRead : Option (List ℕ) → Bool → Bool → ℕ → RunFault → Type 0
+FailsToRead text before failed limit Read = failed ≡ true
+FailsToRead text before failed limit TooLong = (failed ≡ before) × IfSome text (λ bytes. limit < length bytes)
+FailsToRead text before failed limit Memory = failed ≡ before
+FailsToRead text before failed limit _ = ⊥
+
+-- where there were too many bytes, exactly one more than the limit was read
+abbrev pub ReadsOneOver : ℕ → Option (List ℕ) → Option (List ℕ) → RunFault → Type 0
+ReadsOneOver limit old new TooLong = (bytes : List ℕ) × (length bytes ≡ limit + 1) × Consumes old new bytes
+ReadsOneOver limit old new _ = Unit {0}
+
+-- why there is no index: reading ended without a text, or the text has a fault
 abbrev pub FailsToIndex : Settings → Option (List ℕ) → Bool → RunFault → Type 0
-FailsToIndex settings text failed Read = failed ≡ true
-FailsToIndex settings text failed TooLong = IfSome text (λ bytes. byte_limit < length bytes)
-FailsToIndex settings text failed (Index fault) = (fault ≢ index_error.Memory) × IfSome text (λ bytes. index_of bytes settings.arch settings.essential ≡ Err fault)
-FailsToIndex settings text failed (UnknownAsked name) = ⊥
-FailsToIndex settings text failed Memory = Unit {0}
-FailsToIndex settings text failed Write = ⊥
+FailsToIndex settings text failed (Index fault) = (fault ≢ index_error.Memory) × IfRead text failed (λ bytes. index_of bytes settings.arch settings.essential ≡ Err fault)
+FailsToIndex settings text failed fault = FailsToRead text false failed byte_limit fault
 
--- why there is no report on an index
+-- why there is no report on an index: an asked name is unknown, or memory was wanted
 abbrev pub FailsToReport : Settings → IndexView → RunFault → Type 0
 FailsToReport settings index (UnknownAsked name) = asked_places index settings.only ≡ Err name.items
 FailsToReport settings index Memory = Unit {0}
-FailsToReport settings index Read = ⊥
-FailsToReport settings index TooLong = ⊥
-FailsToReport settings index (Index fault) = ⊥
-FailsToReport settings index Write = ⊥
+FailsToReport settings index _ = ⊥
 
--- the text reads as an index with this property
-abbrev pub IfIndexed : Settings → Option (List ℕ) → (IndexView → Type 0) → Type 0
-IfIndexed settings text P = IfSome text (λ bytes. (index : IndexView) × (index_of bytes settings.arch settings.essential ≡ Ok index) × P index)
+-- each asked name is one of a package of the index
+abbrev pub HasAsked : Settings → IndexView → Type 0
+HasAsked settings index = (asked : List ℕ) × (asked_places index settings.only ≡ Ok asked)
 
--- why a run fails: each fault with its cause
+-- why a run fails: there is no index; or there is one, and an asked name is unknown; or all are known, and the writer failed. Where memory was wanted, no read had failed
 abbrev pub Fails : Settings → Option (List ℕ) → Bool → Bool → RunFault → Type 0
-Fails settings text read_failed write_failed Read = read_failed ≡ true
-Fails settings text read_failed write_failed TooLong = IfSome text (λ bytes. byte_limit < length bytes)
-Fails settings text read_failed write_failed (Index fault) = (fault ≢ index_error.Memory) × IfSome text (λ bytes. index_of bytes settings.arch settings.essential ≡ Err fault)
-Fails settings text read_failed write_failed (UnknownAsked name) = IfIndexed settings text (λ index. asked_places index settings.only ≡ Err name.items)
-Fails settings text read_failed write_failed Memory = Unit {0}
-Fails settings text read_failed write_failed Write = write_failed ≡ true
+Fails settings text read_failed write_failed (UnknownAsked name) = IfIndexed settings text read_failed (λ index. FailsToReport settings index (UnknownAsked name))
+Fails settings text read_failed write_failed Write = (write_failed ≡ true) × IfIndexed settings text read_failed (HasAsked settings)
+Fails settings text read_failed write_failed fault = FailsToIndex settings text read_failed fault
 
 -- what a failed run leaves written: the front of the report where writing failed, else nothing
 abbrev pub Leaves : Settings → Option (List ℕ) → Option (List ℕ) → Option (List ℕ) → RunFault → Type 0
 Leaves settings text old new Write = WritesFront settings text old new
-Leaves settings text old new Read = Keeps old new
-Leaves settings text old new TooLong = Keeps old new
-Leaves settings text old new (Index fault) = Keeps old new
-Leaves settings text old new (UnknownAsked name) = Keeps old new
-Leaves settings text old new Memory = Keeps old new
+Leaves settings text old new _ = Keeps old new

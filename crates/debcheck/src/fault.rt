@@ -128,6 +128,14 @@ fn push_fault(alloc: Global, out: &mut Vec<u8>, fault: &RunFault) -> Result<(), 
     }
 }
 
+// The line of want of memory, which takes none.
+#[tactic(auto, unfolding(crate::specs::Faults::fault_line, crate::specs::Faults::fault_text))]
+pub(crate) fn memory_line() -> &'static [u8]
+    ensures { result.now ≡ fault_line Memory }
+{
+    b"debcheck: out of memory\n"
+}
+
 /// The line of a fault for standard error: `debcheck: `, what it is, and LF. Stanzas count from 1.
 ///
 /// `AllocError` where there is no memory for it.

@@ -169,7 +169,12 @@ fn push_blocks(
 }
 
 // Adds a line of a title and a number.
-fn push_number(alloc: Global, out: &mut Vec<u8>, title: &str, number: u32) -> Result<(), AllocError>
+fn push_number(
+    alloc: Global,
+    out: &mut Vec<u8>,
+    title: &str,
+    number: usize,
+) -> Result<(), AllocError>
     ensures { OnOk result (out.new.items ≡ out.old.items ++ line title.now (decimal number)) }
 {
     push_line(out, title, number.to_string(alloc)?.as_str().as_bytes())?;
@@ -178,14 +183,20 @@ fn push_number(alloc: Global, out: &mut Vec<u8>, title: &str, number: u32) -> Re
 
 // Adds the last lines.
 #[tactic(auto, unfolding(crate::specs::Report::summary_text))]
-fn push_summary(alloc: Global, out: &mut Vec<u8>, summary: Summary) -> Result<(), AllocError>
-    ensures { OnOk result (out.new.items ≡ out.old.items ++ summary_text summary) }
+fn push_summary(
+    alloc: Global,
+    out: &mut Vec<u8>,
+    index: &Index,
+    asked: &[u32],
+    verdicts: &[Verdict],
+) -> Result<(), AllocError>
+    ensures { OnOk result (out.new.items ≡ out.old.items ++ summary_text (summary_of index.now asked.now (map verdict_view verdicts.now))) }
 {
-    push_number(alloc, out, "stanzas: ", summary.stanzas)?;
-    push_number(alloc, out, "skipped: ", summary.skipped)?;
-    push_number(alloc, out, "duplicates: ", summary.duplicates)?;
-    push_number(alloc, out, "asked: ", summary.asked)?;
-    push_number(alloc, out, "broken: ", summary.broken)?;
+    push_number(alloc, out, "stanzas: ", index.stanzas() as usize)?;
+    push_number(alloc, out, "skipped: ", index.skipped() as usize)?;
+    push_number(alloc, out, "duplicates: ", index.duplicates() as usize)?;
+    push_number(alloc, out, "asked: ", asked.len())?;
+    push_number(alloc, out, "broken: ", broken_count(verdicts))?;
     Ok(())
 }
 
@@ -213,7 +224,7 @@ pub fn summary_of(index: &Index, asked: &[u32], verdicts: &[Verdict]) -> Summary
 
 /// The report on the asked places: two lines at the head, a block for each place that is shown, in the order of the list, and five lines of numbers.
 ///
-/// There are as many verdicts as places, and both speak of what the index has. A block tells name, version, architecture and status, as
+/// There are as many verdicts as places, of any number, and both speak of what the index has. A block tells name, version, architecture and status, as
 /// dose-debcheck(1) reports them; with `explain` the set that was found, or a line for each constraint that stands against each set, with the
 /// relationship as Debian Policy 7.1 writes it. `AllocError` where there is no memory for it.
 #[tactic(auto, unfolding(crate::specs::Report::report_text))]
@@ -224,7 +235,6 @@ pub fn report(
     verdicts: &[Verdict],
     config: &Config,
 ) -> Result<Vec<u8>, AllocError>
-    requires few { length asked.now < 2 ^ 32 }
     requires same { length asked.now ≡ length verdicts.now }
     requires places { All (λ place. place < length index.now.packages) asked.now }
     requires within { All (SpeaksOf index.now) (map verdict_view verdicts.now) }
@@ -234,6 +244,6 @@ pub fn report(
     push_line(&mut out, "architecture: ", index.arch())?;
     push_line(&mut out, "report:", b"")?;
     push_blocks(alloc, &mut out, index, asked, verdicts, config)?;
-    push_summary(alloc, &mut out, summary_of(index, asked, verdicts))?;
+    push_summary(alloc, &mut out, index, asked, verdicts)?;
     Ok(out)
 }

@@ -5,6 +5,8 @@ mod asked;
 mod config;
 mod device;
 mod fault;
+#[cfg(test)]
+mod growths;
 mod input;
 pub mod laws;
 mod layout;

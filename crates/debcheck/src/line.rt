@@ -10,6 +10,7 @@ ghost use Rattle.debcheck.specs.declared.line.LineFault.TheVariants.{Memory};
 
 use crate::config::{Config, Show};
 use crate::device::{DeviceFault, Sink};
+use crate::fault::memory_line;
 use crate::options::{command, given, is_set, value_of};
 use crate::output::write_all;
 use crate::values::{count_of, is_architecture, names_of};
@@ -216,6 +217,6 @@ pub fn write_line_fault<K: Sink, E: Sink>(
     match fault {
         LineFault::Help { text } => write_all(output, text.as_str().as_bytes()),
         LineFault::Refused { text } => write_all(errors, text.as_str().as_bytes()),
-        LineFault::Memory => write_all(errors, b"debcheck: out of memory\n"),
+        LineFault::Memory => write_all(errors, memory_line()),
     }
 }

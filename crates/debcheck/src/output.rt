@@ -6,7 +6,7 @@ ghost use Rattle.debcheck.specs.Devices.{AppendsPart};
 ghost use Rattle.debcheck.specs.Faults.{fault_line};
 
 use crate::device::{DeviceFault, Sink};
-use crate::fault::{RunFault, fault_line};
+use crate::fault::{RunFault, fault_line, memory_line};
 use std::alloc::Global;
 
 /// Writes all bytes and flushes. `DeviceFault` where the writer failed or took no byte: then a front of them was written.
@@ -44,7 +44,7 @@ pub fn write_fault<K: Sink>(
 {
     match fault_line(alloc, fault) {
         Ok(line) => write_all(writer, line.as_slice())?,
-        Err(_) => write_all(writer, b"debcheck: out of memory\n")?,
+        Err(_) => write_all(writer, memory_line())?,
     }
     Ok(())
 }

@@ -1,9 +1,9 @@
 //! A run, from bytes to bytes.
 
-ghost use Rattle.std.specs.Prelude.{◌≡◌, ◌≢◌, ◌<◌, ◌≤◌, ℕ, IfErr, IfOk, IfSome, OnOk, false, true, length};
+ghost use Rattle.std.specs.Prelude.{◌≡◌, ◌≢◌, ◌<◌, ◌≤◌, IfErr, IfOk, OnOk, false, true};
 ghost use Rattle.std.specs.Io.KnownBytes.{IsAtEnd};
-ghost use Rattle.deb_index.specs.Reading.{byte_limit, index_of};
-ghost use Rattle.debcheck.specs.Run.{Fails, FailsToIndex, FailsToReport, IsReportOn, Leaves, WritesReport, settings_of};
+ghost use Rattle.deb_index.specs.Reading.{index_of};
+ghost use Rattle.debcheck.specs.Run.{Fails, FailsToIndex, FailsToReport, IfRead, IsReportOn, Leaves, WritesReport, settings_of};
 
 use crate::asked::asked_places;
 use crate::config::Config;
@@ -23,10 +23,10 @@ const TEXT_LIMIT: usize = 268_435_456;
 
 // Reads the index. Its text is dropped at the end.
 fn read_index<S: Source>(alloc: Global, config: &Config, reader: &mut S) -> Result<Index, RunFault>
+    requires reader { S.failed reader.old ≡ false }
     ensures end { OnOk result (IsAtEnd (S.remaining reader.new)) }
-    ensures mark { OnOk result (S.failed reader.new ≡ S.failed reader.old) }
-    ensures index { IfOk result (λ index. IfSome (S.remaining reader.old) (λ text.
-        (length text ≤ byte_limit) × (index_of text (settings_of config.now).arch config.now.essential ≡ Ok index))) }
+    ensures index { IfOk result (λ index. IfRead (S.remaining reader.old) (S.failed reader.new)
+        (λ text. index_of text (settings_of config.now).arch config.now.essential ≡ Ok index)) }
     ensures refused { IfErr result (FailsToIndex (settings_of config.now) (S.remaining reader.old) (S.failed reader.new)) }
 {
     let text = read_all(alloc, reader, TEXT_LIMIT)?;
@@ -66,9 +66,12 @@ fn check_and_report<G: Gate + Sync, R: Threads + Sync>(
 /// Reads the index to its end, checks each asked package, writes the report and flushes. It may wait for its workers.
 ///
 /// After `Ok` the reader has no byte left, and what was written is the report of all bytes that were left in it, under the settings,
-/// for any number of workers (1 to 64) and any chunk from 1; the summary has its numbers. `Read`, `TooLong` (over 268,435,456 bytes),
-/// `Index` (the first stanza with a fault, Debian Policy 5.1 and 7.1), `UnknownAsked` and `Memory` leave the writer as it was. Under `Write`
-/// a front of the report was written. Neither device has failed before.
+/// for any number of workers (1 to 64) and any chunk from 1; the summary has its numbers. Neither device has failed before.
+///
+/// The first of these faults is answered: `Read` (some read failed), `TooLong` (over 268,435,456 bytes), `Index` (the first stanza with a
+/// fault, Debian Policy 5.1 and 7.1), `UnknownAsked`, `Write` (some write or flush failed). Want of memory is `Memory`; it may come at any
+/// time before writing, and never after a failed read. All but `Write` leave the writer as it was; under `Write` a front of the report was
+/// written.
 pub fn run<S: Source, K: Sink, G: Gate + Sync, R: Threads + Sync>(
     rt: &R,
     alloc: Global,

@@ -2,8 +2,9 @@
 
 ghost use Rattle.std.specs.Prelude.{◌≡◌, IfOk, None, false};
 
-mod line;
+pub(crate) mod line;
 mod parts;
+pub(crate) mod sample;
 
 use crate::config::{Config, Show};
 use crate::device::{DeviceFault, Sink, Source};
@@ -20,15 +21,15 @@ use work_draw::OpenGate;
 
 /// Gives some bytes at each read, or fails at each.
 #[derive(Drop)]
-struct Feed<'a> {
+pub(crate) struct Feed<'a> {
     rest: &'a [u8],
     step: usize,
-    fails: bool,
-    failed: bool,
-    reads: u32,
+    pub(crate) fails: bool,
+    pub(crate) failed: bool,
+    pub(crate) reads: u32,
 }
 
-fn source_of(text: &[u8], step: usize) -> Feed<'_>
+pub(crate) fn source_of(text: &[u8], step: usize) -> Feed<'_>
     ensures { result.failed ≡ false }
 {
     Feed {
@@ -61,17 +62,17 @@ impl Source for Feed<'_> {
 
 /// Takes some bytes at each write, and may fail at one of them or at the flush.
 #[derive(Drop)]
-struct Held {
-    bytes: Vec<u8>,
+pub(crate) struct Held {
+    pub(crate) bytes: Vec<u8>,
     step: usize,
     fails_at: u32,
     flush_fails: bool,
-    calls: u32,
+    pub(crate) calls: u32,
     failed: bool,
-    flushed: bool,
+    pub(crate) flushed: bool,
 }
 
-fn sink_of(alloc: Global, step: usize, fails_at: u32, flush_fails: bool) -> Held
+pub(crate) fn sink_of(alloc: Global, step: usize, fails_at: u32, flush_fails: bool) -> Held
     ensures { result.failed ≡ false }
 {
     Held {
@@ -244,7 +245,7 @@ fn by_two(alloc: Global) -> Result<Config, AllocError>
     Ok(config)
 }
 
-const EMPTY: &[u8] =
+pub(crate) const EMPTY: &[u8] =
     b"architecture: amd64\nreport:\nstanzas: 0\nskipped: 0\nduplicates: 0\nasked: 0\nbroken: 0\n";
 
 #[test]
@@ -324,7 +325,7 @@ fn failures_alone_with_their_reasons(rt: HostRuntime) -> Result<(), Fail> {
 }
 
 // The names as a list.
-fn named(alloc: Global, names: &[&[u8]]) -> Result<Vec<Vec<u8>>, AllocError> {
+pub(crate) fn named(alloc: Global, names: &[&[u8]]) -> Result<Vec<Vec<u8>>, AllocError> {
     let mut list = Vec::new(alloc);
     for name in names {
         list.push(Vec::from_slice(alloc, name)?)?;

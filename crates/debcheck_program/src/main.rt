@@ -41,6 +41,7 @@ fn main(rt: HostRuntime) -> ExitCode {
         Ok(config) => config,
         Err(fault) => {
             let told = write_line_fault(&mut output, &mut errors, &fault);
+            // Help that nobody got is no success: a script has to see it.
             if told.is_err() && matches!(&fault, LineFault::Help { .. }) {
                 let _ = write_fault(alloc, &mut errors, &RunFault::Write);
                 return ExitCode::from(status(&Err(RunFault::Write)));

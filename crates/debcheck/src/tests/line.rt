@@ -7,7 +7,7 @@ use std::alloc::{AllocError, Global};
 use std::process::Abort;
 use std::test::Fail;
 
-fn words_of(alloc: Global, line: &[&str]) -> Result<Vec<String>, AllocError> {
+pub(crate) fn words_of(alloc: Global, line: &[&str]) -> Result<Vec<String>, AllocError> {
     let mut words = Vec::new(alloc);
     for word in line {
         words.push(String::from_str(alloc, word)?)?;
@@ -40,7 +40,7 @@ fn refuses(rt: &(impl Abort + AllocGlobal), line: &[&str], parts: &[&str]) -> Re
 }
 
 // The settings beside the architecture are those where nothing more is said.
-fn is_plain(config: &Config) -> bool {
+pub(crate) fn is_plain(config: &Config) -> bool {
     config.workers == 4
         && config.chunk == 64
         && !config.explain
@@ -129,7 +129,7 @@ fn each_option_by_itself(rt: HostRuntime) -> Result<(), Fail> {
 }
 
 #[test]
-fn numbers_have_their_ranges(rt: HostRuntime) -> Result<(), Fail> {
+fn numbers_within_their_ranges(rt: HostRuntime) -> Result<(), Fail> {
     for (word, count) in [("1", 1), ("64", 64), ("007", 7)] {
         let config = config_of(rt.alloc(), &["--arch", "amd64", "--workers", word])?;
         assert_eq!(rt; config.workers, count);
@@ -138,40 +138,40 @@ fn numbers_have_their_ranges(rt: HostRuntime) -> Result<(), Fail> {
         let config = config_of(rt.alloc(), &["--arch", "amd64", "--chunk", word])?;
         assert_eq!(rt; config.chunk, count);
     }
-    let long = "100000000000000000000000000004";
-    for word in [
-        "0",
-        "65",
-        "+4",
-        " 4",
-        "4 ",
-        "four",
-        "4x",
-        "",
-        "1e1",
-        "4294967300",
-        long,
-    ] {
-        refuses(
-            &rt,
-            &["--arch", "amd64", "--workers", word],
-            &["--workers", "1 to 64", "--help"],
-        )?;
-    }
-    for word in ["0", "1000001", "+64", " 64", "sixty", "64.0", "", long] {
-        refuses(
-            &rt,
-            &["--arch", "amd64", "--chunk", word],
-            &["--chunk", "1 to 1000000", "--help"],
-        )?;
-    }
-    refuses(
-        &rt,
-        &["--arch", "amd64", "--workers=-1"],
-        &["--workers", "1 to 64"],
-    )?;
-    refuses(&rt, &["--arch", "amd64", "--workers", "-1"], &["-1"])?;
     Ok(())
+}
+
+const LONG: &str = "100000000000000000000000000004";
+
+const NO_WORKERS: [&str; 11] = [
+    "0",
+    "65",
+    "+4",
+    " 4",
+    "4 ",
+    "four",
+    "4x",
+    "",
+    "1e1",
+    "4294967300",
+    LONG,
+];
+
+const NO_CHUNKS: [&str; 8] = ["0", "1000001", "+64", " 64", "sixty", "64.0", "", LONG];
+
+#[test]
+fn other_numbers_are_refused(rt: HostRuntime) -> Result<(), Fail> {
+    for word in NO_WORKERS {
+        let line = ["--arch", "amd64", "--workers", word];
+        refuses(&rt, &line, &["--workers", "1 to 64", "--help"])?;
+    }
+    for word in NO_CHUNKS {
+        let line = ["--arch", "amd64", "--chunk", word];
+        refuses(&rt, &line, &["--chunk", "1 to 1000000", "--help"])?;
+    }
+    let attached = ["--arch", "amd64", "--workers=-1"];
+    refuses(&rt, &attached, &["--workers", "1 to 64"])?;
+    refuses(&rt, &["--arch", "amd64", "--workers", "-1"], &["-1"])
 }
 
 #[test]
@@ -236,7 +236,10 @@ fn listed_names_are_names_of_packages(rt: HostRuntime) -> Result<(), Fail> {
             &["--checkonly", "package names", "--help"],
         )?;
     }
-    refuses(&rt, &["--arch", "amd64", "--checkonly", "a,,b"], &["a,,b"])?;
+    for list in ["", "a!", "a,,b"] {
+        let line = ["--arch", "amd64", "--checkonly", list];
+        refuses(&rt, &line, &["--checkonly", list, "package names"])?;
+    }
     Ok(())
 }
 

@@ -1,4 +1,4 @@
-use Rattle.std.proofs.Common.{rules, refl, ◌≡◌}
+use Rattle.std.proofs.Common.{arith, rules, refl, ◌≡◌}
 use Rattle.debcheck.proofs.DeviceLemmas.{consumes_nothing, consumes_more, consumes_last, consumes_over}
 use Rattle.debcheck.proofs.input.read_through.Goals as goal
 
@@ -20,4 +20,7 @@ reads-preserved g c =
     (rw (c.in_ok-extend_from_slice-in-Ok.ensures.items) (consumes_more _ _ _ _ _ c.reads.invariant.0 c.in-Ok.ensures.bytes.0), search rules, search rules)
 
 pub returns-clause-refused : goal.returns-clause-refused
-returns-clause-refused g c = consumes_over _ _ _ _ c.reads.invariant.0 (search rules)
+returns-clause-refused g c = (search rules, consumes_over _ _ _ _ c.reads.invariant.0 (search rules))
+
+pub returns-clause-over : goal.returns-clause-over
+returns-clause-over g c = (c.reads.bytes.items, omega arith, c.reads.invariant.0)

@@ -1,7 +1,7 @@
 use Rattle.std.proofs.Common.{◌≡◌, ◌∙◌, [], ◌∷◌, ap, ap₂, codes, false, true}
 use Rattle.std.proofs.lemmas.Result.{IfOk-weaker}
-use Rattle.clap.specs.Words.{App, Rule, app_of, rule_of, with_rule}
-use Rattle.clap.specs.Simple.{app_of_fields, new_app, on_top}
+use Rattle.clap.specs.Words.{Rule, app_of, rule_of, with_rule}
+use Rattle.clap.specs.Simple.{app_of_fields, on_top}
 use Rattle.clap.specs.declared.builder.arg.Arg.{Arg}
 use Rattle.debcheck.specs.Line.{app_with, value_rule}
 use Rattle.debcheck.proofs.options.begun.Goals as goal

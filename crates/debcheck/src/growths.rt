@@ -1,0 +1,440 @@
+//! One test for each call that can want memory; bench/growths runs them with each growth refused in turn.
+
+ghost use Rattle.std.specs.Prelude.{◌≡◌, ◌<◌, ◌≤◌, IfOk, false};
+
+use crate::asked::asked_places;
+use crate::config::{Config, Show};
+use crate::fault::{RunFault, fault_line, status};
+use crate::input::read_all;
+use crate::layout::report;
+use crate::line::{LineFault, line_status, read_line};
+use crate::output::write_fault;
+use crate::phases::run;
+use crate::summary::Summary;
+use crate::tests::line::{is_plain, words_of};
+use crate::tests::{EMPTY, Held, named, sample, sink_of, source_of};
+use deb_index::Index;
+use std::alloc::{AllocError, Global};
+use std::process::Abort;
+use std::sync::atomic::{AtomicU32, Ordering};
+use std::test::Fail;
+use std::thread::Threads;
+use work_draw::{Gate, OpenGate, check_all};
+
+/// Three bytes where three are allowed, one more, and a reader that fails.
+#[test]
+fn of_read_all(rt: HostRuntime) -> Result<(), Fail> {
+    expect_read(&rt, b"abc", false, "abc")?;
+    expect_read(&rt, b"abcd", false, "too long")?;
+    expect_read(&rt, b"abc", true, "failed")
+}
+
+// What reading to the end with a limit of three bytes comes to.
+fn expect_read(
+    rt: &(impl Abort + AllocGlobal),
+    text: &[u8],
+    fails: bool,
+    wanted: &str,
+) -> Result<(), Fail> {
+    let mut reader = source_of(text, 1);
+    reader.fails = fails;
+    match read_all(rt.alloc(), &mut reader, 3) {
+        Ok(bytes) => assert_eq!(rt; bytes.as_slice(), wanted.as_bytes()),
+        Err(RunFault::TooLong) => {
+            assert!(rt; wanted == "too long");
+            assert_eq!(rt; reader.reads, 4);
+        }
+        Err(RunFault::Read) => {
+            assert!(rt; wanted == "failed");
+            assert_eq!(rt; reader.reads, 1);
+        }
+        Err(RunFault::Memory) => {
+            assert!(rt; !reader.failed);
+            return Err(Fail::new("out of memory"));
+        }
+        Err(_) => assert!(rt; false, "no fault of reading"),
+    }
+    Ok(())
+}
+
+// The usual settings, with a number of workers that take six packages at once.
+fn config_with(alloc: Global, workers: u32) -> Result<Config, AllocError>
+    ensures workers { IfOk result (λ config. config.workers ≡ workers) }
+    ensures chunk { IfOk result (λ config. config.chunk ≡ 6) }
+{
+    let mut config = Config::usual(alloc)?;
+    config.workers = workers;
+    config.chunk = 6;
+    Ok(config)
+}
+
+// A sink that needs no more memory for what is written to it here.
+fn sink_with_room(alloc: Global, step: usize, fails_at: u32) -> Result<Held, AllocError>
+    ensures { IfOk result (λ sink. sink.failed ≡ false) }
+{
+    let mut sink = sink_of(alloc, step, fails_at, false);
+    sink.bytes.reserve(10_000)?;
+    Ok(sink)
+}
+
+// The whole report was written, or nothing at all.
+fn expect_report(
+    rt: &impl Abort,
+    output: &Held,
+    outcome: &Result<Summary, RunFault>,
+    wanted: &[u8],
+    code: u8,
+) -> Result<(), Fail> {
+    match outcome {
+        Ok(_) => {
+            assert_eq!(rt; output.bytes.as_slice(), wanted);
+            assert!(rt; output.flushed);
+            assert_eq!(rt; status(outcome), code);
+            Ok(())
+        }
+        Err(RunFault::Memory) => {
+            assert_eq!(rt; output.calls, 0);
+            assert!(rt; output.bytes.is_empty());
+            assert_eq!(rt; status(outcome), 69);
+            Err(Fail::new("out of memory"))
+        }
+        Err(_) => {
+            assert!(rt; false, "no device failed");
+            Ok(())
+        }
+    }
+}
+
+/// No text, with a writer that takes one byte a call.
+#[test]
+fn of_run(rt: HostRuntime) -> Result<(), Fail> {
+    let config = config_with(rt.alloc(), 2)?;
+    let mut output = sink_with_room(rt.alloc(), 1, 0)?;
+    let mut nothing = source_of(b"", 1);
+    let outcome = run(
+        &rt,
+        rt.alloc(),
+        &config,
+        &mut nothing,
+        &mut output,
+        &OpenGate,
+    );
+    expect_report(&rt, &output, &outcome, EMPTY, 0)
+}
+
+/// The same, and the writer fails at its fifth call.
+#[test]
+fn of_run_with_a_failing_writer(rt: HostRuntime) -> Result<(), Fail> {
+    let config = config_with(rt.alloc(), 2)?;
+    let mut output = sink_with_room(rt.alloc(), 1, 5)?;
+    let mut nothing = source_of(b"", 1);
+    let outcome = run(
+        &rt,
+        rt.alloc(),
+        &config,
+        &mut nothing,
+        &mut output,
+        &OpenGate,
+    );
+    if !matches!(&outcome, Err(RunFault::Write)) {
+        return expect_report(&rt, &output, &outcome, b"no report", 68);
+    }
+    assert_eq!(rt; output.bytes.as_slice(), b"arch".as_slice());
+    assert_eq!(rt; status(&outcome), 68);
+    Ok(())
+}
+
+/// How often the gate let each of three chunks begin and end.
+#[derive(Drop)]
+struct Tally {
+    begun: [AtomicU32; 3],
+    ended: [AtomicU32; 3],
+    others: AtomicU32,
+}
+
+impl Tally {
+    fn new() -> Tally {
+        Tally {
+            begun: [AtomicU32::new(0), AtomicU32::new(0), AtomicU32::new(0)],
+            ended: [AtomicU32::new(0), AtomicU32::new(0), AtomicU32::new(0)],
+            others: AtomicU32::new(0),
+        }
+    }
+
+    fn add(&self, counts: &[AtomicU32; 3], number: u32) {
+        if number < 3 {
+            counts[number as usize].fetch_add(1, Ordering::SeqCst);
+        } else {
+            self.others.fetch_add(1, Ordering::SeqCst);
+        }
+    }
+
+    /// Whether each chunk began at most once, ended at most as often, and at least so often.
+    fn has_at_least(&self, least: u32) -> bool {
+        for number in 0..3usize {
+            let begun = self.begun[number].load(Ordering::SeqCst);
+            let ended = self.ended[number].load(Ordering::SeqCst);
+            if begun > 1 || ended > begun || ended < least {
+                return false;
+            }
+        }
+        self.others.load(Ordering::SeqCst) == 0
+    }
+}
+
+impl Gate for Tally {
+    fn before(&self, number: u32) {
+        self.add(&self.begun, number);
+    }
+
+    fn after(&self, number: u32) {
+        self.add(&self.ended, number);
+    }
+}
+
+// The sample in three chunks: no chunk begins twice or ends without a beginning, and all three end where there is a report.
+fn expect_sample(rt: &(impl Abort + Threads + Sync + AllocGlobal), workers: u32) -> Result<(), Fail>
+    requires { (0 < workers) × (workers ≤ 64) }
+{
+    let config = config_with(rt.alloc(), workers)?;
+    let mut output = sink_with_room(rt.alloc(), 1_000, 0)?;
+    let mut text = source_of(sample::TEXT, 1_000);
+    let tally = Tally::new();
+    let outcome = run(rt, rt.alloc(), &config, &mut text, &mut output, &tally);
+    let least = if outcome.is_ok() { 1 } else { 0 };
+    assert!(rt; tally.has_at_least(least));
+    expect_report(rt, &output, &outcome, sample::REPORT, 1)
+}
+
+#[test]
+fn of_run_on_the_sample_with_one_worker(rt: HostRuntime) -> Result<(), Fail> {
+    expect_sample(&rt, 1)
+}
+
+#[test]
+fn of_run_on_the_sample_with_two_workers(rt: HostRuntime) -> Result<(), Fail> {
+    expect_sample(&rt, 2)
+}
+
+const ONE: &[u8] = b"Package: a
+Version: 1
+Architecture: amd64";
+
+const TWO_NEEDED: &[u8] = b"Package: a
+Version: 1
+Architecture: all
+Depends: b, c
+
+Package: b
+Version: 1
+Architecture: all
+Conflicts: c
+
+Package: c
+Version: 1
+Architecture: all
+";
+
+// The places of the listed names, or the name that is unknown.
+fn expect_asked(
+    rt: &(impl Abort + AllocGlobal),
+    index: &Index,
+    names: &[&[u8]],
+    places: &[u32],
+    unknown: &[u8],
+) -> Result<(), Fail> {
+    let mut config = Config::usual(rt.alloc())?;
+    config.only = Some(named(rt.alloc(), names)?);
+    match asked_places(rt.alloc(), index, &config) {
+        Ok(asked) => {
+            assert!(rt; unknown.is_empty());
+            assert_eq!(rt; asked.as_slice(), places);
+        }
+        Err(RunFault::UnknownAsked { name }) => assert_eq!(rt; name.as_slice(), unknown),
+        Err(RunFault::Memory) => return Err(Fail::new("out of memory")),
+        Err(_) => assert!(rt; false, "no fault of the asked names"),
+    }
+    Ok(())
+}
+
+/// Two of three names, one of them twice, and a name that is unknown.
+#[test]
+fn of_asked_places(rt: HostRuntime) -> Result<(), Fail> {
+    let index = Index::read(rt.alloc(), TWO_NEEDED, "amd64", true)?;
+    expect_asked(&rt, &index, &[b"b", b"a", b"b"], &[0, 1], b"")?;
+    let index = Index::read(rt.alloc(), ONE, "amd64", true)?;
+    expect_asked(&rt, &index, &[b"zz"], &[], b"zz")
+}
+
+const CHAIN: &[u8] = b"Package: a
+Version: 1
+Architecture: all
+Depends: b
+
+Package: b
+Version: 1
+Architecture: all
+Depends: c (>= 2)
+
+Package: c
+Version: 1
+Architecture: all
+";
+
+const CHAIN_HEAD: &str = "architecture: amd64
+report:
+";
+
+const CHAIN_BROKEN: &str = " -
+  package: a
+  version: 1
+  architecture: all
+  status: broken
+  reasons:
+   - depends: a 1 Depends: b
+   - missing: b 1 Depends: c (>= 2)
+ -
+  package: b
+  version: 1
+  architecture: all
+  status: broken
+  reasons:
+   - missing: b 1 Depends: c (>= 2)
+";
+
+const CHAIN_OK: &str = " -
+  package: c
+  version: 1
+  architecture: all
+  status: ok
+  installation-set:
+   - c 1
+";
+
+const CHAIN_TAIL: &str = "stanzas: 3
+skipped: 0
+duplicates: 0
+asked: 3
+broken: 2
+";
+
+// The report on all three packages with these blocks.
+fn expect_shown(
+    rt: &(impl Abort + Threads + Sync + AllocGlobal),
+    index: &Index,
+    show: Show,
+    broken: &str,
+    ok: &str,
+) -> Result<(), Fail> {
+    let mut config = Config::usual(rt.alloc())?;
+    config.show = show;
+    let asked = asked_places(rt.alloc(), index, &config)?;
+    let asked = asked.as_slice();
+    let verdicts = check_all(rt, rt.alloc(), index, asked, 2, 1, &OpenGate)?;
+    let wanted = format!(in rt.alloc(); "{CHAIN_HEAD}{broken}{ok}{CHAIN_TAIL}")?;
+    match report(rt.alloc(), index, asked, verdicts.as_slice(), &config) {
+        Ok(text) => {
+            assert_eq!(rt; text.as_slice(), wanted.as_bytes());
+            Ok(())
+        }
+        Err(AllocError) => Err(Fail::new("out of memory")),
+    }
+}
+
+/// Broken packages alone, the others alone, and all.
+#[test]
+fn of_report(rt: HostRuntime) -> Result<(), Fail> {
+    let index = Index::read(rt.alloc(), CHAIN, "amd64", true)?;
+    expect_shown(&rt, &index, Show::Failures, CHAIN_BROKEN, "")?;
+    expect_shown(&rt, &index, Show::Successes, "", CHAIN_OK)?;
+    expect_shown(&rt, &index, Show::All, CHAIN_BROKEN, CHAIN_OK)
+}
+
+#[test]
+fn of_fault_line(rt: HostRuntime) -> Result<(), Fail> {
+    let name = Vec::from_slice(rt.alloc(), b"zz")?;
+    match fault_line(rt.alloc(), &RunFault::UnknownAsked { name }) {
+        Ok(line) => {
+            let wanted = b"debcheck: unknown package zz\n";
+            assert_eq!(rt; line.as_slice(), wanted.as_slice());
+            Ok(())
+        }
+        Err(AllocError) => Err(Fail::new("out of memory")),
+    }
+}
+
+/// A fault whose line finds no memory is told as want of memory.
+#[test]
+fn of_write_fault(rt: HostRuntime) -> Result<(), Fail> {
+    let name = Vec::from_slice(rt.alloc(), b"zz")?;
+    let mut errors = sink_with_room(rt.alloc(), 7, 0)?;
+    let told = write_fault(rt.alloc(), &mut errors, &RunFault::UnknownAsked { name });
+    assert!(rt; told.is_ok());
+    assert!(rt; errors.flushed);
+    if errors.bytes.as_slice() == b"debcheck: unknown package zz\n".as_slice() {
+        return Ok(());
+    }
+    let wanted = b"debcheck: out of memory\n";
+    assert_eq!(rt; errors.bytes.as_slice(), wanted.as_slice());
+    Err(Fail::new("out of memory"))
+}
+
+#[test]
+fn of_usual(rt: HostRuntime) -> Result<(), Fail> {
+    match Config::usual(rt.alloc()) {
+        Ok(mut config) => {
+            assert!(rt; config.explain);
+            assert!(rt; config.arch.as_str() == "amd64");
+            config.explain = false;
+            assert!(rt; is_plain(&config));
+            Ok(())
+        }
+        Err(AllocError) => Err(Fail::new("out of memory")),
+    }
+}
+
+// The line is taken, with the usual settings but for explanations, or it is refused.
+fn expect_line(
+    rt: &(impl Abort + AllocGlobal),
+    line: &[&str],
+    taken: bool,
+    explains: bool,
+) -> Result<(), Fail> {
+    match read_line(rt.alloc(), words_of(rt.alloc(), line)?) {
+        Ok(mut config) => {
+            assert!(rt; taken, "{line:?}");
+            assert!(rt; config.explain == explains);
+            config.explain = false;
+            assert!(rt; is_plain(&config));
+            assert!(rt; config.arch.as_str() == "amd64");
+            Ok(())
+        }
+        Err(fault) => match &fault {
+            LineFault::Memory => {
+                assert_eq!(rt; line_status(&fault), 69);
+                Err(Fail::new("out of memory"))
+            }
+            LineFault::Refused { .. } => {
+                assert!(rt; !taken, "{line:?}");
+                assert_eq!(rt; line_status(&fault), 64);
+                Ok(())
+            }
+            LineFault::Help { .. } => {
+                assert!(rt; false, "no help was asked for");
+                Ok(())
+            }
+        },
+    }
+}
+
+/// An architecture alone, no words, and four lines that are refused.
+#[test]
+fn of_read_line(rt: HostRuntime) -> Result<(), Fail> {
+    expect_line(&rt, &["--arch", "amd64"], true, false)?;
+    expect_line(&rt, &[], true, true)?;
+    expect_line(&rt, &["--workers", "2"], false, false)?;
+    expect_line(&rt, &["--arch", "all"], false, false)?;
+    expect_line(&rt, &["--arch", "amd64", "--workers", "65"], false, false)?;
+    let list = ["--arch", "amd64", "--checkonly", "a,,b"];
+    expect_line(&rt, &list, false, false)
+}
