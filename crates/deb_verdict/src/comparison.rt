@@ -39,9 +39,20 @@ fn has(set: &[bool], number: usize) -> bool {
     set.get(number).copied().unwrap_or(false)
 }
 
-fn some_meets(index: &Index, set: &[bool], atom: &Atom, but: Option<u32>) -> bool {
+/// Whether a package of a set meets an atom as an alternative of a need.
+fn some_answers(index: &Index, set: &[bool], atom: &Atom) -> bool {
     for q in 0..index.len() {
-        if has(set, q as usize) && but != Some(q) && index.meets(q, atom) {
+        if has(set, q as usize) && index.meets_need(q, atom) {
+            return true;
+        }
+    }
+    false
+}
+
+/// Whether a package of a set, other than the one that has it, meets an entry.
+fn some_other_meets(index: &Index, set: &[bool], p: u32, entry: &Atom) -> bool {
+    for q in 0..index.len() {
+        if has(set, q as usize) && q != p && index.meets(q, entry) {
             return true;
         }
     }
@@ -70,7 +81,7 @@ fn is_answered(index: &Index, set: &[bool], p: u32, number: u32) -> bool {
     for (k, group) in groups.enumerate() {
         if k == number as usize {
             for atom in group {
-                if some_meets(index, set, atom, None) {
+                if some_answers(index, set, atom) {
                     return true;
                 }
             }
@@ -85,8 +96,8 @@ fn is_hit(index: &Index, set: &[bool], p: u32, number: u32) -> bool {
     }
     let item = index.package(p);
     let entries = item.conflicts.iter().chain(item.breaks.iter());
-    for (k, atom) in entries.enumerate() {
-        if k == number as usize && some_meets(index, set, atom, Some(p)) {
+    for (k, entry) in entries.enumerate() {
+        if k == number as usize && some_other_meets(index, set, p, entry) {
             return true;
         }
     }
@@ -204,6 +215,59 @@ fn generated(alloc: Global, seed: u32) -> Result<String, AllocError> {
     Ok(text)
 }
 
+/// Conflicts and dependencies with the qualifier `any`, in each of their fields.
+fn line_with_any(choice: u32) -> &'static str {
+    match choice {
+        0 => "Depends: v:any\n",
+        1 => "Depends: c:any | b:any\n",
+        2 => "Depends: c, v:any | b\n",
+        3 => "Pre-Depends: b:any (>= 1)\n",
+        4 => "Pre-Depends: v:any\nConflicts: c:any\n",
+        5 => "Depends: v\nConflicts: v:any\n",
+        6 => "Depends: a\nBreaks: v:any\n",
+        7 => "Pre-Depends: v:any (= 2)\n",
+        8 => "Depends: b:any\nBreaks: c:any (<< 2)\n",
+        _ => "",
+    }
+}
+
+/// What a package provides, with the qualifier `any` and without.
+fn provided_line(choice: u32) -> &'static str {
+    match choice {
+        0 => "Provides: v\n",
+        1 => "Provides: v:any\n",
+        2 => "Provides: b:any (= 2), v (= 2)\n",
+        3 => "Provides: c:amd64, v:any (= 2)\n",
+        _ => "",
+    }
+}
+
+/// The marks of a package: `allowed` in half of the cases.
+fn marks(choice: u32) -> &'static str {
+    match choice {
+        0..3 => "Multi-Arch: allowed\n",
+        3 => "Multi-Arch: allowed\nEssential: yes\n",
+        4 => "Multi-Arch: same\n",
+        5 => "Multi-Arch: foreign\n",
+        _ => "",
+    }
+}
+
+/// A text of three or four packages that ask for and provide names with the qualifier `any`.
+fn generated_with_any(alloc: Global, seed: u32) -> Result<String, AllocError> {
+    let mut seed = seed;
+    let mut text = String::new(alloc);
+    for k in 0..4 {
+        let choice = draw(&mut seed, 4);
+        text.push_str(head(if k < 3 { k } else { choice }))?;
+        text.push_str(line_with_any(draw(&mut seed, 11)))?;
+        text.push_str(provided_line(draw(&mut seed, 5)))?;
+        text.push_str(marks(draw(&mut seed, 8)))?;
+        text.push_str("\n")?;
+    }
+    Ok(text)
+}
+
 /// Whether the package at a place has an essential name.
 fn has_essential_name(index: &Index, q: u32) -> bool
     requires { q < length index.now.packages }
@@ -226,7 +290,7 @@ fn answers_some(index: &Index, p: u32, q: u32) -> bool
     let item = index.package(p);
     for group in item.pre_depends.iter().chain(item.depends.iter()) {
         for atom in group {
-            if index.meets(q, atom) {
+            if index.meets_need(q, atom) {
                 return true;
             }
         }
@@ -325,5 +389,46 @@ fn closures_as_all_places_say(rt: HostRuntime) -> Result<(), Fail> {
         compare_closures(&rt, rt.alloc(), &index, &mut members)?;
     }
     assert!(rt; members > 1000 && members < 3000);
+    Ok(())
+}
+
+/// How many packages meet an atom, and would not as an alternative of a need.
+fn count_unmarked(index: &Index, atom: &Atom) -> u32 {
+    let mut count = 0u32;
+    for q in 0..index.len() {
+        if index.meets(q, atom) && !index.meets_need(q, atom) {
+            count = count.saturating_add(1);
+        }
+    }
+    count
+}
+
+/// How often an alternative of a need lacks no more than the mark that `any` asks for.
+fn count_refused(index: &Index) -> u32 {
+    let mut count = 0u32;
+    for p in 0..index.len() {
+        let item = index.package(p);
+        for group in item.pre_depends.iter().chain(item.depends.iter()) {
+            for atom in group {
+                count = count.saturating_add(count_unmarked(index, atom));
+            }
+        }
+    }
+    count
+}
+
+#[test]
+fn any_as_all_sets_say(rt: HostRuntime) -> Result<(), Fail> {
+    let (mut broken, mut members, mut refused) = (0u32, 0usize, 0u32);
+    for seed in 0..120 {
+        let text = generated_with_any(rt.alloc(), seed)?;
+        let index = read(rt.alloc(), text.as_bytes(), true)?;
+        compare(&rt, rt.alloc(), &index, &mut broken)?;
+        compare_closures(&rt, rt.alloc(), &index, &mut members)?;
+        refused = refused.saturating_add(count_refused(&index));
+    }
+    assert!(rt; broken > 50 && broken < 430);
+    assert!(rt; members > 500);
+    assert!(rt; refused > 100);
     Ok(())
 }

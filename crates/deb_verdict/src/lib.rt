@@ -27,11 +27,15 @@ pub use groundwork::Groundwork;
 pub use workspace::Workspace;
 
 #[cfg(test)]
+mod any_tests;
+#[cfg(test)]
 mod comparison;
 #[cfg(test)]
 mod counting;
 #[cfg(test)]
 mod gather_tests;
+#[cfg(test)]
+mod growths;
 #[cfg(test)]
 mod guess_tests;
 #[cfg(test)]

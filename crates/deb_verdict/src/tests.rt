@@ -30,7 +30,7 @@ pub fn is_broken(found: &Verdict, wanted: &[Constraint]) -> bool {
     }
 }
 
-fn expect_set(
+pub fn expect_set(
     rt: &impl Abort,
     alloc: Global,
     index: &Index,
@@ -43,7 +43,7 @@ fn expect_set(
     Ok(())
 }
 
-fn expect_core(
+pub fn expect_core(
     rt: &impl Abort,
     alloc: Global,
     index: &Index,
@@ -56,7 +56,7 @@ fn expect_core(
     Ok(())
 }
 
-fn expect_closure(
+pub fn expect_closure(
     rt: &impl Abort,
     alloc: Global,
     index: &Index,

@@ -1,0 +1,184 @@
+//! One test for each call that can want memory; bench/growths runs them with each growth refused in turn.
+
+use super::*;
+use crate::tests::{is_broken, is_found, read};
+use deb_index::{Constraint, Index};
+use std::alloc::Global;
+use std::process::Abort;
+use std::test::Fail;
+
+const ESSENTIAL_CONFLICT: &[u8] = b"Package: base
+Version: 1
+Architecture: all
+Essential: yes
+
+Package: x
+Version: 1
+Architecture: all
+Conflicts: base
+";
+
+const MISSING_FURTHER_DOWN: &[u8] = b"Package: a
+Version: 1
+Architecture: all
+Depends: b
+
+Package: b
+Version: 1
+Architecture: all
+Depends: c (>= 2)
+
+Package: c
+Version: 1
+Architecture: all
+";
+
+const TWO_MISSING: &[u8] = b"Package: a
+Version: 1
+Architecture: all
+Depends: x, y
+";
+
+const ALTERNATIVES: &[u8] = b"Package: a
+Version: 1
+Architecture: all
+Depends: b | c
+
+Package: b
+Version: 1
+Architecture: all
+
+Package: c
+Version: 1
+Architecture: all
+";
+
+fn expect_closure(
+    rt: &impl Abort,
+    alloc: Global,
+    index: &Index,
+    p: u32,
+    wanted: &[u32],
+) -> Result<(), Fail> {
+    assert!(rt; p < index.len());
+    match closure(alloc, index, p) {
+        Ok(members) => {
+            assert!(rt; members.as_slice() == wanted);
+            Ok(())
+        }
+        Err(_) => Err(Fail::new("out of memory")),
+    }
+}
+
+#[test]
+fn of_closure(rt: HostRuntime) -> Result<(), Fail> {
+    let essential = read(rt.alloc(), ESSENTIAL_CONFLICT, true)?;
+    expect_closure(&rt, rt.alloc(), &essential, 1, &[0, 1])?;
+    let chain = read(rt.alloc(), MISSING_FURTHER_DOWN, true)?;
+    expect_closure(&rt, rt.alloc(), &chain, 0, &[0, 1])
+}
+
+fn expect_verdict(rt: &impl Abort, alloc: Global, index: &Index) -> Result<(), Fail> {
+    assert!(rt; index.len() == 1);
+    match verdict(alloc, index, 0) {
+        Ok(found) => {
+            assert!(rt; is_broken(&found, &[Constraint::Need(0, 1)]));
+            Ok(())
+        }
+        Err(_) => Err(Fail::new("out of memory")),
+    }
+}
+
+#[test]
+fn of_verdict(rt: HostRuntime) -> Result<(), Fail> {
+    let index = read(rt.alloc(), TWO_MISSING, true)?;
+    expect_verdict(&rt, rt.alloc(), &index)
+}
+
+/// The verdicts in a workspace. After a refusal the same workspace serves: what was left in it changes no answer.
+fn expect_broken_in(
+    rt: &impl Abort,
+    alloc: Global,
+    workspace: &mut Workspace,
+    groundwork: &Groundwork<'_>,
+) -> Result<(), Fail> {
+    assert!(rt; groundwork.index.len() == 1);
+    let wanted = [Constraint::Need(0, 1)];
+    match verdict_in(alloc, workspace, groundwork, 0) {
+        Ok(found) => {
+            assert!(rt; is_broken(&found, &wanted));
+            Ok(())
+        }
+        Err(_) => {
+            let again = verdict_in(alloc, workspace, groundwork, 0)?;
+            assert!(rt; is_broken(&again, &wanted));
+            Err(Fail::new("out of memory"))
+        }
+    }
+}
+
+fn expect_found_in(
+    rt: &impl Abort,
+    alloc: Global,
+    workspace: &mut Workspace,
+    groundwork: &Groundwork<'_>,
+) -> Result<(), Fail> {
+    assert!(rt; groundwork.index.len() == 3);
+    match verdict_in(alloc, workspace, groundwork, 0) {
+        Ok(found) => {
+            assert!(rt; is_found(&found, &[0, 2]));
+            Ok(())
+        }
+        Err(_) => {
+            let again = verdict_in(alloc, workspace, groundwork, 0)?;
+            assert!(rt; is_found(&again, &[0, 2]));
+            Err(Fail::new("out of memory"))
+        }
+    }
+}
+
+fn expect_both_in_one(
+    rt: &impl Abort,
+    alloc: Global,
+    broken: &Groundwork<'_>,
+    found: &Groundwork<'_>,
+) -> Result<(), Fail> {
+    let mut workspace = Workspace::new(alloc)?;
+    expect_broken_in(rt, alloc, &mut workspace, broken)?;
+    expect_found_in(rt, alloc, &mut workspace, found)
+}
+
+#[test]
+fn of_verdict_in(rt: HostRuntime) -> Result<(), Fail> {
+    let two_missing = read(rt.alloc(), TWO_MISSING, true)?;
+    let alternatives = read(rt.alloc(), ALTERNATIVES, true)?;
+    let broken = Groundwork::new(rt.alloc(), &two_missing)?;
+    let found = Groundwork::new(rt.alloc(), &alternatives)?;
+    expect_both_in_one(&rt, rt.alloc(), &broken, &found)
+}
+
+fn expect_groundwork(rt: &impl Abort, alloc: Global, index: &Index) -> Result<(), Fail> {
+    match Groundwork::new(alloc, index) {
+        Ok(groundwork) => {
+            assert!(rt; groundwork.forced.as_slice() == [0].as_slice());
+            assert!(rt; groundwork.is_met(0) && groundwork.is_met(1));
+            assert!(rt; groundwork.is_alone(0) && !groundwork.is_alone(1));
+            Ok(())
+        }
+        Err(_) => Err(Fail::new("out of memory")),
+    }
+}
+
+#[test]
+fn of_groundwork(rt: HostRuntime) -> Result<(), Fail> {
+    let index = read(rt.alloc(), ESSENTIAL_CONFLICT, true)?;
+    expect_groundwork(&rt, rt.alloc(), &index)
+}
+
+#[test]
+fn of_workspace(rt: HostRuntime) -> Result<(), Fail> {
+    match Workspace::new(rt.alloc()) {
+        Ok(_) => Ok(()),
+        Err(_) => Err(Fail::new("out of memory")),
+    }
+}
