@@ -106,6 +106,10 @@ module _ (index : IndexView) (p : ℕ) (members : NumberSet) (closed : IsClosed 
   pub closure_meets : (set positions : NumberSet) → MeetsAt index set positions → MeetsAt index (cut set members) positions
   closure_meets set positions meets = cut_meets index none_of none_of members (closed_enough index p members closed) set (respects_nothing set) positions meets
 
+  -- which contains p where the set does
+  pub cut_contains : (set : NumberSet) → set p ≡ true → cut set members p ≡ true
+  cut_contains set contains = and_from (set p) (members p) contains closed.start
+
   cut_is_within : (set : NumberSet) → IsWithin (cut set members) members
   cut_is_within set number is_in = (and_parts (set number) (members number) is_in).1
 

@@ -392,6 +392,13 @@ fn closures_as_all_places_say(rt: HostRuntime) -> Result<(), Fail> {
     Ok(())
 }
 
+/// What was counted over generated indexes.
+struct Counts {
+    broken: u32,
+    members: usize,
+    refused: u32,
+}
+
 /// How many packages meet an atom, and would not as an alternative of a need.
 fn count_unmarked(index: &Index, atom: &Atom) -> u32 {
     let mut count = 0u32;
@@ -417,18 +424,43 @@ fn count_refused(index: &Index) -> u32 {
     count
 }
 
+/// Compares all closures and verdicts of an index, and counts.
+fn compare_both(
+    rt: &impl Abort,
+    alloc: Global,
+    index: &Index,
+    counts: &mut Counts,
+) -> Result<(), Fail> {
+    compare(rt, alloc, index, &mut counts.broken)?;
+    compare_closures(rt, alloc, index, &mut counts.members)?;
+    counts.refused = counts.refused.saturating_add(count_refused(index));
+    Ok(())
+}
+
+/// Compares all closures and verdicts of a generated index, and counts.
+fn compare_generated(
+    rt: &impl Abort,
+    alloc: Global,
+    seed: u32,
+    counts: &mut Counts,
+) -> Result<(), Fail> {
+    let text = generated_with_any(alloc, seed)?;
+    let index = read(alloc, text.as_bytes(), true)?;
+    compare_both(rt, alloc, &index, counts)
+}
+
 #[test]
 fn any_as_all_sets_say(rt: HostRuntime) -> Result<(), Fail> {
-    let (mut broken, mut members, mut refused) = (0u32, 0usize, 0u32);
+    let mut counts = Counts {
+        broken: 0,
+        members: 0,
+        refused: 0,
+    };
     for seed in 0..120 {
-        let text = generated_with_any(rt.alloc(), seed)?;
-        let index = read(rt.alloc(), text.as_bytes(), true)?;
-        compare(&rt, rt.alloc(), &index, &mut broken)?;
-        compare_closures(&rt, rt.alloc(), &index, &mut members)?;
-        refused = refused.saturating_add(count_refused(&index));
+        compare_generated(&rt, rt.alloc(), seed, &mut counts)?;
     }
-    assert!(rt; broken > 50 && broken < 430);
-    assert!(rt; members > 500);
-    assert!(rt; refused > 100);
+    assert!(rt; counts.broken > 50 && counts.broken < 430);
+    assert!(rt; counts.members > 500);
+    assert!(rt; counts.refused > 100);
     Ok(())
 }

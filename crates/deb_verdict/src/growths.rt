@@ -70,12 +70,21 @@ fn expect_closure(
     }
 }
 
+fn expect_closures(
+    rt: &impl Abort,
+    alloc: Global,
+    conflict: &Index,
+    chain: &Index,
+) -> Result<(), Fail> {
+    expect_closure(rt, alloc, conflict, 1, &[0, 1])?;
+    expect_closure(rt, alloc, chain, 0, &[0, 1])
+}
+
 #[test]
 fn of_closure(rt: HostRuntime) -> Result<(), Fail> {
-    let essential = read(rt.alloc(), ESSENTIAL_CONFLICT, true)?;
-    expect_closure(&rt, rt.alloc(), &essential, 1, &[0, 1])?;
+    let conflict = read(rt.alloc(), ESSENTIAL_CONFLICT, true)?;
     let chain = read(rt.alloc(), MISSING_FURTHER_DOWN, true)?;
-    expect_closure(&rt, rt.alloc(), &chain, 0, &[0, 1])
+    expect_closures(&rt, rt.alloc(), &conflict, &chain)
 }
 
 fn expect_verdict(rt: &impl Abort, alloc: Global, index: &Index) -> Result<(), Fail> {
@@ -148,13 +157,22 @@ fn expect_both_in_one(
     expect_found_in(rt, alloc, &mut workspace, found)
 }
 
+fn on_their_groundworks(
+    rt: &impl Abort,
+    alloc: Global,
+    two_missing: &Index,
+    alternatives: &Index,
+) -> Result<(), Fail> {
+    let broken = Groundwork::new(alloc, two_missing)?;
+    let found = Groundwork::new(alloc, alternatives)?;
+    expect_both_in_one(rt, alloc, &broken, &found)
+}
+
 #[test]
 fn of_verdict_in(rt: HostRuntime) -> Result<(), Fail> {
     let two_missing = read(rt.alloc(), TWO_MISSING, true)?;
     let alternatives = read(rt.alloc(), ALTERNATIVES, true)?;
-    let broken = Groundwork::new(rt.alloc(), &two_missing)?;
-    let found = Groundwork::new(rt.alloc(), &alternatives)?;
-    expect_both_in_one(&rt, rt.alloc(), &broken, &found)
+    on_their_groundworks(&rt, rt.alloc(), &two_missing, &alternatives)
 }
 
 fn expect_groundwork(rt: &impl Abort, alloc: Global, index: &Index) -> Result<(), Fail> {
