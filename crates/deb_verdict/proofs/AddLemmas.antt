@@ -23,9 +23,6 @@ pub All-back : {A : Type 0} (P : A → Type 0) (xs ys : List A) → All P (xs ++
 All-back P [] ys all = all
 All-back P (x ∷ xs) ys all = All-back P xs ys (All-tail P x (xs ++ ys) all)
 
-holds_in : NumberSet → Clause → Type 0
-holds_in set clause = clause_holds set clause.literals ≡ true
-
 -- nothing is added, for what holds anyway
 pub adds_none : (group : ℕ) (Means : NumberSet → Type 0) (before : Clauses) → ((set : NumberSet) → Means set) → Adds group Means before before
 adds_none group Means before always = record {
@@ -36,23 +33,6 @@ adds_none group Means before always = record {
   in_group = All-nil (λ clause. clause.group ≡ group);
   says = λ set. (λ holds. always set, λ means. All-nil (λ clause. clause_holds set clause.literals ≡ true));
 }
-
--- one clause
-pub adds_one : (group : ℕ) (literals : List Lit) (before : Clauses)
-    → Adds group (λ set. clause_holds set literals ≡ true) before (record { vars = before.vars; groups = before.groups; clauses = before.clauses ++ record { group = group; literals = literals } ∷ [] })
-adds_one group literals before =
-    let clause : Clause = record { group = group; literals = literals } in
-    record {
-      vars = refl;
-      groups = refl;
-      more = clause ∷ [];
-      appended = refl;
-      in_group = All-cons (λ c. c.group ≡ group) clause [] refl (All-nil (λ c. c.group ≡ group));
-      says = λ set. (
-        λ holds. All-head (λ c. clause_holds set c.literals ≡ true) clause [] holds,
-        λ means. All-cons (λ c. clause_holds set c.literals ≡ true) clause [] means (All-nil (λ c. clause_holds set c.literals ≡ true)),
-      );
-    }
 
 -- the clauses of two steps say what both say
 pub adds_both : (group : ℕ) (A B : NumberSet → Type 0) (before between after : Clauses) → Adds group A before between → Adds group B between after
@@ -159,9 +139,3 @@ module _ (index : IndexView) (ins members : List ℕ) (constraints : List Constr
                   subst AtGroup (sym last.0) there_too
             ];
       })
-
-pub tells_none : (index : IndexView) (ins members : List ℕ) → TellsPlaces index ins members [] []
-tells_none index ins members = record {
-  in_groups = All-nil (λ clause. clause.group < 0);
-  says = λ set group constraint there. let within : group < 0 = slice_get_within {A = Constraint} [] group constraint there in absurd (omega arith);
-}

@@ -41,9 +41,6 @@ below_members xs bound inside k d below =
 pub named_below : (index : IndexView) (name : List ℕ) → All (λ q. q < length index.packages) (places_of index name)
 named_below index name = below-places_where (is_named name) index.packages
 
-pub satisfiers_below : (index : IndexView) (atom : AtomText) → All (λ q. q < length index.packages) (satisfiers index atom)
-satisfiers_below index atom = below-places_where (λ q. meets index.arch q atom) index.packages
-
 -- the numbers of essential names are numbers of names
 pub essential_below : (index : IndexView) → All (λ number. number < length (names index)) (essential_names index)
 essential_below index = below-places_where (is_essential index) (names index)
@@ -58,9 +55,3 @@ tells_step index ins members constraints group d before after inside tells adds 
     let size : length (take group constraints) ≡ group = length-take-le group constraints (omega arith) in
     let For : List Constraint → Type 0 = λ list. TellsPlaces index ins members list after.clauses in
     subst For (sym (take_more constraints group d inside)) (tells_more index ins members (take group constraints) constraint before after tells (subst At (sym size) adds))
-
-pub tells_whole : (index : IndexView) (ins members : List ℕ) (constraints : List Constraint) (group : ℕ) (after : Clauses) → length constraints ≤ group
-    → TellsPlaces index ins members (take group constraints) after.clauses → TellsPlaces index ins members constraints after.clauses
-tells_whole index ins members constraints group after past tells =
-    let For : List Constraint → Type 0 = λ list. TellsPlaces index ins members list after.clauses in
-    subst For (take_whole constraints group past) tells

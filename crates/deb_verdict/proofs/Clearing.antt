@@ -70,9 +70,6 @@ module _ (group : ℕ) (has : NumberSet → Bool) (set : NumberSet → NumberSet
   abbrev pub AddsApart : ℕ → Clauses → Clauses → Type 0
   AddsApart place before after = Adds group (λ vars. has vars ≡ true → set vars place ≡ true → ⊥) before after
 
-  pub clear_none : (before : Clauses) → AddsClear [] before before
-  clear_none before = adds_none group (λ vars. IsClear (has vars) (λ q. members_of [] q && test q) (set vars)) before (λ vars has_it q never also. false≢true never)
-
   pub clear_added : (xs : List ℕ) (i : ℕ) (before between after : Clauses) → i < length xs → test (get_or xs i 0) ≡ true → AddsClear (take i xs) before between → AddsApart (get_or xs i 0) between after
       → AddsClear (take (i + 1) xs) before after
   clear_added xs i before between after inside passes so_far apart =

@@ -39,11 +39,6 @@ group_at positions groups k is_in =
     let parts = and_parts (groups at.0) (eqb (get_or positions at.0 0) k) at.2 in
     (at.0, omega (arith, at.1), parts.0, eqb-true (get_or positions at.0 0) k parts.1)
 
-pub positions_within : (positions : List ℕ) (fewer more : NumberSet) → IsWithin fewer more → IsWithin (positions_of positions fewer) (positions_of positions more)
-positions_within positions fewer more within k is_in =
-    let at = group_at positions fewer k is_in in
-    ap (positions_of positions more) (sym at.3) ∙ position_in positions more at.0 at.1 (within at.0 at.2)
-
 one_group : (positions : List ℕ) → IsStrictlyIncreasing positions → (i j : ℕ) → i < length positions → j < length positions → get_or positions i 0 ≡ get_or positions j 0 → i ≡ j
 one_group positions rising i j one other same =
     elim (cases_order i j) [
@@ -73,18 +68,6 @@ GroupsAdmitNone index p positions groups = AdmitsNone index p (positions_of posi
 
 more_admit_none : (index : IndexView) (p : ℕ) (fewer more : NumberSet) → IsWithin fewer more → AdmitsNone index p fewer → AdmitsNone index p more
 more_admit_none index p fewer more within none admits = none (admits.0, admits.1, fewer_meets index admits.0 fewer more within admits.2)
-
-pub groups_upward : (index : IndexView) (p : ℕ) (positions : List ℕ) → IsUpward (GroupsAdmitNone index p positions) (length positions)
-groups_upward index p positions = record {
-  larger = λ a b within none. more_admit_none index p (positions_of positions a) (positions_of positions b) (positions_within positions a b within) none;
-  ranged = λ a none.
-      more_admit_none index p (positions_of positions a) (positions_of positions (cut a (λ number. ltb number (length positions))))
-      (λ k is_in.
-      let at = group_at positions a k is_in in
-      ap (positions_of positions (cut a (λ number. ltb number (length positions)))) (sym at.3)
-      ∙ position_in positions (cut a (λ number. ltb number (length positions))) at.0 at.1 (and_from (a at.0) (ltb at.0 (length positions)) at.2 (lt-ltb at.0 (length positions) at.1)))
-      none;
-}
 
 -- the first groups that admit none stand at the first positions that admit none, where all kept positions have a group
 pub first_core_carried : (index : IndexView) (p : ℕ) (members : NumberSet) → IsClosed index p members → (positions : List ℕ) → IsStrictlyIncreasing positions

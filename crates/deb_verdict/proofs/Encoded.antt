@@ -118,37 +118,3 @@ module _ (index : IndexView) (p : ℕ) (ins outs : NumberSet) (members positions
     sym (ap places must_is) ∙ (stands.same must must_inside ∙ is_one.has_must),
     kept_to_chosen index ins members positions clauses encodes keep chosen chooses vars places stands is_one.meets,
   )
-
-  -- and the first true set stands for the first set that meets the chosen constraints
-  pub first_true : IsStrictlyIncreasing members → (vars places : NumberSet) → Stands ins members vars places → IsFirst (IsTrueSet (length members) clauses keep must) vars
-      → IsFirst (IsMeeting index p chosen) places
-  first_true rising vars places stands first = (
-    true_meets vars places stands first.0,
-    λ set meeting before.
-        elim (or_cases (ins before.0) (members_of members before.0) (stands.in_play before.0 before.3)) [
-          | inl is_in ↦ both_ways (set before.0) before.2 ((follows set meeting.0 meeting.1).has_ins before.0 is_in)
-          | inr is_member ↦
-              let at = members_of_at members before.0 is_member in
-              first.1 (pulled members set) (pulled_true set meeting) (
-                at.0,
-                (λ lower less.
-                    let inside : lower < length members = omega (arith, at.1) in
-                    let below : get_or members lower 0 < before.0 = omega (arith, rising_lt members rising lower at.0 less at.1, at.2) in
-                    pulled_inside members set lower inside ∙ (before.1 (get_or members lower 0) below ∙ stands.same lower inside)),
-                pulled_inside members set at.0 at.1 ∙ (ap set at.2 ∙ before.2),
-                sym (stands.same at.0 at.1) ∙ (ap places at.2 ∙ before.3),
-              )
-        ],
-  )
-
--- where all kept constraints are chosen, that is the first healthy set with p
-pub first_meeting : (index : IndexView) (p : ℕ) (within chosen places : NumberSet) → IsWithin places within → IsWithin (kept index within) chosen
-    → IsFirst (IsMeeting index p chosen) places → IsFirst (IsInstallation index p) places
-first_meeting index p within chosen places inside whole first = (
-  (
-    healthy_from_meets index places all_of (λ k below. refl)
-        (kept_meets index within places all_of inside (fewer_meets index places (cut all_of (kept index within)) chosen (λ k is_in. whole k is_in) first.0.1)),
-    first.0.0,
-  ),
-  λ set installed before. first.1 set (installed.1, meets_from_healthy index set chosen installed.0) before,
-)

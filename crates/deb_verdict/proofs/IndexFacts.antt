@@ -55,31 +55,31 @@ found_within test xs q None there holds = absurd (false≢true holds)
 pub named_is_place : (index : IndexView) (q number : ℕ) → has_name index q number ≡ true → q < length index.packages
 named_is_place index q number named = found_within (is_named (name_at index number)) index.packages q (slice_get index.packages q) refl named
 
-pub meets_is_place : (index : IndexView) (q : ℕ) (atom : AtomText) → meets_need_at index q atom ≡ true → q < length index.packages
-meets_is_place index q atom met = found_within (λ item. meets_need index.arch item atom) index.packages q (slice_get index.packages q) refl met
+meets_need_is_place : (index : IndexView) (q : ℕ) (atom : AtomText) → meets_need_at index q atom ≡ true → q < length index.packages
+meets_need_is_place index q atom met = found_within (λ item. meets_need index.arch item atom) index.packages q (slice_get index.packages q) refl met
 
-any_meets_is_place : (index : IndexView) (q : ℕ) (group : List AtomText) → list_any (meets_need_at index q) group ≡ true → q < length index.packages
-any_meets_is_place index q [] met = absurd (false≢true met)
-any_meets_is_place index q (atom ∷ group) met =
+any_meets_need_is_place : (index : IndexView) (q : ℕ) (group : List AtomText) → list_any (meets_need_at index q) group ≡ true → q < length index.packages
+any_meets_need_is_place index q [] met = absurd (false≢true met)
+any_meets_need_is_place index q (atom ∷ group) met =
     elim (or_cases (meets_need_at index q atom) (list_any (meets_need_at index q) group) met) [
-      | inl here ↦ meets_is_place index q atom here
-      | inr later ↦ any_meets_is_place index q group later
+      | inl here ↦ meets_need_is_place index q atom here
+      | inr later ↦ any_meets_need_is_place index q group later
     ]
 
 pub answers_is_place : (index : IndexView) (p j q : ℕ) → answers index p j q ≡ true → q < length index.packages
-answers_is_place index p j q answered = any_meets_is_place index q (need_at index p j) answered
+answers_is_place index p j q answered = any_meets_need_is_place index q (need_at index p j) answered
 
 -- the places of a name are those that have it
 pub member_named : (index : IndexView) (number q : ℕ) → members_of (places_of index (name_at index number)) q ≡ has_name index q number
 member_named index number q = member-places_where (is_named (name_at index number)) index.packages q
 
--- those of an alternative of a need
-pub member_need_satisfiers : (index : IndexView) (atom : AtomText) (q : ℕ) → members_of (need_satisfiers index atom) q ≡ meets_need_at index q atom
-member_need_satisfiers index atom q = member-places_where (λ item. meets_need index.arch item atom) index.packages q
-
 -- the satisfiers of an atom are the places that meet it
 pub member_satisfiers : (index : IndexView) (atom : AtomText) (q : ℕ) → members_of (satisfiers index atom) q ≡ meets_at index q atom
 member_satisfiers index atom q = member-places_where (λ item. meets index.arch item atom) index.packages q
+
+-- and of an alternative of a need those that meet it as such
+pub member_need_satisfiers : (index : IndexView) (atom : AtomText) (q : ℕ) → members_of (need_satisfiers index atom) q ≡ meets_need_at index q atom
+member_need_satisfiers index atom q = member-places_where (λ item. meets_need index.arch item atom) index.packages q
 
 -- a member with the name is one of the name's places
 pub some_named : (index : IndexView) (members : NumberSet) (q number : ℕ) → members q ≡ true → has_name index q number ≡ true → list_any members (places_of index (name_at index number)) ≡ true

@@ -23,7 +23,6 @@ pub mod Inserted
 pub mod JoinLemmas
 pub mod Kept
 pub mod KeptList
-pub mod Listed
 pub mod MarkedGroups
 pub mod Members
 pub mod NameNumbers

@@ -145,12 +145,6 @@ numbered_more places before numbers count rising within inside so_far = record {
   same = length-set numbers (get_or places count 0) count ∙ so_far.same;
 }
 
-pub numbered_all : (places before numbers : List ℕ) (count : ℕ) → length places ≤ count → length before ≤ 2 ^ 32 → NumberedBelow places before numbers count → IsNumbered places numbers
-numbered_all places before numbers count past few numbered = record {
-  at = λ k below. numbered.at k (omega arith);
-  few = omega (arith, numbered.same);
-}
-
 -- sorted places rise, since no two are the same
 pub sorted_rises : (places numbers sorted : List ℕ) → IsNumbered places numbers → IsPermutation places sorted → IsSorted nat_cmp sorted → IsStrictlyIncreasing sorted
 sorted_rises places numbers sorted numbered moved in_order =

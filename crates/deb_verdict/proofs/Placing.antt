@@ -100,12 +100,6 @@ places_empty count = record { within = All-nil (λ place. place < count); once =
 -- ---- a place of the list
 
 module _ (count : ℕ) (places : List ℕ) (k q : ℕ) (inside : k < length places) (there : get_or places k 0 ≡ q) where
-  pub place_is_in : members_of places q ≡ true
-  place_is_in = ap (members_of places) (sym there) ∙ at_members_of places k inside
-
-  pub place_within : ArePlaces count places → q < count
-  place_within are = omega (arith, are.within k 0 inside)
-
   -- there are no more numbers of places than places
   pub number_within : ArePlaces count places → k < count
   number_within are =

@@ -78,13 +78,6 @@ row_joined index group row before after is_that joins =
     at_place (Some item) group = refl
     at_place None group = none group
 
--- the places that answer one group more
-pub groups_more : (index : IndexView) (place i : ℕ) (before between after : List ℕ) → i < length (needs_at index place)
-    → Joins (meeting_any index (take i (needs_at index place))) before between → Joins (answers index place i) between after
-    → Joins (meeting_any index (take (i + 1) (needs_at index place))) before after
-groups_more index place i before between after inside so_far more =
-    joins_more (λ q group. meeting index group q) (needs_at index place) i [] before between after inside so_far more
-
 -- ---- a place is visited
 
 -- what meets an alternative of some group answers a group, and the other way round

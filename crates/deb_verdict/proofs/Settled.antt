@@ -64,14 +64,3 @@ module _ (index : IndexView) (p : ℕ) (members positions : List ℕ) (clauses :
   first_core groups first =
       first_core_carried index p (members_of members) closed positions in_order all_kept (λ k is_in. members_of_at positions k is_in) groups
       (first_of_same (HasNoTrueSet formula must) (GroupsAdmitNone index p positions) none_admitted none_solved groups first)
-
-  -- the first true set stands for the first healthy set with p
-  pub first_set : (vars : NumberSet) → IsFirst (IsTrueSet (length members) clauses (marks_of (all_below (length positions)) (length positions)) must) vars
-      → IsFirst (IsInstallation index p) (positions_of members vars)
-  first_set vars first =
-      let all : NumberSet = all_below (length positions) in
-      let stands = stands_placed members rising vars first.0.within in
-      first_meeting index p (members_of members) (positions_of positions all) (positions_of members vars) stands.in_play
-      (λ k is_in. (let at = members_of_at positions k (all_kept k is_in) in ap (positions_of positions all) (sym at.2) ∙ position_in positions all at.0 at.1 (lt-ltb at.0 (length positions) at.1)))
-      (first_true index p none_of none_of members positions clauses encodes (marks_of all (length positions)) (positions_of positions all) (chooses positions all)
-      must must_inside must_is (closed_enough index p (members_of members) closed) (λ set has_p meets. respects_nothing set) rising vars (positions_of members vars) stands first)

@@ -12,10 +12,6 @@ use Rattle.deb_verdict.specs.Reduction.{all_below}
 use Rattle.deb_verdict.specs.Groups.{HasNoTrueSet, no_true_upward}
 use Rattle.deb_verdict.proofs.IndexFacts.{All-at}
 
-and_whole : (a b : Bool) → b ≡ true → (a && b) ≡ a
-and_whole true b holds = holds
-and_whole false b holds = refl
-
 -- the first groups without a true set are groups that the formula has
 pub first_groups_below : (formula : Clauses) (must : ℕ) (groups : NumberSet) → IsFirst (HasNoTrueSet formula must) groups → (group : ℕ) → groups group ≡ true → group < formula.groups
 first_groups_below formula must groups first group is_in =

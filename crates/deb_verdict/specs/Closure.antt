@@ -15,7 +15,7 @@ IsWithin a b = (number : ℕ) → a number ≡ true → b number ≡ true
 abbrev pub cut : NumberSet → NumberSet → NumberSet
 cut a b number = a number && b number
 
--- it contains p, all packages of essential names, and with each member every package that meets an alternative of one of its groups
+-- it contains p, all packages of essential names, and with each member every package that meets an alternative of one of its groups as a need
 pub record IsClosed (index : IndexView) (p : ℕ) (set : NumberSet) : Type 0 where
   pub start : set p ≡ true
   pub essential : (number q : ℕ) → Contains (essential_names index) number → has_name index q number ≡ true → set q ≡ true

@@ -16,11 +16,11 @@ pub record Joins (places : NumberSet) (before after : List ℕ) : Type 0 where
   pub all : IsWithin places (members_of after)
   pub only : (q : ℕ) → members_of after q ≡ true → (members_of before q ≡ true) ⊎ (places q ≡ true)
 
--- the places that meet an alternative of the group
+-- the places that meet an alternative of the group, as a need
 abbrev pub meeting : IndexView → List AtomText → NumberSet
 meeting index group q = list_any (meets_need_at index q) group
 
--- the places that meet an alternative of one of the groups
+-- the places that meet an alternative of one of the groups, as a need
 abbrev pub meeting_any : IndexView → List (List AtomText) → NumberSet
 meeting_any index groups q = list_any (λ group. list_any (meets_need_at index q) group) groups
 

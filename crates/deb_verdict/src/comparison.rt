@@ -393,6 +393,7 @@ fn closures_as_all_places_say(rt: HostRuntime) -> Result<(), Fail> {
 }
 
 /// What was counted over generated indexes.
+#[derive(Drop)]
 struct Counts {
     broken: u32,
     members: usize,

@@ -18,7 +18,8 @@ use deb_index::Index;
 use std::alloc::{AllocError, Global};
 
 /// The dependency closure of the package at a place: the least set of places that has it, all packages of essential names, and with each
-/// member every package that meets an alternative of one of its Pre-Depends or Depends (Debian Policy 7.2).
+/// member every package that meets an alternative of one of its Pre-Depends or Depends (Debian Policy 7.2); with the qualifier `any` only a
+/// package that says `Multi-Arch: allowed` does.
 ///
 /// `p` is a place of the index, counted from 0 and below `index.len()`. The places are rising. The one error is want of memory.
 pub fn closure(alloc: Global, index: &Index, p: u32) -> Result<Vec<u32>, AllocError>

@@ -35,8 +35,39 @@ fn expect_alternatives_are_free(rt: &impl Abort, alloc: Global, index: &Index) -
 
 #[test]
 fn alternatives_are_free(rt: HostRuntime) -> Result<(), Fail> {
-    let text =
-        b"Package: a\nVersion: 1\nArchitecture: all\nDepends: b | c\n\nPackage: b\nVersion: 1\nArchitecture: all\nPre-Depends: d | f\n\nPackage: c\nVersion: 1\nArchitecture: all\nDepends: b | e\n\nPackage: d\nVersion: 1\nArchitecture: all\n\nPackage: e\nVersion: 1\nArchitecture: all\nEssential: yes\nDepends: a | h\n\nPackage: f\nVersion: 1\nArchitecture: all\n\nPackage: h\nVersion: 1\nArchitecture: all\n";
+    let text = b"Package: a
+Version: 1
+Architecture: all
+Depends: b | c
+
+Package: b
+Version: 1
+Architecture: all
+Pre-Depends: d | f
+
+Package: c
+Version: 1
+Architecture: all
+Depends: b | e
+
+Package: d
+Version: 1
+Architecture: all
+
+Package: e
+Version: 1
+Architecture: all
+Essential: yes
+Depends: a | h
+
+Package: f
+Version: 1
+Architecture: all
+
+Package: h
+Version: 1
+Architecture: all
+";
     let index = read(rt.alloc(), text, true)?;
     expect_alternatives_are_free(&rt, rt.alloc(), &index)
 }
@@ -52,8 +83,28 @@ fn expect_all_versions_of_an_essential_name(
 
 #[test]
 fn all_versions_of_an_essential_name(rt: HostRuntime) -> Result<(), Fail> {
-    let text =
-        b"Package: a\nVersion: 1\nArchitecture: all\n\nPackage: n\nVersion: 1\nArchitecture: all\nEssential: yes\nDepends: b | c\n\nPackage: n\nVersion: 2\nArchitecture: all\n\nPackage: b\nVersion: 1\nArchitecture: all\n\nPackage: c\nVersion: 1\nArchitecture: all\n";
+    let text = b"Package: a
+Version: 1
+Architecture: all
+
+Package: n
+Version: 1
+Architecture: all
+Essential: yes
+Depends: b | c
+
+Package: n
+Version: 2
+Architecture: all
+
+Package: b
+Version: 1
+Architecture: all
+
+Package: c
+Version: 1
+Architecture: all
+";
     let index = read(rt.alloc(), text, true)?;
     expect_all_versions_of_an_essential_name(&rt, rt.alloc(), &index)
 }
@@ -65,8 +116,45 @@ fn expect_needs_with_one_answer(rt: &impl Abort, alloc: Global, index: &Index) -
 
 #[test]
 fn needs_with_one_answer(rt: HostRuntime) -> Result<(), Fail> {
-    let text =
-        b"Package: a\nVersion: 1\nArchitecture: all\nDepends: b, c | d\n\nPackage: b\nVersion: 1\nArchitecture: all\nDepends: e\n\nPackage: c\nVersion: 1\nArchitecture: all\nDepends: b\n\nPackage: d\nVersion: 1\nArchitecture: all\n\nPackage: e\nVersion: 1\nArchitecture: all\nPre-Depends: c\n\nPackage: g\nVersion: 1\nArchitecture: all\nEssential: yes\nDepends: h | i\n\nPackage: h\nVersion: 1\nArchitecture: all\n\nPackage: i\nVersion: 1\nArchitecture: all\nDepends: d\n";
+    let text = b"Package: a
+Version: 1
+Architecture: all
+Depends: b, c | d
+
+Package: b
+Version: 1
+Architecture: all
+Depends: e
+
+Package: c
+Version: 1
+Architecture: all
+Depends: b
+
+Package: d
+Version: 1
+Architecture: all
+
+Package: e
+Version: 1
+Architecture: all
+Pre-Depends: c
+
+Package: g
+Version: 1
+Architecture: all
+Essential: yes
+Depends: h | i
+
+Package: h
+Version: 1
+Architecture: all
+
+Package: i
+Version: 1
+Architecture: all
+Depends: d
+";
     let index = read(rt.alloc(), text, true)?;
     expect_needs_with_one_answer(&rt, rt.alloc(), &index)
 }
@@ -85,8 +173,37 @@ fn expect_known(rt: &impl Abort, groundwork: &Groundwork<'_>) -> Result<(), Fail
 
 #[test]
 fn what_is_known_of_all_sets(rt: HostRuntime) -> Result<(), Fail> {
-    let text =
-        b"Package: e\nVersion: 1\nArchitecture: all\nEssential: yes\nDepends: l, l | n\n\nPackage: l\nVersion: 1\nArchitecture: all\nConflicts: absent, l\n\nPackage: n\nVersion: 1\nArchitecture: all\nDepends: e, o\n\nPackage: o\nVersion: 1\nArchitecture: all\nDepends: l (>= 1)\nConflicts: n\n\nPackage: q\nVersion: 1\nArchitecture: all\nDepends: absent\n\nPackage: n\nVersion: 2\nArchitecture: all\n";
+    let text = b"Package: e
+Version: 1
+Architecture: all
+Essential: yes
+Depends: l, l | n
+
+Package: l
+Version: 1
+Architecture: all
+Conflicts: absent, l
+
+Package: n
+Version: 1
+Architecture: all
+Depends: e, o
+
+Package: o
+Version: 1
+Architecture: all
+Depends: l (>= 1)
+Conflicts: n
+
+Package: q
+Version: 1
+Architecture: all
+Depends: absent
+
+Package: n
+Version: 2
+Architecture: all
+";
     let index = read(rt.alloc(), text, true)?;
     let groundwork = Groundwork::new(rt.alloc(), &index)?;
     expect_known(&rt, &groundwork)

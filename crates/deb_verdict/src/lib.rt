@@ -1,4 +1,16 @@
 //! The closure and the verdict of a package of an index.
+//!
+//! The modules in reading order:
+//!
+//! - `answer` has what is found of a package, `decision` the public calls, `laws` what holds of the definitions alone.
+//! - `place_set` is the set of places that all work is done on, `workspace` the buffers that one verdict leaves to the next.
+//! - `reach` finds the closure.
+//! - `groundwork` knows what all verdicts of an index have in common; `forced` finds the places that are in every healthy set.
+//! - `first_set` finds the first healthy set: `gather` says which places are in anyway and which are in play, `scene` how each
+//!   place stands, `clauses` makes clauses of one constraint, `describe` of all of them, and the solver finds their first true set.
+//! - `first_core` finds the first set of constraints that no set meets: `kept_constraints` lists those that speak of the closure,
+//!   each is a group of clauses, `unsolvable` asks the solver about the groups that `marks` keeps, and `reduction` takes out blocks
+//!   of them, which end where `guess` says.
 #![tactic(auto)]
 
 mod answer;

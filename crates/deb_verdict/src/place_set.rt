@@ -1,4 +1,4 @@
-//! A set of places, in the order in which they came.
+//! A set of places, in the order in which they came: a sparse set (Briggs and Torczon, 1993), of which the list alone need be emptied.
 
 ghost use Rattle.std.specs.Prelude.{◌≡◌, ◌⊎◌, ℕ, ◌<◌, ◌≤◌, ◌^◌, List, [], true, false, All, length, slice_get, Some, IfSome, IfNone, OnOk};
 ghost use Rattle.std.specs.List.Sorted.{IsStrictlyIncreasing};
@@ -13,7 +13,7 @@ use std::marker::Model;
 /// Places, each once, in the order in which they came. Contracts see the list of them.
 ///
 /// `numbers` has, at each place of the list, which of the list it is. What it has at other places means nothing: a number is believed only
-/// where the list has the place there, so that the list alone need be emptied.
+/// where the list has the place there.
 #[derive(Drop)]
 pub(crate) struct PlaceSet {
     places: Vec<u32>,

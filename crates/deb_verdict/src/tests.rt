@@ -72,21 +72,37 @@ pub fn expect_closure(
 fn expect_alternatives(rt: &impl Abort, alloc: Global, index: &Index) -> Result<(), Fail> {
     expect_set(rt, alloc, index, 0, &[0, 2])?;
     expect_set(rt, alloc, index, 1, &[1])?;
+    expect_set(rt, alloc, index, 2, &[2])?;
     expect_closure(rt, alloc, index, 0, &[0, 1, 2])?;
     expect_closure(rt, alloc, index, 2, &[2])
 }
 
 #[test]
 fn alternatives(rt: HostRuntime) -> Result<(), Fail> {
-    let text =
-        b"Package: a\nVersion: 1\nArchitecture: all\nDepends: b | c\n\nPackage: b\nVersion: 1\nArchitecture: all\n\nPackage: c\nVersion: 1\nArchitecture: all\n";
+    let text = b"Package: a
+Version: 1
+Architecture: all
+Depends: b | c
+
+Package: b
+Version: 1
+Architecture: all
+
+Package: c
+Version: 1
+Architecture: all
+";
     let index = read(rt.alloc(), text, true)?;
     expect_alternatives(&rt, rt.alloc(), &index)
 }
 
 #[test]
 fn first_core_lacks_the_earlier(rt: HostRuntime) -> Result<(), Fail> {
-    let text = b"Package: a\nVersion: 1\nArchitecture: all\nDepends: x, y\n";
+    let text = b"Package: a
+Version: 1
+Architecture: all
+Depends: x, y
+";
     let index = read(rt.alloc(), text, true)?;
     expect_core(&rt, rt.alloc(), &index, 0, &[Constraint::Need(0, 1)])
 }
@@ -106,8 +122,20 @@ fn expect_missing_further_down(rt: &impl Abort, alloc: Global, index: &Index) ->
 
 #[test]
 fn missing_further_down(rt: HostRuntime) -> Result<(), Fail> {
-    let text =
-        b"Package: a\nVersion: 1\nArchitecture: all\nDepends: b\n\nPackage: b\nVersion: 1\nArchitecture: all\nDepends: c (>= 2)\n\nPackage: c\nVersion: 1\nArchitecture: all\n";
+    let text = b"Package: a
+Version: 1
+Architecture: all
+Depends: b
+
+Package: b
+Version: 1
+Architecture: all
+Depends: c (>= 2)
+
+Package: c
+Version: 1
+Architecture: all
+";
     let index = read(rt.alloc(), text, true)?;
     expect_missing_further_down(&rt, rt.alloc(), &index)
 }
@@ -130,13 +158,121 @@ fn expect_mail_agents(rt: &impl Abort, alloc: Global, index: &Index) -> Result<(
 
 #[test]
 fn mail_agents(rt: HostRuntime) -> Result<(), Fail> {
-    let text =
-        b"Package: m1\nVersion: 1\nArchitecture: all\nProvides: mail-agent\nConflicts: mail-agent\n\nPackage: m2\nVersion: 1\nArchitecture: all\nProvides: mail-agent\nConflicts: mail-agent\n\nPackage: u\nVersion: 1\nArchitecture: all\nDepends: m1, m2\n";
+    let text = b"Package: m1
+Version: 1
+Architecture: all
+Provides: mail-agent
+Conflicts: mail-agent
+
+Package: m2
+Version: 1
+Architecture: all
+Provides: mail-agent
+Conflicts: mail-agent
+
+Package: u
+Version: 1
+Architecture: all
+Depends: m1, m2
+";
     let index = read(rt.alloc(), text, true)?;
     expect_mail_agents(&rt, rt.alloc(), &index)
 }
 
+fn expect_conflict_between_dependencies(
+    rt: &impl Abort,
+    alloc: Global,
+    index: &Index,
+) -> Result<(), Fail> {
+    expect_core(
+        rt,
+        alloc,
+        index,
+        0,
+        &[
+            Constraint::Need(0, 0),
+            Constraint::Need(0, 1),
+            Constraint::Apart(1, 0),
+        ],
+    )?;
+    expect_set(rt, alloc, index, 1, &[1])?;
+    expect_set(rt, alloc, index, 2, &[2])
+}
+
+#[test]
+fn conflict_between_dependencies(rt: HostRuntime) -> Result<(), Fail> {
+    let text = b"Package: a
+Version: 1
+Architecture: all
+Depends: b, c
+
+Package: b
+Version: 1
+Architecture: all
+Conflicts: c
+
+Package: c
+Version: 1
+Architecture: all
+";
+    let index = read(rt.alloc(), text, true)?;
+    expect_conflict_between_dependencies(&rt, rt.alloc(), &index)
+}
+
+fn expect_versioned_provides(rt: &impl Abort, alloc: Global, index: &Index) -> Result<(), Fail> {
+    expect_set(rt, alloc, index, 0, &[0, 2])?;
+    expect_set(rt, alloc, index, 1, &[1])?;
+    expect_set(rt, alloc, index, 2, &[2])
+}
+
+#[test]
+fn versioned_provides(rt: HostRuntime) -> Result<(), Fail> {
+    let text = b"Package: foo
+Version: 1
+Architecture: all
+Depends: bar (>= 1.0)
+
+Package: bar
+Version: 0.9
+Architecture: all
+
+Package: bar-plus
+Version: 1
+Architecture: all
+Provides: bar (= 1.0)
+";
+    let index = read(rt.alloc(), text, true)?;
+    expect_versioned_provides(&rt, rt.alloc(), &index)
+}
+
+fn expect_unversioned_provides(rt: &impl Abort, alloc: Global, index: &Index) -> Result<(), Fail> {
+    expect_core(rt, alloc, index, 0, &[Constraint::Need(0, 0)])?;
+    expect_set(rt, alloc, index, 1, &[1])?;
+    expect_set(rt, alloc, index, 2, &[2])
+}
+
+#[test]
+fn unversioned_provides(rt: HostRuntime) -> Result<(), Fail> {
+    let text = b"Package: foo
+Version: 1
+Architecture: all
+Depends: bar (>= 1.0)
+
+Package: bar
+Version: 0.9
+Architecture: all
+
+Package: bar-plus
+Version: 1
+Architecture: all
+Provides: bar
+";
+    let index = read(rt.alloc(), text, true)?;
+    expect_unversioned_provides(&rt, rt.alloc(), &index)
+}
+
 fn expect_two_versions(rt: &impl Abort, alloc: Global, index: &Index) -> Result<(), Fail> {
+    expect_set(rt, alloc, index, 0, &[0])?;
     expect_set(rt, alloc, index, 1, &[1])?;
     expect_core(
         rt,
@@ -155,8 +291,24 @@ fn expect_two_versions(rt: &impl Abort, alloc: Global, index: &Index) -> Result<
 
 #[test]
 fn two_versions(rt: HostRuntime) -> Result<(), Fail> {
-    let text =
-        b"Package: n\nVersion: 1\nArchitecture: all\n\nPackage: n\nVersion: 2\nArchitecture: all\n\nPackage: a\nVersion: 1\nArchitecture: all\nDepends: n (= 1), b\n\nPackage: b\nVersion: 1\nArchitecture: all\nDepends: n (= 2)\n";
+    let text = b"Package: n
+Version: 1
+Architecture: all
+
+Package: n
+Version: 2
+Architecture: all
+
+Package: a
+Version: 1
+Architecture: all
+Depends: n (= 1), b
+
+Package: b
+Version: 1
+Architecture: all
+Depends: n (= 2)
+";
     let index = read(rt.alloc(), text, true)?;
     expect_two_versions(&rt, rt.alloc(), &index)
 }
@@ -180,8 +332,16 @@ fn expect_no_essential_conflict(rt: &impl Abort, alloc: Global, index: &Index) -
 
 #[test]
 fn essential_conflict(rt: HostRuntime) -> Result<(), Fail> {
-    let text =
-        b"Package: base\nVersion: 1\nArchitecture: all\nEssential: yes\n\nPackage: x\nVersion: 1\nArchitecture: all\nConflicts: base\n";
+    let text = b"Package: base
+Version: 1
+Architecture: all
+Essential: yes
+
+Package: x
+Version: 1
+Architecture: all
+Conflicts: base
+";
     let index = read(rt.alloc(), text, true)?;
     expect_essential_conflict(&rt, rt.alloc(), &index)?;
     let without = read(rt.alloc(), text, false)?;
@@ -222,15 +382,33 @@ fn expect_essential_packages_in_conflict(
 
 #[test]
 fn essential_packages_in_conflict(rt: HostRuntime) -> Result<(), Fail> {
-    let text =
-        b"Package: e1\nVersion: 1\nArchitecture: all\nEssential: yes\nConflicts: e2\n\nPackage: e2\nVersion: 1\nArchitecture: all\nEssential: yes\n\nPackage: z\nVersion: 1\nArchitecture: all\n";
+    let text = b"Package: e1
+Version: 1
+Architecture: all
+Essential: yes
+Conflicts: e2
+
+Package: e2
+Version: 1
+Architecture: all
+Essential: yes
+
+Package: z
+Version: 1
+Architecture: all
+";
     let index = read(rt.alloc(), text, true)?;
     expect_essential_packages_in_conflict(&rt, rt.alloc(), &index)
 }
 
 #[test]
 fn own_dependency(rt: HostRuntime) -> Result<(), Fail> {
-    let text = b"Package: s\nVersion: 1\nArchitecture: all\nDepends: s, v\nProvides: v\n";
+    let text = b"Package: s
+Version: 1
+Architecture: all
+Depends: s, v
+Provides: v
+";
     let index = read(rt.alloc(), text, true)?;
     expect_set(&rt, rt.alloc(), &index, 0, &[0])
 }
@@ -257,8 +435,21 @@ fn expect_pre_depends_and_breaks(
 
 #[test]
 fn pre_depends_and_breaks(rt: HostRuntime) -> Result<(), Fail> {
-    let text =
-        b"Package: a\nVersion: 1\nArchitecture: all\nDepends: c\nPre-Depends: b\n\nPackage: b\nVersion: 1\nArchitecture: all\n\nPackage: c\nVersion: 1\nArchitecture: all\nBreaks: b (<< 2)\n";
+    let text = b"Package: a
+Version: 1
+Architecture: all
+Depends: c
+Pre-Depends: b
+
+Package: b
+Version: 1
+Architecture: all
+
+Package: c
+Version: 1
+Architecture: all
+Breaks: b (<< 2)
+";
     let index = read(rt.alloc(), text, true)?;
     expect_pre_depends_and_breaks(&rt, rt.alloc(), &index)
 }
@@ -341,12 +532,55 @@ fn on_their_groundworks(
 fn one_workspace_for_all(rt: HostRuntime) -> Result<(), Fail> {
     let agents = read(
         rt.alloc(),
-        b"Package: base\nVersion: 1\nArchitecture: all\nEssential: yes\nDepends: m1 | m2, lib\n\nPackage: m1\nVersion: 1\nArchitecture: all\nProvides: mail-agent\nConflicts: mail-agent\n\nPackage: m2\nVersion: 1\nArchitecture: all\nProvides: mail-agent\nConflicts: mail-agent\n\nPackage: u\nVersion: 1\nArchitecture: all\nDepends: m1, m2\n\nPackage: lib\nVersion: 1\nArchitecture: all\n",
+        b"Package: base
+Version: 1
+Architecture: all
+Essential: yes
+Depends: m1 | m2, lib
+
+Package: m1
+Version: 1
+Architecture: all
+Provides: mail-agent
+Conflicts: mail-agent
+
+Package: m2
+Version: 1
+Architecture: all
+Provides: mail-agent
+Conflicts: mail-agent
+
+Package: u
+Version: 1
+Architecture: all
+Depends: m1, m2
+
+Package: lib
+Version: 1
+Architecture: all
+",
         true,
     )?;
     let versions = read(
         rt.alloc(),
-        b"Package: n\nVersion: 1\nArchitecture: all\n\nPackage: n\nVersion: 2\nArchitecture: all\n\nPackage: a\nVersion: 1\nArchitecture: all\nDepends: n (= 1), b\n\nPackage: b\nVersion: 1\nArchitecture: all\nDepends: n (= 2)\n",
+        b"Package: n
+Version: 1
+Architecture: all
+
+Package: n
+Version: 2
+Architecture: all
+
+Package: a
+Version: 1
+Architecture: all
+Depends: n (= 1), b
+
+Package: b
+Version: 1
+Architecture: all
+Depends: n (= 2)
+",
         true,
     )?;
     on_their_groundworks(&rt, rt.alloc(), &agents, &versions)
