@@ -8,7 +8,6 @@ use Rattle.std.proofs.lemmas.Option.{slice_get-get_or, slice_get_within, get_or_
 use Rattle.deb_index.specs.declared.constraint.Constraint.{Constraint}
 use Rattle.deb_index.specs.Packages.{IndexView}
 use Rattle.deb_index.specs.Constraints.{Holds}
-use Rattle.sat_solve.specs.declared.Lit.{Lit}
 use Rattle.sat_solve.specs.Sets.{NumberSet, members_of}
 use Rattle.sat_solve.specs.Clauses.{Clause, Clauses, clause_holds}
 use Rattle.deb_verdict.specs.Encoding.{GroupHolds}

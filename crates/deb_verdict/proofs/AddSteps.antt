@@ -5,7 +5,6 @@ use Rattle.std.proofs.lemmas.List.{take_more, length-take-le, get_or_default}
 use Rattle.deb_relation.specs.Relationship.{AtomText}
 use Rattle.deb_index.specs.declared.constraint.Constraint.{Constraint}
 use Rattle.deb_index.specs.Packages.{IndexView, names, is_named, places_of, is_essential, essential_names}
-use Rattle.deb_index.specs.Meets.{meets, satisfiers}
 use Rattle.deb_index.specs.Constraints.{Holds}
 use Rattle.deb_index.proofs.MemberLemmas.{below-places_where}
 use Rattle.sat_solve.specs.Sets.{members_of}

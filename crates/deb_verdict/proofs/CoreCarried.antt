@@ -2,13 +2,12 @@
 use Rattle.std.proofs.Common.{◌≡◌, ℕ, zero, suc, ◌+◌, ◌<◌, ◌≤◌, Bool, true, false, ◌&&◌, ltb, eqb, List, length, get_or, refl, sym, ◌∙◌, ap, inl, inr, arith}
 use Rattle.std.specs.List.{list_any, range_with_len}
 use Rattle.std.specs.List.Sorted.{IsStrictlyIncreasing}
-use Rattle.std.proofs.lemmas.Bool.{cases_Bool, cases_lt, cases_order, false≢true, and_parts, and_from, or_cases, or_left, or_right, both_ways, lt-ltb, eqb-true, eq-eqb, false_from_ne_true}
+use Rattle.std.proofs.lemmas.Bool.{cases_Bool, cases_lt, cases_order, false≢true, and_parts, and_from, or_cases, or_left, or_right, both_ways, eqb-true, eq-eqb, false_from_ne_true}
 use Rattle.deb_index.specs.Packages.{IndexView}
 use Rattle.sat_solve.specs.Sets.{NumberSet, members_of, IsFirst}
 use Rattle.deb_verdict.specs.Health.{AdmitsNone}
 use Rattle.deb_verdict.specs.Closure.{IsWithin, cut, kept, IsClosed}
 use Rattle.deb_verdict.specs.Encoding.{positions_of}
-use Rattle.deb_verdict.specs.Reduction.{IsUpward}
 use Rattle.deb_verdict.proofs.Cutting.{fewer_meets, kept_admits}
 use Rattle.deb_verdict.proofs.Encoded.{rising_lt, pulled, pulled_inside}
 

@@ -1,20 +1,20 @@
 -- What the first true set of the clauses says of the constraints.
 use Rattle.std.proofs.Common.{◌≡◌, ℕ, zero, suc, ◌+◌, ◌<◌, Bool, true, false, ◌&&◌, ltb, eqb, List, [], ◌∷◌, length, get_or, Some, slice_get, refl, sym, ◌∙◌, ap, inl, inr, arith}
-use Rattle.std.proofs.lemmas.Bool.{false≢true, cases_lt, and_parts, and_from, or_cases, or_left, or_right, both_ways, ltb-true, lt-ltb, eqb-true, eq-eqb}
+use Rattle.std.proofs.lemmas.Bool.{false≢true, cases_lt, and_parts, and_from, or_cases, or_left, or_right, ltb-true, lt-ltb, eqb-true, eq-eqb}
 use Rattle.std.proofs.lemmas.List.Folds.{list_any_at}
 use Rattle.std.proofs.lemmas.Option.{slice_get-get_or}
 use Rattle.deb_index.specs.declared.constraint.Constraint.{Constraint}
 use Rattle.deb_index.specs.Packages.{IndexView}
 use Rattle.deb_index.specs.Constraints.{constraints_of}
-use Rattle.sat_solve.specs.Sets.{NumberSet, members_of, IsFirst}
+use Rattle.sat_solve.specs.Sets.{NumberSet, members_of}
 use Rattle.sat_solve.specs.Clauses.{Clause, MeetsKept, IsTrueSet}
 use Rattle.deb_index.specs.declared.constraint.Constraint.TheVariants.{Only}
 use Rattle.std.specs.List.Sorted.{IsStrictlyIncreasing}
-use Rattle.deb_verdict.specs.Health.{MeetsAt, IsInstallation, AdmitsNone}
-use Rattle.deb_verdict.specs.Closure.{IsWithin, cut, kept}
+use Rattle.deb_verdict.specs.Health.{MeetsAt, AdmitsNone}
+use Rattle.deb_verdict.specs.Closure.{IsWithin, cut}
 use Rattle.deb_verdict.specs.Encoding.{places_in_play, Stands, Encodes, IsChosen}
-use Rattle.deb_verdict.specs.Gathering.{IsEnough, Follows, all_of}
-use Rattle.deb_verdict.proofs.Cutting.{cut_meets, kept_meets, fewer_meets, healthy_from_meets, meets_from_healthy}
+use Rattle.deb_verdict.specs.Gathering.{IsEnough, Follows}
+use Rattle.deb_verdict.proofs.Cutting.{cut_meets}
 
 pub members_of_at : (numbers : List ℕ) (number : ℕ) → members_of numbers number ≡ true → (k : ℕ) × (k < length numbers) × (get_or numbers k 0 ≡ number)
 members_of_at [] number is_in = absurd (false≢true is_in)

@@ -13,7 +13,7 @@ use Rattle.sat_solve.proofs.MembersLemmas.{members_of_push}
 use Rattle.deb_verdict.specs.Closure.{IsWithin}
 use Rattle.deb_verdict.specs.PlaceSets.{with_place}
 use Rattle.deb_verdict.specs.Growing.{ArePlaces, Grows}
-use Rattle.deb_verdict.proofs.Encoded.{at_members_of, members_of_at}
+use Rattle.deb_verdict.proofs.Encoded.{members_of_at}
 
 -- ---- one place more
 

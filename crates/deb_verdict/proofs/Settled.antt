@@ -1,18 +1,18 @@
 -- The first true set and the first groups without one, read as the first healthy set and the first core.
 use Rattle.std.proofs.Common.{◌≡◌, ℕ, ◌<◌, true, List, length, get_or, Some, sym, ◌∙◌, ap}
 use Rattle.std.specs.List.Sorted.{IsStrictlyIncreasing}
-use Rattle.std.proofs.lemmas.Bool.{and_parts, false≢true, lt-ltb}
+use Rattle.std.proofs.lemmas.Bool.{and_parts, false≢true}
 use Rattle.deb_index.specs.Packages.{IndexView}
 use Rattle.sat_solve.specs.Sets.{NumberSet, members_of, IsFirst}
-use Rattle.sat_solve.specs.Clauses.{Clause, Clauses, IsTrueSet}
-use Rattle.deb_verdict.specs.Health.{IsInstallation, AdmitsNone}
+use Rattle.sat_solve.specs.Clauses.{Clause, Clauses}
+use Rattle.deb_verdict.specs.Health.{AdmitsNone}
 use Rattle.deb_verdict.specs.Closure.{IsWithin, kept, IsClosed}
 use Rattle.deb_verdict.specs.Encoding.{positions_of, Stands, Encodes, IsChosen}
 use Rattle.deb_verdict.specs.Reduction.{all_below}
 use Rattle.deb_verdict.specs.Groups.{HasNoTrueSet}
 use Rattle.deb_verdict.specs.Gathering.{none_of}
 use Rattle.deb_verdict.proofs.Cutting.{closed_enough, respects_nothing}
-use Rattle.deb_verdict.proofs.Encoded.{members_of_at, at_members_of, none_true, true_meets, first_true, first_meeting}
+use Rattle.deb_verdict.proofs.Encoded.{members_of_at, at_members_of, none_true, true_meets}
 use Rattle.deb_verdict.proofs.CoreCarried.{GroupsAdmitNone, position_in, group_at, same_position, first_core_carried}
 use Rattle.deb_verdict.proofs.GroupLemmas.{marks_of, mark_at, marked, true_from_kept, kept_from_true}
 
