@@ -55,7 +55,7 @@ TOP = os.path.dirname(debcheck_program.default_path())
 SECONDS = 10  # for one run
 COUNTED = {"malloc", "realloc"}
 NOT_COUNTED = {"aligned_alloc", "calloc", "memalign", "mmap", "posix_memalign", "pvalloc", "reallocarray", "sbrk", "valloc"}
-WANTED_BY_A_TEST = re.compile(rb"(out of memory|error: (AllocError|Memory))\nthe test failed: its result gives status 1\n")
+WANTED_BY_A_TEST = re.compile(rb"(out of memory|error: (AllocError|AllocFailed \{ \.\. \}|Memory))\nthe test failed: its result gives status 1\n")
 OUT_OF_MEMORY = b"debcheck: out of memory\n"
 
 # Each package of the sample: its name and version, its other fields, and its set, or behind "broken" the reasons.
