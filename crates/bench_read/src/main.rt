@@ -1,17 +1,14 @@
 //! How long it takes to read the index on standard input. What was measured goes to standard error.
 #![tactic(auto)]
 
-use deb_index::Index;
+use deb_index::{Index, TEXT_LIMIT};
 use std::alloc::{AllocError, Global};
 use std::io;
 use std::io::Read;
 use std::time::Instant;
 
-/// The bytes of the longest index.
-const LIMIT: usize = 268_435_456;
-
 fn measure(rt: &HostRuntime, alloc: Global, text: &[u8]) -> io::Result<()> {
-    if text.len() > LIMIT {
+    if text.len() > TEXT_LIMIT {
         return eprintln!(rt; "the index is too long");
     }
     let start = Instant::now(rt)?;

@@ -1,15 +1,12 @@
 //! How long it takes to find the verdict of each package of the index on standard input, by one worker. What was measured goes to standard error.
 #![tactic(auto)]
 
-use deb_index::Index;
+use deb_index::{Index, TEXT_LIMIT};
 use deb_verdict::{Groundwork, Verdict, Workspace, verdict_in};
 use std::alloc::{AllocError, Global};
 use std::io;
 use std::io::Read;
 use std::time::Instant;
-
-/// The bytes of the longest index.
-const LIMIT: usize = 268_435_456;
 
 /// What the verdicts of an index are.
 #[derive(Clone, Copy)]
@@ -62,7 +59,7 @@ fn main(rt: HostRuntime) -> io::Result<()> {
     let alloc = rt.alloc();
     let mut text = Vec::new(alloc);
     rt.reader().read_to_end(&mut text)?;
-    if text.len() > LIMIT {
+    if text.len() > TEXT_LIMIT {
         return eprintln!(rt; "the index is too long");
     }
     match Index::read(alloc, &text, "amd64", true) {

@@ -40,7 +40,7 @@ pub enum IndexError {
     /// architecture have no such fault.
     #[error("stanza {stanza}: bad relation")]
     BadRelation { stanza: u64, field: RelField },
-    /// The text has more than 1,048,576 stanzas, and this is the first one beyond.
+    /// The text has more than `STANZA_LIMIT` stanzas, 1,048,576, and this is the first one beyond.
     #[error("stanza {stanza}: too many stanzas")]
     TooManyStanzas { stanza: u64 },
     /// Memory was refused.

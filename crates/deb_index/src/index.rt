@@ -43,6 +43,8 @@ impl Model for Index {
 
 impl Index {
     /// Reads the index of a text for an architecture, or its first fault; without `essential` no name is essential.
+    ///
+    /// The text has at most `TEXT_LIMIT` bytes. A text of more than `STANZA_LIMIT` stanzas is refused as `TooManyStanzas`.
     pub fn read(
         alloc: Global,
         text: &[u8],
@@ -72,7 +74,7 @@ impl Index {
         })
     }
 
-    /// How many packages there are: at most 1,048,576, the most stanzas that a text may have. Together they have at most
+    /// How many packages there are: at most `STANZA_LIMIT`, the most stanzas that a text may have. Together they have at most
     /// 2,147,483,648 groups and entries.
     pub fn len(&self) -> u32
         ensures value { result ≡ length self.now.packages }
@@ -220,7 +222,7 @@ impl Index {
         self.links.entries.get(first as usize + number as usize)
     }
 
-    /// How many stanzas the text has: at most 1,048,576.
+    /// How many stanzas the text has: at most `STANZA_LIMIT`.
     pub fn stanzas(&self) -> u32
         ensures { result ≡ self.now.stanzas }
     {

@@ -4,6 +4,7 @@
 mod constraint;
 mod error;
 mod index;
+mod limits;
 mod links;
 mod listing;
 mod meets;
@@ -16,6 +17,7 @@ mod walk;
 pub use constraint::Constraint;
 pub use error::{IndexError, RelField};
 pub use index::Index;
+pub use limits::{STANZA_LIMIT, TEXT_LIMIT};
 pub use package::Package;
 
 #[cfg(test)]

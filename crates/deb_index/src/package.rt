@@ -9,6 +9,7 @@ ghost use Rattle.deb_index.specs.Reading.{Gives, field_name, head_of, head_view,
 ghost use Rattle.deb_index.specs.Reading as spec;
 
 use crate::error::{IndexError, RelField};
+use crate::limits::STANZA_LIMIT;
 use deb_control::{ControlError, Reader, Stanza};
 use deb_relation::{
     Atom, Op, RelationError, Version, VersionError, is_name, parse_groups, parse_list,
@@ -50,9 +51,6 @@ pub(crate) enum Reading {
     Skipped,
     Kept(Package),
 }
-
-// The most stanzas that an index may have.
-const STANZA_LIMIT: u64 = 1_048_576;
 
 impl RelField {
     fn name(self) -> &'static str
@@ -266,7 +264,7 @@ fn stanza_fault(number: u64, error: ControlError) -> IndexError
 {
     match error {
         ControlError::Memory => IndexError::Memory,
-        _ if number > STANZA_LIMIT => IndexError::TooManyStanzas { stanza: number },
+        _ if number > u64::from(STANZA_LIMIT) => IndexError::TooManyStanzas { stanza: number },
         ControlError::BadLine { stanza } => IndexError::BadLine { stanza },
         ControlError::RepeatedField { stanza } => IndexError::RepeatedField { stanza },
     }
@@ -286,7 +284,7 @@ pub(crate) fn next_reading(
     match reader.next_stanza(alloc) {
         Ok(None) => Ok(None),
         Ok(Some(stanza)) => {
-            if number > STANZA_LIMIT {
+            if count >= STANZA_LIMIT {
                 return Err(IndexError::TooManyStanzas { stanza: number });
             }
             let reading = read_fields(alloc, arch, number, &stanza)?;

@@ -5,8 +5,6 @@ use std::alloc::{AllocError, Global};
 use std::process::Abort;
 use std::test::Fail;
 
-const BYTE_LIMIT: usize = 268_435_456;
-
 const VERSIONED: &str =
     "Package: foo\nVersion: 1\nArchitecture: all\nDepends: bar (>= 1.0)\n\nPackage: bar\nVersion: 0.9\nArchitecture: all\n\nPackage: bar-plus\nVersion: 1\nArchitecture: all\nProvides: bar (= 1.0)\n";
 
@@ -30,7 +28,7 @@ const MIXED: &str =
 
 // The index of a text, or a refusal.
 pub fn read(alloc: Global, text: &[u8], essential: bool) -> Result<Index, IndexError> {
-    if text.len() > BYTE_LIMIT {
+    if text.len() > TEXT_LIMIT {
         return Err(IndexError::Memory);
     }
     Index::read(alloc, text, "amd64", essential)
@@ -309,7 +307,7 @@ fn copies(alloc: Global, count: u32) -> Result<Vec<u8>, AllocError> {
 }
 
 fn expect_as_many_as_may_be(rt: &(impl Abort + AllocGlobal), text: &[u8]) -> Result<(), Fail> {
-    assert!(rt; text.len() <= BYTE_LIMIT);
+    assert!(rt; text.len() <= TEXT_LIMIT);
     let index = Index::read(rt.alloc(), text, "amd64", true)?;
     expect_one_package(rt, &index);
     Ok(())
@@ -326,7 +324,7 @@ fn a_stanza_too_many(rt: HostRuntime) -> Result<(), Fail> {
     let mut text = copies(rt.alloc(), 1_048_576)?;
     expect_as_many_as_may_be(&rt, &text)?;
     text.extend_from_slice(b"no stanza")?;
-    assert!(rt; text.len() <= BYTE_LIMIT);
+    assert!(rt; text.len() <= TEXT_LIMIT);
     let fault = Index::read(rt.alloc(), &text, "amd64", true).err();
     assert!(rt; fault == Some(IndexError::TooManyStanzas { stanza: 1_048_577 }));
     Ok(())

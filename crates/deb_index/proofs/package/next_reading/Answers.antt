@@ -10,8 +10,8 @@ returns-in-Ok-None c =
     let p = rw c.in-Ok-None.field-0-is at c.in-Ok-None.ensures.ends in
     next-ends c.args.arch.now c.args.reader.now p.0 ∙ ap (λ (u : Unread). Ok (None, u)) (sym p.1)
 
-pub returns-then-number-gt-STANZA_LIMIT : goal.returns-then-number-gt-STANZA_LIMIT
-returns-then-number-gt-STANZA_LIMIT c =
+pub returns-then-count-ge-STANZA_LIMIT : goal.returns-then-count-ge-STANZA_LIMIT
+returns-then-count-ge-STANZA_LIMIT c =
     let t = rw c.in-Ok-Some.field-0-is at c.in-Ok-Some.ensures.takes in
     let counts = t.counts in
     taken-many c.args.arch.now c.args.reader.now c.next_stanza.new.self c.in-Ok-Some.stanza (c.from-number.result + 1) t (omega (arith, counts)) (omega arith)
