@@ -17,7 +17,7 @@ use Rattle.deb_index.specs.declared.error.RelField.TheVariants.{Depends, Provide
 use Rattle.deb_index.specs.declared.constraint.Constraint.TheVariants.{Essential, Need, Apart, Only}
 use Rattle.deb_index.specs.Packages.{IndexView, PackageView, first_of_each, places_where}
 use Rattle.deb_index.specs.Reading.{collected, head_of, index_of, package_of, provides_in, reading_of, readings, stanza_reading}
-use Rattle.deb_index.specs.Meets.{meets, meets_need, meets_at, provided_at, satisfiers}
+use Rattle.deb_index.specs.Meets.{meets, meets_need, meets_at, meets_need_at, need_satisfiers, provided_at, satisfiers}
 use Rattle.deb_index.specs.Constraints.{is_holding, constraints_of}
 
 abbrev read : List ℕ → Result IndexView IndexError
@@ -96,3 +96,19 @@ pub provided :
     × (seen (λ i. provided_at i (codes "w")) provided_twice ≡ Some [])
 unfolding lines content_lines is_field_name field_parts has_bad_line value_of fields_of has_repeat field_value runs stanzas_of good_fields read_stanza groups_from group_of atom_of bound_at inside_at atoms_from run after_run fault_of rest_fault colon_in hyphen_in last_position split in_front part_cmp continued_cmp rest_cmp version_cmp compared_epoch compared_upstream compared_revision first_of_each places_where head_of package_of provides_in reading_of stanza_reading readings collected index_of meets provided_at constraints_of is_holding meets_need
 provided = (refl, refl, refl, refl, refl, refl, refl)
+
+-- two packages provide a name, and one of them is marked
+abbrev marked_provider : List ℕ
+marked_provider = codes "Package: a\nVersion: 1\nArchitecture: all\nDepends: v:any\n\nPackage: q\nVersion: 1\nArchitecture: all\nProvides: v\nMulti-Arch: allowed\n\nPackage: p\nVersion: 1\nArchitecture: all\nProvides: v\nMulti-Arch: foreign\n"
+
+abbrev of_any : AtomText
+of_any = record { name = codes "v"; qualifier = Some (codes "any"); bound = None }
+
+pub marks :
+    (seen (λ i. need_satisfiers i of_any) marked_provider ≡ Some (1 ∷ []))
+    × (seen (λ i. satisfiers i of_any) marked_provider ≡ Some (1 ∷ 2 ∷ []))
+    × (seen (λ i. meets_need_at i 2 of_any) marked_provider ≡ Some false)
+    × (seen (λ i. meets_at i 2 of_any) marked_provider ≡ Some true)
+    × (seen (λ i. need_satisfiers i (asked (codes "v") None)) marked_provider ≡ Some (1 ∷ 2 ∷ []))
+unfolding lines content_lines is_field_name field_parts has_bad_line value_of fields_of has_repeat field_value runs stanzas_of good_fields read_stanza groups_from group_of atom_of bound_at inside_at atoms_from run after_run fault_of rest_fault colon_in hyphen_in last_position split in_front part_cmp continued_cmp rest_cmp version_cmp compared_epoch compared_upstream compared_revision first_of_each places_where head_of package_of provides_in reading_of stanza_reading readings collected index_of meets provided_at constraints_of is_holding meets_need
+marks = (refl, refl, refl, refl, refl)

@@ -14,7 +14,9 @@ use Rattle.deb_relation.specs.Relationship.{AtomText}
 use Rattle.deb_index.specs.Packages.{IndexView, PackageView, places_where}
 use Rattle.deb_index.specs.Meets.{group_satisfiers, meets_need, satisfiers}
 use Rattle.deb_index.specs.Reading.{stanza_limit}
-use Rattle.deb_index.specs.Rows.{answer_row, candidate_count, group_candidates, hit_row, row_as, row_limit}
+use Rattle.deb_index.specs.Rows.{answer_row, candidate_count, group_candidates, hit_row, row_limit}
+use Rattle.deb_index.specs.Roles.{row_as}
+use Rattle.deb_index.specs.declared.meets.Role.TheVariants.{Alternative}
 use Rattle.deb_index.proofs.ConstraintLemmas.{where-short}
 
 none-some : (x : List ℕ) → None ≡ Some x → ⊥
@@ -62,7 +64,7 @@ module _ (index : IndexView) where
   or-none false = refl
 
   -- a group of one alternative has the row of that
-  pub group-of-one : (atom : AtomText) → answer_row index (atom ∷ []) ≡ row_as true index atom
+  pub group-of-one : (atom : AtomText) → answer_row index (atom ∷ []) ≡ row_as Alternative index atom
   group-of-one atom =
       let same : group_candidates index (atom ∷ []) ≡ candidate_count index atom = omega (arith, sum_by-cons (candidate_count index) atom []) in
       λ i. cond (leb (same i) row_limit) (Some (places_where (λ q. or-none (meets_need index.arch q atom) i) index.packages)) None

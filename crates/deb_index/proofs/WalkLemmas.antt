@@ -9,7 +9,10 @@ use Rattle.std.proofs.lemmas.List.Elements.{filter-append}
 use Rattle.deb_relation.specs.Relationship.{AtomText}
 use Rattle.deb_index.specs.Packages.{IndexView, PackageView, is_named, places_of, places_where}
 use Rattle.deb_relation.specs.Usable.{is_usable}
-use Rattle.deb_index.specs.Meets.{allows, entry_meets, is_providing, meets, meets_as, meets_as_at, meets_bound, meets_itself, meets_need, provided_at, provided_version, satisfiers_as}
+use Rattle.deb_index.specs.Meets.{allows, entry_meets, is_providing, meets, meets_bound, meets_itself, meets_need, provided_at, provided_version}
+use Rattle.deb_index.specs.Roles.{meets_as, meets_as_at, satisfiers_as}
+use Rattle.deb_index.specs.declared.meets.Role.{Role}
+use Rattle.deb_index.specs.declared.meets.Role.TheVariants.{Alternative, Entry}
 use Rattle.deb_index.specs.Walk.{behind, first_place}
 use Rattle.deb_index.proofs.MemberLemmas.{from_fail, from_pass, member-places_where, places_from}
 use Rattle.deb_index.proofs.RisingLemmas.{IsRising, is_in, where-rising}
@@ -247,18 +250,18 @@ module _ (arch name : List ℕ) where
   providing-some n (p ∷ ps) (suc q) m at h = ap (λ l. is_in l m) (providing-first n p ps)
       ∙ at-later n (places_where (is_providing arch name) p.provides) (places (providing (n + 1) ps)) m (providing-some (n + 1) ps q m (omega arith) h)
 
--- what meets an atom in either way meets it
-meets-anyway : (need : Bool) (arch : List ℕ) (p : PackageView) (atom : AtomText) → meets_as need arch p atom ≡ true → meets arch p atom ≡ true
+-- what meets an atom in either role meets it
+meets-anyway : (role : Role) (arch : List ℕ) (p : PackageView) (atom : AtomText) → meets_as role arch p atom ≡ true → meets arch p atom ≡ true
 unfolding meets_need
-meets-anyway true arch p atom h = (and_parts (meets arch p atom) (allows p atom) h).0
-meets-anyway false arch p atom h = h
+meets-anyway Alternative arch p atom h = (and_parts (meets arch p atom) (allows p atom) h).0
+meets-anyway Entry arch p atom h = h
 
 -- ---- the whole walk
 
-starts : (need : Bool) (index : IndexView) (atom : AtomText)
-    → IsWalked (λ q. meets_as_at need index q atom) (length index.packages) [] (places_of index atom.name) (map (λ (e : ℕ × ℕ). e.0) (provided_at index atom.name))
+starts : (role : Role) (index : IndexView) (atom : AtomText)
+    → IsWalked (λ q. meets_as_at role index q atom) (length index.packages) [] (places_of index atom.name) (map (λ (e : ℕ × ℕ). e.0) (provided_at index atom.name))
 unfolding provided_at
-starts need index atom = record {
+starts role index atom = record {
   next = 0;
   within = omega arith;
   found_are = refl;
@@ -267,33 +270,33 @@ starts need index atom = record {
   candidates = λ q low high passes. candidate q passes;
 }
   where
-    candidate : (q : ℕ) → meets_as_at need index q atom ≡ true → (is_in (places_of index atom.name) q || is_in (places (providing index.arch atom.name 0 index.packages)) q) ≡ true
+    candidate : (q : ℕ) → meets_as_at role index q atom ≡ true → (is_in (places_of index atom.name) q || is_in (places (providing index.arch atom.name 0 index.packages)) q) ≡ true
     candidate q passes = by (slice_get index.packages q) refl
       where
         by : (o : Option PackageView) → slice_get index.packages q ≡ o → (is_in (places_of index atom.name) q || is_in (places (providing index.arch atom.name 0 index.packages)) q) ≡ true
-        by None e = absurd (false≢true (sym (ap (λ o. option_map_or (λ (p : PackageView). meets_as need index.arch p atom) o false) e) ∙ passes))
+        by None e = absurd (false≢true (sym (ap (λ o. option_map_or (λ (p : PackageView). meets_as role index.arch p atom) o false) e) ∙ passes))
         by (Some p) e =
             elim (or_cases (is_named atom.name p) (list_any (is_providing index.arch atom.name) p.provides)
-            (meets-named index.arch p atom (meets-anyway need index.arch p atom (sym (ap (λ o. option_map_or (λ (p : PackageView). meets_as need index.arch p atom) o false) e) ∙ passes)))) [
+            (meets-named index.arch p atom (meets-anyway role index.arch p atom (sym (ap (λ o. option_map_or (λ (p : PackageView). meets_as role index.arch p atom) o false) e) ∙ passes)))) [
               | inl named ↦ or_left (is_in (places_of index atom.name) q) (is_in (places (providing index.arch atom.name 0 index.packages)) q)
                   (member-places_where (is_named atom.name) index.packages q ∙ (ap (λ o. option_map_or (is_named atom.name) o false) e ∙ named))
               | inr provides ↦ or_right (is_in (places_of index atom.name) q) (is_in (places (providing index.arch atom.name 0 index.packages)) q)
                   (providing-some index.arch atom.name 0 index.packages q q (omega arith) (ap (λ o. option_map_or (λ (p : PackageView). list_any (is_providing index.arch atom.name) p.provides) o false) e ∙ provides))
             ]
 
-finds : (need : Bool) (index : IndexView) (atom : AtomText) (found named provided : List ℕ) → IsWalked (λ q. meets_as_at need index q atom) (length index.packages) found named provided → first_place named provided ≡ None
-    → found ≡ satisfiers_as need index atom
-finds need index atom found named provided w e = walk-ends (λ q. meets_as_at need index q atom) (length index.packages) found named provided w e ∙ below-places (λ p. meets_as need index.arch p atom) index.packages
+finds : (role : Role) (index : IndexView) (atom : AtomText) (found named provided : List ℕ) → IsWalked (λ q. meets_as_at role index q atom) (length index.packages) found named provided → first_place named provided ≡ None
+    → found ≡ satisfiers_as role index atom
+finds role index atom found named provided w e = walk-ends (λ q. meets_as_at role index q atom) (length index.packages) found named provided w e ∙ below-places (λ p. meets_as role index.arch p atom) index.packages
 
 -- ---- the same of what the code holds
 
-pub walk-starts : (need : Bool) (index : IndexView) (atom : AtomText) (found named : List ℕ) (provided : List (ℕ × ℕ)) → found ≡ [] → named ≡ places_of index atom.name → provided ≡ provided_at index atom.name
-    → IsWalked (λ q. meets_as_at need index q atom) (length index.packages) found named (places provided)
-walk-starts need index atom found named provided e n p =
-    let t : ℕ → Bool = λ q. meets_as_at need index q atom in
+pub walk-starts : (role : Role) (index : IndexView) (atom : AtomText) (found named : List ℕ) (provided : List (ℕ × ℕ)) → found ≡ [] → named ≡ places_of index atom.name → provided ≡ provided_at index atom.name
+    → IsWalked (λ q. meets_as_at role index q atom) (length index.packages) found named (places provided)
+walk-starts role index atom found named provided e n p =
+    let t : ℕ → Bool = λ q. meets_as_at role index q atom in
     subst (λ l. IsWalked t (length index.packages) l named (places provided)) (sym e)
     (subst (λ l. IsWalked t (length index.packages) [] l (places provided)) (sym n)
-    (subst (λ l. IsWalked t (length index.packages) [] (places_of index atom.name) (places l)) (sym p) (starts need index atom)))
+    (subst (λ l. IsWalked t (length index.packages) [] (places_of index atom.name) (places l)) (sym p) (starts role index atom)))
 
 module _ (t : ℕ → Bool) (limit p : ℕ) (found named : List ℕ) (provided : List (ℕ × ℕ)) (w : IsWalked t limit found named (places provided)) (e : Some p ≡ first_place named (places provided))
     (now behind_named : List ℕ) (behind_provided : List (ℕ × ℕ)) (n : behind_named ≡ behind p named) (m : places behind_provided ≡ behind p (places provided)) where
@@ -314,7 +317,7 @@ pub walk-shorter : (p : ℕ) (named behind_named : List ℕ) (provided behind_pr
 walk-shorter p named behind_named provided behind_provided e n m =
     omega (arith, shorter named (places provided) p (sym e), ap (λ (l : List ℕ). length l) n, ap (λ (l : List ℕ). length l) m, length-map provided (λ (e : ℕ × ℕ). e.0), length-map behind_provided (λ (e : ℕ × ℕ). e.0))
 
-pub walk-finds : (need : Bool) (index : IndexView) (atom : AtomText) (found named provided : List ℕ) (o : Option ℕ) → IsWalked (λ q. meets_as_at need index q atom) (length index.packages) found named provided
-    → o ≡ first_place named provided → ((p : ℕ) → o ≡ Some p → ⊥) → found ≡ satisfiers_as need index atom
-walk-finds need index atom found named provided None w e none = finds need index atom found named provided w (sym e)
-walk-finds need index atom found named provided (Some p) w e none = absurd (none p refl)
+pub walk-finds : (role : Role) (index : IndexView) (atom : AtomText) (found named provided : List ℕ) (o : Option ℕ) → IsWalked (λ q. meets_as_at role index q atom) (length index.packages) found named provided
+    → o ≡ first_place named provided → ((p : ℕ) → o ≡ Some p → ⊥) → found ≡ satisfiers_as role index atom
+walk-finds role index atom found named provided None w e none = finds role index atom found named provided w (sym e)
+walk-finds role index atom found named provided (Some p) w e none = absurd (none p refl)

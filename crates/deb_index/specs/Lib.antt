@@ -4,5 +4,6 @@ pub mod Meets
 pub mod Constraints
 pub mod Tables
 pub mod Walk
+pub mod Roles
 pub mod Rows
 pub mod Links

@@ -39,11 +39,6 @@ allows q atom = not (is_any atom.qualifier) || q.multi_arch_allowed
 unfoldable pub meets_need : List ℕ → PackageView → AtomText → Bool
 meets_need arch q atom = meets arch q atom && allows q atom
 
--- as an alternative of a need, or as an entry
-abbrev pub meets_as : Bool → List ℕ → PackageView → AtomText → Bool
-meets_as true arch q atom = meets_need arch q atom
-meets_as false arch q atom = meets arch q atom
-
 -- the places of the packages that meet an atom, rising
 abbrev pub satisfiers : IndexView → AtomText → List ℕ
 satisfiers index atom = places_where (λ q. meets index.arch q atom) index.packages
@@ -51,9 +46,6 @@ satisfiers index atom = places_where (λ q. meets index.arch q atom) index.packa
 -- those that meet it as an alternative of a need
 abbrev pub need_satisfiers : IndexView → AtomText → List ℕ
 need_satisfiers index atom = places_where (λ q. meets_need index.arch q atom) index.packages
-
-abbrev pub satisfiers_as : Bool → IndexView → AtomText → List ℕ
-satisfiers_as need index atom = places_where (λ q. meets_as need index.arch q atom) index.packages
 
 -- the places of the packages that meet an alternative of a group
 abbrev pub group_satisfiers : IndexView → List AtomText → List ℕ
@@ -71,8 +63,6 @@ provided_at index name = flat_map (λ e. map (λ j. (e.0, j)) (places_where (is_
 abbrev pub meets_at : IndexView → ℕ → AtomText → Bool
 meets_at index p atom = option_map_or (λ q. meets index.arch q atom) (slice_get index.packages p) false
 
+-- whether it meets the atom as an alternative of a need
 abbrev pub meets_need_at : IndexView → ℕ → AtomText → Bool
 meets_need_at index p atom = option_map_or (λ q. meets_need index.arch q atom) (slice_get index.packages p) false
-
-abbrev pub meets_as_at : Bool → IndexView → ℕ → AtomText → Bool
-meets_as_at need index p atom = option_map_or (λ q. meets_as need index.arch q atom) (slice_get index.packages p) false

@@ -1,10 +1,10 @@
 -- Rows of places: those that meet a group or an entry, where few packages come into question.
-use Rattle.std.specs.Prelude.{◌≤◌, ◌+◌, ℕ, Bool, false, nat_le, List, length, sum_by, take, drop, Option, Some, None, if◌then◌else◌}
+use Rattle.std.specs.Prelude.{◌≤◌, ◌+◌, ℕ, nat_le, List, length, sum_by, take, drop, Option, Some, None, if◌then◌else◌}
 use Rattle.deb_relation.specs.Relationship.{AtomText}
 use Rattle.deb_index.specs.declared.rows.Span.{Span}
 use Rattle.deb_index.specs.declared.rows.Span.TheVariants.{Kept, LeftOut}
 use Rattle.deb_index.specs.Packages.{IndexView, places_of}
-use Rattle.deb_index.specs.Meets.{group_satisfiers, provided_at, satisfiers, satisfiers_as}
+use Rattle.deb_index.specs.Meets.{group_satisfiers, provided_at, satisfiers}
 
 -- how many candidates a row is made for at most
 abbrev pub row_limit : ℕ
@@ -18,17 +18,13 @@ candidate_count index atom = length (places_of index atom.name) + length (provid
 abbrev pub group_candidates : IndexView → List AtomText → ℕ
 group_candidates index group = sum_by (candidate_count index) group
 
--- the row of a group
+-- the row of a group: the places of the packages that meet an alternative of the need
 abbrev pub answer_row : IndexView → List AtomText → Option (List ℕ)
 answer_row index group = if nat_le (group_candidates index group) row_limit then Some (group_satisfiers index group) else None
 
--- the row of an atom, as an alternative of a need or as an entry
-abbrev pub row_as : Bool → IndexView → AtomText → Option (List ℕ)
-row_as need index atom = if nat_le (candidate_count index atom) row_limit then Some (satisfiers_as need index atom) else None
-
--- the row of an entry
+-- the row of an entry: the places of the packages that meet it, whether or not they meet it as an alternative
 abbrev pub hit_row : IndexView → AtomText → Option (List ℕ)
-hit_row index atom = row_as false index atom
+hit_row index atom = if nat_le (candidate_count index atom) row_limit then Some (satisfiers index atom) else None
 
 -- ---- how rows are kept
 

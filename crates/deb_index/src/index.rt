@@ -13,6 +13,7 @@ ghost use Rattle.deb_index.specs.Rows.{candidate_count, group_candidates, row_li
 use crate::constraint::Constraint;
 use crate::error::IndexError;
 use crate::links::Links;
+use crate::meets::Role;
 use crate::package::{Package, next_reading};
 use crate::tables::Tables;
 use deb_control::Reader;
@@ -198,8 +199,8 @@ impl Index {
         self.links.starts[place + 1].entry - self.links.starts[place].entry
     }
 
-    /// The places of the packages that meet an alternative of a group, rising, each once. There is such a row exactly where
-    /// the alternatives have at most 64 candidates in all: packages of the name, and entries that provide it.
+    /// The places of the packages that meet an alternative of a group as `meets_need` tells, rising, each once. There is such
+    /// a row exactly where the alternatives have at most 64 candidates in all: packages of the name, and entries that provide it.
     pub fn answer_row(&self, place: u32, number: u32) -> Option<&[u32]>
         requires place { place < length self.now.packages }
         requires number { number < length (needs_at self.now place) }
@@ -210,8 +211,8 @@ impl Index {
         self.links.groups.get(first as usize + number as usize)
     }
 
-    /// The places of the packages that meet an entry, rising. There is such a row exactly where the entry has at most 64
-    /// candidates: packages of the name, and entries that provide it.
+    /// The places of the packages that meet an entry as `meets` tells, rising, be they marked `Multi-Arch: allowed` or not.
+    /// There is such a row exactly where the entry has at most 64 candidates: packages of the name, and entries that provide it.
     pub fn hit_row(&self, place: u32, number: u32) -> Option<&[u32]>
         requires place { place < length self.now.packages }
         requires number { number < length (aparts_at self.now place) }
@@ -253,8 +254,9 @@ impl Index {
         self.tables.meets(place, atom)
     }
 
-    /// Whether the package at a place meets an atom as an alternative of Pre-Depends or Depends: it meets the atom, and where the atom has
-    /// the qualifier `any`, its stanza says `Multi-Arch: allowed`.
+    /// Whether the package at a place meets an atom as an alternative of Pre-Depends or Depends: it meets the atom, by its
+    /// name or by its Provides, and where the atom has the qualifier `any`, its own stanza says `Multi-Arch: allowed`
+    /// (deb-control(5)).
     pub fn meets_need(&self, place: u32, atom: &Atom) -> bool
         requires { place < length self.now.packages }
         ensures { result ≡ meets_need_at self.now place (atom_view atom.now) }
@@ -262,17 +264,20 @@ impl Index {
         self.tables.meets_need(place, atom)
     }
 
-    /// The places of all packages that meet an atom as an alternative of Pre-Depends or Depends, rising. The error is want of memory.
+    /// The places of all packages that meet an atom as an alternative of Pre-Depends or Depends, rising. The error is want
+    /// of memory.
     pub fn need_satisfiers(&self, alloc: Global, atom: &Atom) -> Result<Vec<u32>, AllocError>
         ensures { IfOk result (λ v. v.items ≡ need_satisfiers self.now (atom_view atom.now)) }
     {
         let mut found = Vec::new(alloc);
         let (named, provided) = (self.places_of(&atom.name), self.provides_of(&atom.name));
-        self.tables.find(true, atom, named, provided, &mut found)?;
+        self.tables
+            .find(Role::Alternative, atom, named, provided, &mut found)?;
         Ok(found)
     }
 
-    /// The places of all packages that meet an atom, rising. The error is want of memory.
+    /// The places of all packages that meet an atom, rising, as an entry of Conflicts or Breaks asks for them. The error is
+    /// want of memory.
     ///
     /// Only the packages of the atom's name and those that provide it are looked at.
     pub fn satisfiers(&self, alloc: Global, atom: &Atom) -> Result<Vec<u32>, AllocError>
@@ -280,7 +285,8 @@ impl Index {
     {
         let mut found = Vec::new(alloc);
         let (named, provided) = (self.places_of(&atom.name), self.provides_of(&atom.name));
-        self.tables.find(false, atom, named, provided, &mut found)?;
+        self.tables
+            .find(Role::Entry, atom, named, provided, &mut found)?;
         Ok(found)
     }
 

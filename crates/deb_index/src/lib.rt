@@ -21,6 +21,10 @@ pub use limits::{STANZA_LIMIT, TEXT_LIMIT};
 pub use package::Package;
 
 #[cfg(test)]
+mod growths;
+#[cfg(test)]
+mod need_tests;
+#[cfg(test)]
 mod row_tests;
 #[cfg(test)]
 mod tests;

@@ -5,6 +5,7 @@ ghost use Rattle.deb_index.specs.Packages.{aparts, needs, package_view};
 ghost use Rattle.deb_index.specs.Reading.{stanza_limit};
 ghost use Rattle.deb_index.specs.Tables.{asked_count, asked_limit};
 
+use crate::meets::Role;
 use crate::package::Package;
 use crate::rows::Rows;
 use crate::tables::Tables;
@@ -91,7 +92,8 @@ struct Finder {
 }
 
 impl Finder {
-    ghost use Rattle.deb_index.specs.Rows.{answer_row, row_as};
+    ghost use Rattle.deb_index.specs.Roles.{row_as};
+    ghost use Rattle.deb_index.specs.Rows.{answer_row, hit_row};
 
     fn new(alloc: Global) -> Finder {
         Finder {
@@ -127,31 +129,43 @@ impl Finder {
     ) -> Result<(), AllocError>
         requires few { length tables.now.packages ≤ stanza_limit }
         requires few_asked { asked_count (package_view asking.now) ≤ asked_limit }
-        ensures { OnOk result (rows.new ≡ rows.old ++ map (row_as false tables.now) (aparts (package_view asking.now))) }
+        ensures { OnOk result (rows.new ≡ rows.old ++ map (hit_row tables.now) (aparts (package_view asking.now))) }
     {
         for number in 0..asking.apart_count() {
-            self.add_atom(false, tables, asking.apart(number), rows)?;
+            self.add_entry(tables, asking.apart(number), rows)?;
         }
         Ok(())
     }
 
-    // Adds the row of an atom, as an alternative of a need or as an entry.
+    // Adds the row of an atom that stands alone in its role.
     fn add_atom(
         &mut self,
-        need: bool,
+        role: Role,
         tables: &Tables,
         atom: &Atom,
         rows: &mut Rows,
     ) -> Result<(), AllocError>
         requires { length tables.now.packages ≤ stanza_limit }
-        ensures { OnOk result (rows.new ≡ rows.old ++ row_as need tables.now (atom_view atom.now) ∷ []) }
+        ensures { OnOk result (rows.new ≡ rows.old ++ row_as role tables.now (atom_view atom.now) ∷ []) }
     {
         let (named, provided) = (tables.places_of(&atom.name), tables.provides_of(&atom.name));
         if named.len() + provided.len() > ROW_LIMIT {
             return rows.leave_out();
         }
-        tables.find(need, atom, named, provided, &mut self.found)?;
+        tables.find(role, atom, named, provided, &mut self.found)?;
         rows.push(&self.found)
+    }
+
+    fn add_entry(
+        &mut self,
+        tables: &Tables,
+        entry: &Atom,
+        rows: &mut Rows,
+    ) -> Result<(), AllocError>
+        requires { length tables.now.packages ≤ stanza_limit }
+        ensures { OnOk result (rows.new ≡ rows.old ++ hit_row tables.now (atom_view entry.now) ∷ []) }
+    {
+        self.add_atom(Role::Entry, tables, entry, rows)
     }
 
     fn add_group(
@@ -164,7 +178,7 @@ impl Finder {
         ensures { OnOk result (rows.new ≡ rows.old ++ answer_row tables.now (map atom_view group.now) ∷ []) }
     {
         if let [atom] = group {
-            return self.add_atom(true, tables, atom, rows);
+            return self.add_atom(Role::Alternative, tables, atom, rows);
         }
         let mut count = 0;
         self.found.clear();
@@ -174,7 +188,7 @@ impl Finder {
             if count > ROW_LIMIT {
                 return rows.leave_out();
             }
-            tables.find(true, atom, named, provided, &mut self.more)?;
+            tables.find(Role::Alternative, atom, named, provided, &mut self.more)?;
             merge(&self.found, &self.more, &mut self.merged)?;
             mem::swap(&mut self.found, &mut self.merged);
         }

@@ -10,6 +10,15 @@ ghost use Rattle.deb_index.specs.Tables.{asked_count, asked_limit};
 use crate::package::Package;
 use deb_relation::{Atom, Version, bound_holds};
 
+/// In which role an atom stands. Where it has the qualifier `any`, fewer packages meet it as an alternative.
+#[derive(Clone, Copy)]
+pub(crate) enum Role {
+    /// An alternative of a need (Debian Policy 7.2).
+    Alternative,
+    /// An entry of Conflicts or Breaks (Debian Policy 7.3 and 7.4).
+    Entry,
+}
+
 // Whether a version meets the bound of an atom, if there is one.
 fn meets_bound(version: &Version, atom: &Atom) -> bool
     ensures { result ≡ meets_bound (Some version.now) (atom_view atom.now).bound }
@@ -64,7 +73,7 @@ impl Package {
         atom.usable(arch) && (self.meets_itself(atom) || self.provides_for(arch, atom))
     }
 
-    /// Whether the package meets an atom as an alternative of a need: with the qualifier `any` only if it allows that.
+    /// Whether the package meets an atom as an alternative of a need: one with the qualifier `any` only if it allows that.
     #[tactic(auto, unfolding(crate::specs::Meets::meets_need))]
     pub(crate) fn meets_need(&self, arch: &[u8], atom: &Atom) -> bool
         ensures { result ≡ meets_need arch.now (package_view self.now) (atom_view atom.now) }

@@ -25,7 +25,8 @@ pub struct Package {
     pub architecture: Vec<u8>,
     /// Whether the stanza says `Essential: yes` (Debian Policy 3.8); any other value means no.
     pub essential: bool,
-    /// Whether the stanza says `Multi-Arch: allowed`; any other value counts as none.
+    /// Whether the stanza says `Multi-Arch: allowed` (deb-control(5)), and so meets alternatives with the qualifier `any`;
+    /// any other value counts as none.
     pub multi_arch_allowed: bool,
     /// Groups of alternatives, one of each of which has to be met.
     pub pre_depends: Vec<Vec<Atom>>,

@@ -2,16 +2,52 @@
 ghost use Rattle.std.specs.Prelude.{◌<◌};
 
 use super::*;
-use crate::tests::{asked_in_turn, read};
+use crate::tests::read;
+use deb_relation::Atom;
 use std::alloc::{AllocError, Global};
 use std::process::Abort;
 use std::test::Fail;
 
-const MIXED: &str =
-    "Package: a\nVersion: 1\nArchitecture: all\nPre-Depends: v | w (>= 2), a\nDepends: w | v, v | v, none, none | w:any (<< 2), w:i386 | v:amd64 (= 2)\nConflicts: a, v\nBreaks: w (<< 2), none\nProvides: a (= 7), v (= 2)\n\nPackage: w\nVersion: 1\nArchitecture: amd64\nProvides: v\nDepends: a (= 7)\n\nPackage: v\nVersion: 3\nArchitecture: all\n\nPackage: w\nVersion: 2\nArchitecture: all\nConflicts: v (>> 2), w\nDepends: a (= 1) | a (>> 1) | w, v\n";
+const MIXED: &str = "Package: a
+Version: 1
+Architecture: all
+Pre-Depends: v | w (>= 2), a
+Depends: w | v, v | v, none, none | w:any (<< 2), w:i386 | v:amd64 (= 2), w:any
+Conflicts: a, v
+Breaks: w (<< 2), none
+Provides: a (= 7), v (= 2)
+
+Package: w
+Version: 1
+Architecture: amd64
+Multi-Arch: allowed
+Provides: v
+Depends: a (= 7)
+
+Package: v
+Version: 3
+Architecture: all
+
+Package: w
+Version: 2
+Architecture: all
+Conflicts: v (>> 2), w:any
+Depends: a (= 1) | a (>> 1) | w, v
+";
+
+// The places of the packages that meet an alternative of a group, each package asked in turn.
+fn asked_in_turn(alloc: Global, index: &Index, group: &[Atom]) -> Result<Vec<u32>, AllocError> {
+    let mut found = Vec::new(alloc);
+    for place in 0..index.len() {
+        if group.iter().any(|atom| index.meets_need(place, atom)) {
+            found.push(place)?;
+        }
+    }
+    Ok(found)
+}
 
 // Whether a row is there and has these places.
-fn is_row(row: Option<&[u32]>, places: &[u32]) -> bool {
+pub fn is_row(row: Option<&[u32]>, places: &[u32]) -> bool {
     match row {
         Some(row) => row == places,
         None => false,
@@ -26,13 +62,14 @@ fn expect_rows_of_groups(rt: &(impl Abort + AllocGlobal), index: &Index) -> Resu
             assert!(rt; is_row(index.answer_row(place, number), &asked));
         }
     }
-    assert!(rt; index.need_count(0) == 7);
+    assert!(rt; index.need_count(0) == 8);
     assert!(rt; is_row(index.answer_row(0, 0), &[0, 1, 2, 3]));
     assert!(rt; is_row(index.answer_row(0, 1), &[0]));
     assert!(rt; is_row(index.answer_row(0, 3), &[0, 1, 2]));
     assert!(rt; is_row(index.answer_row(0, 4), &[]));
     assert!(rt; is_row(index.answer_row(0, 5), &[1]));
     assert!(rt; is_row(index.answer_row(0, 6), &[0]));
+    assert!(rt; is_row(index.answer_row(0, 7), &[1]));
     Ok(())
 }
 

@@ -5,26 +5,125 @@ use std::alloc::{AllocError, Global};
 use std::process::Abort;
 use std::test::Fail;
 
-const VERSIONED: &str =
-    "Package: foo\nVersion: 1\nArchitecture: all\nDepends: bar (>= 1.0)\n\nPackage: bar\nVersion: 0.9\nArchitecture: all\n\nPackage: bar-plus\nVersion: 1\nArchitecture: all\nProvides: bar (= 1.0)\n";
+pub const VERSIONED: &str = "Package: foo
+Version: 1
+Architecture: all
+Depends: bar (>= 1.0)
 
-const UNVERSIONED: &str =
-    "Package: foo\nVersion: 1\nArchitecture: all\nDepends: bar (>= 1.0)\n\nPackage: bar\nVersion: 0.9\nArchitecture: all\n\nPackage: bar-plus\nVersion: 1\nArchitecture: all\nProvides: bar\n";
+Package: bar
+Version: 0.9
+Architecture: all
 
-const MAIL_AGENTS: &str =
-    "Package: m1\nVersion: 1\nArchitecture: all\nProvides: mail-agent\nConflicts: mail-agent\n\nPackage: m2\nVersion: 1\nArchitecture: all\nProvides: mail-agent\nConflicts: mail-agent\n\nPackage: u\nVersion: 1\nArchitecture: all\nDepends: m1, m2\n";
+Package: bar-plus
+Version: 1
+Architecture: all
+Provides: bar (= 1.0)
+";
 
-const SPELLED: &str =
-    "Package: a\nVersion: 1.0\nArchitecture: amd64\n\nPackage: a\nVersion: 1.0\nArchitecture: all\n\nPackage: a\nVersion: 1.0\nArchitecture: i386\nDepends: b (\n\nPackage: a\nVersion: 1.00\nArchitecture: amd64\n";
+const UNVERSIONED: &str = "Package: foo
+Version: 1
+Architecture: all
+Depends: bar (>= 1.0)
 
-const TWICE: &str =
-    "Package: v\nVersion: 1\nArchitecture: all\nProvides: v (= 2), v\n\nPackage: w\nVersion: 1\nArchitecture: all\nProvides: x, v:amd64, v:any (= 5), v:all, v:i386 (= 6)\n\nPackage: v\nVersion: 3\nArchitecture: amd64\n";
+Package: bar
+Version: 0.9
+Architecture: all
 
-const ESSENTIALS: &str =
-    "Package: x\nVersion: 1\nArchitecture: all\n\nPackage: base\nVersion: 1\nArchitecture: all\nESSENTIAL: yes\n\nPackage: base\nVersion: 2\nArchitecture: all\n\nPackage: y\nVersion: 1\nArchitecture: all\nEssential: Yes\n";
+Package: bar-plus
+Version: 1
+Architecture: all
+Provides: bar
+";
 
-const MIXED: &str =
-    "Package: p\nVersion: 1\nArchitecture: all\nBreaks: b1 (< 1)\nDepends: d1 | d2\nPre-Depends: e1, e2 (> 2)\nConflicts: c1\n";
+const MAIL_AGENTS: &str = "Package: m1
+Version: 1
+Architecture: all
+Provides: mail-agent
+Conflicts: mail-agent
+
+Package: m2
+Version: 1
+Architecture: all
+Provides: mail-agent
+Conflicts: mail-agent
+
+Package: u
+Version: 1
+Architecture: all
+Depends: m1, m2
+";
+
+const SPELLED: &str = "Package: a
+Version: 1.0
+Architecture: amd64
+
+Package: a
+Version: 1.0
+Architecture: all
+
+Package: a
+Version: 1.0
+Architecture: i386
+Depends: b (
+
+Package: a
+Version: 1.00
+Architecture: amd64
+";
+
+const TWICE: &str = "Package: v
+Version: 1
+Architecture: all
+Provides: v (= 2), v
+
+Package: w
+Version: 1
+Architecture: all
+Provides: x, v:amd64, v:any (= 5), v:all, v:i386 (= 6)
+
+Package: v
+Version: 3
+Architecture: amd64
+";
+
+const PROVIDED: &str = "Package: v
+Version: 1
+Architecture: all
+Provides: v (= 2), v
+
+Package: w
+Version: 1
+Architecture: all
+Provides: v
+";
+
+const ESSENTIALS: &str = "Package: x
+Version: 1
+Architecture: all
+
+Package: base
+Version: 1
+Architecture: all
+ESSENTIAL: yes
+
+Package: base
+Version: 2
+Architecture: all
+
+Package: y
+Version: 1
+Architecture: all
+Essential: Yes
+";
+
+const MIXED: &str = "Package: p
+Version: 1
+Architecture: all
+Breaks: b1 (< 1)
+Depends: d1 | d2
+Pre-Depends: e1, e2 (> 2)
+Conflicts: c1
+";
 
 // The index of a text, or a refusal.
 pub fn read(alloc: Global, text: &[u8], essential: bool) -> Result<Index, IndexError> {
@@ -34,11 +133,11 @@ pub fn read(alloc: Global, text: &[u8], essential: bool) -> Result<Index, IndexE
     Index::read(alloc, text, "amd64", essential)
 }
 
-// The places of the packages that meet one of some atoms, each package asked in turn.
-pub fn asked_in_turn(alloc: Global, index: &Index, atoms: &[Atom]) -> Result<Vec<u32>, AllocError> {
+// The places of the packages that meet an atom, each package asked in turn.
+fn asked_in_turn(alloc: Global, index: &Index, atom: &Atom) -> Result<Vec<u32>, AllocError> {
     let mut found = Vec::new(alloc);
     for place in 0..index.len() {
-        if atoms.iter().any(|atom| index.meets(place, atom)) {
+        if index.meets(place, atom) {
             found.push(place)?;
         }
     }
@@ -56,7 +155,7 @@ fn expect_satisfiers(
         assert!(rt; atoms.len() == 1);
         let found = index.satisfiers(rt.alloc(), &atoms[0])?;
         assert!(rt; found.as_slice() == *places);
-        let compared = asked_in_turn(rt.alloc(), index, &atoms)?;
+        let compared = asked_in_turn(rt.alloc(), index, &atoms[0])?;
         assert!(rt; compared.as_slice() == *places);
     }
     Ok(())
@@ -116,6 +215,28 @@ fn expect_several_provides(rt: &(impl Abort + AllocGlobal), index: &Index) -> Re
 fn several_provides(rt: HostRuntime) -> Result<(), Fail> {
     let index = read(rt.alloc(), TWICE.as_bytes(), true)?;
     expect_several_provides(&rt, &index)
+}
+
+fn expect_provided_twice(rt: &(impl Abort + AllocGlobal), index: &Index) -> Result<(), Fail> {
+    assert!(rt; index.provides_of(b"v") == [(0, 0), (0, 1), (1, 0)].as_slice());
+    assert!(rt; index.provides_of(b"w") == [].as_slice());
+    expect_satisfiers(
+        rt,
+        index,
+        &[
+            (b"v", &[0, 1]),
+            (b"v (= 1)", &[0]),
+            (b"v (= 2)", &[0]),
+            (b"v (= 3)", &[]),
+            (b"v:i386", &[]),
+        ],
+    )
+}
+
+#[test]
+fn provided_twice(rt: HostRuntime) -> Result<(), Fail> {
+    let index = read(rt.alloc(), PROVIDED.as_bytes(), true)?;
+    expect_provided_twice(&rt, &index)
 }
 
 fn expect_mail_agents(rt: &(impl Abort + AllocGlobal), index: &Index) -> Result<(), Fail> {
@@ -297,11 +418,13 @@ fn refusals(rt: HostRuntime) {
     }
 }
 
+const COPY: &[u8] = b"Package: a\nVersion: 1\nArchitecture: all\n\n";
+
 // Copies of one stanza, with an empty line behind each.
 fn copies(alloc: Global, count: u32) -> Result<Vec<u8>, AllocError> {
     let mut text = Vec::new(alloc);
     for _ in 0..count {
-        text.extend_from_slice(b"Package: a\nVersion: 1\nArchitecture: all\n\n")?;
+        text.extend_from_slice(COPY)?;
     }
     Ok(text)
 }
@@ -321,11 +444,15 @@ fn expect_one_package(rt: &impl Abort, index: &Index) {
 
 #[test]
 fn a_stanza_too_many(rt: HostRuntime) -> Result<(), Fail> {
-    let mut text = copies(rt.alloc(), 1_048_576)?;
+    let mut text = copies(rt.alloc(), STANZA_LIMIT)?;
     expect_as_many_as_may_be(&rt, &text)?;
-    text.extend_from_slice(b"no stanza")?;
-    assert!(rt; text.len() <= TEXT_LIMIT);
-    let fault = Index::read(rt.alloc(), &text, "amd64", true).err();
-    assert!(rt; fault == Some(IndexError::TooManyStanzas { stanza: 1_048_577 }));
+    let len = text.len();
+    for beyond in [COPY, b"no stanza"] {
+        text.truncate(len);
+        text.extend_from_slice(beyond)?;
+        assert!(rt; text.len() <= TEXT_LIMIT);
+        let fault = Index::read(rt.alloc(), &text, "amd64", true).err();
+        assert!(rt; fault == Some(IndexError::TooManyStanzas { stanza: 1_048_577 }));
+    }
     Ok(())
 }

@@ -2,9 +2,11 @@
 ghost use Rattle.std.specs.Prelude.{◌≡◌, ◌<◌, ◌||◌, List, Bool, OnOk, length, map};
 ghost use Rattle.deb_relation.specs.AtomView.{atom_view};
 ghost use Rattle.deb_index.specs.Packages.{PackageView, places_of, places_where};
-ghost use Rattle.deb_index.specs.Meets.{meets_at, meets_need_at, meets_as_at, provided_at, satisfiers_as};
+ghost use Rattle.deb_index.specs.Meets.{meets_at, meets_need_at, provided_at};
+ghost use Rattle.deb_index.specs.Roles.{meets_as_at, satisfiers_as};
 ghost use Rattle.deb_index.specs.Walk.{behind, first_place};
 
+use crate::meets::Role;
 use crate::tables::Tables;
 use deb_relation::Atom;
 use std::alloc::AllocError;
@@ -26,23 +28,21 @@ impl Tables {
         self.package(place).meets_need(self.arch(), atom)
     }
 
-    // Whether it meets the atom as an alternative of a need, or as an entry.
-    fn meets_as(&self, need: bool, place: u32, atom: &Atom) -> bool
+    fn meets_as(&self, role: Role, place: u32, atom: &Atom) -> bool
         requires { place < length self.now.packages }
-        ensures { result ≡ meets_as_at need self.now place (atom_view atom.now) }
+        ensures { result ≡ meets_as_at role self.now place (atom_view atom.now) }
     {
-        if need {
-            self.meets_need(place, atom)
-        } else {
-            self.meets(place, atom)
+        match role {
+            Role::Alternative => self.meets_need(place, atom),
+            Role::Entry => self.meets(place, atom),
         }
     }
 
-    /// Finds the places that meet an atom, as an alternative of a need or as an entry, rising, among the packages of its name and the entries that provide it;
-    /// they take the place of what the list held.
+    /// Finds the places that meet an atom in its role, rising, among the packages of its name and the entries that
+    /// provide it; they take the place of what the list held.
     pub(crate) fn find(
         &self,
-        need: bool,
+        role: Role,
         atom: &Atom,
         mut named: &[u32],
         mut provided: &[(u32, u32)],
@@ -50,11 +50,11 @@ impl Tables {
     ) -> Result<(), AllocError>
         requires named { named.now ≡ places_of self.now (atom_view atom.now).name }
         requires provided { provided.now ≡ provided_at self.now (atom_view atom.now).name }
-        ensures { OnOk result (found.new.items ≡ satisfiers_as need self.now (atom_view atom.now)) }
+        ensures { OnOk result (found.new.items ≡ satisfiers_as role self.now (atom_view atom.now)) }
     {
         found.clear();
         'places: while let Some(place) = first_place(named, provided) {
-            if self.meets_as(need, place, atom) {
+            if self.meets_as(role, place, atom) {
                 found.push(place)?;
             }
             named = behind(named, place);

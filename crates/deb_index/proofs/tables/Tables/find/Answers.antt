@@ -5,7 +5,7 @@ use Rattle.deb_index.proofs.tables.Tables.find.Goals as goal
 use Rattle.deb_index.proofs.tables.Tables.find.Goals.{then-meets_as+in_ok-push, else-meets_as}
 
 pub places-init : goal.places-init
-places-init c = walk-starts c.args.need c.args.self.now (atom_view c.args.atom.now) _ _ _ c.clear.ensures.items c.requires.named c.requires.provided
+places-init c = walk-starts c.args.role c.args.self.now (atom_view c.args.atom.now) _ _ _ c.clear.ensures.items c.requires.named c.requires.provided
 
 pub places-smaller : goal.places-smaller
 places-smaller c = walk-shorter c.in-Some.place c.places.named.now c.behind-named.result.now c.places.provided.now c.entries_behind-provided.result.now c.in-Some.ensures c.behind-named.ensures c.entries_behind-provided.ensures
@@ -20,4 +20,4 @@ places-preserved c =
     ]
 
 pub returns : goal.returns
-returns c = walk-finds c.args.need c.args.self.now (atom_view c.args.atom.now) c.places.found.items c.places.named.now _ c.first_place.result c.places.invariant c.first_place.ensures c.in_default.not-Some
+returns c = walk-finds c.args.role c.args.self.now (atom_view c.args.atom.now) c.places.found.items c.places.named.now _ c.first_place.result c.places.invariant c.first_place.ensures c.in_default.not-Some
