@@ -16,7 +16,7 @@ pub enum RunFault {
     /// The reader failed.
     #[error("cannot read the index")]
     Read,
-    /// The text has more than 268,435,456 bytes.
+    /// The text has more than `deb_index::TEXT_LIMIT` bytes.
     #[error("the index is too long")]
     TooLong,
     /// A stanza has a fault: the first that has one. Never want of memory, which is `Memory`.

@@ -13,13 +13,10 @@ use crate::input::read_all;
 use crate::layout::{report, summary_of};
 use crate::output::write_all;
 use crate::summary::Summary;
-use deb_index::{Index, IndexError};
+use deb_index::{Index, IndexError, TEXT_LIMIT};
 use std::alloc::Global;
 use std::thread::Threads;
 use work_draw::{Gate, check_all};
-
-// The most bytes of a text.
-const TEXT_LIMIT: usize = 268_435_456;
 
 // Reads the index. Its text is dropped at the end.
 fn read_index<S: Source>(alloc: Global, config: &Config, reader: &mut S) -> Result<Index, RunFault>
@@ -68,7 +65,7 @@ fn check_and_report<G: Gate + Sync, R: Threads + Sync>(
 /// After `Ok` the reader has no byte left, and what was written is the report of all bytes that were left in it, under the settings,
 /// for any number of workers (1 to 64) and any chunk from 1; the summary has its numbers. Neither device has failed before.
 ///
-/// The first of these faults is answered: `Read` (some read failed), `TooLong` (over 268,435,456 bytes), `Index` (the first stanza with a
+/// The first of these faults is answered: `Read` (some read failed), `TooLong` (over `deb_index::TEXT_LIMIT` bytes), `Index` (the first stanza with a
 /// fault, Debian Policy 5.1 and 7.1), `UnknownAsked`, `Write` (some write or flush failed). Want of memory is `Memory`; it may come at any
 /// time before writing, and never after a failed read. All but `Write` leave the writer as it was; under `Write` a front of the report was
 /// written.

@@ -3,7 +3,7 @@
 /// The numbers of a report's last lines.
 #[derive(Clone, Copy, Debug, PartialEq, Eq)]
 pub struct Summary {
-    /// All stanzas of the text, at most 1,048,576.
+    /// All stanzas of the text, at most `deb_index::STANZA_LIMIT`.
     pub stanzas: u32,
     /// Those of other architectures.
     pub skipped: u32,
