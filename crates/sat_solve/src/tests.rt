@@ -6,7 +6,7 @@ use crate::{Formula, Lit, Workspace, plain};
 use std::alloc::{AllocError, Global};
 use std::test::Fail;
 
-fn lit(var: u32) -> Lit
+pub fn lit(var: u32) -> Lit
     ensures { result.var ≡ var }
 {
     Lit {
@@ -15,7 +15,7 @@ fn lit(var: u32) -> Lit
     }
 }
 
-fn not(var: u32) -> Lit
+pub fn not(var: u32) -> Lit
     ensures { result.var ≡ var }
 {
     Lit {
@@ -44,7 +44,7 @@ fn plainly(
     )
 }
 
-fn is_set(found: &Option<Vec<u32>>, wanted: &[u32]) -> bool {
+pub fn is_set(found: &Option<Vec<u32>>, wanted: &[u32]) -> bool {
     match found {
         Some(members) => members.as_slice() == wanted,
         None => false,
@@ -168,7 +168,8 @@ fn each_pigeon_has_a_hole(rt: HostRuntime) -> Result<(), Fail> {
     Ok(())
 }
 
-/// 30 pairs that are free, and then a contradiction on two variables. A search that goes back by one decision at a time does not end.
+/// 30 pairs that are free, and then a contradiction on two variables. A search that goes back by one decision at a time
+/// tries each way to choose among the pairs, more than 2^30 of them.
 #[test]
 fn a_fault_that_rests_on_few_decisions(rt: HostRuntime) -> Result<(), Fail> {
     let mut formula = Formula::new(rt.alloc(), 63, 2)?;
