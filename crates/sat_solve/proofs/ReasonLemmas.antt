@@ -89,13 +89,21 @@ end_before_within (ByClause number) end part = omega arith
 end_before_within (ByDecisions start stop) end part = omega (arith, part.0, part.1)
 end_before_within ByAll end part = omega arith
 
-pub reasoned_same : (P : NumberSet → Type 0) (question : Question) (old new : List ℕ) (steps : List Step) (end : ℕ) → AreParts steps end → take end old ≡ take end new → AreReasoned P (named_by question old) steps → AreReasoned P (named_by question new) steps
+pub reasoned_same : (P : Reason → NumberSet → Type 0) (question : Question) (old new : List ℕ) (steps : List Step) (end : ℕ) → AreParts steps end → take end old ≡ take end new → AreReasoned P (named_by question old) steps → AreReasoned P (named_by question new) steps
 reasoned_same P question old new [] end parts same reasoned = tt
 reasoned_same P question old new (step ∷ older) end parts same reasoned = (
-  λ forced. subst (RestsOn P older step) (named_same question old new step.reason end parts.0 same) (reasoned.0 forced),
+  λ forced. subst (RestsOn (P step.reason) older step) (named_same question old new step.reason end parts.0 same) (reasoned.0 forced),
   reasoned_same P question old new older (end_before step.reason end) parts.1 (take_less old new (end_before step.reason end) end (end_before_within step.reason end parts.0) same) reasoned.1,
 )
 
 -- where no set agrees with all of a trail
 pub refuted_fails : (P : NumberSet → Type 0) (steps : List Step) → ((set : NumberSet) → P set → Agrees steps set → ⊥) → FailsOn P steps (λ _. true)
 refuted_fails P steps refutes set holds agrees = refutes set holds (λ var value found. agrees var value refl found)
+
+-- what a step rests on, it rests on too where fewer sets back its reason
+pub reasoned_more : (P Q : Reason → NumberSet → Type 0) (named : Reason → NumberSet) (steps : List Step) → ((reason : Reason) (set : NumberSet) → Q reason set → P reason set) → AreReasoned P named steps → AreReasoned Q named steps
+reasoned_more P Q named [] fewer reasoned = tt
+reasoned_more P Q named (step ∷ older) fewer reasoned = (
+  λ forced set holds agrees. reasoned.0 forced set (fewer step.reason set holds) agrees,
+  reasoned_more P Q named older fewer reasoned.1,
+)

@@ -9,13 +9,13 @@ use Rattle.sat_solve.specs.Spans.{no_span}
 use Rattle.sat_solve.specs.Finding.{ComesDownTo}
 use Rattle.sat_solve.specs.Trail.{value_in, set_of, Follows, IsSound, IsLinked, rank, power_of_three}
 use Rattle.sat_solve.specs.SearchState.{steps_of, IsSearch}
-use Rattle.sat_solve.specs.Reasons.{IsQuestion, IsAnswer, named_by, RestsOn, AreReasoned, AreParts, FailsOn}
+use Rattle.sat_solve.specs.Reasons.{IsQuestion, IsAnswer, Backs, named_by, RestsOn, AreReasoned, AreParts, FailsOn}
 use Rattle.sat_solve.specs.Solving.{IsSolver, GoesOn, height}
 use Rattle.sat_solve.specs.declared.Lit.{Lit}
 use Rattle.sat_solve.specs.declared.search.Step.{Step}
 use Rattle.sat_solve.specs.declared.search.Search.{Search}
 use Rattle.sat_solve.specs.declared.search.Reason.{Reason}
-use Rattle.sat_solve.specs.declared.search.Reason.TheVariants.{Nothing, ByClause}
+use Rattle.sat_solve.specs.declared.search.Reason.TheVariants.{Nothing, ByClause, ByAll}
 use Rattle.sat_solve.specs.declared.question.Question.{Question}
 use Rattle.sat_solve.specs.declared.solver.Solver.{Solver}
 use Rattle.sat_solve.proofs.TrailLemmas.{value_in_newest, value_in_older, rank_rises, set_of_is_first}
@@ -33,28 +33,32 @@ set_under step older var was free =
     ]
 
 -- a step is put on the trail
-pub pushed_solver : (question : Question) (old : Solver) (search : Search) (cursor queue : ℕ) (step : Step) → IsSolver question old → Follows (IsAnswer question) (steps_of old.search) step → (step.decided ≡ false → RestsOn (IsAnswer question) (steps_of old.search) step (named_by question old.arena.items step.reason)) → AreParts (step ∷ steps_of old.search) (length old.arena.items) → ((var : ℕ) → var < cursor → value_in (steps_of old.search) var ≢ None) → IsSearch search → search.vars ≡ old.search.vars → steps_of search ≡ step ∷ steps_of old.search → IsSolver question (record { search = search; arena = old.arena; cursor = cursor; queue = queue })
+pub pushed_solver : (question : Question) (old : Solver) (search : Search) (cursor queue : ℕ) (step : Step) → IsSolver question old → Follows (IsAnswer question) (steps_of old.search) step → (step.decided ≡ false → RestsOn (Backs question old.used.items step.reason) (steps_of old.search) step (named_by question old.arena.items step.reason)) → AreParts (step ∷ steps_of old.search) (length old.arena.items) → ((var : ℕ) → var < cursor → value_in (steps_of old.search) var ≢ None) → IsSearch search → search.vars ≡ old.search.vars → steps_of search ≡ step ∷ steps_of old.search → IsSolver question (record { search = search; arena = old.arena; cursor = cursor; queue = queue; used = old.used })
 pushed_solver question old search cursor queue step is follows rests parts below linked vars pushed = record {
   linked = linked;
   vars = vars ∙ is.vars;
   sound = subst (IsSound (IsAnswer question)) (sym pushed) (follows, is.sound);
-  reasoned = subst (AreReasoned (IsAnswer question) (named_by question old.arena.items)) (sym pushed) (rests, is.reasoned);
+  reasoned = subst (AreReasoned (Backs question old.used.items) (named_by question old.arena.items)) (sym pushed) (rests, is.reasoned);
   parts = subst (λ steps. AreParts steps (length old.arena.items)) (sym pushed) parts;
   below = λ var less free. set_under step (steps_of old.search) var (below var less) (ap (λ steps. value_in steps var) (sym pushed) ∙ free);
+  used = is.used;
 }
 
 module _ (question : Question) (old : Solver) (clause : ℕ) (asked : IsQuestion question) (is : IsSolver question old) (inside : clause < length question.spans.now) (kept : get_or question.keep.now (get_or question.spans.now clause no_span).group false ≡ true) where
   meets : (set : NumberSet) → IsAnswer question set → clause_holds set (slice_range question.literals.now (get_or question.spans.now clause no_span).start (get_or question.spans.now clause no_span).end) ≡ true
   meets set holds = clause_met question.vars (length question.keep.now) question.literals.now question.spans.now asked.clauses clause no_span inside question.keep.now set refl kept holds.meets
 
+  meets_backed : (set : NumberSet) → Backs question old.used.items (ByClause clause) set → clause_holds set (slice_range question.literals.now (get_or question.spans.now clause no_span).start (get_or question.spans.now clause no_span).end) ≡ true
+  meets_backed set holds = holds.1 inside kept
+
   -- a clause that comes down to one free literal forces it
-  pub goes_on_forced : (search : Search) (literal : Lit) → ComesDownTo old.search.vars (steps_of old.search) (slice_range question.literals.now (get_or question.spans.now clause no_span).start (get_or question.spans.now clause no_span).end) (Some literal) → IsSearch search → search.vars ≡ old.search.vars → steps_of search ≡ record { var = literal.var; value = literal.positive; decided = false; reason = ByClause clause } ∷ steps_of old.search → GoesOn question old (record { search = search; arena = old.arena; cursor = old.cursor; queue = old.queue }) None
+  pub goes_on_forced : (search : Search) (literal : Lit) → ComesDownTo old.search.vars (steps_of old.search) (slice_range question.literals.now (get_or question.spans.now clause no_span).start (get_or question.spans.now clause no_span).end) (Some literal) → IsSearch search → search.vars ≡ old.search.vars → steps_of search ≡ record { var = literal.var; value = literal.positive; decided = false; reason = ByClause clause } ∷ steps_of old.search → GoesOn question old (record { search = search; arena = old.arena; cursor = old.cursor; queue = old.queue; used = old.used }) None
   goes_on_forced search literal down linked vars pushed =
       let P : NumberSet → Type 0 = IsAnswer question in
       let step : Step = record { var = literal.var; value = literal.positive; decided = false; reason = ByClause clause } in
       let sound = forced_sound P (steps_of old.search) is.sound old.search.vars (ByClause clause) (slice_range question.literals.now (get_or question.spans.now clause no_span).start (get_or question.spans.now clause no_span).end) literal meets down in
       record {
-        solver = pushed_solver question old search old.cursor old.queue step is sound.0 (λ _. forced_rests P old.search.vars (steps_of old.search) (slice_range question.literals.now (get_or question.spans.now clause no_span).start (get_or question.spans.now clause no_span).end) meets (ByClause clause) literal down) (tt, is.parts) is.below linked vars pushed;
+        solver = pushed_solver question old search old.cursor old.queue step is sound.0 (λ _. forced_rests (Backs question old.used.items (ByClause clause)) old.search.vars (steps_of old.search) (slice_range question.literals.now (get_or question.spans.now clause no_span).start (get_or question.spans.now clause no_span).end) meets_backed (ByClause clause) literal down) (tt, is.parts) is.below linked vars pushed;
         rises = subst (λ steps. rank question.vars (steps_of old.search) ≤ rank question.vars steps) (sym pushed) (omega (arith, rank_rises question.vars step (steps_of old.search)));
         fault = tt;
       }
@@ -64,11 +68,11 @@ module _ (question : Question) (old : Solver) (clause : ℕ) (asked : IsQuestion
   goes_on_broken down = record {
     solver = is;
     rises = omega arith;
-    fault = broken_fails (IsAnswer question) old.search.vars (steps_of old.search) (slice_range question.literals.now (get_or question.spans.now clause no_span).start (get_or question.spans.now clause no_span).end) meets down;
+    fault = broken_fails (Backs question old.used.items (ByClause clause)) old.search.vars (steps_of old.search) (slice_range question.literals.now (get_or question.spans.now clause no_span).start (get_or question.spans.now clause no_span).end) meets_backed down;
   }
 
 -- the least free variable is decided
-pub decided_solver : (question : Question) (old : Solver) (search : Search) (var : ℕ) → IsSolver question old → ((lower : ℕ) → lower < var → value_in (steps_of old.search) lower ≢ None) → IsSearch search → search.vars ≡ old.search.vars → steps_of search ≡ record { var = var; value = false; decided = true; reason = Nothing } ∷ steps_of old.search → IsSolver question (record { search = search; arena = old.arena; cursor = var; queue = old.queue })
+pub decided_solver : (question : Question) (old : Solver) (search : Search) (var : ℕ) → IsSolver question old → ((lower : ℕ) → lower < var → value_in (steps_of old.search) lower ≢ None) → IsSearch search → search.vars ≡ old.search.vars → steps_of search ≡ record { var = var; value = false; decided = true; reason = Nothing } ∷ steps_of old.search → IsSolver question (record { search = search; arena = old.arena; cursor = var; queue = old.queue; used = old.used })
 decided_solver question old search var is least linked vars pushed =
     let sound = decided_sound (IsAnswer question) (steps_of old.search) is.sound var least in
     pushed_solver question old search var old.queue (record { var = var; value = false; decided = true; reason = Nothing }) is sound.0 (λ forced. absurd (false≢true (sym forced))) (tt, is.parts) least linked vars pushed
@@ -82,11 +86,11 @@ pub goes_on : (question : Question) (first mid last : Solver) (none found : Opti
 goes_on question first mid last none found before after = record { solver = after.solver; rises = omega (arith, before.rises, after.rises); fault = after.fault }
 
 -- where all variables are set, and not as the question wants it, no set agrees with the trail
-pub full_fails : (question : Question) (solver : Solver) → IsSolver question solver → ((var : ℕ) → var < question.vars → value_in (steps_of solver.search) var ≢ None) → (IsAnswer question (set_of (steps_of solver.search)) → ⊥) → FailsOn (IsAnswer question) (steps_of solver.search) (λ _. true)
+pub full_fails : (question : Question) (solver : Solver) → IsSolver question solver → ((var : ℕ) → var < question.vars → value_in (steps_of solver.search) var ≢ None) → (IsAnswer question (set_of (steps_of solver.search)) → ⊥) → FailsOn (Backs question solver.used.items ByAll) (steps_of solver.search) (λ _. true)
 full_fails question solver is full unlike =
     let linked : IsLinked question.vars solver.search.values.items (steps_of solver.search) = subst (λ vars. IsLinked vars solver.search.values.items (steps_of solver.search)) is.vars is.linked in
-    refuted_fails (IsAnswer question) (steps_of solver.search) (λ set holds agrees.
-    unlike (subst (IsAnswer question) (only_set question.vars solver.search.values.items (steps_of solver.search) set linked full holds.within agrees) holds))
+    refuted_fails (Backs question solver.used.items ByAll) (steps_of solver.search) (λ set holds agrees.
+    unlike (subst (IsAnswer question) (only_set question.vars solver.search.values.items (steps_of solver.search) set linked full holds.1.within agrees) holds.1))
 
 -- the set of the trail is the first, where it is one that the question wants
 pub first_found : (question : Question) (solver : Solver) (members : List ℕ) → IsSolver question solver → IsAnswer question (set_of (steps_of solver.search)) → ((var : ℕ) → members_of members var ≡ set_of (steps_of solver.search) var) → IsFirst (IsAnswer question) (members_of members)

@@ -6,7 +6,7 @@ use Rattle.std.proofs.lemmas.List.{take-take, take_all}
 use Rattle.sat_solve.specs.Sets.{NumberSet, members_of}
 use Rattle.sat_solve.specs.Trail.{value_in, AllFresh, Lacks, Follows, IsSound, IsLinked, weight, rank, power_of_three}
 use Rattle.sat_solve.specs.SearchState.{steps_of, IsSearch}
-use Rattle.sat_solve.specs.Reasons.{IsAnswer, named_by, LacksAll, RestsOn, AreReasoned, AreParts, end_before, Picks, IsReasonFor, DropsThrough}
+use Rattle.sat_solve.specs.Reasons.{IsAnswer, IsMarkedAnswer, IsUsed, Backs, named_by, LacksAll, RestsOn, AreReasoned, AreParts, end_before, Picks, IsReasonFor, DropsThrough}
 use Rattle.sat_solve.specs.Solving.{IsSolver}
 use Rattle.sat_solve.specs.declared.search.Step.{Step}
 use Rattle.sat_solve.specs.declared.search.Reason.{Reason}
@@ -15,6 +15,7 @@ use Rattle.sat_solve.specs.declared.solver.Solver.{Solver}
 use Rattle.sat_solve.proofs.TrailLemmas.{value_in_newest, value_in_older, value_in_kept, power_step, power_positive, same_power, weight_at_most, times}
 use Rattle.sat_solve.proofs.LinkLemmas.{newest_in_range, trail_fits}
 use Rattle.sat_solve.proofs.ReasonLemmas.{reasoned_same, end_before_within}
+use Rattle.sat_solve.proofs.MarkLemmas.{answers_meet}
 
 -- the least number above all trails that begin like this one
 abbrev pub reach : ℕ → List Step → ℕ
@@ -108,13 +109,14 @@ lacks_both first rest set lacking lacks var member =
     ]
 
 -- the newest step is taken back, with its part of the arena
-pub popped_solver : (question : Question) (old new : Solver) (step : Step) → steps_of old.search ≡ step ∷ steps_of new.search → IsSearch new.search → new.search.vars ≡ old.search.vars → new.arena.items ≡ take (end_before step.reason (length old.arena.items)) old.arena.items → new.cursor ≤ old.cursor → new.cursor ≤ step.var → IsSolver question old → IsSolver question new
-popped_solver question old new step popped linked vars arena lower at is =
+pub popped_solver : (question : Question) (old new : Solver) (step : Step) → steps_of old.search ≡ step ∷ steps_of new.search → IsSearch new.search → new.search.vars ≡ old.search.vars → new.arena.items ≡ take (end_before step.reason (length old.arena.items)) old.arena.items → new.cursor ≤ old.cursor → new.cursor ≤ step.var → new.used ≡ old.used → IsSolver question old → IsSolver question new
+popped_solver question old new step popped linked vars arena lower at used is =
     let P : NumberSet → Type 0 = IsAnswer question in
+    let B : Reason → NumberSet → Type 0 = Backs question old.used.items in
     let end : ℕ = end_before step.reason (length old.arena.items) in
     let parts : AreParts (step ∷ steps_of new.search) (length old.arena.items) = subst (λ steps. AreParts steps (length old.arena.items)) popped is.parts in
     let sound : IsSound P (step ∷ steps_of new.search) = subst (IsSound P) popped is.sound in
-    let reasoned : AreReasoned P (named_by question old.arena.items) (step ∷ steps_of new.search) = subst (AreReasoned P (named_by question old.arena.items)) popped is.reasoned in
+    let reasoned : AreReasoned B (named_by question old.arena.items) (step ∷ steps_of new.search) = subst (AreReasoned B (named_by question old.arena.items)) popped is.reasoned in
     let within : end_before step.reason (length old.arena.items) ≤ length old.arena.items = end_before_within step.reason (length old.arena.items) parts.0 in
     let sized : end_before step.reason (length old.arena.items) ≡ length new.arena.items = omega (arith, ap length arena, length-take (end_before step.reason (length old.arena.items)) old.arena.items) in
     let same : take (end_before step.reason (length old.arena.items)) old.arena.items ≡ take (end_before step.reason (length old.arena.items)) new.arena.items =
@@ -123,39 +125,43 @@ popped_solver question old new step popped linked vars arena lower at is =
       linked = linked;
       vars = vars ∙ is.vars;
       sound = sound.1;
-      reasoned = reasoned_same P question old.arena.items new.arena.items (steps_of new.search) (end_before step.reason (length old.arena.items)) parts.1 same reasoned.1;
+      reasoned = subst (λ marks. AreReasoned (Backs question marks.items) (named_by question new.arena.items) (steps_of new.search)) (sym used)
+          (reasoned_same B question old.arena.items new.arena.items (steps_of new.search) (end_before step.reason (length old.arena.items)) parts.1 same reasoned.1);
       parts = subst (AreParts (steps_of new.search)) sized parts.1;
       below = λ var less free.
           let other : step.var ≢ var = λ (e : step.var ≡ var). omega arith in
           let before : var < old.cursor = omega arith in
           is.below var before (ap (λ steps. value_in steps var) popped ∙ (value_in_older step (steps_of new.search) var other ∙ free));
+      used = subst (λ marks. IsUsed question marks.items) (sym used) is.used;
     }
 
 -- a decision is turned, for the sake of those further back
-module _ (question : Question) (mid new : Solver) (var : ℕ) (rest : List ℕ) (reason : Reason) (is : IsSolver question mid) (picks : Picks rest (steps_of mid.search)) (refuted : (set : NumberSet) → IsAnswer question set → LacksAll (members_of (var ∷ rest)) set → ⊥) (for : IsReasonFor rest mid.arena.items new.arena.items reason) where
+module _ (question : Question) (mid new : Solver) (var : ℕ) (rest : List ℕ) (reason : Reason) (is : IsSolver question mid) (picks : Picks rest (steps_of mid.search)) (refuted : (set : NumberSet) → IsMarkedAnswer question mid.used.items set → LacksAll (members_of (var ∷ rest)) set → ⊥) (for : IsReasonFor rest mid.arena.items new.arena.items reason) where
   turned_follows : Follows (IsAnswer question) (steps_of mid.search) (record { var = var; value = true; decided = false; reason = reason })
   turned_follows = record {
     out = λ no. absurd (false≢true no);
     least = λ no. absurd (false≢true no);
-    forced = λ _ set holds lacks. true_from_ne_false (set var) (λ lacking. refuted set holds (lacks_both var rest set lacking (lacks_picked rest (steps_of mid.search) set picks lacks)));
+    forced = λ _ set holds lacks. true_from_ne_false (set var) (λ lacking. refuted set (answers_meet question mid.used.items set is.used holds) (lacks_both var rest set lacking (lacks_picked rest (steps_of mid.search) set picks lacks)));
   }
 
-  turned_rests : RestsOn (IsAnswer question) (steps_of mid.search) (record { var = var; value = true; decided = false; reason = reason }) (named_by question new.arena.items reason)
+  turned_rests : RestsOn (Backs question mid.used.items reason) (steps_of mid.search) (record { var = var; value = true; decided = false; reason = reason }) (named_by question new.arena.items reason)
   turned_rests set holds agrees = true_from_ne_false (set var) (λ lacking.
-      refuted set holds (lacks_both var rest set lacking (λ v member. agrees v false (for.named question v member) (picked_out (IsAnswer question) rest (steps_of mid.search) v is.sound is.linked.fresh picks member))))
+      refuted set holds.0 (lacks_both var rest set lacking (λ v member. agrees v false (for.named question v member) (picked_out (IsAnswer question) rest (steps_of mid.search) v is.sound is.linked.fresh picks member))))
 
-  pub turned_solver : steps_of new.search ≡ record { var = var; value = true; decided = false; reason = reason } ∷ steps_of mid.search → IsSearch new.search → new.search.vars ≡ mid.search.vars → new.cursor ≡ mid.cursor → IsSolver question new
-  turned_solver pushed linked vars cursor =
+  pub turned_solver : steps_of new.search ≡ record { var = var; value = true; decided = false; reason = reason } ∷ steps_of mid.search → IsSearch new.search → new.search.vars ≡ mid.search.vars → new.cursor ≡ mid.cursor → new.used ≡ mid.used → IsSolver question new
+  turned_solver pushed linked vars cursor used =
       let P : NumberSet → Type 0 = IsAnswer question in
+      let B : Reason → NumberSet → Type 0 = Backs question mid.used.items in
       let step : Step = record { var = var; value = true; decided = false; reason = reason } in
       let same : take (length mid.arena.items) mid.arena.items ≡ take (length mid.arena.items) new.arena.items = take_all (length mid.arena.items) mid.arena.items (omega arith) ∙ sym for.kept in
-      let reasoned : AreReasoned P (named_by question new.arena.items) (steps_of mid.search) = reasoned_same P question mid.arena.items new.arena.items (steps_of mid.search) (length mid.arena.items) is.parts same is.reasoned in
+      let reasoned : AreReasoned B (named_by question new.arena.items) (steps_of mid.search) = reasoned_same B question mid.arena.items new.arena.items (steps_of mid.search) (length mid.arena.items) is.parts same is.reasoned in
       let parts : AreParts (steps_of mid.search) (end_before reason (length new.arena.items)) = subst (AreParts (steps_of mid.search)) (sym for.ends) is.parts in
       record {
         linked = linked;
         vars = vars ∙ is.vars;
         sound = subst (IsSound P) (sym pushed) (turned_follows, is.sound);
-        reasoned = subst (AreReasoned P (named_by question new.arena.items)) (sym pushed) (λ _. turned_rests, reasoned);
+        reasoned = subst (λ marks. AreReasoned (Backs question marks.items) (named_by question new.arena.items) (steps_of new.search)) (sym used)
+            (subst (AreReasoned B (named_by question new.arena.items)) (sym pushed) (λ _. turned_rests, reasoned));
         parts = subst (λ steps. AreParts steps (length new.arena.items)) (sym pushed) (for.part, parts);
         below = λ v less free.
             let before : v < mid.cursor = omega arith in
@@ -164,6 +170,7 @@ module _ (question : Question) (mid new : Solver) (var : ℕ) (rest : List ℕ) 
               | inl here ↦ let some : value_in (record { var = var; value = true; decided = false; reason = reason } ∷ steps_of mid.search) v ≡ Some true = value_in_newest (record { var = var; value = true; decided = false; reason = reason }) (steps_of mid.search) v here.1 in cc
               | inr other ↦ is.below v before (sym (value_in_older (record { var = var; value = true; decided = false; reason = reason }) (steps_of mid.search) v other.1) ∙ none)
             ];
+        used = subst (λ marks. IsUsed question marks.items) (sym used) is.used;
       }
 
 -- so the trail stands higher

@@ -53,10 +53,10 @@ module _ (P : NumberSet → Type 0) (step : Step) (older : List Step) where
       refutes set holds (agrees_more marked set (gone ∙ sym out) agrees) (λ var there. lacks var (members_kept found step.var var there))
 
   -- a marked step that was forced marks what it rests on
-  pub walk_forced : (marked more found reasons : NumberSet) → RestsOn P older step reasons → ((var : ℕ) → marked var ≡ true → more var ≡ true) → ((var : ℕ) → reasons var ≡ true → more var ≡ true) → WalkRefutes P (step ∷ older) marked found → WalkRefutes P older more found
-  walk_forced marked more found reasons rests kept named refutes set holds agrees lacks =
-      let here : set step.var ≡ step.value = rests set holds (λ var value mark there. agrees var value (named var mark) there) in
-      refutes set holds (agrees_more marked set here (λ var value mark there. agrees var value (kept var mark) there)) lacks
+  pub walk_forced : (Q B : NumberSet → Type 0) (marked more found reasons : NumberSet) → ((set : NumberSet) → Q set → P set) → ((set : NumberSet) → Q set → B set) → RestsOn B older step reasons → ((var : ℕ) → marked var ≡ true → more var ≡ true) → ((var : ℕ) → reasons var ≡ true → more var ≡ true) → WalkRefutes P (step ∷ older) marked found → WalkRefutes Q older more found
+  walk_forced Q B marked more found reasons fewer backs rests kept named refutes set holds agrees lacks =
+      let here : set step.var ≡ step.value = rests set (backs set holds) (λ var value mark there. agrees var value (named var mark) there) in
+      refutes set (fewer set holds) (agrees_more marked set here (λ var value mark there. agrees var value (kept var mark) there)) lacks
 
 -- steps are walked past, and a decision among them is picked
 pub picks_more : (found : List ℕ) (steps : List Step) (step : Step) → Picks found steps → Picks found (steps ++ step ∷ [])
@@ -73,29 +73,30 @@ picks_push (var ∷ rest) (first ∷ older) step decided (inl here) = inl (here.
 picks_push (var ∷ rest) (first ∷ older) step decided (inr later) = inr (picks_push (var ∷ rest) older step decided later)
 
 -- a walk over a trail, whose newest step stands last, has come down to this place
-pub record WalkedTo (P : NumberSet → Type 0) (named : Reason → NumberSet) (trail : List Step) (left : ℕ) (marks : List Bool) (found : List ℕ) : Type 0 where
+-- the trail is sound for the sets with P, its steps rest on what backs their reasons, and the walk refutes the sets with M
+pub record WalkedTo (P M : NumberSet → Type 0) (backs : Reason → NumberSet → Type 0) (named : Reason → NumberSet) (trail : List Step) (left : ℕ) (marks : List Bool) (found : List ℕ) : Type 0 where
   pub inside : left ≤ length trail
   pub sound : IsSound P (reverse (take left trail))
-  pub reasoned : AreReasoned P named (reverse (take left trail))
-  pub refutes : WalkRefutes P (reverse (take left trail)) (is_marked marks) (members_of found)
+  pub reasoned : AreReasoned backs named (reverse (take left trail))
+  pub refutes : WalkRefutes M (reverse (take left trail)) (is_marked marks) (members_of found)
   pub picks : Picks found (reverse (drop left trail))
 
-module _ (P : NumberSet → Type 0) (named : Reason → NumberSet) (trail : List Step) where
-  pub walk_begins : (marks : List Bool) (fault : NumberSet) → IsSound P (reverse trail) → AreReasoned P named (reverse trail) → FailsOn P (reverse trail) fault → ((var : ℕ) → fault var ≡ true → is_marked marks var ≡ true) → WalkedTo P named trail (length trail) marks []
-  walk_begins marks fault sound reasoned fails marked =
+module _ (P M : NumberSet → Type 0) (backs : Reason → NumberSet → Type 0) (named : Reason → NumberSet) (trail : List Step) where
+  pub walk_begins : (F : NumberSet → Type 0) (marks : List Bool) (fault : NumberSet) → ((set : NumberSet) → M set → F set) → IsSound P (reverse trail) → AreReasoned backs named (reverse trail) → FailsOn F (reverse trail) fault → ((var : ℕ) → fault var ≡ true → is_marked marks var ≡ true) → WalkedTo P M backs named trail (length trail) marks []
+  walk_begins F marks fault fewer sound reasoned fails marked =
       let all : trail ≡ take (length trail) trail = sym (take_all (length trail) trail (omega arith)) in
       record {
         inside = omega arith;
         sound = subst (λ part. IsSound P (reverse part)) all sound;
-        reasoned = subst (λ part. AreReasoned P named (reverse part)) all reasoned;
-        refutes = subst (λ part. WalkRefutes P (reverse part) (is_marked marks) (members_of [])) all (λ set holds agrees _. fails set holds (λ var value mark there. agrees var value (marked var mark) there));
+        reasoned = subst (λ part. AreReasoned backs named (reverse part)) all reasoned;
+        refutes = subst (λ part. WalkRefutes M (reverse part) (is_marked marks) (members_of [])) all (λ set holds agrees _. fails set (fewer set holds) (λ var value mark there. agrees var value (marked var mark) there));
         picks = tt;
       }
 
-  pub walk_ends : (marks : List Bool) (found : List ℕ) → WalkedTo P named trail 0 marks found → (set : NumberSet) → P set → LacksAll (members_of found) set → ⊥
+  pub walk_ends : (marks : List Bool) (found : List ℕ) → WalkedTo P M backs named trail 0 marks found → (set : NumberSet) → M set → LacksAll (members_of found) set → ⊥
   walk_ends marks found walked set holds lacks = walked.refutes set holds (λ var value mark there. cc) lacks
 
-  pub walk_picks : (marks : List Bool) (found : List ℕ) → WalkedTo P named trail 0 marks found → Picks found (reverse trail)
+  pub walk_picks : (marks : List Bool) (found : List ℕ) → WalkedTo P M backs named trail 0 marks found → Picks found (reverse trail)
   walk_picks marks found walked = walked.picks
 
   module _ (i : ℕ) (step : Step) (below : i < length trail) (at : get_or trail i step ≡ step) where
@@ -105,43 +106,43 @@ module _ (P : NumberSet → Type 0) (named : Reason → NumberSet) (trail : List
     behind : reverse (drop i trail) ≡ reverse (drop (i + 1) trail) ++ step ∷ []
     behind = rw add-one (ap reverse (drop-cons trail i step below) ∙ (reverse-append (get_or trail i step ∷ []) (drop (suc i) trail) ∙ ap (λ s. reverse (drop (suc i) trail) ++ s ∷ []) at))
 
-    module _ (left : ℕ) (marks : List Bool) (found : List ℕ) (next : left ≡ i + 1) (walked : WalkedTo P named trail left marks found) where
-      there : WalkedTo P named trail (i + 1) marks found
-      there = subst (λ n. WalkedTo P named trail n marks found) next walked
+    module _ (left : ℕ) (marks : List Bool) (found : List ℕ) (next : left ≡ i + 1) (walked : WalkedTo P M backs named trail left marks found) where
+      there : WalkedTo P M backs named trail (i + 1) marks found
+      there = subst (λ n. WalkedTo P M backs named trail n marks found) next walked
 
       sound_at : IsSound P (step ∷ reverse (take i trail))
       sound_at = subst (IsSound P) ahead there.sound
 
-      reasoned_at : AreReasoned P named (step ∷ reverse (take i trail))
-      reasoned_at = subst (AreReasoned P named) ahead there.reasoned
+      reasoned_at : AreReasoned backs named (step ∷ reverse (take i trail))
+      reasoned_at = subst (AreReasoned backs named) ahead there.reasoned
 
-      refutes_at : WalkRefutes P (step ∷ reverse (take i trail)) (is_marked marks) (members_of found)
-      refutes_at = subst (λ steps. WalkRefutes P steps (is_marked marks) (members_of found)) ahead there.refutes
+      refutes_at : WalkRefutes M (step ∷ reverse (take i trail)) (is_marked marks) (members_of found)
+      refutes_at = subst (λ steps. WalkRefutes M steps (is_marked marks) (members_of found)) ahead there.refutes
 
-      pub walked_by : is_marked marks step.var ≡ false → WalkedTo P named trail i marks found
+      pub walked_by : is_marked marks step.var ≡ false → WalkedTo P M backs named trail i marks found
       walked_by unmarked = record {
         inside = omega arith;
         sound = sound_at.1;
         reasoned = reasoned_at.1;
-        refutes = walk_unmarked P step (reverse (take i trail)) (is_marked marks) (members_of found) unmarked refutes_at;
+        refutes = walk_unmarked M step (reverse (take i trail)) (is_marked marks) (members_of found) unmarked refutes_at;
         picks = subst (Picks found) (sym behind) (picks_more found (reverse (drop (i + 1) trail)) step there.picks);
       }
 
-      pub walked_decided : step.decided ≡ true → WalkedTo P named trail i marks (found ++ step.var ∷ [])
+      pub walked_decided : step.decided ≡ true → WalkedTo P M backs named trail i marks (found ++ step.var ∷ [])
       walked_decided decided = record {
         inside = omega arith;
         sound = sound_at.1;
         reasoned = reasoned_at.1;
-        refutes = walk_decided P step (reverse (take i trail)) (is_marked marks) found (sound_at.0.out decided) refutes_at;
+        refutes = walk_decided M step (reverse (take i trail)) (is_marked marks) found (sound_at.0.out decided) refutes_at;
         picks = subst (Picks (found ++ step.var ∷ [])) (sym behind) (picks_push found (reverse (drop (i + 1) trail)) step decided there.picks);
       }
 
-      pub walked_forced : (more : List Bool) → step.decided ≡ false → ((var : ℕ) → is_marked marks var ≡ true → is_marked more var ≡ true) → ((var : ℕ) → named step.reason var ≡ true → is_marked more var ≡ true) → WalkedTo P named trail i more found
-      walked_forced more forced kept names = record {
+      pub walked_forced : (N : NumberSet → Type 0) (more : List Bool) → ((set : NumberSet) → N set → M set) → ((set : NumberSet) → N set → backs step.reason set) → step.decided ≡ false → ((var : ℕ) → is_marked marks var ≡ true → is_marked more var ≡ true) → ((var : ℕ) → named step.reason var ≡ true → is_marked more var ≡ true) → WalkedTo P N backs named trail i more found
+      walked_forced N more fewer backed forced kept names = record {
         inside = omega arith;
         sound = sound_at.1;
         reasoned = reasoned_at.1;
-        refutes = walk_forced P step (reverse (take i trail)) (is_marked marks) (is_marked more) (members_of found) (named step.reason) (reasoned_at.0 forced) kept names refutes_at;
+        refutes = walk_forced M step (reverse (take i trail)) N (backs step.reason) (is_marked marks) (is_marked more) (members_of found) (named step.reason) fewer backed (reasoned_at.0 forced) kept names refutes_at;
         picks = subst (Picks found) (sym behind) (picks_more found (reverse (drop (i + 1) trail)) step there.picks);
       }
 

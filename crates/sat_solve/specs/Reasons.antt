@@ -2,7 +2,7 @@
 use Rattle.std.specs.Prelude.{◌≡◌, ℕ, ◌<◌, ◌≤◌, ◌==◌, Bool, true, false, Some, None, List, [], ◌∷◌, ◌⊎◌, length, take, ◌+◌, ◌*◌, ◌-◌, slice_range, slice_index_or}
 use Rattle.std.specs.List.{list_any}
 use Rattle.sat_solve.specs.Sets.{NumberSet, members_of}
-use Rattle.sat_solve.specs.Clauses.{IsTrueSet}
+use Rattle.sat_solve.specs.Clauses.{IsTrueSet, AreWithin, clause_holds}
 use Rattle.sat_solve.specs.Spans.{clause_at, clauses_of, no_span, AreClauses}
 use Rattle.sat_solve.specs.Trail.{value_in, rank, power_of_three}
 use Rattle.sat_solve.specs.declared.Lit.{Lit}
@@ -19,6 +19,33 @@ pub record IsQuestion (question : Question) : Type 0 where
 -- the set is one that the question asks for
 abbrev pub IsAnswer : Question → NumberSet → Type 0
 IsAnswer question = IsTrueSet question.vars (clauses_of question.literals.now question.spans.now) question.keep.now question.must
+
+-- the set makes the clauses of the marked groups true, and is else one that the question asks for
+abbrev pub IsMarkedAnswer : Question → List Bool → NumberSet → Type 0
+IsMarkedAnswer question used = IsTrueSet question.vars (clauses_of question.literals.now question.spans.now) used question.must
+
+-- the marks, one a group, are on kept groups
+pub record IsUsed (question : Question) (used : List Bool) : Type 0 where
+  pub sized : length used ≡ length question.keep.now
+  pub within : AreWithin used question.keep.now
+
+-- the clause of this number holds in the set, where it is a kept one
+abbrev pub MeetsOne : Question → ℕ → NumberSet → Type 0
+MeetsOne question number set =
+    number < length question.spans.now
+    → slice_index_or question.keep.now (slice_index_or question.spans.now number no_span).group false ≡ true
+    → clause_holds set (clause_at question.literals.now (slice_index_or question.spans.now number no_span)).literals ≡ true
+
+-- the set meets what a reason brings in
+abbrev pub Brings : Question → Reason → NumberSet → Type 0
+Brings question Nothing set = Unit {0}
+Brings question (ByClause number) set = MeetsOne question number set
+Brings question (ByDecisions start end) set = Unit {0}
+Brings question ByAll set = IsAnswer question set
+
+-- the set makes the clauses of the marked groups true, and meets what a reason brings in
+abbrev pub Backs : Question → List Bool → Reason → NumberSet → Type 0
+Backs question used reason set = IsMarkedAnswer question used set × Brings question reason set
 
 -- the variables of these literals
 abbrev pub variables_of : List Lit → NumberSet
@@ -47,10 +74,10 @@ FailsOn P steps marked = (set : NumberSet) → P set → AgreesMarked steps mark
 abbrev pub RestsOn : (NumberSet → Type 0) → List Step → Step → NumberSet → Type 0
 RestsOn P older step reasons = (set : NumberSet) → P set → AgreesMarked older reasons set → set step.var ≡ step.value
 
--- each step that was not decided rests on the variables that its reason names
-abbrev pub AreReasoned : (NumberSet → Type 0) → (Reason → NumberSet) → List Step → Type 0
-AreReasoned P named [] = Unit {0}
-AreReasoned P named (step ∷ older) = (step.decided ≡ false → RestsOn P older step (named step.reason)) × AreReasoned P named older
+-- each step that was not decided rests on the variables that its reason names, where the sets that back the reason are looked for
+abbrev pub AreReasoned : (Reason → NumberSet → Type 0) → (Reason → NumberSet) → List Step → Type 0
+AreReasoned backs named [] = Unit {0}
+AreReasoned backs named (step ∷ older) = (step.decided ≡ false → RestsOn (backs step.reason) older step (named step.reason)) × AreReasoned backs named older
 
 -- a reason's part of the arena lies below this end
 abbrev pub IsPart : Reason → ℕ → Type 0

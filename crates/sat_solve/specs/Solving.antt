@@ -2,7 +2,7 @@
 use Rattle.std.specs.Prelude.{◌≡◌, ◌≢◌, ℕ, ◌<◌, ◌≤◌, Option, Some, None, length}
 use Rattle.sat_solve.specs.Trail.{value_in, set_of, IsSound, rank}
 use Rattle.sat_solve.specs.SearchState.{steps_of, IsSearch}
-use Rattle.sat_solve.specs.Reasons.{IsAnswer, named_by, AreReasoned, AreParts, FailsOn}
+use Rattle.sat_solve.specs.Reasons.{IsAnswer, IsUsed, Backs, named_by, AreReasoned, AreParts, FailsOn}
 use Rattle.sat_solve.specs.declared.search.Reason.{Reason}
 use Rattle.sat_solve.specs.declared.question.Question.{Question}
 use Rattle.sat_solve.specs.declared.solver.Solver.{Solver}
@@ -14,13 +14,14 @@ pub record IsSolver (question : Question) (solver : Solver) : Type 0 where
   pub linked : IsSearch solver.search
   pub vars : solver.search.vars ≡ question.vars
   pub sound : IsSound (IsAnswer question) (steps_of solver.search)
-  pub reasoned : AreReasoned (IsAnswer question) (named_by question solver.arena.items) (steps_of solver.search)
+  pub reasoned : AreReasoned (Backs question solver.used.items) (named_by question solver.arena.items) (steps_of solver.search)
   pub parts : AreParts (steps_of solver.search) (length solver.arena.items)
   pub below : (var : ℕ) → var < solver.cursor → value_in (steps_of solver.search) var ≢ None
+  pub used : IsUsed question solver.used.items
 
--- no set that the question is about agrees with the trail on what the reason names
+-- no set that backs the reason agrees with the trail on what the reason names
 abbrev pub IsFault : Question → Solver → Reason → Type 0
-IsFault question solver reason = FailsOn (IsAnswer question) (steps_of solver.search) (named_by question solver.arena.items reason)
+IsFault question solver reason = FailsOn (Backs question solver.used.items reason) (steps_of solver.search) (named_by question solver.arena.items reason)
 
 -- how high the trail of a solver stands
 abbrev pub height : Question → Solver → ℕ

@@ -4,7 +4,7 @@ ghost use Rattle.std.specs.Prelude.{◌≡◌, ◌≢◌, ℕ, ◌+◌, ◌*◌,
 ghost use Rattle.sat_solve.specs.Sets.{NumberSet, members_of};
 ghost use Rattle.sat_solve.specs.Trail.{value_in, set_of};
 ghost use Rattle.sat_solve.specs.SearchState.{steps_of, IsSearch};
-ghost use Rattle.sat_solve.specs.Reasons.{IsAnswer, IsQuestion, LacksAll, Picks, IsReasonFor, DropsThrough};
+ghost use Rattle.sat_solve.specs.Reasons.{IsAnswer, IsMarkedAnswer, IsQuestion, LacksAll, Picks, IsReasonFor, DropsThrough};
 ghost use Rattle.sat_solve.specs.Solving.{IsSolver, GoesOn, height};
 
 use crate::last_check::are_met;
@@ -22,6 +22,8 @@ pub(crate) struct Solver {
     pub cursor: u32,
     /// How many steps of the trail were propagated.
     pub queue: usize,
+    /// The groups that the refutations so far rest on. One mark a group.
+    pub used: Vec<bool>,
 }
 
 impl Solver {
@@ -32,6 +34,7 @@ impl Solver {
             arena: Vec::new(alloc),
             cursor: 0,
             queue: 0,
+            used: Vec::new(alloc),
         }
     }
 
@@ -45,6 +48,8 @@ impl Solver {
         self.arena.reserve(question.literals.len())?;
         self.cursor = 0;
         self.queue = 0;
+        self.used.clear();
+        self.used.resize(question.keep.len(), false)?;
         self.search.push(Step {
             var: question.must,
             value: true,
@@ -126,6 +131,7 @@ impl Solver {
         ensures vars { self.new.search.vars ≡ self.old.search.vars }
         ensures popped { IfSome result (λ step. steps_of self.old.search ≡ step ∷ steps_of self.new.search) }
         ensures none { IfNone result (steps_of self.old.search ≡ []) }
+        ensures used { self.new.used ≡ self.old.used }
         ensures keeps { OnSome result ((question : Question) → IsSolver question self.old → IsSolver question self.new) }
     {
         let step = self.search.pop()?;
@@ -139,6 +145,7 @@ impl Solver {
     /// Takes back the steps down to the one that set this variable, and that one too.
     fn drop_through(&mut self, var: u32)
         requires { IsSearch self.old.search }
+        ensures used { self.new.used ≡ self.old.used }
         ensures linked { (rest : List ℕ) → Picks (var ∷ rest) (steps_of self.old.search) → IsSearch self.new.search × (self.new.search.vars ≡ self.old.search.vars) }
         ensures keeps { (rest : List ℕ) → Picks (var ∷ rest) (steps_of self.old.search) → (question : Question) → IsSolver question self.old → IsSolver question self.new }
         ensures dropped { (rest : List ℕ) → Picks (var ∷ rest) (steps_of self.old.search) → DropsThrough self.old.search.vars var rest (steps_of self.old.search) (steps_of self.new.search) }
@@ -154,6 +161,7 @@ impl Solver {
     fn reason_of(&mut self, decisions: &[u32]) -> Result<Reason, AllocError>
         ensures search { self.new.search ≡ self.old.search }
         ensures cursor { self.new.cursor ≡ self.old.cursor }
+        ensures used { self.new.used ≡ self.old.used }
         ensures reason { IfOk result (IsReasonFor decisions.now self.old.arena.items self.new.arena.items) }
     {
         let start = self.arena.len();
@@ -168,10 +176,11 @@ impl Solver {
     pub fn turn(&mut self, question: &Question, decisions: &[u32]) -> Result<bool, AllocError>
         requires solver { IsSolver question.now self.old }
         requires picked { Picks decisions.now (steps_of self.old.search) }
-        requires refuted { (set : NumberSet) → IsAnswer question.now set → LacksAll (members_of decisions.now) set → ⊥ }
+        requires refuted { (set : NumberSet) → IsMarkedAnswer question.now self.old.used.items set → LacksAll (members_of decisions.now) set → ⊥ }
         ensures solver { IfOk result (λ _. IsSolver question.now self.new) }
         ensures turned { IfOk result (λ found. found ≡ true → height question.now self.old < height question.now self.new) }
-        ensures none { IfOk result (λ found. found ≡ false → (set : NumberSet) → IsAnswer question.now set → ⊥) }
+        ensures used { self.new.used ≡ self.old.used }
+        ensures none { IfOk result (λ found. found ≡ false → (set : NumberSet) → IsMarkedAnswer question.now self.old.used.items set → ⊥) }
     {
         if decisions.is_empty() {
             return Ok(false);

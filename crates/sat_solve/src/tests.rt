@@ -190,6 +190,27 @@ fn a_fault_that_rests_on_few_decisions(rt: HostRuntime) -> Result<(), Fail> {
     Ok(())
 }
 
+/// The pairs are in no refutation, so their group is not marked.
+#[test]
+fn a_group_that_the_refutation_does_without(rt: HostRuntime) -> Result<(), Fail> {
+    let mut formula = Formula::new(rt.alloc(), 4, 3)?;
+    formula.add(0, &[lit(0), lit(1)])?;
+    formula.add(1, &[not(3), lit(2)])?;
+    formula.add(2, &[not(2)])?;
+    let mut workspace = Workspace::new(rt.alloc());
+    let mut marks = Vec::new(rt.alloc());
+    let none = formula.solve_marked(
+        rt.alloc(),
+        &mut workspace,
+        &[true, true, true],
+        3,
+        &mut marks,
+    )?;
+    assert!(rt; none.is_none());
+    assert!(rt; marks.as_slice() == [false, true, true].as_slice());
+    Ok(())
+}
+
 /// Numbers that look random, and are the same in each run.
 #[derive(Drop)]
 struct Numbers {
@@ -278,6 +299,16 @@ fn is_number(found: &Option<Vec<u32>>, wanted: Option<u32>) -> bool {
     }
 }
 
+/// Whether each mark stands on a kept group.
+fn are_within(marks: &[bool], keep: &[bool]) -> bool {
+    for (group, marked) in marks.iter().enumerate() {
+        if *marked && keep.get(group).copied() != Some(true) {
+            return false;
+        }
+    }
+    true
+}
+
 /// Whether both searches answer on the formula of this number as the trial of all sets does.
 fn agrees(alloc: Global, workspace: &mut Workspace, number: u64) -> Result<bool, AllocError> {
     let mut numbers = Numbers { state: number };
@@ -314,7 +345,18 @@ fn agrees(alloc: Global, workspace: &mut Workspace, number: u64) -> Result<bool,
     let wanted = by_trial(&clauses, &keep, must);
     let found = formula.solve_in(alloc, workspace, &keep, must)?;
     let plain = plainly(alloc, &formula, &keep, must)?;
-    Ok(is_number(&found, wanted) && is_number(&plain, wanted))
+    let mut marks = Vec::new(alloc);
+    let marked = formula.solve_marked(alloc, workspace, &keep, must, &mut marks)?;
+    if marked.is_none() {
+        let again = formula.solve_in(alloc, workspace, &marks, must)?;
+        if again.is_some()
+            || by_trial(&clauses, &marks, must).is_some()
+            || !are_within(&marks, &keep)
+        {
+            return Ok(false);
+        }
+    }
+    Ok(is_number(&found, wanted) && is_number(&marked, wanted) && is_number(&plain, wanted))
 }
 
 #[test]

@@ -3,13 +3,12 @@
 ghost use Rattle.std.specs.Prelude.{◌≡◌, ℕ, ◌<◌, ◌≤◌, true, false, List, length, slice_index_or, slice_set, IfOk};
 ghost use Rattle.sat_solve.specs.Sets.{NumberSet, members_of};
 ghost use Rattle.sat_solve.specs.SearchState.{steps_of};
-ghost use Rattle.sat_solve.specs.Reasons.{IsAnswer, IsQuestion, LacksAll, Picks, named_by, is_marked, variables_of, MarksAll};
-ghost use Rattle.sat_solve.specs.Solving.{IsSolver, IsFault};
+ghost use Rattle.sat_solve.specs.Trail.{IsSound};
+ghost use Rattle.sat_solve.specs.Reasons.{IsAnswer, IsMarkedAnswer, IsUsed, Backs, IsQuestion, LacksAll, FailsOn, AreReasoned, Picks, named_by, is_marked, variables_of, MarksAll};
 
 use crate::Lit;
 use crate::question::Question;
-use crate::search::Reason;
-use crate::solver::Solver;
+use crate::search::{Reason, Search};
 use std::alloc::{AllocError, Global};
 
 /// What one walk marks and finds.
@@ -106,32 +105,65 @@ impl Walk {
         }
     }
 
-    /// Finds the decisions that a fault rests on.
+    /// Marks the groups that a reason brings in.
+    fn count(question: &Question, used: &mut Vec<bool>, reason: Reason) -> Result<(), AllocError>
+        requires question { IsQuestion question.now }
+        requires used { IsUsed question.now used.old.items }
+        ensures used { IfOk result (λ _. IsUsed question.now used.new.items) }
+        ensures backs { IfOk result (λ _. (set : NumberSet) → IsMarkedAnswer question.now used.new.items set → Backs question.now used.old.items reason set) }
+    {
+        match reason {
+            Reason::ByClause(clause) => {
+                if clause < question.spans.len() {
+                    let group = question.spans[clause].group as usize;
+                    if question.keep[group] {
+                        used[group] = true;
+                    }
+                }
+                Ok(())
+            }
+            Reason::ByAll => {
+                used.clear();
+                used.extend_from_slice(question.keep)
+            }
+            Reason::Nothing | Reason::ByDecisions(_, _) => Ok(()),
+        }
+    }
+
+    /// Finds the decisions that a fault rests on, and marks the groups that show it.
     pub fn collect(
         &mut self,
         question: &Question,
-        solver: &Solver,
+        search: &Search,
+        arena: &[u32],
+        used: &mut Vec<bool>,
         fault: Reason,
     ) -> Result<(), AllocError>
         requires question { IsQuestion question.now }
-        requires solver { IsSolver question.now solver.now }
-        requires fault { IsFault question.now solver.now fault }
-        ensures picked { IfOk result (λ _. Picks self.new.found.items (steps_of solver.now.search)) }
-        ensures refuted { IfOk result (λ _. (set : NumberSet) → IsAnswer question.now set → LacksAll (members_of self.new.found.items) set → ⊥) }
+        requires used { IsUsed question.now used.old.items }
+        requires sound { IsSound (IsAnswer question.now) (steps_of search.now) }
+        requires reasoned { AreReasoned (Backs question.now used.old.items) (named_by question.now arena.now) (steps_of search.now) }
+        requires fault { FailsOn (Backs question.now used.old.items fault) (steps_of search.now) (named_by question.now arena.now fault) }
+        ensures used { IfOk result (λ _. IsUsed question.now used.new.items) }
+        ensures reasoned { IfOk result (λ _. AreReasoned (Backs question.now used.new.items) (named_by question.now arena.now) (steps_of search.now)) }
+        ensures picked { IfOk result (λ _. Picks self.new.found.items (steps_of search.now)) }
+        ensures refuted { IfOk result (λ _. (set : NumberSet) → IsMarkedAnswer question.now used.new.items set → LacksAll (members_of self.new.found.items) set → ⊥) }
     {
         self.marks.clear();
         self.marks.resize(question.vars as usize, false)?;
         self.found.clear();
-        self.mark(question, &solver.arena, fault);
-        let mut left = solver.search.trail.len();
+        self.mark(question, arena, fault);
+        Walk::count(question, used, fault)?;
+        let mut left = search.trail.len();
         while left > 0 {
             left -= 1;
-            let step = solver.search.trail[left];
+            let step = search.trail[left];
             if self.has(step.var) {
                 if step.decided {
                     self.found.push(step.var)?;
                 } else {
-                    self.mark(question, &solver.arena, step.reason);
+                    self.mark(question, arena, step.reason);
+                    Walk::count(question, used, step.reason)?;
                 }
             }
         }

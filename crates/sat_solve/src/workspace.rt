@@ -5,7 +5,7 @@ ghost use Rattle.std.specs.List.Sorted.{IsStrictlyIncreasing};
 ghost use Rattle.sat_solve.specs.Sets.{NumberSet, members_of, IsFirst};
 ghost use Rattle.sat_solve.specs.Trail.{set_of};
 ghost use Rattle.sat_solve.specs.SearchState.{steps_of};
-ghost use Rattle.sat_solve.specs.Reasons.{IsAnswer, IsQuestion};
+ghost use Rattle.sat_solve.specs.Reasons.{IsAnswer, IsMarkedAnswer, IsUsed, IsQuestion};
 ghost use Rattle.sat_solve.specs.Solving.{IsSolver, IsFault, Advances, height};
 
 use crate::question::Question;
@@ -46,6 +46,13 @@ impl Workspace {
         }
     }
 
+    /// The groups that the refutation rests on, where the last solve found no set.
+    pub(crate) fn used(&self) -> &[bool]
+        ensures { result.now ≡ self.now.solver.used.items }
+    {
+        &self.solver.used
+    }
+
     /// Goes back to the newest decision that a fault rests on, and turns it to in. False if it rests on none.
     fn turn(&mut self, question: &Question, fault: Reason) -> Result<bool, AllocError>
         requires question { IsQuestion question.now }
@@ -53,9 +60,15 @@ impl Workspace {
         requires fault { IsFault question.now self.old.solver fault }
         ensures solver { IfOk result (λ _. IsSolver question.now self.new.solver) }
         ensures turned { IfOk result (λ found. found ≡ true → height question.now self.old.solver < height question.now self.new.solver) }
-        ensures none { IfOk result (λ found. found ≡ false → (set : NumberSet) → IsAnswer question.now set → ⊥) }
+        ensures none { IfOk result (λ found. found ≡ false → (set : NumberSet) → IsMarkedAnswer question.now self.new.solver.used.items set → ⊥) }
     {
-        self.walk.collect(question, &self.solver, fault)?;
+        self.walk.collect(
+            question,
+            &self.solver.search,
+            &self.solver.arena,
+            &mut self.solver.used,
+            fault,
+        )?;
         self.solver.turn(question, &self.walk.found)
     }
 
@@ -98,6 +111,8 @@ impl Workspace {
         requires { IsQuestion question.now }
         ensures rising { IfOk result (λ answer. IfSome answer (λ members. IsStrictlyIncreasing members.items)) }
         ensures first { IfOk result (λ answer. IfSome answer (λ members. IsFirst (IsAnswer question.now) (members_of members.items))) }
+        ensures used { IfOk result (λ answer. IfNone answer (IsUsed question.now self.new.solver.used.items)) }
+        ensures marked { IfOk result (λ answer. IfNone answer ((set : NumberSet) → IsMarkedAnswer question.now self.new.solver.used.items set → ⊥)) }
         ensures none { IfOk result (λ answer. IfNone answer ((set : NumberSet) → IsAnswer question.now set → ⊥)) }
     {
         self.solver.restart(question)?;

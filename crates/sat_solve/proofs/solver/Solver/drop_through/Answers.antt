@@ -20,6 +20,7 @@ returns-then-step-var-clause-dropped c = λ rest picks.
 pub loop-step-preserved : goal.loop-step-preserved
 loop-step-preserved c = record {
   linked = c.in-Some.ensures.linked;
+  used = c.in-Some.ensures.used ∙ c.loop-step.invariant.used;
   vars = c.in-Some.ensures.vars ∙ c.loop-step.invariant.vars;
   keeps = λ question is. c.in-Some.ensures.keeps question (c.loop-step.invariant.keeps question is);
   picked = λ rest picks. picks_older c.args.var rest c.in-Some.step (steps_of c.pop.new.self.search) c.if-step-var.false (subst (Picks (c.args.var ∷ rest)) c.in-Some.ensures.popped (c.loop-step.invariant.picked rest picks));
@@ -36,3 +37,9 @@ returns-clause-keeps c = λ rest picks. absurd (subst (Picks (c.args.var ∷ res
 
 pub returns-clause-dropped : goal.returns-clause-dropped
 returns-clause-dropped c = λ rest picks. absurd (subst (Picks (c.args.var ∷ rest)) c.in_default.ensures.none (c.loop-step.invariant.picked rest picks))
+
+pub returns-then-step-var-clause-used : goal.returns-then-step-var-clause-used
+returns-then-step-var-clause-used c = c.in-Some.ensures.used ∙ c.loop-step.invariant.used
+
+pub returns-clause-used : goal.returns-clause-used
+returns-clause-used c = c.in_default.ensures.used ∙ c.loop-step.invariant.used

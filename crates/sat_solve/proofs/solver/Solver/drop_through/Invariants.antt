@@ -9,6 +9,7 @@ use Rattle.sat_solve.proofs.solver.Solver.drop_through.Given as goal
 abbrev pub invariant-loop-step : goal.invariant-loop-step
 invariant-loop-step l = record {
   linked : IsSearch l.self.search;
+  used : l.self.used ≡ l.initial.self.used;
   vars : l.self.search.vars ≡ l.initial.self.search.vars;
   keeps : (question : Question) → IsSolver question l.initial.self → IsSolver question l.self;
   picked : (rest : List ℕ) → Picks (l.var ∷ rest) (steps_of l.initial.self.search) → Picks (l.var ∷ rest) (steps_of l.self.search);

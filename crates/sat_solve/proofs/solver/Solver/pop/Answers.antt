@@ -1,4 +1,4 @@
-use Rattle.std.proofs.Common.{◌≡◌, ◌∙◌, ap, take, length, arith}
+use Rattle.std.proofs.Common.{◌≡◌, refl, ◌∙◌, ap, take, length, arith}
 use Rattle.sat_solve.specs.Reasons.{end_before}
 use Rattle.sat_solve.proofs.TurnLemmas.{popped_solver}
 use Rattle.sat_solve.proofs.solver.Solver.pop.Goals as goal
@@ -10,4 +10,5 @@ returns-clause-keeps c = λ question is.
     (c.truncate.ensures.items ∙ ap (λ n. take n c.args.self.now.arena.items) (c.end_before-end.ensures ∙ ap (end_before c.in_ok-step.step.reason) len_is))
     (omega (arith, c.min-self.ensures))
     (omega (arith, c.min-self.ensures))
+    refl
     is

@@ -2,7 +2,7 @@ use Rattle.std.proofs.Common.{◌≡◌, ℕ, List, ◌-◌, ◌<◌, ◌∷◌,
 use Rattle.sat_solve.specs.Sets.{NumberSet, members_of}
 use Rattle.sat_solve.specs.Trail.{value_in, rank}
 use Rattle.sat_solve.specs.SearchState.{steps_of, IsSearch}
-use Rattle.sat_solve.specs.Reasons.{IsAnswer, LacksAll, Picks}
+use Rattle.sat_solve.specs.Reasons.{IsMarkedAnswer, LacksAll, Picks}
 use Rattle.sat_solve.proofs.TurnLemmas.{lacks_none, head_rest, some_number, turned_solver, turned_higher}
 use Rattle.sat_solve.proofs.solver.Solver.turn.Goals as goal
 
@@ -27,7 +27,8 @@ returns-clause-solver c =
     let rest : List ℕ = take (length c.args.decisions.now - 1) (drop 1 c.args.decisions.now) in
     let head = head_rest c.args.decisions.now (some_number c.args.decisions.now (sym c.if-is_empty.ensures)) in
     let picks = subst (λ found. Picks found (steps_of c.args.self.now.search)) head c.requires.picked in
-    let refuted = subst (λ found. (set : NumberSet) → IsAnswer c.args.question.now set → LacksAll (members_of found) set → ⊥) head c.requires.refuted in
+    let refuted_there = subst (λ found. (set : NumberSet) → IsMarkedAnswer c.args.question.now c.args.self.now.used.items set → LacksAll (members_of found) set → ⊥) head c.requires.refuted in
+    let refuted = subst (λ used. (set : NumberSet) → IsMarkedAnswer c.args.question.now used.items set → LacksAll (members_of (get_or c.args.decisions.now 0 0 ∷ take (length c.args.decisions.now - 1) (drop 1 c.args.decisions.now))) set → ⊥) (sym c.drop_through.ensures.used) refuted_there in
     let is = c.drop_through.ensures.keeps _ picks c.args.question.now c.requires.solver in
     let dropped = c.drop_through.ensures.dropped _ picks in
     turned_solver c.args.question.now c.drop_through.new.self _ (get_or c.args.decisions.now 0 0) (take (length c.args.decisions.now - 1) (drop 1 c.args.decisions.now)) c.in_ok-reason.reason is dropped.picked refuted c.in_ok-reason.ensures.reason
@@ -35,6 +36,7 @@ returns-clause-solver c =
     c.in_ok-push.ensures.linked
     (c.in_ok-push.ensures.vars ∙ ap (λ search. search.vars) c.in_ok-reason.ensures.search)
     c.in_ok-reason.ensures.cursor
+    c.in_ok-reason.ensures.used
 
 pub returns-clause-turned : goal.returns-clause-turned
 returns-clause-turned c = λ _.

@@ -1,11 +1,16 @@
 use Rattle.std.proofs.Common.{◌<◌, subst, arith}
 use Rattle.sat_solve.specs.Solving.{IsProgress, height}
 use Rattle.sat_solve.proofs.SolverLemmas.{first_found, work_left_falls}
+use Rattle.sat_solve.proofs.MarkLemmas.{answers_meet}
 use Rattle.sat_solve.proofs.workspace.Workspace.solve.Goals as goal
 use Rattle.sat_solve.proofs.workspace.Workspace.solve.Goals.{in-Some+in_ok-turn+else-not-branch, in_default}
 
 pub returns-then-not-branch-clause-none : goal.returns-then-not-branch-clause-none
-returns-then-not-branch-clause-none c = c.in_ok-turn.ensures.none c.if-not-branch.true
+returns-then-not-branch-clause-none c = λ set holds.
+    c.in_ok-turn.ensures.none c.if-not-branch.true set (answers_meet c.args.question.now c.turn.new.self.solver.used.items set c.in_ok-turn.ensures.solver.used holds)
+
+pub returns-then-not-branch-clause-marked : goal.returns-then-not-branch-clause-marked
+returns-then-not-branch-clause-marked c = c.in_ok-turn.ensures.none c.if-not-branch.true
 
 pub rounds-init : goal.rounds-init
 rounds-init c =
@@ -20,7 +25,11 @@ rounds-smaller-in-Going c =
     (subst (IsProgress c.args.question.now c.rounds.self.solver c.advance.new.self.solver) c.in-Going.is c.in_ok-advance.ensures.came_to)
 
 pub returns-then-not-branch-2-clause-none : goal.returns-then-not-branch-2-clause-none
-returns-then-not-branch-2-clause-none c = c.in_ok-turn-in-Lost.ensures.none c.if-not-branch-2.true
+returns-then-not-branch-2-clause-none c = λ set holds.
+    c.in_ok-turn-in-Lost.ensures.none c.if-not-branch-2.true set (answers_meet c.args.question.now c.turn-in-Lost.new.self.solver.used.items set c.in_ok-turn-in-Lost.ensures.solver.used holds)
+
+pub returns-then-not-branch-2-clause-marked : goal.returns-then-not-branch-2-clause-marked
+returns-then-not-branch-2-clause-marked c = c.in_ok-turn-in-Lost.ensures.none c.if-not-branch-2.true
 
 pub rounds-smaller : goal.rounds-smaller
 rounds-smaller c =
