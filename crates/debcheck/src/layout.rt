@@ -224,9 +224,9 @@ pub fn summary_of(index: &Index, asked: &[u32], verdicts: &[Verdict]) -> Summary
 
 /// The report on the asked places: two lines at the head, a block for each place that is shown, in the order of the list, and five lines of numbers.
 ///
-/// There are as many verdicts as places, of any number, and both speak of what the index has. A block tells name, version, architecture and status, as
-/// dose-debcheck(1) reports them; with `explain` the set that was found, or a line for each constraint that stands against each set, with the
-/// relationship as Debian Policy 7.1 writes it. `AllocError` where there is no memory for it.
+/// There are as many verdicts as places, of any number, and both speak of what the index has. A block tells name, version, architecture and
+/// status, as dose-debcheck(1) reports them; with `explain` the set that was found, or a line for each constraint that stands against each
+/// set, with the relationship as Debian Policy 7.1 writes it. `AllocError` where there is no memory for it.
 #[tactic(auto, unfolding(crate::specs::Report::report_text))]
 pub fn report(
     alloc: Global,
