@@ -35,8 +35,8 @@ work is done by the thread that asked.
 The test programs are built (`rt test`, some minutes for each) where they aren't there
 yet or a source is newer.
 
-Status 0: no run ended in a third way. 1: some did; they are listed. 2: not all could
-be tried."""
+Status 0: no run ended in a third way. 1: some did; the first of them are shown. 2: not
+all could be tried."""
 
 CALLS = {
     "deb_control": ["next_stanza", "stanzas"],
@@ -53,6 +53,7 @@ CALLS = {
 PROGRAM = "debcheck_program"
 TOP = os.path.dirname(debcheck_program.default_path())
 SECONDS = 10  # for one run
+MOST_TOLD = 20  # of the runs that ended in a third way
 COUNTED = {"malloc", "realloc"}
 NOT_COUNTED = {"aligned_alloc", "calloc", "memalign", "mmap", "posix_memalign", "pvalloc", "reallocarray", "sbrk", "valloc"}
 WANTED_BY_A_TEST = re.compile(rb"(out of memory|error: (AllocError|AllocFailed \{ \.\. \}|Memory))\nthe test failed: its result gives status 1\n")
@@ -309,16 +310,19 @@ def refuse_all(options, folder):
     refuser, trials = Refuser(folder), []
     for crate in options.crates or list(CALLS) + [PROGRAM]:
         trials += debcheck_trials(folder, refuser) if crate == PROGRAM else trials_of(crate, folder)
-    begin, growths, third = time.monotonic(), 0, []
+    begin, growths, third = time.monotonic(), dict.fromkeys((trial.crate for trial in trials), 0), []
     print(ROW % ("crate", "call or run", "growths", "answered", "wanted", "third", "seconds"))
     with concurrent.futures.ThreadPoolExecutor(options.jobs) as pool:
         for trial in trials:
             refused, others = sweep(refuser, pool, trial)
-            growths, third = growths + refused, third + others
-    for trial, run in third:
+            growths[trial.crate] += refused
+            third += others
+    for trial, run in third[:MOST_TOLD]:
         tell(trial, run)
+    if not all(growths.values()):
+        raise Failed("no growth was counted in " + ", ".join(crate for crate, count in growths.items() if not count))
     ends = "%d runs ended in a third way" % len(third) if third else "each was answered or wanted memory"
-    print("%d growths refused in %.0f s: %s" % (growths, time.monotonic() - begin, ends))
+    print("%d growths refused in %.0f s: %s" % (sum(growths.values()), time.monotonic() - begin, ends))
     return 1 if third else 0
 
 
