@@ -1,4 +1,4 @@
-//! How the time of a solve grows: a chain of implications, free pairs, one long clause, and a fault far from the decisions made last.
+//! How the time of a solve grows: a chain of implications, free pairs, one long clause, and a conflict far from the decisions made last.
 #![tactic(auto)]
 
 ghost use Rattle.std.specs.Prelude.{◌≡◌, ◌+◌, ◌*◌, ◌<◌, All, IfOk, length};

@@ -2,7 +2,7 @@
 use Rattle.std.proofs.Common.{◌≡◌, ◌⊎◌, ℕ, ◌+◌, ◌<◌, ◌≤◌, Bool, true, false, ◌||◌, ◌&&◌, not, List, [], ◌∷◌, ◌++◌, length, get_or, take, ◌↔◌, sym, subst, ◌∙◌, ap, inl, inr}
 use Rattle.std.proofs.lemmas.Bool.{cases_Bool, both_ways, or_cases, or_left, or_right, not-true, not_from_false, and_parts, and_from}
 use Rattle.std.proofs.lemmas.List.{take_more}
-use Rattle.sat_solve.specs.declared.Lit.{Lit}
+use Rattle.sat_solve.specs.declared.clause.Lit.{Lit}
 use Rattle.sat_solve.specs.Sets.{NumberSet, members_of}
 use Rattle.sat_solve.specs.Clauses.{Clauses, clause_holds}
 use Rattle.deb_verdict.specs.Adding.{Adds}

@@ -12,7 +12,7 @@ use Rattle.deb_index.specs.Packages.{IndexView, PackageView, name_at, places_of,
 use Rattle.deb_index.specs.Meets.{meets_need, meets_need_at, need_satisfiers, group_satisfiers}
 use Rattle.deb_index.specs.Constraints.{Holds}
 use Rattle.deb_index.proofs.MemberLemmas.{member-places_where}
-use Rattle.sat_solve.specs.declared.Lit.{Lit}
+use Rattle.sat_solve.specs.declared.clause.Lit.{Lit}
 use Rattle.sat_solve.specs.Sets.{NumberSet, members_of}
 use Rattle.sat_solve.specs.Clauses.{Clauses, clause_holds}
 use Rattle.deb_verdict.specs.Adding.{Adds}

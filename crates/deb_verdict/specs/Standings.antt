@@ -3,7 +3,7 @@ use Rattle.std.specs.Prelude.{◌≡◌, ℕ, ◌<◌, Bool, true, false, ◌||�
 use Rattle.deb_index.specs.declared.constraint.Constraint.TheVariants.{Need, Apart}
 use Rattle.deb_index.specs.Packages.{IndexView, package_at, places_of, needs_at, aparts_at}
 use Rattle.deb_index.specs.Constraints.{Holds}
-use Rattle.sat_solve.specs.declared.Lit.{Lit}
+use Rattle.sat_solve.specs.declared.clause.Lit.{Lit}
 use Rattle.sat_solve.specs.Sets.{NumberSet, members_of}
 use Rattle.sat_solve.specs.Clauses.{clause_holds}
 use Rattle.deb_verdict.specs.declared.scene.Standing.{Standing}

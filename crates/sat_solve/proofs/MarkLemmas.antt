@@ -6,9 +6,9 @@ use Rattle.std.proofs.lemmas.Option.{slice_get-get_or, get_or_from_slice_get}
 use Rattle.sat_solve.specs.Sets.{NumberSet}
 use Rattle.sat_solve.specs.Clauses.{AreWithin}
 use Rattle.sat_solve.specs.Spans.{no_span}
-use Rattle.sat_solve.specs.Reasons.{IsQuestion, IsAnswer, IsMarkedAnswer, IsUsed, Backs}
-use Rattle.sat_solve.specs.declared.search.Reason.TheVariants.{ByClause, ByAll}
-use Rattle.sat_solve.specs.declared.question.Question.{Question}
+use Rattle.sat_solve.specs.Reasons.{IsProblem, IsSolution, IsMarkedSolution, IsUsed, Backs}
+use Rattle.sat_solve.specs.declared.trail.Reason.TheVariants.{Clause, AllOlder}
+use Rattle.sat_solve.specs.declared.problem.Problem.{Problem}
 use Rattle.sat_solve.proofs.SpanLemmas.{clause_met}
 
 -- a mark that is read is there
@@ -19,16 +19,16 @@ there_if_read marks group is = elim (cases_lt group (length marks)) [
 ]
 
 -- where more groups are marked, fewer sets meet them
-pub fewer_meet : (question : Question) (old new : List Bool) (members : NumberSet) → AreWithin old new → IsMarkedAnswer question new members → IsMarkedAnswer question old members
-fewer_meet question old new members within holds = record {
+pub fewer_meet : (problem : Problem) (old new : List Bool) (members : NumberSet) → AreWithin old new → IsMarkedSolution problem new members → IsMarkedSolution problem old members
+fewer_meet problem old new members within holds = record {
   within = holds.within;
   has_must = holds.has_must;
   meets = λ i clause inside found. holds.meets i clause inside (within _ found);
 }
 
--- what the question asks for meets the marked groups
-pub answers_meet : (question : Question) (used : List Bool) (members : NumberSet) → IsUsed question used → IsAnswer question members → IsMarkedAnswer question used members
-answers_meet question used members is holds = fewer_meet question used question.keep.now members is.within holds
+-- what the problem asks for meets the marked groups
+pub solutions_meet : (problem : Problem) (used : List Bool) (members : NumberSet) → IsUsed problem used → IsSolution problem members → IsMarkedSolution problem used members
+solutions_meet problem used members is holds = fewer_meet problem used problem.keep.now members is.within holds
 
 module _ (used : List Bool) (group : ℕ) (inside : group < length used) where
   more_within : AreWithin used (set used group true)
@@ -44,40 +44,40 @@ module _ (used : List Bool) (group : ℕ) (inside : group < length used) where
   ]
 
 -- the group of a kept clause is marked
-module _ (question : Question) (used : List Bool) (clause : ℕ) (asked : IsQuestion question) (is : IsUsed question used) (below : clause < length question.spans.now) (kept : get_or question.keep.now (get_or question.spans.now clause no_span).group false ≡ true) where
-  inside_used : (get_or question.spans.now clause no_span).group < length used
+module _ (problem : Problem) (used : List Bool) (clause : ℕ) (asked : IsProblem problem) (is : IsUsed problem used) (below : clause < length problem.spans.now) (kept : get_or problem.keep.now (get_or problem.spans.now clause no_span).group false ≡ true) where
+  inside_used : (get_or problem.spans.now clause no_span).group < length used
   inside_used = omega (arith, asked.clauses.in_groups clause no_span below, is.sized)
 
-  pub used_one : IsUsed question (set used (get_or question.spans.now clause no_span).group true)
+  pub used_one : IsUsed problem (set used (get_or problem.spans.now clause no_span).group true)
   used_one = record {
-    sized = length-set used (get_or question.spans.now clause no_span).group true ∙ is.sized;
-    within = within_more used (get_or question.spans.now clause no_span).group inside_used question.keep.now kept is.within;
+    sized = length-set used (get_or problem.spans.now clause no_span).group true ∙ is.sized;
+    within = within_more used (get_or problem.spans.now clause no_span).group inside_used problem.keep.now kept is.within;
   }
 
-  pub backed_one : (members : NumberSet) → IsMarkedAnswer question (set used (get_or question.spans.now clause no_span).group true) members → Backs question used (ByClause clause) members
+  pub backed_one : (members : NumberSet) → IsMarkedSolution problem (set used (get_or problem.spans.now clause no_span).group true) members → Backs problem used (Clause clause) members
   backed_one members holds = (
-    fewer_meet question used (set used (get_or question.spans.now clause no_span).group true) members (more_within used (get_or question.spans.now clause no_span).group inside_used) holds,
-    λ _ _. clause_met question.vars (length question.keep.now) question.literals.now question.spans.now asked.clauses clause no_span below
-        (set used (get_or question.spans.now clause no_span).group true) members used_one.sized
-        (get_or-set_same used (get_or question.spans.now clause no_span).group true false inside_used) holds.meets,
+    fewer_meet problem used (set used (get_or problem.spans.now clause no_span).group true) members (more_within used (get_or problem.spans.now clause no_span).group inside_used) holds,
+    λ _ _. clause_met problem.vars (length problem.keep.now) problem.literals.now problem.spans.now asked.clauses clause no_span below
+        (set used (get_or problem.spans.now clause no_span).group true) members used_one.sized
+        (get_or-set_same used (get_or problem.spans.now clause no_span).group true false inside_used) holds.meets,
   )
 
 -- a clause that is not kept brings in nothing
-pub backed_unkept : (question : Question) (used : List Bool) (clause : ℕ) → get_or question.keep.now (get_or question.spans.now clause no_span).group false ≡ false → (members : NumberSet) → IsMarkedAnswer question used members → Backs question used (ByClause clause) members
-backed_unkept question used clause unkept members holds = (holds, λ _ kept. absurd (false≢true (sym unkept ∙ kept)))
+pub backed_unkept : (problem : Problem) (used : List Bool) (clause : ℕ) → get_or problem.keep.now (get_or problem.spans.now clause no_span).group false ≡ false → (members : NumberSet) → IsMarkedSolution problem used members → Backs problem used (Clause clause) members
+backed_unkept problem used clause unkept members holds = (holds, λ _ kept. absurd (false≢true (sym unkept ∙ kept)))
 
 -- nor does one that is none
-pub backed_past : (question : Question) (used : List Bool) (clause : ℕ) → length question.spans.now ≤ clause → (members : NumberSet) → IsMarkedAnswer question used members → Backs question used (ByClause clause) members
-backed_past question used clause past members holds = (holds, λ below _. absurd (omega arith))
+pub backed_past : (problem : Problem) (used : List Bool) (clause : ℕ) → length problem.spans.now ≤ clause → (members : NumberSet) → IsMarkedSolution problem used members → Backs problem used (Clause clause) members
+backed_past problem used clause past members holds = (holds, λ below _. absurd (omega arith))
 
 -- all kept groups are marked
-pub used_all : (question : Question) (used : List Bool) → used ≡ question.keep.now → IsUsed question used
-used_all question used all = record {
+pub used_all : (problem : Problem) (used : List Bool) → used ≡ problem.keep.now → IsUsed problem used
+used_all problem used all = record {
   sized = ap length all;
-  within = subst (λ marks. AreWithin marks question.keep.now) (sym all) (λ group found. found);
+  within = subst (λ marks. AreWithin marks problem.keep.now) (sym all) (λ group found. found);
 }
 
-pub backed_all : (question : Question) (old new : List Bool) → IsUsed question old → new ≡ question.keep.now → (members : NumberSet) → IsMarkedAnswer question new members → Backs question old ByAll members
-backed_all question old new is all members holds =
-    let answer : IsAnswer question members = subst (λ marks. IsMarkedAnswer question marks members) all holds in
-    (answers_meet question old members is answer, answer)
+pub backed_all : (problem : Problem) (old new : List Bool) → IsUsed problem old → new ≡ problem.keep.now → (members : NumberSet) → IsMarkedSolution problem new members → Backs problem old AllOlder members
+backed_all problem old new is all members holds =
+    let answer : IsSolution problem members = subst (λ marks. IsMarkedSolution problem marks members) all holds in
+    (solutions_meet problem old members is answer, answer)

@@ -5,13 +5,13 @@ use Rattle.std.proofs.lemmas.List.{take-take, drop-take}
 use Rattle.sat_solve.specs.Sets.{NumberSet, members_of}
 use Rattle.sat_solve.specs.Clauses.{clause_holds, literal_holds}
 use Rattle.sat_solve.specs.Trail.{value_in}
-use Rattle.sat_solve.specs.Finding.{Agrees, ComesDownTo}
-use Rattle.sat_solve.specs.Reasons.{variables_of, named_by, AgreesMarked, RestsOn, FailsOn, AreReasoned, AreParts, IsPart, end_before}
-use Rattle.sat_solve.specs.declared.Lit.{Lit}
-use Rattle.sat_solve.specs.declared.search.Step.{Step}
-use Rattle.sat_solve.specs.declared.search.Reason.{Reason}
-use Rattle.sat_solve.specs.declared.search.Reason.TheVariants.{Nothing, ByClause, ByDecisions, ByAll}
-use Rattle.sat_solve.specs.declared.question.Question.{Question}
+use Rattle.sat_solve.specs.ClauseStatus.{Agrees, ComesDownTo}
+use Rattle.sat_solve.specs.Reasons.{variables_of, named_by, AgreesOn, RestsOn, FailsOn, AreReasoned, AreParts, IsPart, end_before}
+use Rattle.sat_solve.specs.declared.clause.Lit.{Lit}
+use Rattle.sat_solve.specs.declared.trail.Step.{Step}
+use Rattle.sat_solve.specs.declared.trail.Reason.{Reason}
+use Rattle.sat_solve.specs.declared.trail.Reason.TheVariants.{Decision, Given, Clause, Decisions, AllOlder}
+use Rattle.sat_solve.specs.declared.problem.Problem.{Problem}
 use Rattle.sat_solve.proofs.ClauseLemmas.{literal_sign}
 
 -- a clause depends on its variables alone
@@ -22,7 +22,7 @@ clause_same a b (literal ∷ rest) same =
     let there : clause_holds a rest ≡ clause_holds b rest = clause_same a b rest (λ var named. same var (or_right (eqb literal.var var) (variables_of rest var) named)) in
     ap (λ v. cond literal.positive v (not v) || clause_holds a rest) here ∙ ap (λ v. literal_holds b literal || v) there
 
--- the set, but for the values that the trail gives to other variables than the marked ones
+-- the set, but for the values that the trail gives to other variables than these
 abbrev mixed : List Step → NumberSet → NumberSet → NumberSet
 mixed steps marked set var = cond (marked var) (set var) (unwrap_or (value_in steps var) (set var))
 
@@ -35,13 +35,13 @@ mixed_free steps marked set var free = elim (cases_Bool (marked var)) [
   | inr other ↦ ap (λ b. cond b (set var) (unwrap_or (value_in steps var) (set var))) other ∙ ap (λ v. unwrap_or v (set var)) free
 ]
 
-mixed_agrees : (steps : List Step) (marked set : NumberSet) → AgreesMarked steps marked set → Agrees steps (mixed steps marked set)
+mixed_agrees : (steps : List Step) (marked set : NumberSet) → AgreesOn steps marked set → Agrees steps (mixed steps marked set)
 mixed_agrees steps marked set agrees var value found = elim (cases_Bool (marked var)) [
   | inl is ↦ mixed_marked steps marked set var is ∙ agrees var value is found
   | inr other ↦ ap (λ b. cond b (set var) (unwrap_or (value_in steps var) (set var))) other ∙ ap (λ v. unwrap_or v (set var)) found
 ]
 
-module _ (vars : ℕ) (steps : List Step) (clause : List Lit) (set : NumberSet) (agrees : AgreesMarked steps (variables_of clause) set) where
+module _ (vars : ℕ) (steps : List Step) (clause : List Lit) (set : NumberSet) (agrees : AgreesOn steps (variables_of clause) set) where
   same_clause : clause_holds (mixed steps (variables_of clause) set) clause ≡ clause_holds set clause
   same_clause = clause_same (mixed steps (variables_of clause) set) set clause (mixed_marked steps (variables_of clause) set)
 
@@ -56,12 +56,12 @@ module _ (vars : ℕ) (steps : List Step) (clause : List Lit) (set : NumberSet) 
 
 module _ (P : NumberSet → Type 0) (vars : ℕ) (steps : List Step) (clause : List Lit) (meets : (set : NumberSet) → P set → clause_holds set clause ≡ true) where
   -- the last free literal of a clause that each set with P meets
-  pub forced_rests : (reason : Reason) (literal : Lit) → ComesDownTo vars steps clause (Some literal) → RestsOn P steps (record { var = literal.var; value = literal.positive; decided = false; reason = reason }) (variables_of clause)
+  pub forced_rests : (reason : Reason) (literal : Lit) → ComesDownTo vars steps clause (Some literal) → RestsOn P steps (record { var = literal.var; value = literal.positive; reason = reason }) (variables_of clause)
   forced_rests reason literal down set holds agrees = literal_sign set literal (sym (one_locally vars steps clause set agrees literal down) ∙ meets set holds)
 
   -- a clause that each set with P meets, and that fails
-  pub broken_fails : ComesDownTo vars steps clause None → FailsOn P steps (variables_of clause)
-  broken_fails down set holds agrees = false≢true (sym (none_locally vars steps clause set agrees down) ∙ meets set holds)
+  pub conflict_fails : ComesDownTo vars steps clause None → FailsOn P steps (variables_of clause)
+  conflict_fails down set holds agrees = false≢true (sym (none_locally vars steps clause set agrees down) ∙ meets set holds)
 
 -- where two lists begin alike, a part of the beginning is the same in both
 take_less : (old new : List ℕ) (m n : ℕ) → m ≤ n → take n old ≡ take n new → take m old ≡ take m new
@@ -77,23 +77,25 @@ slice_same old new start stop end ordered inside same =
     slice_front old start stop ordered ∙ (ap (drop start) (take_less old new stop end inside same) ∙ sym (slice_front new start stop ordered))
 
 -- what a reason names does not change with the arena past its part
-pub named_same : (question : Question) (old new : List ℕ) (reason : Reason) (end : ℕ) → IsPart reason end → take end old ≡ take end new → named_by question old reason ≡ named_by question new reason
-named_same question old new Nothing end part same = refl
-named_same question old new (ByClause number) end part same = refl
-named_same question old new (ByDecisions start stop) end part same = ap members_of (slice_same old new start stop end part.0 part.1 same)
-named_same question old new ByAll end part same = refl
+pub named_same : (problem : Problem) (old new : List ℕ) (reason : Reason) (end : ℕ) → IsPart reason end → take end old ≡ take end new → named_by problem old reason ≡ named_by problem new reason
+named_same problem old new Decision end part same = refl
+named_same problem old new Given end part same = refl
+named_same problem old new (Clause number) end part same = refl
+named_same problem old new (Decisions start stop) end part same = ap members_of (slice_same old new start stop end part.0 part.1 same)
+named_same problem old new AllOlder end part same = refl
 
 pub end_before_within : (reason : Reason) (end : ℕ) → IsPart reason end → end_before reason end ≤ end
-end_before_within Nothing end part = omega arith
-end_before_within (ByClause number) end part = omega arith
-end_before_within (ByDecisions start stop) end part = omega (arith, part.0, part.1)
-end_before_within ByAll end part = omega arith
+end_before_within Decision end part = omega arith
+end_before_within Given end part = omega arith
+end_before_within (Clause number) end part = omega arith
+end_before_within (Decisions start stop) end part = omega (arith, part.0, part.1)
+end_before_within AllOlder end part = omega arith
 
-pub reasoned_same : (P : Reason → NumberSet → Type 0) (question : Question) (old new : List ℕ) (steps : List Step) (end : ℕ) → AreParts steps end → take end old ≡ take end new → AreReasoned P (named_by question old) steps → AreReasoned P (named_by question new) steps
-reasoned_same P question old new [] end parts same reasoned = tt
-reasoned_same P question old new (step ∷ older) end parts same reasoned = (
-  λ forced. subst (RestsOn (P step.reason) older step) (named_same question old new step.reason end parts.0 same) (reasoned.0 forced),
-  reasoned_same P question old new older (end_before step.reason end) parts.1 (take_less old new (end_before step.reason end) end (end_before_within step.reason end parts.0) same) reasoned.1,
+pub reasoned_same : (P : Reason → NumberSet → Type 0) (problem : Problem) (old new : List ℕ) (steps : List Step) (end : ℕ) → AreParts steps end → take end old ≡ take end new → AreReasoned P (named_by problem old) steps → AreReasoned P (named_by problem new) steps
+reasoned_same P problem old new [] end parts same reasoned = tt
+reasoned_same P problem old new (step ∷ older) end parts same reasoned = (
+  λ forced. subst (RestsOn (P step.reason) older step) (named_same problem old new step.reason end parts.0 same) (reasoned.0 forced),
+  reasoned_same P problem old new older (end_before step.reason end) parts.1 (take_less old new (end_before step.reason end) end (end_before_within step.reason end parts.0) same) reasoned.1,
 )
 
 -- where no set agrees with all of a trail

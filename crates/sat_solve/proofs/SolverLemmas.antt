@@ -6,23 +6,23 @@ use Rattle.std.proofs.lemmas.Bool.Decides.{eqb_tells}
 use Rattle.sat_solve.specs.Sets.{NumberSet, IsFirst, members_of}
 use Rattle.sat_solve.specs.Clauses.{clause_holds}
 use Rattle.sat_solve.specs.Spans.{no_span}
-use Rattle.sat_solve.specs.Finding.{ComesDownTo}
-use Rattle.sat_solve.specs.Trail.{value_in, set_of, Follows, IsSound, IsLinked, rank, power_of_three}
-use Rattle.sat_solve.specs.SearchState.{steps_of, IsSearch}
-use Rattle.sat_solve.specs.Reasons.{IsQuestion, IsAnswer, Backs, named_by, RestsOn, AreReasoned, AreParts, FailsOn}
-use Rattle.sat_solve.specs.Solving.{IsSolver, GoesOn, height}
-use Rattle.sat_solve.specs.declared.Lit.{Lit}
-use Rattle.sat_solve.specs.declared.search.Step.{Step}
-use Rattle.sat_solve.specs.declared.search.Search.{Search}
-use Rattle.sat_solve.specs.declared.search.Reason.{Reason}
-use Rattle.sat_solve.specs.declared.search.Reason.TheVariants.{Nothing, ByClause, ByAll}
-use Rattle.sat_solve.specs.declared.question.Question.{Question}
+use Rattle.sat_solve.specs.ClauseStatus.{ComesDownTo}
+use Rattle.sat_solve.specs.Trail.{value_in, set_of, is_decided, Follows, IsSound, IsLinked, rank, power_of_three}
+use Rattle.sat_solve.specs.Trail.{steps_of, IsTrail}
+use Rattle.sat_solve.specs.Reasons.{IsProblem, IsSolution, Backs, named_by, RestsOn, AreReasoned, AreParts, FailsOn}
+use Rattle.sat_solve.specs.SolverState.{IsSolver, GoesOn, height}
+use Rattle.sat_solve.specs.declared.clause.Lit.{Lit}
+use Rattle.sat_solve.specs.declared.trail.Step.{Step}
+use Rattle.sat_solve.specs.declared.trail.Trail.{Trail}
+use Rattle.sat_solve.specs.declared.trail.Reason.{Reason}
+use Rattle.sat_solve.specs.declared.trail.Reason.TheVariants.{Decision, Clause, AllOlder}
+use Rattle.sat_solve.specs.declared.problem.Problem.{Problem}
 use Rattle.sat_solve.specs.declared.solver.Solver.{Solver}
 use Rattle.sat_solve.proofs.TrailLemmas.{value_in_newest, value_in_older, rank_rises, set_of_is_first}
-use Rattle.sat_solve.proofs.RoundLemmas.{forced_sound, decided_sound, only_set}
-use Rattle.sat_solve.proofs.SolveLemmas.{work_falls}
+use Rattle.sat_solve.proofs.StepLemmas.{forced_sound, decided_sound, only_set}
+use Rattle.sat_solve.proofs.RoundLemmas.{work_falls}
 use Rattle.sat_solve.proofs.SpanLemmas.{clause_met}
-use Rattle.sat_solve.proofs.ReasonLemmas.{forced_rests, broken_fails, refuted_fails}
+use Rattle.sat_solve.proofs.ReasonLemmas.{forced_rests, conflict_fails, refuted_fails}
 
 -- what was set is set under a newer step
 set_under : (step : Step) (older : List Step) (var : ℕ) → value_in older var ≢ None → value_in (step ∷ older) var ≢ None
@@ -33,73 +33,73 @@ set_under step older var was free =
     ]
 
 -- a step is put on the trail
-pub pushed_solver : (question : Question) (old : Solver) (search : Search) (cursor queue : ℕ) (step : Step) → IsSolver question old → Follows (IsAnswer question) (steps_of old.search) step → (step.decided ≡ false → RestsOn (Backs question old.used.items step.reason) (steps_of old.search) step (named_by question old.arena.items step.reason)) → AreParts (step ∷ steps_of old.search) (length old.arena.items) → ((var : ℕ) → var < cursor → value_in (steps_of old.search) var ≢ None) → IsSearch search → search.vars ≡ old.search.vars → steps_of search ≡ step ∷ steps_of old.search → IsSolver question (record { search = search; arena = old.arena; cursor = cursor; queue = queue; used = old.used })
-pushed_solver question old search cursor queue step is follows rests parts below linked vars pushed = record {
+pub pushed_solver : (problem : Problem) (old : Solver) (trail : Trail) (cursor propagated : ℕ) (step : Step) → IsSolver problem old → Follows (IsSolution problem) (steps_of old.trail) step → (is_decided step ≡ false → RestsOn (Backs problem old.used.items step.reason) (steps_of old.trail) step (named_by problem old.arena.items step.reason)) → AreParts (step ∷ steps_of old.trail) (length old.arena.items) → ((var : ℕ) → var < cursor → value_in (steps_of old.trail) var ≢ None) → IsTrail trail → trail.vars ≡ old.trail.vars → steps_of trail ≡ step ∷ steps_of old.trail → IsSolver problem (record { trail = trail; arena = old.arena; cursor = cursor; propagated = propagated; used = old.used })
+pushed_solver problem old trail cursor propagated step is follows rests parts below linked vars pushed = record {
   linked = linked;
   vars = vars ∙ is.vars;
-  sound = subst (IsSound (IsAnswer question)) (sym pushed) (follows, is.sound);
-  reasoned = subst (AreReasoned (Backs question old.used.items) (named_by question old.arena.items)) (sym pushed) (rests, is.reasoned);
+  sound = subst (IsSound (IsSolution problem)) (sym pushed) (follows, is.sound);
+  reasoned = subst (AreReasoned (Backs problem old.used.items) (named_by problem old.arena.items)) (sym pushed) (rests, is.reasoned);
   parts = subst (λ steps. AreParts steps (length old.arena.items)) (sym pushed) parts;
-  below = λ var less free. set_under step (steps_of old.search) var (below var less) (ap (λ steps. value_in steps var) (sym pushed) ∙ free);
+  below = λ var less free. set_under step (steps_of old.trail) var (below var less) (ap (λ steps. value_in steps var) (sym pushed) ∙ free);
   used = is.used;
 }
 
-module _ (question : Question) (old : Solver) (clause : ℕ) (asked : IsQuestion question) (is : IsSolver question old) (inside : clause < length question.spans.now) (kept : get_or question.keep.now (get_or question.spans.now clause no_span).group false ≡ true) where
-  meets : (set : NumberSet) → IsAnswer question set → clause_holds set (slice_range question.literals.now (get_or question.spans.now clause no_span).start (get_or question.spans.now clause no_span).end) ≡ true
-  meets set holds = clause_met question.vars (length question.keep.now) question.literals.now question.spans.now asked.clauses clause no_span inside question.keep.now set refl kept holds.meets
+module _ (problem : Problem) (old : Solver) (clause : ℕ) (asked : IsProblem problem) (is : IsSolver problem old) (inside : clause < length problem.spans.now) (kept : get_or problem.keep.now (get_or problem.spans.now clause no_span).group false ≡ true) where
+  meets : (set : NumberSet) → IsSolution problem set → clause_holds set (slice_range problem.literals.now (get_or problem.spans.now clause no_span).start (get_or problem.spans.now clause no_span).end) ≡ true
+  meets set holds = clause_met problem.vars (length problem.keep.now) problem.literals.now problem.spans.now asked.clauses clause no_span inside problem.keep.now set refl kept holds.meets
 
-  meets_backed : (set : NumberSet) → Backs question old.used.items (ByClause clause) set → clause_holds set (slice_range question.literals.now (get_or question.spans.now clause no_span).start (get_or question.spans.now clause no_span).end) ≡ true
+  meets_backed : (set : NumberSet) → Backs problem old.used.items (Clause clause) set → clause_holds set (slice_range problem.literals.now (get_or problem.spans.now clause no_span).start (get_or problem.spans.now clause no_span).end) ≡ true
   meets_backed set holds = holds.1 inside kept
 
   -- a clause that comes down to one free literal forces it
-  pub goes_on_forced : (search : Search) (literal : Lit) → ComesDownTo old.search.vars (steps_of old.search) (slice_range question.literals.now (get_or question.spans.now clause no_span).start (get_or question.spans.now clause no_span).end) (Some literal) → IsSearch search → search.vars ≡ old.search.vars → steps_of search ≡ record { var = literal.var; value = literal.positive; decided = false; reason = ByClause clause } ∷ steps_of old.search → GoesOn question old (record { search = search; arena = old.arena; cursor = old.cursor; queue = old.queue; used = old.used }) None
-  goes_on_forced search literal down linked vars pushed =
-      let P : NumberSet → Type 0 = IsAnswer question in
-      let step : Step = record { var = literal.var; value = literal.positive; decided = false; reason = ByClause clause } in
-      let sound = forced_sound P (steps_of old.search) is.sound old.search.vars (ByClause clause) (slice_range question.literals.now (get_or question.spans.now clause no_span).start (get_or question.spans.now clause no_span).end) literal meets down in
+  pub goes_on_forced : (trail : Trail) (literal : Lit) → ComesDownTo old.trail.vars (steps_of old.trail) (slice_range problem.literals.now (get_or problem.spans.now clause no_span).start (get_or problem.spans.now clause no_span).end) (Some literal) → IsTrail trail → trail.vars ≡ old.trail.vars → steps_of trail ≡ record { var = literal.var; value = literal.positive; reason = Clause clause } ∷ steps_of old.trail → GoesOn problem old (record { trail = trail; arena = old.arena; cursor = old.cursor; propagated = old.propagated; used = old.used }) None
+  goes_on_forced trail literal down linked vars pushed =
+      let P : NumberSet → Type 0 = IsSolution problem in
+      let step : Step = record { var = literal.var; value = literal.positive; reason = Clause clause } in
+      let sound = forced_sound P (steps_of old.trail) is.sound old.trail.vars (Clause clause) (slice_range problem.literals.now (get_or problem.spans.now clause no_span).start (get_or problem.spans.now clause no_span).end) literal refl meets down in
       record {
-        solver = pushed_solver question old search old.cursor old.queue step is sound.0 (λ _. forced_rests (Backs question old.used.items (ByClause clause)) old.search.vars (steps_of old.search) (slice_range question.literals.now (get_or question.spans.now clause no_span).start (get_or question.spans.now clause no_span).end) meets_backed (ByClause clause) literal down) (tt, is.parts) is.below linked vars pushed;
-        rises = subst (λ steps. rank question.vars (steps_of old.search) ≤ rank question.vars steps) (sym pushed) (omega (arith, rank_rises question.vars step (steps_of old.search)));
-        fault = tt;
+        solver = pushed_solver problem old trail old.cursor old.propagated step is sound.0 (λ _. forced_rests (Backs problem old.used.items (Clause clause)) old.trail.vars (steps_of old.trail) (slice_range problem.literals.now (get_or problem.spans.now clause no_span).start (get_or problem.spans.now clause no_span).end) meets_backed (Clause clause) literal down) (tt, is.parts) is.below linked vars pushed;
+        rises = subst (λ steps. rank problem.vars (steps_of old.trail) ≤ rank problem.vars steps) (sym pushed) (omega (arith, rank_rises problem.vars step (steps_of old.trail)));
+        conflict = tt;
       }
 
   -- a clause that fails
-  pub goes_on_broken : ComesDownTo old.search.vars (steps_of old.search) (slice_range question.literals.now (get_or question.spans.now clause no_span).start (get_or question.spans.now clause no_span).end) None → GoesOn question old old (Some (ByClause clause))
-  goes_on_broken down = record {
+  pub goes_on_conflict : ComesDownTo old.trail.vars (steps_of old.trail) (slice_range problem.literals.now (get_or problem.spans.now clause no_span).start (get_or problem.spans.now clause no_span).end) None → GoesOn problem old old (Some (Clause clause))
+  goes_on_conflict down = record {
     solver = is;
     rises = omega arith;
-    fault = broken_fails (Backs question old.used.items (ByClause clause)) old.search.vars (steps_of old.search) (slice_range question.literals.now (get_or question.spans.now clause no_span).start (get_or question.spans.now clause no_span).end) meets_backed down;
+    conflict = conflict_fails (Backs problem old.used.items (Clause clause)) old.trail.vars (steps_of old.trail) (slice_range problem.literals.now (get_or problem.spans.now clause no_span).start (get_or problem.spans.now clause no_span).end) meets_backed down;
   }
 
 -- the least free variable is decided
-pub decided_solver : (question : Question) (old : Solver) (search : Search) (var : ℕ) → IsSolver question old → ((lower : ℕ) → lower < var → value_in (steps_of old.search) lower ≢ None) → IsSearch search → search.vars ≡ old.search.vars → steps_of search ≡ record { var = var; value = false; decided = true; reason = Nothing } ∷ steps_of old.search → IsSolver question (record { search = search; arena = old.arena; cursor = var; queue = old.queue; used = old.used })
-decided_solver question old search var is least linked vars pushed =
-    let sound = decided_sound (IsAnswer question) (steps_of old.search) is.sound var least in
-    pushed_solver question old search var old.queue (record { var = var; value = false; decided = true; reason = Nothing }) is sound.0 (λ forced. absurd (false≢true (sym forced))) (tt, is.parts) least linked vars pushed
+pub decided_solver : (problem : Problem) (old : Solver) (trail : Trail) (var : ℕ) → IsSolver problem old → ((lower : ℕ) → lower < var → value_in (steps_of old.trail) lower ≢ None) → IsTrail trail → trail.vars ≡ old.trail.vars → steps_of trail ≡ record { var = var; value = false; reason = Decision } ∷ steps_of old.trail → IsSolver problem (record { trail = trail; arena = old.arena; cursor = var; propagated = old.propagated; used = old.used })
+decided_solver problem old trail var is least linked vars pushed =
+    let sound = decided_sound (IsSolution problem) (steps_of old.trail) is.sound var least in
+    pushed_solver problem old trail var old.propagated (record { var = var; value = false; reason = Decision }) is sound.0 (λ forced. absurd (false≢true (sym forced))) (tt, is.parts) least linked vars pushed
 
-pub decided_rises : (question : Question) (old : Solver) (search : Search) (var : ℕ) → steps_of search ≡ record { var = var; value = false; decided = true; reason = Nothing } ∷ steps_of old.search → rank question.vars (steps_of old.search) < rank question.vars (steps_of search)
-decided_rises question old search var pushed =
-    subst (λ steps. rank question.vars (steps_of old.search) < rank question.vars steps) (sym pushed) (rank_rises question.vars (record { var = var; value = false; decided = true; reason = Nothing }) (steps_of old.search))
+pub decided_rises : (problem : Problem) (old : Solver) (trail : Trail) (var : ℕ) → steps_of trail ≡ record { var = var; value = false; reason = Decision } ∷ steps_of old.trail → rank problem.vars (steps_of old.trail) < rank problem.vars (steps_of trail)
+decided_rises problem old trail var pushed =
+    subst (λ steps. rank problem.vars (steps_of old.trail) < rank problem.vars steps) (sym pushed) (rank_rises problem.vars (record { var = var; value = false; reason = Decision }) (steps_of old.trail))
 
 -- one stretch after another
-pub goes_on : (question : Question) (first mid last : Solver) (none found : Option Reason) → GoesOn question first mid none → GoesOn question mid last found → GoesOn question first last found
-goes_on question first mid last none found before after = record { solver = after.solver; rises = omega (arith, before.rises, after.rises); fault = after.fault }
+pub goes_on : (problem : Problem) (first mid last : Solver) (earlier found : Option Reason) → GoesOn problem first mid earlier → GoesOn problem mid last found → GoesOn problem first last found
+goes_on problem first mid last earlier found before after = record { solver = after.solver; rises = omega (arith, before.rises, after.rises); conflict = after.conflict }
 
--- where all variables are set, and not as the question wants it, no set agrees with the trail
-pub full_fails : (question : Question) (solver : Solver) → IsSolver question solver → ((var : ℕ) → var < question.vars → value_in (steps_of solver.search) var ≢ None) → (IsAnswer question (set_of (steps_of solver.search)) → ⊥) → FailsOn (Backs question solver.used.items ByAll) (steps_of solver.search) (λ _. true)
-full_fails question solver is full unlike =
-    let linked : IsLinked question.vars solver.search.values.items (steps_of solver.search) = subst (λ vars. IsLinked vars solver.search.values.items (steps_of solver.search)) is.vars is.linked in
-    refuted_fails (Backs question solver.used.items ByAll) (steps_of solver.search) (λ set holds agrees.
-    unlike (subst (IsAnswer question) (only_set question.vars solver.search.values.items (steps_of solver.search) set linked full holds.1.within agrees) holds.1))
+-- where all variables are set, and not as the problem wants it, no set agrees with the trail
+pub full_fails : (problem : Problem) (solver : Solver) → IsSolver problem solver → ((var : ℕ) → var < problem.vars → value_in (steps_of solver.trail) var ≢ None) → (IsSolution problem (set_of (steps_of solver.trail)) → ⊥) → FailsOn (Backs problem solver.used.items AllOlder) (steps_of solver.trail) (λ _. true)
+full_fails problem solver is full unlike =
+    let linked : IsLinked problem.vars solver.trail.values.items (steps_of solver.trail) = subst (λ vars. IsLinked vars solver.trail.values.items (steps_of solver.trail)) is.vars is.linked in
+    refuted_fails (Backs problem solver.used.items AllOlder) (steps_of solver.trail) (λ set holds agrees.
+    unlike (subst (IsSolution problem) (only_set problem.vars solver.trail.values.items (steps_of solver.trail) set linked full holds.1.within agrees) holds.1))
 
--- the set of the trail is the first, where it is one that the question wants
-pub first_found : (question : Question) (solver : Solver) (members : List ℕ) → IsSolver question solver → IsAnswer question (set_of (steps_of solver.search)) → ((var : ℕ) → members_of members var ≡ set_of (steps_of solver.search) var) → IsFirst (IsAnswer question) (members_of members)
-first_found question solver members is holds lists =
-    let sets : members_of members ≡ set_of (steps_of solver.search) = fun_ext lists in
-    subst (IsFirst (IsAnswer question)) (sym sets) (set_of_is_first (IsAnswer question) (steps_of solver.search) is.sound is.linked.fresh holds)
+-- the set of the trail is the first, where it is one that the problem wants
+pub first_found : (problem : Problem) (solver : Solver) (members : List ℕ) → IsSolver problem solver → IsSolution problem (set_of (steps_of solver.trail)) → ((var : ℕ) → members_of members var ≡ set_of (steps_of solver.trail) var) → IsFirst (IsSolution problem) (members_of members)
+first_found problem solver members is holds lists =
+    let sets : members_of members ≡ set_of (steps_of solver.trail) = fun_ext lists in
+    subst (IsFirst (IsSolution problem)) (sym sets) (set_of_is_first (IsSolution problem) (steps_of solver.trail) is.sound is.linked.fresh holds)
 
 -- what is left to do falls as the trail rises
-pub work_left_falls : (question : Question) (old new : Solver) → IsSolver question old → height question old < height question new → power_of_three question.vars - height question new < power_of_three question.vars - height question old
-work_left_falls question old new is higher =
-    work_falls question.vars old.search.values.items (steps_of old.search) (steps_of new.search)
-    (subst (λ vars. IsLinked vars old.search.values.items (steps_of old.search)) is.vars is.linked) higher
+pub work_left_falls : (problem : Problem) (old new : Solver) → IsSolver problem old → height problem old < height problem new → power_of_three problem.vars - height problem new < power_of_three problem.vars - height problem old
+work_left_falls problem old new is higher =
+    work_falls problem.vars old.trail.values.items (steps_of old.trail) (steps_of new.trail)
+    (subst (λ vars. IsLinked vars old.trail.values.items (steps_of old.trail)) is.vars is.linked) higher

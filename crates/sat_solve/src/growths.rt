@@ -153,3 +153,26 @@ fn of_solve_in(rt: HostRuntime) -> Result<(), Fail> {
     formula.add(1, &[not(1)])?;
     expect_solved_in(&rt, &formula, &mut workspace, [true, true], None)
 }
+
+/// Each group alone admits a set, so both are marked.
+#[test]
+fn of_solve_marked(rt: HostRuntime) -> Result<(), Fail> {
+    let mut formula = formula(rt.alloc())?;
+    formula.add(1, &[not(1)])?;
+    let mut workspace = Workspace::new(rt.alloc());
+    let mut marks = Vec::new(rt.alloc());
+    let keep = [true, true];
+    match formula.solve_marked(rt.alloc(), &mut workspace, &keep, 0, &mut marks) {
+        Ok(found) => {
+            assert!(rt; found.is_none());
+            assert!(rt; marks.as_slice() == keep.as_slice());
+            Ok(())
+        }
+        Err(AllocError) => {
+            let again = formula.solve_marked(rt.alloc(), &mut workspace, &keep, 0, &mut marks)?;
+            assert!(rt; again.is_none());
+            assert!(rt; marks.as_slice() == keep.as_slice());
+            Err(Fail::new("out of memory"))
+        }
+    }
+}

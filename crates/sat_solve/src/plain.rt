@@ -6,32 +6,30 @@ ghost use Rattle.sat_solve.specs.Sets.{NumberSet, members_of, IsFirst};
 ghost use Rattle.sat_solve.specs.Clauses.{IsTrueSet};
 ghost use Rattle.sat_solve.specs.Rounds.{KeepsSound, Refutes};
 ghost use Rattle.sat_solve.specs.Spans.{clauses_of, AreClauses};
-ghost use Rattle.sat_solve.specs.Trail.{set_of, value_in, turned_back, IsSound, IsRefuted, rank};
-ghost use Rattle.sat_solve.specs.SearchState.{steps_of, IsSearch};
+ghost use Rattle.sat_solve.specs.Trail.{set_of, value_in, turned_back, steps_of, IsSound, IsTrail, IsRefuted, rank};
 ghost use Rattle.sat_solve.specs.declared.plain.Outcome.TheVariants.{Settled, Forced, Stuck};
-ghost use Rattle.sat_solve.specs.declared.plain.Progress.TheVariants.{Going, Lost, Done};
+ghost use Rattle.sat_solve.specs.declared.plain.Progress.TheVariants.{Going, Conflict, Solved};
 
-use crate::last_check::are_met;
-use crate::search::{Finding, Reason, Search, Step};
-use crate::{Lit, Span};
+use crate::clause::{Lit, Span};
+use crate::search::satisfies_kept;
+use crate::trail::{ClauseStatus, Reason, Step, Trail};
 use std::alloc::{AllocError, Global};
 
 /// Turns the newest decision to in, and takes back what came after it. False if there is none.
-fn turn_newest(search: &mut Search) -> Result<bool, AllocError>
-    requires { IsSearch search.old }
-    ensures linked { IfOk result (λ _. IsSearch search.new) }
-    ensures vars { search.new.vars ≡ search.old.vars }
-    ensures turned { IfOk result (λ found. found ≡ true → turned_back (steps_of search.old) ≡ Some (steps_of search.new)) }
-    ensures none { IfOk result (λ found. found ≡ false → turned_back (steps_of search.old) ≡ None) }
+fn turn_newest(trail: &mut Trail) -> Result<bool, AllocError>
+    requires { IsTrail trail.old }
+    ensures linked { IfOk result (λ _. IsTrail trail.new) }
+    ensures vars { trail.new.vars ≡ trail.old.vars }
+    ensures turned { IfOk result (λ found. found ≡ true → turned_back (steps_of trail.old) ≡ Some (steps_of trail.new)) }
+    ensures none { IfOk result (λ found. found ≡ false → turned_back (steps_of trail.old) ≡ None) }
 {
-    while let Some(step) = search.trail.pop() {
-        search.values[step.var as usize] = None;
-        if step.decided {
-            search.push(Step {
+    while let Some(step) = trail.steps.pop() {
+        trail.values[step.var as usize] = None;
+        if step.reason.is_decision() {
+            trail.push(Step {
                 var: step.var,
                 value: true,
-                decided: false,
-                reason: step.reason,
+                reason: Reason::AllOlder,
             })?;
             return Ok(true);
         }
@@ -40,14 +38,14 @@ fn turn_newest(search: &mut Search) -> Result<bool, AllocError>
 }
 
 /// The least variable that is free, if one is.
-fn least_free(search: &Search) -> Option<u32>
-    requires { IsSearch search.now }
-    ensures free { IfSome result (λ var. (var < search.now.vars) × (value_in (steps_of search.now) var ≡ None)) }
-    ensures least { IfSome result (λ var. (lower : ℕ) → lower < var → value_in (steps_of search.now) lower ≢ None) }
-    ensures none { IfNone result ((var : ℕ) → var < search.now.vars → value_in (steps_of search.now) var ≢ None) }
+fn least_free(trail: &Trail) -> Option<u32>
+    requires { IsTrail trail.now }
+    ensures free { IfSome result (λ var. (var < trail.now.vars) × (value_in (steps_of trail.now) var ≡ None)) }
+    ensures least { IfSome result (λ var. (lower : ℕ) → lower < var → value_in (steps_of trail.now) lower ≢ None) }
+    ensures none { IfNone result ((var : ℕ) → var < trail.now.vars → value_in (steps_of trail.now) var ≢ None) }
 {
-    for var in 0..search.vars {
-        if search.values[var as usize].is_none() {
+    for var in 0..trail.vars {
+        if trail.values[var as usize].is_none() {
             return Some(var);
         }
     }
@@ -70,32 +68,31 @@ fn sweep(
     literals: &[Lit],
     spans: &[Span],
     keep: &[bool],
-    search: &mut Search,
+    trail: &mut Trail,
 ) -> Result<Outcome, AllocError>
-    requires clauses { AreClauses search.old.vars (length keep.now) literals.now spans.now }
-    requires linked { IsSearch search.old }
-    ensures linked { IfOk result (λ _. IsSearch search.new) }
-    ensures vars { search.new.vars ≡ search.old.vars }
-    ensures sound { IfOk result (λ _. KeepsSound search.old.vars (clauses_of literals.now spans.now) keep.now (steps_of search.old) (steps_of search.new)) }
-    ensures rises { IfOk result (λ _. rank search.old.vars (steps_of search.old) ≤ rank search.old.vars (steps_of search.new)) }
-    ensures forced { IfOk result (λ outcome. outcome ≡ Forced → rank search.old.vars (steps_of search.old) < rank search.old.vars (steps_of search.new)) }
-    ensures stuck { IfOk result (λ outcome. outcome ≡ Stuck → Refutes search.old.vars (clauses_of literals.now spans.now) keep.now (steps_of search.old) (steps_of search.new)) }
+    requires clauses { AreClauses trail.old.vars (length keep.now) literals.now spans.now }
+    requires linked { IsTrail trail.old }
+    ensures linked { IfOk result (λ _. IsTrail trail.new) }
+    ensures vars { trail.new.vars ≡ trail.old.vars }
+    ensures sound { IfOk result (λ _. KeepsSound trail.old.vars (clauses_of literals.now spans.now) keep.now (steps_of trail.old) (steps_of trail.new)) }
+    ensures rises { IfOk result (λ _. rank trail.old.vars (steps_of trail.old) ≤ rank trail.old.vars (steps_of trail.new)) }
+    ensures forced { IfOk result (λ outcome. outcome ≡ Forced → rank trail.old.vars (steps_of trail.old) < rank trail.old.vars (steps_of trail.new)) }
+    ensures stuck { IfOk result (λ outcome. outcome ≡ Stuck → Refutes trail.old.vars (clauses_of literals.now spans.now) keep.now (steps_of trail.old) (steps_of trail.new)) }
 {
     let mut forced = false;
     for span in spans {
         if keep[span.group as usize] {
-            match search.look(&literals[span.start..span.end]) {
-                Finding::Met | Finding::Open => {}
-                Finding::Single(literal) => {
-                    search.push(Step {
+            match trail.status(&literals[span.start..span.end]) {
+                ClauseStatus::Satisfied | ClauseStatus::Unresolved => {}
+                ClauseStatus::Unit(literal) => {
+                    trail.push(Step {
                         var: literal.var,
                         value: literal.positive,
-                        decided: false,
-                        reason: Reason::Nothing,
+                        reason: Reason::AllOlder,
                     })?;
                     forced = true;
                 }
-                Finding::Broken => return Ok(Outcome::Stuck),
+                ClauseStatus::Conflict => return Ok(Outcome::Stuck),
             }
         }
     }
@@ -111,9 +108,9 @@ pub enum Progress {
     /// Some variable was set.
     Going,
     /// No set agrees with the decisions.
-    Lost,
+    Conflict,
     /// All variables are set, and make the kept clauses true.
-    Done,
+    Solved,
 }
 
 /// Sets what the clauses force, or else the least free variable.
@@ -122,39 +119,38 @@ fn advance(
     spans: &[Span],
     keep: &[bool],
     must: u32,
-    search: &mut Search,
+    trail: &mut Trail,
 ) -> Result<Progress, AllocError>
-    requires clauses { AreClauses search.old.vars (length keep.now) literals.now spans.now }
-    requires linked { IsSearch search.old }
-    requires must { must < search.old.vars }
-    ensures linked { IfOk result (λ _. IsSearch search.new) }
-    ensures vars { search.new.vars ≡ search.old.vars }
-    ensures sound { IfOk result (λ _. KeepsSound search.old.vars (clauses_of literals.now spans.now) keep.now (steps_of search.old) (steps_of search.new)) }
-    ensures rises { IfOk result (λ _. rank search.old.vars (steps_of search.old) ≤ rank search.old.vars (steps_of search.new)) }
-    ensures going { IfOk result (λ progress. progress ≡ Going → rank search.old.vars (steps_of search.old) < rank search.old.vars (steps_of search.new)) }
-    ensures lost { IfOk result (λ progress. progress ≡ Lost →
-        IsSound (IsTrueSet search.old.vars (clauses_of literals.now spans.now) keep.now must) (steps_of search.old) →
-        IsRefuted (IsTrueSet search.old.vars (clauses_of literals.now spans.now) keep.now must) (steps_of search.new)) }
-    ensures done { IfOk result (λ progress. progress ≡ Done → IsTrueSet search.old.vars (clauses_of literals.now spans.now) keep.now must (set_of (steps_of search.new))) }
+    requires clauses { AreClauses trail.old.vars (length keep.now) literals.now spans.now }
+    requires linked { IsTrail trail.old }
+    requires must { must < trail.old.vars }
+    ensures linked { IfOk result (λ _. IsTrail trail.new) }
+    ensures vars { trail.new.vars ≡ trail.old.vars }
+    ensures sound { IfOk result (λ _. KeepsSound trail.old.vars (clauses_of literals.now spans.now) keep.now (steps_of trail.old) (steps_of trail.new)) }
+    ensures rises { IfOk result (λ _. rank trail.old.vars (steps_of trail.old) ≤ rank trail.old.vars (steps_of trail.new)) }
+    ensures going { IfOk result (λ progress. progress ≡ Going → rank trail.old.vars (steps_of trail.old) < rank trail.old.vars (steps_of trail.new)) }
+    ensures lost { IfOk result (λ progress. progress ≡ Conflict →
+        IsSound (IsTrueSet trail.old.vars (clauses_of literals.now spans.now) keep.now must) (steps_of trail.old) →
+        IsRefuted (IsTrueSet trail.old.vars (clauses_of literals.now spans.now) keep.now must) (steps_of trail.new)) }
+    ensures done { IfOk result (λ progress. progress ≡ Solved → IsTrueSet trail.old.vars (clauses_of literals.now spans.now) keep.now must (set_of (steps_of trail.new))) }
 {
-    match sweep(literals, spans, keep, search)? {
+    match sweep(literals, spans, keep, trail)? {
         Outcome::Forced => Ok(Progress::Going),
-        Outcome::Stuck => Ok(Progress::Lost),
-        Outcome::Settled => match least_free(search) {
+        Outcome::Stuck => Ok(Progress::Conflict),
+        Outcome::Settled => match least_free(trail) {
             Some(var) => {
-                search.push(Step {
+                trail.push(Step {
                     var,
                     value: false,
-                    decided: true,
-                    reason: Reason::Nothing,
+                    reason: Reason::Decision,
                 })?;
                 Ok(Progress::Going)
             }
             None => {
-                if search.is_in(must) && are_met(literals, spans, keep, search) {
-                    Ok(Progress::Done)
+                if trail.is_in(must) && satisfies_kept(literals, spans, keep, trail) {
+                    Ok(Progress::Solved)
                 } else {
-                    Ok(Progress::Lost)
+                    Ok(Progress::Conflict)
                 }
             }
         },
@@ -176,23 +172,22 @@ pub fn first_true_set(
     ensures first { IfOk result (λ answer. IfSome answer (λ members. IsFirst (IsTrueSet vars (clauses_of literals.now spans.now) keep.now must) (members_of members.items))) }
     ensures none { IfOk result (λ answer. IfNone answer ((set : NumberSet) → IsTrueSet vars (clauses_of literals.now spans.now) keep.now must set → ⊥)) }
 {
-    let mut search = Search::new(alloc);
-    search.restart(vars)?;
-    search.push(Step {
+    let mut trail = Trail::new(alloc);
+    trail.restart(vars)?;
+    trail.push(Step {
         var: must,
         value: true,
-        decided: false,
-        reason: Reason::Nothing,
+        reason: Reason::Given,
     })?;
     loop {
-        match advance(literals, spans, keep, must, &mut search)? {
+        match advance(literals, spans, keep, must, &mut trail)? {
             Progress::Going => {}
-            Progress::Lost => {
-                if !turn_newest(&mut search)? {
+            Progress::Conflict => {
+                if !turn_newest(&mut trail)? {
                     return Ok(None);
                 }
             }
-            Progress::Done => return Ok(Some(search.members(alloc)?)),
+            Progress::Solved => return Ok(Some(trail.members(alloc)?)),
         }
     }
 }

@@ -171,7 +171,7 @@ fn each_pigeon_has_a_hole(rt: HostRuntime) -> Result<(), Fail> {
 /// 30 pairs that are free, and then a contradiction on two variables. A search that goes back by one decision at a time
 /// tries each way to choose among the pairs, more than 2^30 of them.
 #[test]
-fn a_fault_that_rests_on_few_decisions(rt: HostRuntime) -> Result<(), Fail> {
+fn a_conflict_that_rests_on_few_decisions(rt: HostRuntime) -> Result<(), Fail> {
     let mut formula = Formula::new(rt.alloc(), 63, 2)?;
     let mut odd = Vec::new(rt.alloc());
     for pair in 0..30 {
@@ -309,6 +309,28 @@ fn are_within(marks: &[bool], keep: &[bool]) -> bool {
     true
 }
 
+/// Whether the solve with marks answers as the trial of all sets does, and its marks stand on kept groups that admit no set.
+fn marks_agree(
+    alloc: Global,
+    formula: &Formula,
+    workspace: &mut Workspace,
+    clauses: &[Small],
+    keep: &[bool],
+    must: u32,
+) -> Result<bool, AllocError>
+    requires keep { length keep.now ≡ formula.now.groups }
+    requires must { must < formula.now.vars }
+{
+    let mut marks = Vec::new(alloc);
+    let found = formula.solve_marked(alloc, workspace, keep, must, &mut marks)?;
+    if found.is_none() {
+        let again = formula.solve_in(alloc, workspace, &marks, must)?;
+        Ok(again.is_none() && by_trial(clauses, &marks, must).is_none() && are_within(&marks, keep))
+    } else {
+        Ok(is_number(&found, by_trial(clauses, keep, must)))
+    }
+}
+
 /// Whether both searches answer on the formula of this number as the trial of all sets does.
 fn agrees(alloc: Global, workspace: &mut Workspace, number: u64) -> Result<bool, AllocError> {
     let mut numbers = Numbers { state: number };
@@ -345,18 +367,8 @@ fn agrees(alloc: Global, workspace: &mut Workspace, number: u64) -> Result<bool,
     let wanted = by_trial(&clauses, &keep, must);
     let found = formula.solve_in(alloc, workspace, &keep, must)?;
     let plain = plainly(alloc, &formula, &keep, must)?;
-    let mut marks = Vec::new(alloc);
-    let marked = formula.solve_marked(alloc, workspace, &keep, must, &mut marks)?;
-    if marked.is_none() {
-        let again = formula.solve_in(alloc, workspace, &marks, must)?;
-        if again.is_some()
-            || by_trial(&clauses, &marks, must).is_some()
-            || !are_within(&marks, &keep)
-        {
-            return Ok(false);
-        }
-    }
-    Ok(is_number(&found, wanted) && is_number(&marked, wanted) && is_number(&plain, wanted))
+    let marked = marks_agree(alloc, &formula, workspace, &clauses, &keep, must)?;
+    Ok(is_number(&found, wanted) && is_number(&plain, wanted) && marked)
 }
 
 #[test]

@@ -1,13 +1,13 @@
-//! The watches: which clauses are to be looked at when a literal fails.
+//! Propagation by two watched literals (M. Moskewicz and others, "Chaff: engineering an efficient SAT solver", 2001).
 
 ghost use Rattle.std.specs.Prelude.{◌≡◌, ◌<◌, IfOk};
-ghost use Rattle.sat_solve.specs.Reasons.{IsQuestion};
-ghost use Rattle.sat_solve.specs.Solving.{IsSolver, GoesOn};
+ghost use Rattle.sat_solve.specs.Reasons.{IsProblem};
+ghost use Rattle.sat_solve.specs.SolverState.{IsSolver, GoesOn};
 
-use crate::Lit;
-use crate::question::Question;
-use crate::search::{Reason, Search};
+use crate::clause::Lit;
+use crate::problem::Problem;
 use crate::solver::Solver;
+use crate::trail::{Reason, Trail};
 use std::alloc::{AllocError, Global};
 
 /// The end of a list of watches.
@@ -15,7 +15,7 @@ const END: u32 = u32::MAX;
 
 /// Two watched literals for each clause that has two, in a list for each literal.
 ///
-/// The lists are hints: a clause is looked at before it forces anything, and all are looked at once more
+/// The lists are hints: a clause is examined before it forces anything, and the kept ones are looked at once more
 /// at the end. A number that is out of range ends its list.
 #[derive(Drop)]
 pub(crate) struct Watches {
@@ -34,7 +34,7 @@ enum Fate {
     /// Another literal of the clause, at this place, may still hold.
     Move(usize),
     /// All literals but that of the other watch failed.
-    Look,
+    Examine,
 }
 
 impl Watches {
@@ -47,10 +47,10 @@ impl Watches {
         }
     }
 
-    /// Makes room for the watches of a question's clauses.
-    pub fn restart(&mut self, question: &Question) -> Result<(), AllocError> {
-        let literals = (question.vars as usize) * 2;
-        let watches = question.spans.len().min(END as usize / 2) * 2;
+    /// Makes room for the watches of a problem's clauses.
+    pub fn restart(&mut self, problem: &Problem) -> Result<(), AllocError> {
+        let literals = (problem.vars as usize) * 2;
+        let watches = problem.spans.len().min(END as usize / 2) * 2;
         self.head.clear();
         self.head.resize(literals, END)?;
         self.next.clear();
@@ -73,21 +73,21 @@ impl Watches {
     }
 
     /// Lets a watch watch the literal at a place.
-    fn move_to(&mut self, question: &Question, watch: u32, place: usize) {
-        if (watch as usize) < self.place.len() && place < question.literals.len() {
+    fn move_to(&mut self, problem: &Problem, watch: u32, place: usize) {
+        if (watch as usize) < self.place.len() && place < problem.literals.len() {
             self.place[watch as usize] = place;
-            self.link(watch, Watches::list_of(question.literals[place]));
+            self.link(watch, Watches::list_of(problem.literals[place]));
         }
     }
 
     /// Watches the first two literals of a clause that has two or more.
-    fn attach(&mut self, question: &Question, clause: usize) {
-        if clause < question.spans.len() && clause < END as usize / 2 {
-            let start = question.spans[clause].start;
-            if start < question.literals.len() {
+    fn attach(&mut self, problem: &Problem, clause: usize) {
+        if clause < problem.spans.len() && clause < END as usize / 2 {
+            let start = problem.spans[clause].start;
+            if start < problem.literals.len() {
                 let watch = clause as u32 * 2;
-                self.move_to(question, watch, start);
-                self.move_to(question, watch + 1, start + 1);
+                self.move_to(problem, watch, start);
+                self.move_to(problem, watch + 1, start + 1);
             }
         }
     }
@@ -114,15 +114,15 @@ impl Watches {
 
     /// The first place from `start` to `end`, but for `other`, whose literal did not fail.
     fn free_place(
-        question: &Question,
-        search: &Search,
+        problem: &Problem,
+        trail: &Trail,
         start: usize,
         end: usize,
         other: usize,
     ) -> Option<usize> {
         for place in start..end {
-            if place != other && place < question.literals.len() {
-                if search.truth(question.literals[place]) != Some(false) {
+            if place != other && place < problem.literals.len() {
+                if trail.truth(problem.literals[place]) != Some(false) {
                     return Some(place);
                 }
             }
@@ -131,86 +131,86 @@ impl Watches {
     }
 
     /// What is to become of a watch whose literal failed.
-    fn fate(&self, question: &Question, search: &Search, watch: u32) -> Fate {
+    fn fate(&self, problem: &Problem, trail: &Trail, watch: u32) -> Fate {
         let clause = watch as usize / 2;
         let other = self.place_of(watch ^ 1);
-        if clause >= question.spans.len() || other >= question.literals.len() {
-            return Fate::Look;
+        if clause >= problem.spans.len() || other >= problem.literals.len() {
+            return Fate::Examine;
         }
-        if search.truth(question.literals[other]) == Some(true) {
+        if trail.truth(problem.literals[other]) == Some(true) {
             return Fate::Stay;
         }
-        let span = question.spans[clause];
+        let span = problem.spans[clause];
         let from = self.place_of(watch);
         // Where the last look for a literal ended, the next one begins: so a clause is read once for each time it is forced.
-        if let Some(place) = Watches::free_place(question, search, from, span.end, other) {
+        if let Some(place) = Watches::free_place(problem, trail, from, span.end, other) {
             return Fate::Move(place);
         }
-        match Watches::free_place(question, search, span.start, from, other) {
+        match Watches::free_place(problem, trail, span.start, from, other) {
             Some(place) => Fate::Move(place),
-            None => Fate::Look,
+            None => Fate::Examine,
         }
     }
 
     /// Looks at the clauses that watch a literal which failed, until one fails whole.
     fn visit(
         &mut self,
-        question: &Question,
+        problem: &Problem,
         solver: &mut Solver,
         failed: Lit,
     ) -> Result<Option<Reason>, AllocError>
-        requires question { IsQuestion question.now }
-        requires solver { IsSolver question.now solver.old }
-        ensures { IfOk result (GoesOn question.now solver.old solver.new) }
+        requires problem { IsProblem problem.now }
+        requires solver { IsSolver problem.now solver.old }
+        ensures { IfOk result (GoesOn problem.now solver.old solver.new) }
     {
         let list = Watches::list_of(failed);
-        let mut fault = None;
+        let mut conflict = None;
         let mut watch = self.take_list(list);
         'watches: for _ in 0..self.next.len() {
             if watch as usize >= self.next.len() {
                 break;
             }
             let after = self.next[watch as usize];
-            if fault.is_some() {
+            if conflict.is_some() {
                 self.link(watch, list);
             } else {
-                match self.fate(question, &solver.search, watch) {
+                match self.fate(problem, &solver.trail, watch) {
                     Fate::Stay => self.link(watch, list),
-                    Fate::Move(place) => self.move_to(question, watch, place),
-                    Fate::Look => {
+                    Fate::Move(place) => self.move_to(problem, watch, place),
+                    Fate::Examine => {
                         self.link(watch, list);
-                        fault = solver.examine(question, watch as usize / 2)?;
+                        conflict = solver.examine(problem, watch as usize / 2)?;
                     }
                 }
             }
             watch = after;
         }
-        Ok(fault)
+        Ok(conflict)
     }
 
     /// Looks at the clauses that watch what failed by the steps not yet propagated.
     pub fn propagate(
         &mut self,
-        question: &Question,
+        problem: &Problem,
         solver: &mut Solver,
     ) -> Result<Option<Reason>, AllocError>
-        requires question { IsQuestion question.now }
-        requires solver { IsSolver question.now solver.old }
-        ensures { IfOk result (GoesOn question.now solver.old solver.new) }
+        requires problem { IsProblem problem.now }
+        requires solver { IsSolver problem.now solver.old }
+        ensures { IfOk result (GoesOn problem.now solver.old solver.new) }
     {
-        'steps: for _ in 0..question.vars {
-            if solver.queue >= solver.search.trail.len() {
+        'steps: for _ in 0..problem.vars {
+            if solver.propagated >= solver.trail.steps.len() {
                 break;
             }
-            let step = solver.search.trail[solver.queue];
-            solver.queue += 1;
+            let step = solver.trail.steps[solver.propagated];
+            solver.propagated += 1;
             let failed = Lit {
                 var: step.var,
                 positive: !step.value,
             };
-            let fault = self.visit(question, solver, failed)?;
-            if fault.is_some() {
-                return Ok(fault);
+            let conflict = self.visit(problem, solver, failed)?;
+            if conflict.is_some() {
+                return Ok(conflict);
             }
         }
         Ok(None)
@@ -219,23 +219,23 @@ impl Watches {
     /// Watches the kept clauses of two literals or more, and looks at the shorter ones.
     pub fn load(
         &mut self,
-        question: &Question,
+        problem: &Problem,
         solver: &mut Solver,
     ) -> Result<Option<Reason>, AllocError>
-        requires question { IsQuestion question.now }
-        requires solver { IsSolver question.now solver.old }
-        ensures { IfOk result (GoesOn question.now solver.old solver.new) }
+        requires problem { IsProblem problem.now }
+        requires solver { IsSolver problem.now solver.old }
+        ensures { IfOk result (GoesOn problem.now solver.old solver.new) }
     {
-        for clause in 0..question.spans.len() {
-            let span = question.spans[clause];
+        for clause in 0..problem.spans.len() {
+            let span = problem.spans[clause];
             if span.end - span.start >= 2 {
-                if question.keep[span.group as usize] {
-                    self.attach(question, clause);
+                if problem.keep[span.group as usize] {
+                    self.attach(problem, clause);
                 }
             } else {
-                let fault = solver.examine(question, clause)?;
-                if fault.is_some() {
-                    return Ok(fault);
+                let conflict = solver.examine(problem, clause)?;
+                if conflict.is_some() {
+                    return Ok(conflict);
                 }
             }
         }

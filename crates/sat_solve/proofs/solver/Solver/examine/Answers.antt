@@ -1,11 +1,11 @@
-use Rattle.sat_solve.proofs.SolverLemmas.{goes_on_forced, goes_on_broken}
+use Rattle.sat_solve.proofs.SolverLemmas.{goes_on_forced, goes_on_conflict}
 use Rattle.sat_solve.proofs.solver.Solver.examine.Goals as goal
 
-pub returns-in_ok-push-in-Single : goal.returns-in_ok-push-in-Single
-returns-in_ok-push-in-Single c =
-    goes_on_forced c.args.question.now c.args.self.now c.args.clause c.requires.question c.requires.solver c.if-clause-question.false c.if-not-question-span.false
-    c.push.new.self c.in-Single.literal c.in-Single.ensures c.in_ok-push-in-Single.ensures.linked c.in_ok-push-in-Single.ensures.vars c.in_ok-push-in-Single.ensures.pushed
+pub returns-in_ok-push-in-Unit : goal.returns-in_ok-push-in-Unit
+returns-in_ok-push-in-Unit c =
+    goes_on_forced c.args.problem.now c.args.self.now c.args.clause c.requires.problem c.requires.solver c.if-clause-problem.false c.if-not-problem-span.false
+    c.push.new.self c.in-Unit.literal c.in-Unit.ensures c.in_ok-push-in-Unit.ensures.linked c.in_ok-push-in-Unit.ensures.vars c.in_ok-push-in-Unit.ensures.pushed
 
-pub returns-in-Broken : goal.returns-in-Broken
-returns-in-Broken c =
-    goes_on_broken c.args.question.now c.args.self.now c.args.clause c.requires.question c.requires.solver c.if-clause-question.false c.if-not-question-span.false c.in-Broken.ensures
+pub returns-in-Conflict : goal.returns-in-Conflict
+returns-in-Conflict c =
+    goes_on_conflict c.args.problem.now c.args.self.now c.args.clause c.requires.problem c.requires.solver c.if-clause-problem.false c.if-not-problem-span.false c.in-Conflict.ensures

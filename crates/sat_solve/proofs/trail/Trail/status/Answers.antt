@@ -1,0 +1,25 @@
+use Rattle.std.proofs.Common.{None, take, sym, subst}
+use Rattle.sat_solve.proofs.ClauseLemmas.{met_at, more_failing, more_free, all_down}
+use Rattle.sat_solve.specs.ClauseStatus.{ComesDownTo}
+use Rattle.sat_solve.specs.Trail.{steps_of}
+use Rattle.sat_solve.proofs.trail.Trail.status.Goals as goal
+use Rattle.sat_solve.proofs.trail.Trail.status.Goals.{in-Some+else-value-literal, in-None+else-is_some}
+
+pub returns-then-value-literal : goal.returns-then-value-literal
+returns-then-value-literal c =
+    met_at c.args.self.now.vars (steps_of c.args.self.now) c.args.clause.now c.loop-literal.literal-index _ c.loop-literal-test.true c.in-Some.value (sym c.in-Some.ensures) c.if-value-literal.true
+
+pub loop-literal-preserved : goal.loop-literal-preserved
+loop-literal-preserved c =
+    elim c.match-value.branch [
+      | in-Some+else-value-literal w ↦
+          rw w.free-is
+          (more_failing c.args.self.now.vars (steps_of c.args.self.now) c.args.clause.now c.loop-literal.literal-index _ c.loop-literal-test.true w.in-Some.value c.loop-literal.free (sym w.in-Some.ensures) w.if-value-literal.false c.loop-literal.invariant)
+      | in-None+else-is_some w ↦
+          rw w.free-is
+          (more_free c.args.self.now.vars (steps_of c.args.self.now) c.args.clause.now c.loop-literal.literal-index _ c.loop-literal-test.true c.loop-literal.free (sym w.if-is_some.ensures) (c.requires.in_range c.loop-literal.literal-index _ c.loop-literal-test.true) (sym w.in-None.ensures) c.loop-literal.invariant)
+    ]
+
+pub returns-in-None-free : goal.returns-in-None-free
+returns-in-None-free c =
+    all_down c.args.self.now.vars (steps_of c.args.self.now) c.args.clause.now c.loop-literal.literal-index None c.loop-literal-test.false (subst (λ free. ComesDownTo c.args.self.now.vars (steps_of c.args.self.now) (take c.loop-literal.literal-index c.args.clause.now) free) c.in-None-free.is c.loop-literal.invariant)

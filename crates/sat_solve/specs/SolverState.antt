@@ -1,0 +1,51 @@
+-- The state of a solve between two steps of it.
+use Rattle.std.specs.Prelude.{◌≡◌, ◌≢◌, ℕ, ◌<◌, ◌≤◌, Option, Some, None, length}
+use Rattle.sat_solve.specs.Trail.{value_in, set_of, IsSound, rank}
+use Rattle.sat_solve.specs.Trail.{steps_of, IsTrail}
+use Rattle.sat_solve.specs.Reasons.{IsSolution, IsUsed, Backs, named_by, AreReasoned, AreParts, FailsOn}
+use Rattle.sat_solve.specs.declared.trail.Reason.{Reason}
+use Rattle.sat_solve.specs.declared.problem.Problem.{Problem}
+use Rattle.sat_solve.specs.declared.solver.Solver.{Solver}
+use Rattle.sat_solve.specs.declared.search.Progress.{Progress}
+use Rattle.sat_solve.specs.declared.search.Progress.TheVariants.{Going, Conflict, Solved}
+
+-- the trail of a solver is right for a problem
+pub record IsSolver (problem : Problem) (solver : Solver) : Type 0 where
+  pub linked : IsTrail solver.trail
+  pub vars : solver.trail.vars ≡ problem.vars
+  pub sound : IsSound (IsSolution problem) (steps_of solver.trail)
+  pub reasoned : AreReasoned (Backs problem solver.used.items) (named_by problem solver.arena.items) (steps_of solver.trail)
+  pub parts : AreParts (steps_of solver.trail) (length solver.arena.items)
+  pub below : (var : ℕ) → var < solver.cursor → value_in (steps_of solver.trail) var ≢ None
+  pub used : IsUsed problem solver.used.items
+
+-- a conflict: no set that backs the reason agrees with the trail on what the reason names
+abbrev pub IsConflict : Problem → Solver → Reason → Type 0
+IsConflict problem solver reason = FailsOn (Backs problem solver.used.items reason) (steps_of solver.trail) (named_by problem solver.arena.items reason)
+
+-- how high the trail of a solver stands
+abbrev pub height : Problem → Solver → ℕ
+height problem solver = rank problem.vars (steps_of solver.trail)
+
+-- a conflict that was found, if one was
+abbrev pub IsFoundConflict : Problem → Solver → Option Reason → Type 0
+IsFoundConflict problem solver None = Unit {0}
+IsFoundConflict problem solver (Some conflict) = IsConflict problem solver conflict
+
+-- the solver went on, and found this conflict or none
+pub record GoesOn (problem : Problem) (old new : Solver) (found : Option Reason) : Type 0 where
+  pub solver : IsSolver problem new
+  pub rises : height problem old ≤ height problem new
+  pub conflict : IsFoundConflict problem new found
+
+-- what a round of the search came to
+abbrev pub IsProgress : Problem → Solver → Solver → Progress → Type 0
+IsProgress problem old new Going = height problem old < height problem new
+IsProgress problem old new (Conflict conflict) = IsConflict problem new conflict
+IsProgress problem old new Solved = IsSolution problem (set_of (steps_of new.trail))
+
+-- a round of the search
+pub record Advances (problem : Problem) (old new : Solver) (came : Progress) : Type 0 where
+  pub solver : IsSolver problem new
+  pub rises : height problem old ≤ height problem new
+  pub came_to : IsProgress problem old new came

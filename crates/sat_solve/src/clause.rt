@@ -1,0 +1,20 @@
+//! Literals, and where the literals of a clause stand.
+
+/// A literal: a variable, or its negation.
+///
+/// A positive literal holds in the sets that have its variable, a negative one in the others.
+#[derive(Clone, Copy, PartialEq, Eq, Debug)]
+pub struct Lit {
+    /// The variable, counted from 0.
+    pub var: u32,
+    /// Whether the variable is to be in the set.
+    pub positive: bool,
+}
+
+/// Where a clause's literals stand, and the group that it is in.
+#[derive(Clone, Copy)]
+pub(crate) struct Span {
+    pub group: u32,
+    pub start: usize,
+    pub end: usize,
+}

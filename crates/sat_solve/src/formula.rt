@@ -1,0 +1,183 @@
+//! A formula: clauses in groups, and the calls that solve it.
+
+ghost use Rattle.std.specs.Prelude.{◌≡◌, ℕ, ◌+◌, ◌<◌, ◌≤◌, length, All, IfOk, OnErr, IfSome, IfNone, [], ◌∷◌, ◌++◌};
+ghost use Rattle.std.specs.List.Sorted.{IsStrictlyIncreasing};
+ghost use Rattle.sat_solve.specs.Sets.{NumberSet, members_of, IsFirst};
+ghost use Rattle.sat_solve.specs.Clauses.{IsTrueSet, AreWithin};
+
+use crate::clause::{Lit, Span};
+use crate::problem::Problem;
+use crate::search::Workspace;
+use std::alloc::{AllocError, Global};
+use std::marker::Model;
+
+/// Clauses over the variables from 0 on, each in one of the groups from 0 on.
+#[derive(Drop)]
+pub struct Formula {
+    pub(crate) vars: u32,
+    groups: u32,
+    /// The literals of all clauses, one clause after another.
+    pub(crate) literals: Vec<Lit>,
+    pub(crate) spans: Vec<Span>,
+}
+
+impl Model for Formula {
+    ghost use Rattle.sat_solve.specs.Clauses.{Clauses};
+
+    ghost Value = { Clauses };
+
+    ghost use Rattle.sat_solve.specs.Spans.{clauses_of, AreClauses};
+
+    ghost view = { λ f. record { vars = f.vars; groups = f.groups; clauses = clauses_of f.literals.items f.spans.items } };
+
+    ghost invariant = { λ f. AreClauses f.vars f.groups f.literals.items f.spans.items };
+}
+
+impl Formula {
+    /// A formula of no clauses, over `vars` variables and with `groups` groups.
+    ///
+    /// The error is want of memory.
+    pub fn new(alloc: Global, vars: u32, groups: u32) -> Result<Formula, AllocError>
+        ensures { IfOk result (λ formula. formula ≡ record { vars = vars; groups = groups; clauses = [] }) }
+    {
+        Ok(Formula {
+            vars,
+            groups,
+            literals: Vec::new(alloc),
+            spans: Vec::new(alloc),
+        })
+    }
+
+    /// Starts over as a formula of no clauses, over `vars` variables and with `groups` groups, in the memory that it has.
+    pub fn restart(&mut self, vars: u32, groups: u32)
+        ensures { self.new ≡ record { vars = vars; groups = groups; clauses = [] } }
+    {
+        self.literals.clear();
+        self.spans.clear();
+        self.vars = vars;
+        self.groups = groups;
+    }
+
+    /// How many variables there are: they are the numbers below it.
+    pub fn vars(&self) -> u32
+        ensures { result ≡ self.now.vars }
+    {
+        self.vars
+    }
+
+    /// How many groups there are: they are the numbers below it.
+    pub fn groups(&self) -> u32
+        ensures { result ≡ self.now.groups }
+    {
+        self.groups
+    }
+
+    /// Adds a clause, of no literal or more, to a group.
+    ///
+    /// The group is below `groups()`, and each variable below `vars()`. A clause of no literals holds in no set.
+    /// The error is want of memory, and leaves the formula as it was.
+    pub fn add(&mut self, group: u32, clause: &[Lit]) -> Result<(), AllocError>
+        requires group { group < self.old.groups }
+        requires in_range { All (λ literal. literal.var < self.old.vars) clause.now }
+        ensures ok { IfOk result (λ _. self.new ≡ record self.old { clauses = self.old.clauses ++ record { group = group; literals = clause.now } ∷ [] }) }
+        ensures err { OnErr result (self.new ≡ self.old) }
+    {
+        let start = self.literals.len();
+        self.literals.extend_from_slice(clause)?;
+        let end = self.literals.len();
+        self.spans.push(Span { group, start, end })?;
+        Ok(())
+    }
+
+    /// The first set of variables that contains `must` and makes each clause of a kept group true, or `None` where there is no such set.
+    ///
+    /// `keep` has one mark a group. The variables of the set are given rising. Of two sets the one that lacks the least variable in
+    /// which they differ comes first. The error is want of memory.
+    pub fn solve(
+        &self,
+        alloc: Global,
+        keep: &[bool],
+        must: u32,
+    ) -> Result<Option<Vec<u32>>, AllocError>
+        requires keep { length keep.now ≡ self.now.groups }
+        requires must { must < self.now.vars }
+        ensures rising { IfOk result (λ answer. IfSome answer (λ members. IsStrictlyIncreasing members.items)) }
+        ensures first { IfOk result (λ answer. IfSome answer (λ members. IsFirst (IsTrueSet self.now.vars self.now.clauses keep.now must) (members_of members.items))) }
+        ensures none { IfOk result (λ answer. IfNone answer ((set : NumberSet) → IsTrueSet self.now.vars self.now.clauses keep.now must set → ⊥)) }
+    {
+        let mut workspace = Workspace::new(alloc);
+        self.solve_in(alloc, &mut workspace, keep, must)
+    }
+
+    /// What `solve` gives, found in the buffers of an earlier solve.
+    ///
+    /// The answer does not depend on what the workspace was used for.
+    pub fn solve_in(
+        &self,
+        alloc: Global,
+        workspace: &mut Workspace,
+        keep: &[bool],
+        must: u32,
+    ) -> Result<Option<Vec<u32>>, AllocError>
+        requires keep { length keep.now ≡ self.now.groups }
+        requires must { must < self.now.vars }
+        ensures rising { IfOk result (λ answer. IfSome answer (λ members. IsStrictlyIncreasing members.items)) }
+        ensures first { IfOk result (λ answer. IfSome answer (λ members. IsFirst (IsTrueSet self.now.vars self.now.clauses keep.now must) (members_of members.items))) }
+        ensures none { IfOk result (λ answer. IfNone answer ((set : NumberSet) → IsTrueSet self.now.vars self.now.clauses keep.now must set → ⊥)) }
+    {
+        self.search_in(alloc, workspace, keep, must)
+    }
+
+    /// What `solve_in` gives. Where there is no set, `marks` then names kept groups that already admit none, one mark a group.
+    ///
+    /// The marked groups need not be few. Where a set is found, the marks say nothing.
+    pub fn solve_marked(
+        &self,
+        alloc: Global,
+        workspace: &mut Workspace,
+        keep: &[bool],
+        must: u32,
+        marks: &mut Vec<bool>,
+    ) -> Result<Option<Vec<u32>>, AllocError>
+        requires keep { length keep.now ≡ self.now.groups }
+        requires must { must < self.now.vars }
+        ensures rising { IfOk result (λ answer. IfSome answer (λ members. IsStrictlyIncreasing members.items)) }
+        ensures first { IfOk result (λ answer. IfSome answer (λ members. IsFirst (IsTrueSet self.now.vars self.now.clauses keep.now must) (members_of members.items))) }
+        ensures none { IfOk result (λ answer. IfNone answer ((set : NumberSet) → IsTrueSet self.now.vars self.now.clauses keep.now must set → ⊥)) }
+        ensures sized { IfOk result (λ answer. IfNone answer (length marks.new.items ≡ self.now.groups)) }
+        ensures kept { IfOk result (λ answer. IfNone answer (AreWithin marks.new.items keep.now)) }
+        ensures marked { IfOk result (λ answer. IfNone answer ((set : NumberSet) → IsTrueSet self.now.vars self.now.clauses marks.new.items must set → ⊥)) }
+    {
+        let answer = self.search_in(alloc, workspace, keep, must)?;
+        marks.clear();
+        marks.extend_from_slice(workspace.used())?;
+        Ok(answer)
+    }
+
+    /// What `solve_in` gives. Where there is no set, the workspace then has the marks of `solve_marked`.
+    fn search_in(
+        &self,
+        alloc: Global,
+        workspace: &mut Workspace,
+        keep: &[bool],
+        must: u32,
+    ) -> Result<Option<Vec<u32>>, AllocError>
+        requires keep { length keep.now ≡ self.now.groups }
+        requires must { must < self.now.vars }
+        ensures rising { IfOk result (λ answer. IfSome answer (λ members. IsStrictlyIncreasing members.items)) }
+        ensures first { IfOk result (λ answer. IfSome answer (λ members. IsFirst (IsTrueSet self.now.vars self.now.clauses keep.now must) (members_of members.items))) }
+        ensures none { IfOk result (λ answer. IfNone answer ((set : NumberSet) → IsTrueSet self.now.vars self.now.clauses keep.now must set → ⊥)) }
+        ensures sized { IfOk result (λ answer. IfNone answer (length workspace.new.solver.used.items ≡ self.now.groups)) }
+        ensures kept { IfOk result (λ answer. IfNone answer (AreWithin workspace.new.solver.used.items keep.now)) }
+        ensures marked { IfOk result (λ answer. IfNone answer ((set : NumberSet) → IsTrueSet self.now.vars self.now.clauses workspace.new.solver.used.items must set → ⊥)) }
+    {
+        let problem = Problem {
+            vars: self.vars,
+            literals: &self.literals,
+            spans: &self.spans,
+            keep,
+            must,
+        };
+        workspace.solve(alloc, &problem)
+    }
+}

@@ -1,0 +1,212 @@
+//! The trail: which variables are set, in which order they were, and what their values rest on.
+
+ghost use Rattle.std.specs.Prelude.{◌≡◌, ◌≢◌, ℕ, Bool, true, false, Some, None, ◌+◌, ◌<◌, ◌≤◌, [], ◌∷◌, length, reverse, IfOk, IfSome, IfNone, List};
+ghost use Rattle.std.specs.List.Sorted.{IsStrictlyIncreasing};
+ghost use Rattle.std.specs.Prelude.{All};
+ghost use Rattle.sat_solve.specs.Sets.{members_of};
+ghost use Rattle.sat_solve.specs.Clauses.{clause_holds};
+ghost use Rattle.sat_solve.specs.ClauseStatus.{IsStatus};
+ghost use Rattle.sat_solve.specs.Trail.{value_in, set_of, is_decision, IsLinked, steps_of, IsTrail};
+ghost use Rattle.sat_solve.specs.Reasons.{end_before};
+
+use crate::clause::Lit;
+use std::alloc::{AllocError, Global};
+
+/// What the values so far say of a clause.
+#[derive(Clone, Copy)]
+pub enum ClauseStatus {
+    /// One of its literals holds.
+    Satisfied,
+    /// Nothing yet.
+    Unresolved,
+    /// All its literals fail but this one, whose variable is free.
+    Unit(Lit),
+    /// All its literals fail.
+    Conflict,
+}
+
+/// What a value, or a conflict, rests on.
+#[derive(Clone, Copy)]
+pub enum Reason {
+    /// On nothing: it was chosen.
+    Decision,
+    /// On nothing: it stands so in each set that is looked for.
+    Given,
+    /// On the older values of the variables of the clause of this number.
+    Clause(usize),
+    /// On the decisions that stand in the arena from one place to another.
+    Decisions(usize, usize),
+    /// On all older values.
+    AllOlder,
+}
+
+impl Reason {
+    /// Whether this is the reason of a decision.
+    pub fn is_decision(self) -> bool
+        ensures { result ≡ is_decision self }
+    {
+        match self {
+            Reason::Decision => true,
+            _ => false,
+        }
+    }
+
+    /// Where the arena ends without this reason's part, if it ends here with it.
+    pub fn end_before(self, end: usize) -> usize
+        ensures { result ≡ end_before self end }
+    {
+        match self {
+            Reason::Decisions(start, _) => start,
+            _ => end,
+        }
+    }
+}
+
+/// A variable that was set.
+#[derive(Clone, Copy)]
+pub struct Step {
+    pub var: u32,
+    pub value: bool,
+    pub reason: Reason,
+}
+
+/// The variables that are set, and the order in which they were.
+#[derive(Drop)]
+pub struct Trail {
+    pub vars: u32,
+    pub values: Vec<Option<bool>>,
+    pub steps: Vec<Step>,
+}
+
+impl Trail {
+    /// No variables.
+    pub fn new(alloc: Global) -> Trail {
+        Trail {
+            vars: 0,
+            values: Vec::new(alloc),
+            steps: Vec::new(alloc),
+        }
+    }
+
+    /// Begins anew, with variables that are free, and makes room to set them all.
+    pub fn restart(&mut self, vars: u32) -> Result<(), AllocError>
+        ensures linked { IfOk result (λ _. IsTrail self.new) }
+        ensures empty { IfOk result (λ _. (self.new.vars ≡ vars) × (steps_of self.new ≡ [])) }
+    {
+        self.vars = vars;
+        self.values.clear();
+        self.values.resize(vars as usize, None)?;
+        self.steps.clear();
+        self.steps.reserve(vars as usize)
+    }
+
+    /// Whether a literal holds, if its variable is set. It is a hint.
+    pub fn truth(&self, literal: Lit) -> Option<bool> {
+        match self.values.get(literal.var as usize) {
+            Some(Some(value)) => Some(*value == literal.positive),
+            _ => None,
+        }
+    }
+
+    /// The value of a variable, if it is set.
+    pub fn value(&self, var: u32) -> Option<bool>
+        requires linked { IsTrail self.now }
+        requires in_range { var < self.now.vars }
+        ensures { result ≡ value_in (steps_of self.now) var }
+    {
+        self.values[var as usize]
+    }
+
+    /// Whether a variable is in.
+    pub fn is_in(&self, var: u32) -> bool
+        requires linked { IsTrail self.now }
+        requires in_range { var < self.now.vars }
+        ensures { result ≡ set_of (steps_of self.now) var }
+    {
+        self.value(var) == Some(true)
+    }
+
+    /// Sets a variable that is free.
+    pub fn push(&mut self, step: Step) -> Result<(), AllocError>
+        requires linked { IsTrail self.old }
+        requires in_range { step.var < self.old.vars }
+        requires free { value_in (steps_of self.old) step.var ≡ None }
+        ensures linked { IfOk result (λ _. IsTrail self.new) }
+        ensures vars { self.new.vars ≡ self.old.vars }
+        ensures pushed { IfOk result (λ _. steps_of self.new ≡ step ∷ steps_of self.old) }
+    {
+        self.steps.push(step)?;
+        self.values[step.var as usize] = Some(step.value);
+        Ok(())
+    }
+
+    /// What the values so far say of a clause.
+    pub fn status(&self, clause: &[Lit]) -> ClauseStatus
+        requires linked { IsTrail self.now }
+        requires in_range { All (λ literal. literal.var < self.now.vars) clause.now }
+        ensures { IsStatus self.now.vars (steps_of self.now) clause.now result }
+    {
+        let mut free = None;
+        for literal in clause {
+            match self.value(literal.var) {
+                Some(value) => {
+                    if value == literal.positive {
+                        return ClauseStatus::Satisfied;
+                    }
+                }
+                None => {
+                    if free.is_some() {
+                        return ClauseStatus::Unresolved;
+                    }
+                    free = Some(*literal);
+                }
+            }
+        }
+        match free {
+            Some(literal) => ClauseStatus::Unit(literal),
+            None => ClauseStatus::Conflict,
+        }
+    }
+
+    /// Whether a clause holds in the set of the variables that are in.
+    pub fn satisfies(&self, clause: &[Lit]) -> bool
+        requires linked { IsTrail self.now }
+        requires in_range { All (λ literal. literal.var < self.now.vars) clause.now }
+        ensures { result ≡ clause_holds (set_of (steps_of self.now)) clause.now }
+    {
+        for literal in clause {
+            if self.is_in(literal.var) == literal.positive {
+                return true;
+            }
+        }
+        false
+    }
+
+    /// Takes back the newest step, if there is one.
+    pub fn pop(&mut self) -> Option<Step>
+        requires { IsTrail self.old }
+        ensures linked { IsTrail self.new }
+        ensures vars { self.new.vars ≡ self.old.vars }
+        ensures popped { IfSome result (λ step. steps_of self.old ≡ step ∷ steps_of self.new) }
+        ensures none { IfNone result (steps_of self.old ≡ []) }
+    {
+        let step = self.steps.pop()?;
+        self.values[step.var as usize] = None;
+        Some(step)
+    }
+
+    /// The variables that are in, rising.
+    pub fn members(&self, alloc: Global) -> Result<Vec<u32>, AllocError>
+        requires { IsTrail self.now }
+        ensures rising { IfOk result (λ members. IsStrictlyIncreasing members.items) }
+        ensures same { IfOk result (λ members. (var : ℕ) → members_of members.items var ≡ set_of (steps_of self.now) var) }
+    {
+        let mut members = Vec::with_capacity(alloc, self.steps.len())?;
+        for var in 0..self.vars {
+            if self.is_in(var) {
+                members.push(var)?;
+            }
+        }
+        Ok(members)
+    }
+}
