@@ -42,13 +42,14 @@ CALLS = {
     "deb_control": ["next_stanza", "stanzas"],
     "deb_relation": ["parse", "parse_groups", "parse_list", "append_to"],
     "deb_index": ["read", "satisfiers", "need_satisfiers", "constraints"],
-    "sat_solve": ["new", "add", "add_to_others", "add_after_restart", "solve", "solve_in"],
+    "sat_solve": ["new", "add", "add_to_others", "add_after_restart", "solve", "solve_in", "solve_marked"],
     "deb_verdict": ["closure", "verdict", "verdict_in", "groundwork", "workspace"],
     "work_draw": ["new_board", "gather", "check_all", "check_all_with_a_gate", "draw_pieces", "crew"],
     "debcheck": [
         "read_line", "usual", "read_all", "asked_places", "report", "run", "run_with_a_failing_writer",
-        "run_on_the_sample_with_one_worker", "run_on_the_sample_with_two_workers", "fault_line", "write_fault",
+        "fault_line", "write_fault",
     ],
+    "debcheck_tests": ["run_with_one_worker", "run_with_two_workers"],
 }
 PROGRAM = "debcheck_program"
 TOP = os.path.dirname(debcheck_program.default_path())

@@ -12,14 +12,13 @@ use crate::output::write_fault;
 use crate::phases::run;
 use crate::summary::Summary;
 use crate::tests::line::{is_plain, words_of};
-use crate::tests::{EMPTY, Held, named, sample, sink_of, source_of};
+use crate::tests::{EMPTY, Held, named, sink_of, source_of};
 use deb_index::Index;
 use std::alloc::{AllocError, Global};
 use std::process::Abort;
-use std::sync::atomic::{AtomicU32, Ordering};
 use std::test::Fail;
 use std::thread::Threads;
-use work_draw::{Gate, OpenGate, check_all};
+use work_draw::{OpenGate, check_all};
 
 /// Three bytes where three are allowed, one more, and a reader that fails.
 #[test]
@@ -142,78 +141,6 @@ fn of_run_with_a_failing_writer(rt: HostRuntime) -> Result<(), Fail> {
     assert_eq!(rt; output.bytes.as_slice(), b"arch".as_slice());
     assert_eq!(rt; status(&outcome), 68);
     Ok(())
-}
-
-/// How often the gate let each of three chunks begin and end.
-#[derive(Drop)]
-struct Tally {
-    begun: [AtomicU32; 3],
-    ended: [AtomicU32; 3],
-    others: AtomicU32,
-}
-
-impl Tally {
-    fn new() -> Tally {
-        Tally {
-            begun: [AtomicU32::new(0), AtomicU32::new(0), AtomicU32::new(0)],
-            ended: [AtomicU32::new(0), AtomicU32::new(0), AtomicU32::new(0)],
-            others: AtomicU32::new(0),
-        }
-    }
-
-    fn add(&self, counts: &[AtomicU32; 3], number: u32) {
-        if number < 3 {
-            counts[number as usize].fetch_add(1, Ordering::SeqCst);
-        } else {
-            self.others.fetch_add(1, Ordering::SeqCst);
-        }
-    }
-
-    /// Whether each chunk began at most once, ended at most as often, and at least so often.
-    fn has_at_least(&self, least: u32) -> bool {
-        for number in 0..3usize {
-            let begun = self.begun[number].load(Ordering::SeqCst);
-            let ended = self.ended[number].load(Ordering::SeqCst);
-            if begun > 1 || ended > begun || ended < least {
-                return false;
-            }
-        }
-        self.others.load(Ordering::SeqCst) == 0
-    }
-}
-
-impl Gate for Tally {
-    fn before(&self, number: u32) {
-        self.add(&self.begun, number);
-    }
-
-    fn after(&self, number: u32) {
-        self.add(&self.ended, number);
-    }
-}
-
-// The sample in three chunks: no chunk begins twice or ends without a beginning, and all three end where there is a report.
-fn expect_sample(rt: &(impl Abort + Threads + Sync + AllocGlobal), workers: u32) -> Result<(), Fail>
-    requires { (0 < workers) × (workers ≤ 64) }
-{
-    let config = config_with(rt.alloc(), workers)?;
-    let mut output = sink_with_room(rt.alloc(), 1_000, 0)?;
-    let mut text = source_of(sample::TEXT, 1_000);
-    let tally = Tally::new();
-    let outcome = run(rt, rt.alloc(), &config, &mut text, &mut output, &tally);
-    let least = if outcome.is_ok() { 1 } else { 0 };
-    assert!(rt; tally.has_at_least(least));
-    expect_report(rt, &output, &outcome, sample::REPORT, 1)
-}
-
-#[test]
-fn of_run_on_the_sample_with_one_worker(rt: HostRuntime) -> Result<(), Fail> {
-    expect_sample(&rt, 1)
-}
-
-#[test]
-fn of_run_on_the_sample_with_two_workers(rt: HostRuntime) -> Result<(), Fail> {
-    expect_sample(&rt, 2)
 }
 
 const ONE: &[u8] = b"Package: a

@@ -4,7 +4,6 @@ ghost use Rattle.std.specs.Prelude.{◌≡◌, IfOk, None, false};
 
 pub(crate) mod line;
 mod parts;
-pub(crate) mod sample;
 
 use crate::config::{Config, Show};
 use crate::device::{DeviceFault, Sink, Source};

@@ -9,6 +9,8 @@ mod example;
 #[cfg(test)]
 mod failing_devices;
 #[cfg(test)]
+mod growths;
+#[cfg(test)]
 mod large;
 #[cfg(test)]
 mod meanings;
