@@ -5,6 +5,9 @@ ghost use Rattle.debcheck.specs.Run.{settings_of, usual_settings};
 
 use std::alloc::{AllocError, Global};
 
+/// The most packages that a worker takes at once.
+pub const CHUNK_LIMIT: u32 = 1_000_000;
+
 /// Which packages have a block in the report.
 #[derive(Clone, Copy, Debug, PartialEq, Eq)]
 pub enum Show {
@@ -21,9 +24,9 @@ pub enum Show {
 pub struct Config {
     /// The checked architecture.
     pub arch: String,
-    /// How many workers check, 1 to 64. The report does not depend on it.
+    /// How many workers check, 1 to `work_draw::WORKER_LIMIT`, 64. The report does not depend on it.
     pub workers: u32,
-    /// How many packages a worker takes at once, 1 to 1,000,000. The report does not depend on it.
+    /// How many packages a worker takes at once, 1 to `CHUNK_LIMIT`. The report does not depend on it.
     pub chunk: u32,
     /// Whether a block tells the set that was found, or the reasons why there is none.
     pub explain: bool,

@@ -22,7 +22,7 @@ mod tests;
 mod values;
 
 pub use asked::asked_places;
-pub use config::{Config, Show};
+pub use config::{CHUNK_LIMIT, Config, Show};
 pub use device::{DeviceFault, Sink, Source};
 pub use fault::{RunFault, fault_line, status};
 pub use input::read_all;

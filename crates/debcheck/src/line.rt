@@ -8,7 +8,7 @@ ghost use Rattle.debcheck.specs.Line.{Accepts, IsFaultOf, IsRefusal, KeepsOther,
 ghost use Rattle.debcheck.specs.Run.{settings_of};
 ghost use Rattle.debcheck.specs.declared.line.LineFault.TheVariants.{Memory};
 
-use crate::config::{Config, Show};
+use crate::config::{CHUNK_LIMIT, Config, Show};
 use crate::device::{DeviceFault, Sink};
 use crate::fault::memory_line;
 use crate::options::{command, given, is_set, value_of};
@@ -18,6 +18,7 @@ use clap::ArgMatches;
 use clap::error::ErrorKind;
 use std::alloc::{AllocError, AllocFailed, Global};
 use thiserror::Error;
+use work_draw::WORKER_LIMIT;
 
 /// Why a command line gives no configuration.
 #[derive(Debug, Drop, Error)]
@@ -101,7 +102,7 @@ fn workers(alloc: Global, matches: &ArgMatches<'_>) -> Result<u32, LineFault>
     ensures refused { IfErr result (RefusesUnless (is_count 64 (value_of (codes "workers") (rows_of (found_of matches.now))))) }
 {
     let value = value_of(matches, "workers");
-    match count_of(value, 64) {
+    match count_of(value, WORKER_LIMIT) {
         Some(count) => Ok(count),
         None => Err(refusal(alloc, "--workers <N>", value, "a number from 1 to 64")?),
     }
@@ -113,7 +114,7 @@ fn chunk(alloc: Global, matches: &ArgMatches<'_>) -> Result<u32, LineFault>
     ensures refused { IfErr result (RefusesUnless (is_count 1000000 (value_of (codes "chunk") (rows_of (found_of matches.now))))) }
 {
     let value = value_of(matches, "chunk");
-    match count_of(value, 1_000_000) {
+    match count_of(value, CHUNK_LIMIT) {
         Some(count) => Ok(count),
         None => Err(refusal(alloc, "--chunk <K>", value, "a number from 1 to 1000000")?),
     }

@@ -21,7 +21,7 @@ mod ordered;
 mod piece;
 mod workers;
 
-pub use board::{Board, Drawer, new_board};
+pub use board::{Board, Drawer, WORKER_LIMIT, new_board};
 pub use check::check_all;
 pub use gate::{Gate, OpenGate};
 pub use ordered::gather;
