@@ -4,8 +4,7 @@ use Rattle.std.proofs.lemmas.Bool.{false≢true, true_from_ne_false, eq-eqb, ne_
 use Rattle.std.proofs.lemmas.Bool.Decides.{eqb_tells}
 use Rattle.std.proofs.lemmas.List.{take-take, take_all}
 use Rattle.sat_solve.specs.Sets.{NumberSet, members_of}
-use Rattle.sat_solve.specs.Trail.{value_in, is_decision, is_decided, AllFresh, Lacks, Follows, IsSound, IsLinked, weight, rank, power_of_three}
-use Rattle.sat_solve.specs.Trail.{steps_of, IsTrail}
+use Rattle.sat_solve.specs.Trail.{value_in, is_decision, is_decided, AllFresh, Lacks, Follows, IsSound, IsLinked, weight, rank, power_of_three, steps_of, IsTrail}
 use Rattle.sat_solve.specs.Reasons.{IsSolution, IsMarkedSolution, IsUsed, Backs, named_by, LacksAll, RestsOn, AreReasoned, AreParts, end_before, Picks, IsReasonFor, UndoneThrough}
 use Rattle.sat_solve.specs.SolverState.{IsSolver}
 use Rattle.sat_solve.specs.declared.trail.Step.{Step}

@@ -7,8 +7,7 @@ use Rattle.sat_solve.specs.Sets.{NumberSet, IsFirst, members_of}
 use Rattle.sat_solve.specs.Clauses.{clause_holds}
 use Rattle.sat_solve.specs.Spans.{no_span}
 use Rattle.sat_solve.specs.ClauseStatus.{ComesDownTo}
-use Rattle.sat_solve.specs.Trail.{value_in, set_of, is_decided, Follows, IsSound, IsLinked, rank, power_of_three}
-use Rattle.sat_solve.specs.Trail.{steps_of, IsTrail}
+use Rattle.sat_solve.specs.Trail.{value_in, set_of, is_decided, Follows, IsSound, IsLinked, rank, power_of_three, steps_of, IsTrail}
 use Rattle.sat_solve.specs.Reasons.{IsProblem, IsSolution, Backs, named_by, RestsOn, AreReasoned, AreParts, FailsOn}
 use Rattle.sat_solve.specs.SolverState.{IsSolver, GoesOn, height}
 use Rattle.sat_solve.specs.declared.clause.Lit.{Lit}

@@ -1,5 +1,5 @@
 -- How a sound trail takes a step more, and when it shows that no set agrees with it.
-use Rattle.std.proofs.Common.{◌≡◌, ◌≢◌, ℕ, ◌<◌, Bool, true, false, Option, Some, None, unwrap_or, List, [], ◌∷◌, refl, sym, ◌∙◌, subst, inl, inr, arith}
+use Rattle.std.proofs.Common.{◌≡◌, ◌≢◌, ℕ, ◌<◌, Bool, true, false, Option, Some, None, unwrap_or, List, ◌∷◌, refl, sym, ◌∙◌, subst, inl, inr, arith}
 use mathlib.Core.Path.{fun_ext}
 use Rattle.std.proofs.lemmas.Bool.{false≢true, cases_lt, false_from_ne_true}
 use Rattle.sat_solve.specs.Sets.{NumberSet}

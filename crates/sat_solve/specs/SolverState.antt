@@ -1,7 +1,6 @@
 -- The state of a solve between two steps of it.
 use Rattle.std.specs.Prelude.{◌≡◌, ◌≢◌, ℕ, ◌<◌, ◌≤◌, Option, Some, None, length}
-use Rattle.sat_solve.specs.Trail.{value_in, set_of, IsSound, rank}
-use Rattle.sat_solve.specs.Trail.{steps_of, IsTrail}
+use Rattle.sat_solve.specs.Trail.{value_in, set_of, IsSound, rank, steps_of, IsTrail}
 use Rattle.sat_solve.specs.Reasons.{IsSolution, IsUsed, Backs, named_by, AreReasoned, AreParts, FailsOn}
 use Rattle.sat_solve.specs.declared.trail.Reason.{Reason}
 use Rattle.sat_solve.specs.declared.problem.Problem.{Problem}

@@ -2,8 +2,7 @@ use Rattle.std.proofs.Common.{◌<◌, false, true, sym, ◌∙◌, subst, arith
 use Rattle.std.proofs.lemmas.Bool.{false≢true}
 use Rattle.sat_solve.specs.Clauses.{IsTrueSet}
 use Rattle.sat_solve.specs.Spans.{clauses_of}
-use Rattle.sat_solve.specs.Trail.{rank, IsSound, IsLinked}
-use Rattle.sat_solve.specs.Trail.{steps_of}
+use Rattle.sat_solve.specs.Trail.{rank, IsSound, IsLinked, steps_of}
 use Rattle.sat_solve.specs.declared.trail.Reason.TheVariants.{Decision}
 use Rattle.sat_solve.proofs.TrailLemmas.{rank_rises}
 use Rattle.sat_solve.proofs.StepLemmas.{decided_sound, full_refuted}

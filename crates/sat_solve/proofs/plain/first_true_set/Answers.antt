@@ -1,7 +1,6 @@
 use Rattle.std.proofs.Common.{◌∙◌, subst}
-use Rattle.sat_solve.specs.Trail.{IsLinked}
+use Rattle.sat_solve.specs.Trail.{IsLinked, steps_of}
 use Rattle.sat_solve.specs.Spans.{clauses_of}
-use Rattle.sat_solve.specs.Trail.{steps_of}
 use Rattle.sat_solve.proofs.RoundLemmas.{sound_on, turned_on, none_on, first_on, turned_falls, going_falls}
 use Rattle.sat_solve.proofs.plain.first_true_set.Goals as goal
 

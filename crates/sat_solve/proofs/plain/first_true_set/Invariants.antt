@@ -1,8 +1,7 @@
 use Rattle.std.proofs.Common.{◌≡◌, ◌-◌}
 use Rattle.sat_solve.specs.Clauses.{IsTrueSet}
 use Rattle.sat_solve.specs.Spans.{clauses_of}
-use Rattle.sat_solve.specs.Trail.{IsSound, rank, power_of_three}
-use Rattle.sat_solve.specs.Trail.{steps_of, IsTrail}
+use Rattle.sat_solve.specs.Trail.{IsSound, rank, power_of_three, steps_of, IsTrail}
 use Rattle.sat_solve.proofs.plain.first_true_set.Given as goal
 
 abbrev pub invariant-loop-trail : goal.invariant-loop-trail

@@ -1,6 +1,5 @@
 use Rattle.std.proofs.Common.{◌≡◌, vec_len}
-use Rattle.sat_solve.specs.Trail.{turned_back}
-use Rattle.sat_solve.specs.Trail.{steps_of, IsTrail}
+use Rattle.sat_solve.specs.Trail.{turned_back, steps_of, IsTrail}
 use Rattle.sat_solve.proofs.plain.turn_newest.Given as goal
 
 abbrev pub invariant-loop-step : goal.invariant-loop-step

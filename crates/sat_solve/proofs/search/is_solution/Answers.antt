@@ -1,7 +1,6 @@
 use Rattle.std.proofs.Common.{sym, ◌∙◌, subst}
 use Rattle.std.proofs.lemmas.Bool.{false≢true}
-use Rattle.sat_solve.specs.Trail.{IsLinked}
-use Rattle.sat_solve.specs.Trail.{steps_of}
+use Rattle.sat_solve.specs.Trail.{IsLinked, steps_of}
 use Rattle.sat_solve.proofs.StepLemmas.{set_of_within}
 use Rattle.sat_solve.proofs.search.is_solution.Goals as goal
 

@@ -1,7 +1,6 @@
 use Rattle.std.proofs.Common.{refl, sym, ◌∙◌, below_more}
 use Rattle.std.proofs.lemmas.Bool.{false≢true}
-use Rattle.sat_solve.specs.Trail.{set_of}
-use Rattle.sat_solve.specs.Trail.{steps_of}
+use Rattle.sat_solve.specs.Trail.{set_of, steps_of}
 use Rattle.sat_solve.specs.Spans.{no_span}
 use Rattle.sat_solve.proofs.SpanLemmas.{clause_met, met_all}
 use Rattle.sat_solve.proofs.search.satisfies_kept.Goals as goal

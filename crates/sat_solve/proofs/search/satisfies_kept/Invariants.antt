@@ -1,5 +1,4 @@
-use Rattle.sat_solve.specs.Trail.{set_of}
-use Rattle.sat_solve.specs.Trail.{steps_of}
+use Rattle.sat_solve.specs.Trail.{set_of, steps_of}
 use Rattle.sat_solve.proofs.SpanLemmas.{MetBelow}
 use Rattle.sat_solve.proofs.search.satisfies_kept.Given as goal
 

@@ -1,6 +1,5 @@
 use Rattle.std.proofs.Common.{◌<◌, arith}
-use Rattle.sat_solve.specs.Trail.{rank}
-use Rattle.sat_solve.specs.Trail.{steps_of}
+use Rattle.sat_solve.specs.Trail.{rank, steps_of}
 use Rattle.sat_solve.proofs.SolverLemmas.{decided_solver, decided_rises, full_fails}
 use Rattle.sat_solve.proofs.search.Workspace.advance.Goals as goal
 

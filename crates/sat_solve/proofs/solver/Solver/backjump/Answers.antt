@@ -1,7 +1,6 @@
-use Rattle.std.proofs.Common.{◌≡◌, ℕ, List, ◌-◌, ◌<◌, ◌∷◌, length, get_or, take, drop, sym, ◌∙◌, ap, subst, arith, true, false, None}
+use Rattle.std.proofs.Common.{◌≡◌, ℕ, List, ◌-◌, ◌<◌, ◌∷◌, length, get_or, take, drop, sym, ◌∙◌, ap, subst, arith, true, None}
 use Rattle.sat_solve.specs.Sets.{NumberSet, members_of}
-use Rattle.sat_solve.specs.Trail.{value_in, rank}
-use Rattle.sat_solve.specs.Trail.{steps_of, IsTrail}
+use Rattle.sat_solve.specs.Trail.{value_in, rank, steps_of, IsTrail}
 use Rattle.sat_solve.specs.Reasons.{IsMarkedSolution, LacksAll, Picks}
 use Rattle.sat_solve.proofs.BackjumpLemmas.{lacks_none, head_rest, some_number, turned_solver, turned_higher}
 use Rattle.sat_solve.proofs.solver.Solver.backjump.Goals as goal

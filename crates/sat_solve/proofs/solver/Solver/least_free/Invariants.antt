@@ -1,6 +1,5 @@
 use Rattle.std.proofs.Common.{◌≢◌, ℕ, None, ◌<◌}
-use Rattle.sat_solve.specs.Trail.{value_in}
-use Rattle.sat_solve.specs.Trail.{steps_of}
+use Rattle.sat_solve.specs.Trail.{value_in, steps_of}
 use Rattle.sat_solve.proofs.solver.Solver.least_free.Given as goal
 
 abbrev pub invariant-loop-var : goal.invariant-loop-var

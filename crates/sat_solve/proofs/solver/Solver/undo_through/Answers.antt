@@ -1,6 +1,5 @@
 use Rattle.std.proofs.Common.{◌∷◌, ◌∙◌, subst}
-use Rattle.sat_solve.specs.Trail.{IsLinked}
-use Rattle.sat_solve.specs.Trail.{steps_of}
+use Rattle.sat_solve.specs.Trail.{IsLinked, steps_of}
 use Rattle.sat_solve.specs.Reasons.{Picks}
 use Rattle.sat_solve.proofs.BackjumpLemmas.{undone_through, reach_on, picks_older}
 use Rattle.sat_solve.proofs.solver.Solver.undo_through.Goals as goal

@@ -1,7 +1,6 @@
 use Rattle.std.proofs.Common.{◌≡◌, false, take}
 use Rattle.sat_solve.specs.Clauses.{clause_holds}
-use Rattle.sat_solve.specs.Trail.{set_of}
-use Rattle.sat_solve.specs.Trail.{steps_of}
+use Rattle.sat_solve.specs.Trail.{set_of, steps_of}
 use Rattle.sat_solve.proofs.trail.Trail.satisfies.Given as goal
 
 abbrev pub invariant-loop-literal : goal.invariant-loop-literal
