@@ -1,4 +1,13 @@
 //! The packages of a Debian package index, with tables of names and of what is provided.
+//!
+//! The modules, in reading order:
+//!
+//! - `limits`: how large an index may be; `error`: why one is refused.
+//! - `package`: one stanza, read as a package; `meets`: what it asks for, and which atoms it meets.
+//! - `table`: lists of items by name; `listing`: the packages by place, with such tables; `tables`: these, filled stanza by stanza.
+//! - `walk`: all places that meet an atom, found by the tables.
+//! - `rows`: lists of places, one behind the other; `links`: the row of each group and of each entry, made once.
+//! - `index`: the index of a text, and all that is read from it; `constraint`: its constraints.
 #![tactic(auto)]
 
 mod constraint;

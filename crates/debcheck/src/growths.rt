@@ -184,13 +184,23 @@ fn expect_asked(
     Ok(())
 }
 
+// The same of the index of a text.
+fn expect_asked_of(
+    rt: &(impl Abort + AllocGlobal),
+    text: &[u8],
+    names: &[&[u8]],
+    places: &[u32],
+    unknown: &[u8],
+) -> Result<(), Fail> {
+    let index = Index::read(rt.alloc(), text, "amd64", true)?;
+    expect_asked(rt, &index, names, places, unknown)
+}
+
 /// Two of three names, one of them twice, and a name that is unknown.
 #[test]
 fn of_asked_places(rt: HostRuntime) -> Result<(), Fail> {
-    let index = Index::read(rt.alloc(), TWO_NEEDED, "amd64", true)?;
-    expect_asked(&rt, &index, &[b"b", b"a", b"b"], &[0, 1], b"")?;
-    let index = Index::read(rt.alloc(), ONE, "amd64", true)?;
-    expect_asked(&rt, &index, &[b"zz"], &[], b"zz")
+    expect_asked_of(&rt, TWO_NEEDED, &[b"b", b"a", b"b"], &[0, 1], b"")?;
+    expect_asked_of(&rt, ONE, &[b"zz"], &[], b"zz")
 }
 
 const CHAIN: &[u8] = b"Package: a

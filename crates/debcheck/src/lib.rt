@@ -1,4 +1,12 @@
 //! Checks which packages of a Debian package index can be installed, and reports it.
+//!
+//! The modules, in reading order:
+//!
+//! - `config`: what is asked of a run. `line` makes it of the words of a command line, by the `options` that `clap` reads and the `values` that they take.
+//! - `device`: what a run reads from and writes to; `std_device`: such devices over std's. `input` reads to the end, `output` writes whole texts.
+//! - `phases`: a run, from bytes to bytes; `asked`: the places that are asked; `layout`: the report; `reasons`: its lines that explain a verdict.
+//! - `summary`: what a run counts; `fault`: why it fails, and the line and the status of that.
+//! - `laws`: what holds of reports.
 #![tactic(auto)]
 
 mod asked;

@@ -1,4 +1,7 @@
 //! Worked examples over all crates: words and a text go in, and the bytes of the report are compared.
+//!
+//! `devices` has readers and a writer over memory, and is proved. The rest is tests: `example` says what an example is and runs it, `reports` goes over those of
+//! `relations`, `meanings`, `qualifiers`, `settings` and `refusals`; `cut_texts`, `failing_devices`, `large`, `workers` and `growths` have inputs of their own.
 #![tactic(auto)]
 
 #[cfg(test)]
