@@ -37,7 +37,8 @@ fn expect_read(
 ) -> Result<(), Fail> {
     let mut reader = source_of(text, 1);
     reader.fails = fails;
-    match read_all(rt.alloc(), &mut reader, 3) {
+    let outcome = read_all(rt.alloc(), &mut reader, 3);
+    match &outcome {
         Ok(bytes) => assert_eq!(rt; bytes.as_slice(), wanted.as_bytes()),
         Err(RunFault::TooLong) => {
             assert!(rt; wanted == "too long");
