@@ -13,7 +13,7 @@ use crate::phases::run;
 use crate::summary::Summary;
 use crate::tests::line::{is_plain, words_of};
 use crate::tests::{EMPTY, Held, named, sink_of, source_of};
-use deb_index::Index;
+use deb_index::{Index, TEXT_LIMIT};
 use std::alloc::{AllocError, Global};
 use std::process::Abort;
 use std::test::Fail;
@@ -193,6 +193,7 @@ fn expect_asked_of(
     places: &[u32],
     unknown: &[u8],
 ) -> Result<(), Fail> {
+    assert!(rt; text.len() <= TEXT_LIMIT);
     let index = Index::read(rt.alloc(), text, "amd64", true)?;
     expect_asked(rt, &index, names, places, unknown)
 }
