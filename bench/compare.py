@@ -9,19 +9,21 @@ import shutil
 import subprocess
 import sys
 
+import apt_index
 import debcheck_program
 import debcheck_report
 import measured
 import script
+from apt_index import output_of
 from debcheck_program import Failed
 
 ABOUT = """Runs debcheck, dose-debcheck and installcheck on this machine's own main
-index and on a copy of it that lacks 1 % of the stanzas. Prints what each run
-used and whether the programs name the same broken packages. Each program
-gives the reasons of the broken packages. debcheck has one worker there; how
-its wall time falls with more stands in a table of its own. Runs of a few
-seconds are made three times, the programs in turn, and the one of the least CPU
-time is shown.
+index, on a copy of it that lacks 1 % of the stanzas, and on the main index of
+sid, where apt can fetch it (into lists of its own). Prints what each run used
+and whether the programs name the same broken packages. Each program gives the
+reasons of the broken packages. debcheck has one worker there; how its wall time
+falls with more stands in a table of its own. Runs of a few seconds are made
+three times, the programs in turn, and the one of the least CPU time is shown.
 
 The copy is checked twice, with and without regard for essential packages: where
 one that they need is among the deleted, every package is broken the first time.
@@ -29,17 +31,19 @@ Which ones are deleted depends on --seed alone. installcheck doesn't know
 essential packages; so it has one run there, and its names are compared where
 they are ignored.
 
+On sid the names are compared, and don't enter the status: dose-debcheck
+compares some versions otherwise than dpkg does. --without sid leaves it out.
+
 dose-debcheck and installcheck are installed by apt-get where they are missing,
 which needs root. The index is apt's: 'apt-get update' renews it. Files are
 written to a folder of their own in $TMPDIR or /tmp, some 400 MB, which is
-removed at the end. It takes five to ten minutes, most of them installcheck on
-the copy.
+removed at the end. It takes ten to fifteen minutes, most of them installcheck
+on the copy.
 
 Status 0: all names that were compared agree. 1: some don't, or debcheck's
 report depends on the number of workers. 2: nothing could be compared."""
 
 PACKAGES = {"dose-debcheck": "dose-distcheck", "installcheck": "libsolv-tools"}
-OTHER_SUITES = re.compile(r"-(security|updates|proposed-updates|backports|backports-sloppy|debug)\b|/")
 SHOWN_DIFFERENCES = 10
 ROUNDS = 3
 SHORT_RUN = 8
@@ -48,16 +52,6 @@ LONG_RUN = 30
 
 def say(text):
     script.say("compare", text)
-
-
-def output_of(words):
-    try:
-        done = subprocess.run(words, stdout=subprocess.PIPE, stderr=subprocess.PIPE)
-    except OSError as fault:
-        raise Failed("%s: %s" % (words[0], fault.strerror))
-    if done.returncode != 0:
-        raise Failed("%s: status %d\n%s" % (" ".join(words), done.returncode, done.stderr.decode(errors="replace").rstrip()))
-    return done.stdout
 
 
 def apt_get(words):
@@ -76,28 +70,6 @@ def install(programs):
         raise Failed("missing: %s. Run as root: apt-get %s" % (", ".join(missing), " ".join(words)))
     if not apt_get(words) and not (apt_get(["update"]) and apt_get(words)):
         raise Failed("apt-get could not install " + ", ".join(missing))
-
-
-def main_index(arch, path):
-    """Writes the main index of the architecture to the path; gives its name."""
-    keys = ("FILENAME", "COMPONENT", "ARCHITECTURE", "RELEASE", "CODENAME", "SUITE", "ORIGIN")
-    listing = output_of(["apt-get", "indextargets", "--format", "\t".join("$(%s)" % key for key in keys), "Created-By: Packages"])
-    best = None
-    for line in listing.decode().splitlines():
-        target = dict(zip(keys, line.split("\t")))
-        suites = " ".join(target[key] for key in ("RELEASE", "CODENAME", "SUITE"))
-        if target["COMPONENT"] != "main" or target["ARCHITECTURE"] != arch or OTHER_SUITES.search(suites):
-            continue
-        if not os.path.exists(target["FILENAME"]):
-            continue
-        text = output_of(["/usr/lib/apt/apt-helper", "cat-file", target["FILENAME"]])
-        if best is None or len(text) > len(best[0]):
-            best = text, "%s %s main %s" % (target["ORIGIN"] or "archive", target["RELEASE"] or target["CODENAME"], arch)
-    if best is None:
-        raise Failed("apt has no main index for %s; run 'apt-get update', or name one by --index" % arch)
-    with open(path, "wb") as file:
-        file.write(best[0])
-    return best[1]
 
 
 def stanzas_of(path):
@@ -310,7 +282,7 @@ def worker_rows(bench, title, index, ignore):
 def prepare(options, folder):
     """The index and the copy as files, with a description printed."""
     source = os.path.join(folder, "source")
-    name = options.index or main_index(options.arch, source)
+    name = options.index or apt_index.main_index(options.arch, source)
     stanzas = stanzas_of(options.index or source)
     whole = Index("main", stanzas, os.path.join(folder, "whole", "Packages"))
     copy = Index("copy", without_some(stanzas, options.seed), os.path.join(folder, "copy", "Packages"))
@@ -321,6 +293,20 @@ def prepare(options, folder):
     print("cores: %d; load before: %.2f; at most %g s a run" % (os.cpu_count() or 1, os.getloadavg()[0], options.limit))
     print("Peaks below %d MiB can't be told. CPU time is user and system time; the ratio is to debcheck's." % measured.FLOOR_MIB, flush=True)
     return whole, copy
+
+
+def sid_index(options, folder):
+    """The main index of sid as a file; None, with a word why, where it can't be had."""
+    source = os.path.join(folder, "sid-source")
+    try:
+        name = apt_index.suite_index("sid", options.arch, folder, source)
+    except Failed as fault:
+        say("sid is left out: %s" % fault)
+        return None
+    sid = Index("sid", stanzas_of(source), os.path.join(folder, "sid", "Packages"))
+    write_stanzas(sid.stanzas, sid.path)
+    print("sid: %s, %s stanzas, %s bytes" % (name, format(sid.count, ","), format(os.path.getsize(sid.path), ",")))
+    return sid
 
 
 def answers_of(bench, programs, title, index, ignore, kept):
@@ -364,11 +350,15 @@ def compare(options, folder):
     bench = Bench(options, debcheck_program.find(options.program, options.arch, folder), folder)
     whole, copy = prepare(options, folder)
     variants = [("the index", whole, False), ("the copy, essentials counted", copy, False), ("the copy, essentials ignored", copy, True)]
+    sid = None if "sid" in options.without else sid_index(options, folder)
+    if sid:
+        variants.append(("sid", sid, False))
     agreed, kept = [], {}
     for title, index, ignore in variants:
         answers = answers_of(bench, programs, title, index, ignore, kept)
         print_table(title, answers, options.limit)
-        agreed += print_pairs(answers, ignore, index is copy and not ignore)
+        pairs = print_pairs(answers, ignore, index is copy and not ignore)
+        agreed += [] if index is sid else pairs
 
     print("\ndebcheck with more workers: wall s (CPU s), the least wall time of %d runs\n" % ROUNDS)
     heads = " ".join("%17s" % ("1 worker" if count == 1 else "%d workers" % count) for count in options.workers)
@@ -403,7 +393,7 @@ def options_of(words):
     parser.add_argument("--seed", metavar="N", type=int, default=9, help="chooses the stanzas that the copy lacks (default: 9)")
     parser.add_argument("--limit", metavar="S", type=positive, default=900, help="seconds for one run at most (default: 900)")
     parser.add_argument("--workers", metavar="N,..", type=worker_list, default=[1, 2, 4], help="for the last table (default: 1,2,4)")
-    parser.add_argument("--without", metavar="PROGRAM", action="append", default=[], choices=sorted(PACKAGES), help="leave out dose-debcheck or installcheck")
+    parser.add_argument("--without", metavar="WHAT", action="append", default=[], choices=sorted(PACKAGES) + ["sid"], help="leave out dose-debcheck, installcheck or sid")
     options = parser.parse_args(words)
     if options.arch is None:
         options.arch = output_of(["dpkg", "--print-architecture"]).decode().strip()

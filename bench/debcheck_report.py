@@ -9,6 +9,8 @@ ESSENTIAL = re.compile(r"   - essential: %s" % NAME)
 NEED = re.compile(r"   - (?:missing|depends): %s %s (?:Pre-Depends|Depends): %s(?: \| %s)*" % (NAME, VERSION, ATOM, ATOM))
 APART = re.compile(r"   - conflict: %s %s (?:Conflicts|Breaks): %s" % (NAME, VERSION, ATOM))
 ONLY = re.compile(r"   - versions: %s" % NAME)
+REASONS = [ESSENTIAL, re.compile("%s|%s" % (NEED.pattern, APART.pattern)), ONLY]
+NEAR = re.compile(r"%s(?: \(provides %s(?:, %s)*\))?" % (MEMBER.pattern, ATOM, ATOM))
 COUNTS = ("stanzas", "skipped", "duplicates", "asked", "broken")
 
 
@@ -17,7 +19,8 @@ class BadReport(Exception):
 
 
 class Report:
-    """`shown` is a list of (name, version, is it ok); the counts are attributes of their names."""
+    """`shown` is a list of (name, version, is it ok), `causes` one of how many packages each cause has, None without the block of causes;
+    the counts are attributes of their names."""
 
     def __init__(self, path, arch, explain):
         with open(path, encoding="ascii", newline="\n") as file:
@@ -67,10 +70,23 @@ class Report:
         ok = self.value("  status: ", "ok|broken") == "ok"
         if explain:
             self.take("  installation-set:" if ok else "  reasons:")
-            needs = re.compile("%s|%s" % (NEED.pattern, APART.pattern))
-            if not self.all_of([MEMBER] if ok else [ESSENTIAL, needs, ONLY]):
+            if not self.all_of([MEMBER] if ok else REASONS):
                 self.fail("a line of the set or of the reasons")
         return name, version, ok
+
+    def some_of(self, title, forms):
+        self.take(title)
+        return self.all_of(forms) or self.fail("a line under %r" % title)
+
+    def cause(self):
+        self.take(" -")
+        count = int(self.value("  packages: ", "[1-9][0-9]*"))
+        self.some_of("  reasons:", REASONS)
+        if self.line == "  present:":
+            self.some_of("  present:", [NEAR])
+        if self.some_of("  broken:", [MEMBER]) != count:
+            self.fail("%d packages" % count)
+        return count
 
     def read(self, arch, explain):
         self.take("architecture: " + arch)
@@ -80,6 +96,12 @@ class Report:
             self.shown.append(self.block(arch, explain))
         for label in COUNTS:
             setattr(self, label, int(self.value(label + ": ", "0|[1-9][0-9]*")))
+        self.causes = None
+        if self.line == "causes:":
+            self.step()
+            self.causes = []
+            while self.line is not None:
+                self.causes.append(self.cause())
         if self.line is not None:
             self.fail("the end")
 
@@ -93,6 +115,8 @@ def read(path, arch, show, explain):
     broken = sum(not ok for _, _, ok in report.shown)
     if broken != report.broken:
         raise BadReport("the report counts %d broken packages and shows %d" % (report.broken, broken))
+    if report.causes is not None and sum(report.causes) != report.broken:
+        raise BadReport("the report counts %d broken packages and %d under causes" % (report.broken, sum(report.causes)))
     if len(report.shown) != (report.asked if show == "all" else report.broken):
         raise BadReport("the report shows %d packages of %d, %d of them broken" % (len(report.shown), report.asked, report.broken))
     return report

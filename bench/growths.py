@@ -41,15 +41,13 @@ all could be tried."""
 CALLS = {
     "deb_control": ["next_stanza", "stanzas"],
     "deb_relation": ["parse", "parse_groups", "parse_list", "append_to"],
-    "deb_index": ["read", "satisfiers", "need_satisfiers", "constraints"],
-    "sat_solve": ["new", "add", "add_to_others", "add_after_restart", "solve", "solve_in", "solve_marked"],
+    "deb_index": ["read", "read_both", "satisfiers", "need_satisfiers", "constraints"],
+    "sat_solve": ["new", "add", "add_to_others", "add_after_restart", "exclude", "solve", "solve_in", "solve_marked"],
     "deb_verdict": ["closure", "verdict", "verdict_in", "groundwork", "workspace"],
     "work_draw": ["new_board", "gather", "check_all", "check_all_with_a_gate", "draw_pieces", "crew"],
-    "debcheck": [
-        "read_line", "usual", "read_all", "asked_places", "report", "run", "run_with_a_failing_writer",
-        "fault_line", "write_fault",
-    ],
-    "debcheck_tests": ["run_with_one_worker", "run_with_two_workers"],
+    "deb_report": ["usual", "asked_places", "report", "report_with_causes", "json_report"],
+    "debcheck": ["read_line", "read_all", "run", "run_with_a_failing_writer", "fault_line", "write_fault"],
+    "debcheck_tests": ["run_with_one_worker", "run_with_two_workers", "run_with_a_background"],
 }
 PROGRAM = "debcheck_program"
 TOP = os.path.dirname(debcheck_program.default_path())
@@ -232,7 +230,8 @@ def debcheck_trials(folder, refuser):
             ("2 workers, chunk 1", asked + ["--workers", "2", "--chunk", "1"], text, report),
             ("an unknown name", asked + ["--checkonly", "zz"], text, Ending(66, b"", b"debcheck: unknown package zz\n")),
             ("a fault", asked, b" x\n", Ending(65, b"", b"debcheck: stanza 1: bad line\n"))]
-    for title, words, status in (("--help", ["--help"], 0), ("an unknown option", ["--arch", "amd64", "--no"], 64),
+    for title, words, status in (("--help", ["--help"], 0), ("--version", ["--version"], 0),
+                                 ("an unknown option", ["--arch", "amd64", "--no"], 64),
                                  ("a misspelt option", ["--arch", "amd64", "--exlain"], 64),
                                  ("a refused value", ["--arch", "all"], 64), ("a word of no text", [b"\xff"], 64)):
         told = refuser.run([program] + words, b"", 0).ending

@@ -17,7 +17,7 @@ says nothing.
 
 A run that reaches the limit is stopped and said to be; the larger size is
 then left out. Each answer is compared with the known one. Files are written to
-a folder of their own in $TMPDIR or /tmp, some 50 MB, which is removed at the
+a folder of their own in $TMPDIR or /tmp, 1 GB at most, which is removed at the
 end.
 
 Status 0: all answers were right. 1: some run was stopped. 2: an answer was
@@ -71,12 +71,41 @@ def cut_chain(n):
     return [stanza(name, Depends=after) for name, after in zip(names, names[1:])]
 
 
-class Shape:
-    """`maker` gives the stanzas of size n, `only` is what is asked (all, if None), `asked` and `broken` the counts."""
+def one_cause(n):
+    return [stanza("c", Depends="zz")] + [stanza(name, Depends="c") for name in numbered("p", n)]
 
-    def __init__(self, name, text, n, maker, asked, broken=0, only=None):
+
+def own_causes(n):
+    return [stanza(name, Depends="zz (>= %d)" % number) for number, name in enumerate(numbered("p", n))]
+
+
+def fields(n):
+    return [stanza("p", **{name: "x" for name in numbered("F", n)})]
+
+
+def alternatives(n):
+    return [stanza("p", Depends=" | ".join(["p"] + numbered("a", n - 1)))]
+
+
+def names(n):
+    return map(stanza, numbered("n", n))
+
+
+def long_line(n):
+    return ["Package: p\nVersion: 1\nArchitecture: all\nDescription: ", "x" * n, "\n"]
+
+
+def folded(n):
+    return ["Package: p\nVersion: 1\nArchitecture: all\nDescription: x\n", " x\n" * n]
+
+
+class Shape:
+    """`maker` gives the stanzas of size n, `only` is what is asked (all, if None), `asked`, `broken` and `causes` the counts; causes aren't
+    asked for without the last."""
+
+    def __init__(self, name, text, n, maker, asked, broken=lambda n: 0, only=None, causes=None):
         self.name, self.text, self.n, self.maker = name, text, n, maker
-        self.asked, self.broken, self.only = asked, broken, only
+        self.asked, self.broken, self.only, self.causes = asked, broken, only, causes
 
 
 SHAPES = [
@@ -87,7 +116,15 @@ SHAPES = [
     Shape("versions", "n versions of one name", 10000, versions, lambda n: n),
     Shape("needed-rivals", "a package, asked alone, that needs the name of n rivals", 2000, needed_rivals, lambda n: 1, only="p"),
     Shape("needed-versions", "a package, asked alone, that needs a name with n versions", 10000, needed_versions, lambda n: 1, only="p"),
-    Shape("cut-chain", "a chain of n dependencies whose end is missing: n reasons", 1000, cut_chain, lambda n: 1, broken=1, only="c0"),
+    Shape("cut-chain", "a chain of n dependencies whose end is missing: n reasons", 1000, cut_chain, lambda n: 1, broken=lambda n: 1, only="c0"),
+    Shape("one-cause", "n packages that need one that is broken, with their cause", 30000, one_cause, lambda n: n + 1, lambda n: n + 1, causes=lambda n: 1),
+    Shape("fields", "a stanza with n fields", 1000000, fields, lambda n: 1),
+    Shape("alternatives", "a group of n alternatives, of which the first exists", 1500000, alternatives, lambda n: 1),
+    Shape("many-versions", "as versions, many more of them", 500000, versions, lambda n: n),
+    Shape("names", "n packages that ask for nothing", 500000, names, lambda n: n),
+    Shape("long-line", "a line of n bytes", 500000000, long_line, lambda n: 1),
+    Shape("folded", "a field of n lines", 10000000, folded, lambda n: 1),
+    Shape("own-causes", "n packages that each miss another version, with their causes", 30000, own_causes, lambda n: n, lambda n: n, causes=lambda n: n),
 ]
 
 
@@ -95,11 +132,13 @@ def run_shape(shape, n, program, options, folder):
     path = os.path.join(folder, "Packages")
     with open(path, "w", encoding="ascii") as file:
         file.writelines(shape.maker(n))
-    words = ["--explain", "--workers", "1"] + (["--checkonly", shape.only] if shape.only else [])
+    words = ["--explain", "--workers", "1"] + (["--checkonly", shape.only] if shape.only else []) + (["--causes"] if shape.causes else [])
     run, report = debcheck_program.check(program, words, options.arch, path, folder, options.limit)
-    if report and (report.asked, report.broken) != (shape.asked(n), shape.broken):
+    if report and (report.asked, report.broken) != (shape.asked(n), shape.broken(n)):
         raise Failed("n = %s: %d asked and %d broken, wanted %d and %d"
-                     % (format(n, ","), report.asked, report.broken, shape.asked(n), shape.broken))
+                     % (format(n, ","), report.asked, report.broken, shape.asked(n), shape.broken(n)))
+    if report and shape.causes and len(report.causes) != shape.causes(n):
+        raise Failed("n = %s: %d causes, wanted %d" % (format(n, ","), len(report.causes), shape.causes(n)))
     return run, report is not None
 
 

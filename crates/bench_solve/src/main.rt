@@ -1,10 +1,10 @@
-//! How the time of a solve grows: a chain of implications, free pairs, one long clause, and a conflict far from the decisions made last.
+//! How the time of a solve grows: a chain of implications, free pairs, one long clause, one list of which at most one is in, and a conflict far from the decisions made last.
 #![tactic(auto)]
 
 ghost use Rattle.std.specs.Prelude.{◌≡◌, ◌+◌, ◌*◌, ◌<◌, All, IfOk, length};
 ghost use Rattle.sat_solve.specs.Clauses.{Clauses};
 
-use sat_solve::{Formula, Lit, Workspace};
+use sat_solve::{Formula, Lit, Owner, Workspace};
 use std::alloc::{AllocError, Global};
 use std::io;
 use std::time::Instant;
@@ -56,6 +56,26 @@ fn long(alloc: Global, size: u32) -> Result<Formula, AllocError>
     Ok(formula)
 }
 
+/// A list of which at most one is in, and a clause that wants one of it.
+fn list(alloc: Global, size: u32) -> Result<Formula, AllocError>
+    requires { size < 1000000 }
+    ensures vars { IfOk result (λ formula. formula.vars ≡ size + 1) }
+    ensures groups { IfOk result (λ formula. formula.groups ≡ 1) }
+{
+    let mut formula = Formula::new(alloc, size + 1, 1)?;
+    let mut literals = Vec::new(alloc);
+    let mut owners = Vec::new(alloc);
+    let mut vars = Vec::new(alloc);
+    for var in 0..size {
+        literals.push(lit(var, true))?;
+        owners.push(Owner { group: 0, var })?;
+        vars.push(var)?;
+    }
+    formula.exclude(&owners, &vars)?;
+    formula.add(0, &literals)?;
+    Ok(formula)
+}
+
 /// Free pairs, and then a contradiction on two variables.
 fn contradiction(alloc: Global, size: u32) -> Result<Formula, AllocError>
     requires { size < 1000000 }
@@ -101,6 +121,7 @@ fn measure(rt: &HostRuntime, size: u32) -> io::Result<()>
     time(rt, "chain", &chain(rt.alloc(), size)?, 0)?;
     time(rt, "pairs", &pairs(rt.alloc(), size)?, 2 * size)?;
     time(rt, "long clause", &long(rt.alloc(), size)?, size)?;
+    time(rt, "list", &list(rt.alloc(), size)?, size)?;
     time(
         rt,
         "contradiction",

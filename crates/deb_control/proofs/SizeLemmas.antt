@@ -168,3 +168,8 @@ unfolding size_of
 values-short n stanza fields e k d within =
     let is = read-is n stanza fields e in
     omega (arith, get_or-le-sum_by (λ (entry : Entry). length entry.value) fields k d within, ap value_sizes is, value_sizes-fields_of stanza)
+
+-- all values of a stanza together are no longer than the stanza
+pub values-fit : (n : ℕ) (stanza : List (List ℕ)) (fields : List Entry) → read_stanza n stanza ≡ Ok fields → sum_by (λ entry. length entry.value) fields ≤ size_of stanza
+unfolding size_of
+values-fit n stanza fields e = omega (arith, ap value_sizes (read-is n stanza fields e), value_sizes-fields_of stanza)

@@ -7,10 +7,9 @@ use Rattle.std.proofs.lemmas.List.Elements.{filter_map-append}
 use Rattle.std.proofs.lemmas.List.Sums.{length-filter, count_by-le-length}
 use Rattle.deb_index.specs.declared.error.IndexError.{IndexError}
 use Rattle.deb_index.specs.Packages.{IndexView, PackageView, first_of_each}
-use Rattle.deb_index.specs.Reading.{◌>>=◌, collected, index_of, kept, readings, same_package, with_reading}
+use Rattle.deb_index.specs.Reading.{◌>>=◌, collected, continued, index_of, with_foreground, kept, readings, same_package, with_reading}
 use Rattle.deb_control.specs.Stanzas.{stanzas_of}
 use Rattle.deb_index.proofs.FirstLemmas.{first-push, same-name}
-use Rattle.deb_index.proofs.StepLemmas.{Continues, continued}
 
 -- ---- one package twice
 
@@ -44,7 +43,7 @@ kept-le (Some p ∷ read) = omega (arith, kept-le read)
 module _ (arch : List ℕ) (with_essential : Bool) where
   -- the index with these packages, of so many readings of which so many were kept
   abbrev counted : List PackageView → ℕ → ℕ → IndexView
-  counted packages read some = record { arch = arch; packages = packages; with_essential = with_essential; stanzas = read; skipped = read - some; duplicates = some - length packages }
+  counted packages read some = record { arch = arch; packages = packages; with_essential = with_essential; stanzas = read; skipped = read - some; duplicates = some - length packages; foreground = 0 }
 
   collected-counted : (read : List (Option PackageView)) → collected arch with_essential read ≡ counted (first_of_each same_package (kept read)) (length read) (length (kept read))
   unfolding collected
@@ -53,7 +52,7 @@ module _ (arch : List ℕ) (with_essential : Bool) where
   with-none : (packages : List PackageView) (read some : ℕ) → some ≤ read → with_reading (counted packages read some) None ≡ counted packages (read + 1) some
   with-none packages read some few =
       let skips : (read - some) + 1 ≡ (read + 1) - some = omega arith in
-      ap (λ (n : ℕ). record { arch = arch; packages = packages; with_essential = with_essential; stanzas = read + 1; skipped = n; duplicates = some - length packages }) skips
+      ap (λ (n : ℕ). record { arch = arch; packages = packages; with_essential = with_essential; stanzas = read + 1; skipped = n; duplicates = some - length packages; foreground = 0 }) skips
 
   with-some : (t : Bool) (packages : List PackageView) (p : PackageView) (read some : ℕ) → list_any (λ q. same_package q p) packages ≡ t → length packages ≤ some
       → with_reading (counted packages read some) (Some p) ≡ counted (cond t packages (packages ++ p ∷ [])) (read + 1) (some + 1)
@@ -61,14 +60,14 @@ module _ (arch : List ℕ) (with_essential : Bool) where
       let skips : read - some ≡ (read + 1) - (some + 1) = omega arith in
       let twice : (some - length packages) + 1 ≡ (some + 1) - length packages = omega arith in
       rw e
-      (ap (λ (n : ℕ). record { arch = arch; packages = packages; with_essential = with_essential; stanzas = read + 1; skipped = n; duplicates = (some - length packages) + 1 }) skips
-      ∙ ap (λ (n : ℕ). record { arch = arch; packages = packages; with_essential = with_essential; stanzas = read + 1; skipped = (read + 1) - (some + 1); duplicates = n }) twice)
+      (ap (λ (n : ℕ). record { arch = arch; packages = packages; with_essential = with_essential; stanzas = read + 1; skipped = n; duplicates = (some - length packages) + 1; foreground = 0 }) skips
+      ∙ ap (λ (n : ℕ). record { arch = arch; packages = packages; with_essential = with_essential; stanzas = read + 1; skipped = (read + 1) - (some + 1); duplicates = n; foreground = 0 }) twice)
   with-some false packages p read some e few =
       let skips : read - some ≡ (read + 1) - (some + 1) = omega arith in
       let once : some - length packages ≡ (some + 1) - length (packages ++ p ∷ []) = omega (arith, length-append packages (p ∷ [])) in
       rw e
-      (ap (λ (n : ℕ). record { arch = arch; packages = packages ++ p ∷ []; with_essential = with_essential; stanzas = read + 1; skipped = n; duplicates = some - length packages }) skips
-      ∙ ap (λ (n : ℕ). record { arch = arch; packages = packages ++ p ∷ []; with_essential = with_essential; stanzas = read + 1; skipped = (read + 1) - (some + 1); duplicates = n }) once)
+      (ap (λ (n : ℕ). record { arch = arch; packages = packages ++ p ∷ []; with_essential = with_essential; stanzas = read + 1; skipped = n; duplicates = some - length packages; foreground = 0 }) skips
+      ∙ ap (λ (n : ℕ). record { arch = arch; packages = packages ++ p ∷ []; with_essential = with_essential; stanzas = read + 1; skipped = (read + 1) - (some + 1); duplicates = n; foreground = 0 }) once)
 
   counted-same : (ps qs : List PackageView) (m n j k : ℕ) → ps ≡ qs → m ≡ n → j ≡ k → counted ps m j ≡ counted qs n k
   counted-same ps qs m n j k e f g = ap (λ rs. counted rs m j) e ∙ ap (λ i. counted qs i j) f ∙ ap (λ i. counted qs n i) g
@@ -91,15 +90,46 @@ module _ (arch : List ℕ) (with_essential : Bool) where
       (sym (length-append (kept read) (p ∷ [])) ∙ ap (λ (ps : List PackageView). length ps) (sym some))
       ∙ sym (collected-counted (read ++ Some p ∷ []))
 
-  collected-on : (read rest : List (Option PackageView)) → fold with_reading (collected arch with_essential read) rest ≡ collected arch with_essential (read ++ rest)
+  pub collected-on : (read rest : List (Option PackageView)) → fold with_reading (collected arch with_essential read) rest ≡ collected arch with_essential (read ++ rest)
   collected-on read [] = ap (collected arch with_essential) (sym (append-nil read))
   collected-on read (r ∷ rest) = ap (λ (i : IndexView). fold with_reading i rest) (collected-more read r) ∙ collected-on (read ++ r ∷ []) rest ∙ ap (collected arch with_essential) (append_assoc read (r ∷ []) rest)
 
-  continued-none : (read : Result (List (Option PackageView)) IndexError) → continued (collected arch with_essential []) read ≡ (read >>= λ rest. Ok (collected arch with_essential rest))
-  continued-none (Ok rest) = ap Ok (collected-on [] rest)
-  continued-none (Err e) = refl
+  pub collected-stanzas : (read : List (Option PackageView)) → (collected arch with_essential read).stanzas ≡ length read
+  unfolding collected
+  collected-stanzas read = refl
 
-  -- the index of no stanza, continued with all stanzas of a text, gives the text's index
-  pub continues-none : (text : List ℕ) → Continues arch (index_of text arch with_essential) (collected arch with_essential []) (record { stanzas = stanzas_of text; count = 0 })
+  taken-of : (read : Result (List (Option PackageView)) IndexError) (index : IndexView) → continued (collected arch with_essential []) read ≡ Ok index
+      → (rest : List (Option PackageView)) × (read ≡ Ok rest) × (index ≡ collected arch with_essential rest)
+  taken-of (Ok rest) index e =
+      let is : fold with_reading (collected arch with_essential []) rest ≡ index = cc in
+      (rest, refl, sym is ∙ collected-on [] rest)
+  taken-of (Err f) index e = absurd cc
+
+  failed-of : (read : Result (List (Option PackageView)) IndexError) (f : IndexError) → continued (collected arch with_essential []) read ≡ Err f → read ≡ Err f
+  failed-of (Ok rest) f e = absurd cc
+  failed-of (Err g) f e = cc
+
+  from-none : (text : List ℕ) (old : IndexView) → old ≡ collected arch with_essential []
+      → continued old (readings arch old.stanzas 0 (stanzas_of text)) ≡ continued (collected arch with_essential []) (readings arch 0 0 (stanzas_of text))
+  from-none text old is =
+      let none : old.stanzas ≡ 0 = ap (λ (i : IndexView). i.stanzas) is ∙ collected-stanzas [] in
+      ap (λ (i : IndexView). continued i (readings arch old.stanzas 0 (stanzas_of text))) is ∙ ap (λ n. continued (collected arch with_essential []) (readings arch n 0 (stanzas_of text))) none
+
+  -- the index of no stanza, continued with all stanzas of a text, is the index of them
+  pub text-read : (text : List ℕ) (old index : IndexView) → old ≡ collected arch with_essential [] → continued old (readings arch old.stanzas 0 (stanzas_of text)) ≡ Ok index
+      → (read : List (Option PackageView)) × (readings arch 0 0 (stanzas_of text) ≡ Ok read) × (index ≡ collected arch with_essential read)
+  text-read text old index is e = taken-of (readings arch 0 0 (stanzas_of text)) index (sym (from-none text old is) ∙ e)
+
+  pub text-unread : (text : List ℕ) (old : IndexView) (f : IndexError) → old ≡ collected arch with_essential [] → continued old (readings arch old.stanzas 0 (stanzas_of text)) ≡ Err f → readings arch 0 0 (stanzas_of text) ≡ Err f
+  text-unread text old f is e = failed-of (readings arch 0 0 (stanzas_of text)) f (sym (from-none text old is) ∙ e)
+
+  -- and so gives the text's index
+  pub text-index : (text : List ℕ) (old index : IndexView) → old ≡ collected arch with_essential [] → continued old (readings arch old.stanzas 0 (stanzas_of text)) ≡ Ok index → index_of text arch with_essential ≡ Ok (with_foreground index)
   unfolding index_of
-  continues-none text = record { gives = continued-none (readings arch 0 (stanzas_of text)) }
+  text-index text old index is e =
+      let read = text-read text old index is e in
+      ap (λ r. r >>= λ all. Ok (with_foreground (collected arch with_essential all))) read.1 ∙ ap (λ (i : IndexView). Ok (with_foreground i)) (sym read.2)
+
+  pub text-fault : (text : List ℕ) (old : IndexView) (f : IndexError) → old ≡ collected arch with_essential [] → continued old (readings arch old.stanzas 0 (stanzas_of text)) ≡ Err f → index_of text arch with_essential ≡ Err f
+  unfolding index_of
+  text-fault text old f is e = ap (λ r. r >>= λ all. Ok (with_foreground (collected arch with_essential all))) (text-unread text old f is e)

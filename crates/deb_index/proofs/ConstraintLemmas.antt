@@ -83,7 +83,7 @@ sum-at d g h n (x ∷ xs) same =
     omega (arith, sum_by-cons h n (range_with_len (n + 1) (length xs)), sum_by-cons g x xs, same 0 n (omega arith), sum-at d g h (n + 1) xs (λ q m at. same (suc q) m (omega arith)))
 
 module _ (index : IndexView) where
-  at-length : (p : ℕ) → length (constraints_at index p) ≡ asked_count (package_at index p)
+  pub at-length : (p : ℕ) → length (constraints_at index p) ≡ asked_count (package_at index p)
   at-length p = omega (
     arith,
     length-append (map (λ j. Need p j) (below (length (needs_at index p)))) (map (λ j. Apart p j) (below (length (aparts_at index p)))),

@@ -1,4 +1,8 @@
 pub mod FirstLemmas
+pub mod KeyLemmas
+pub mod BothLemmas
+pub mod BackgroundLemmas
+pub mod FieldSums
 pub mod TableLemmas
 pub mod NextLemmas
 pub mod PlaceLemmas
@@ -24,3 +28,4 @@ pub mod MergeLemmas
 pub mod RowLemmas
 pub mod PartLemmas
 pub mod LinkLemmas
+pub mod PositionLemmas

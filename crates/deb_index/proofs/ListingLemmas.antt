@@ -7,8 +7,7 @@ use Rattle.deb_index.specs.declared.listing.Listing.{Listing}
 use Rattle.deb_index.specs.declared.listing.PackageKey.{PackageKey}
 use Rattle.deb_index.specs.Packages.{IndexView, PackageView}
 use Rattle.deb_index.specs.Reading.{same_package, with_reading}
-use Rattle.deb_index.specs.Tables.{IsListed, IsSmall, IsTable, asked_count, asked_limit, key_view, listed_packages, named_places, package_key, provided_entries, provided_places, same_key, table_lists, table_names}
-use Rattle.deb_index.proofs.FirstLemmas.{names-turned}
+use Rattle.deb_index.specs.Tables.{IsKnown, IsListed, IsSmall, IsTable, asked_count, asked_limit, key_view, listed_packages, named_places, package_key, provided_entries, provided_places, same_key, table_lists, table_names}
 use Rattle.deb_index.proofs.NameLemmas.{named-push}
 use Rattle.deb_index.proofs.ProvidedLemmas.{provided-push}
 
@@ -16,34 +15,24 @@ pub any-map : {A B : Type 0} (test : B → Bool) (f : A → B) (xs : List A) →
 any-map test f [] = refl
 any-map test f (x ∷ xs) = ap (λ r. test (f x) || r) (any-map test f xs)
 
--- a package is there where its key is
-keys-there : (p : PackageView) (packages : List PackageView) → list_any (same_key (package_key p)) (map package_key packages) ≡ list_any (λ q. same_package q p) packages
-keys-there p [] = refl
-keys-there p (q ∷ qs) = (λ i. (names-turned p.name q.name i && names-turned p.version q.version i) || keys-there p qs i)
-
-pub key-there : (p : PackageView) (packages : List PackageView) {key : List ℕ × List ℕ} {keys : List (List ℕ × List ℕ)} → key ≡ package_key p → keys ≡ map package_key packages
-    → list_any (same_key key) keys ≡ list_any (λ q. same_package q p) packages
-key-there p packages same all = (λ i. list_any (same_key (same i)) (all i)) ∙ keys-there p packages
-
 pub all-push : {A : Type 0} (P : A → Type 0) (xs : List A) (x : A) → AllByRecursion P xs → P x → AllByRecursion P (xs ++ x ∷ [])
 all-push P [] x a p = (p, tt)
 all-push P (y ∷ ys) x a p = (a.0, all-push P ys x a.1 p)
 
 -- a key that no other is the same as goes last
-pub keys-grow : (key : PackageKey) (ks : List PackageKey) (p : PackageView) (packages : List PackageView) → key_view key ≡ package_key p → map key_view ks ≡ map package_key packages
-    → list_any (λ q. same_package q p) packages ≡ false
-    → map key_view (cond (list_any (λ k. same_key (key_view key) (key_view k)) ks) ks (ks ++ key ∷ [])) ≡ map key_view ks ++ package_key p ∷ []
-keys-grow key ks p packages same all apart =
-    let none : list_any (λ k. same_key (key_view key) (key_view k)) ks ≡ false = sym (any-map (same_key (key_view key)) key_view ks) ∙ key-there p packages same all ∙ apart in
+pub keys-grow : (key : PackageKey) (ks : List PackageKey) (k : List ℕ × List ℕ) → key_view key ≡ k → list_any (same_key k) (map key_view ks) ≡ false
+    → map key_view (cond (list_any (λ k. same_key (key_view key) (key_view k)) ks) ks (ks ++ key ∷ [])) ≡ map key_view ks ++ k ∷ []
+keys-grow key ks k same apart =
+    let none : list_any (λ k. same_key (key_view key) (key_view k)) ks ≡ false = sym (any-map (same_key (key_view key)) key_view ks) ∙ ap (λ k. list_any (same_key k) (map key_view ks)) same ∙ apart in
     ap (λ b. map key_view (cond b ks (ks ++ key ∷ []))) none ∙ map-append key_view ks (key ∷ []) ∙ ap (λ w. map key_view ks ++ w ∷ []) same
 
 pub listed-push : (arch : List ℕ) (old new : Listing) (p : PackageView) → IsListed arch old → listed_packages new ≡ listed_packages old ++ p ∷ []
-    → map key_view new.keys.keys ≡ map key_view old.keys.keys ++ package_key p ∷ []
+    → IsKnown (listed_packages old ++ p ∷ []) (map key_view new.later.keys)
     → IsTable (named_places (listed_packages old) ++ (p.name, length (listed_packages old)) ∷ []) (table_names new.places) (table_lists new.places)
     → IsTable (provided_places arch (listed_packages old) ++ provided_entries arch (length (listed_packages old)) p.provides) (table_names new.provided) (table_lists new.provided)
     → IsSmall p → sum_by asked_count (listed_packages old) + asked_count p ≤ asked_limit → IsListed arch new
 listed-push arch old new p o e k places provided small few = record {
-  keys = k ∙ ap (λ l. l ++ package_key p ∷ []) o.keys ∙ sym (map-append package_key (listed_packages old) (p ∷ [])) ∙ ap (map package_key) (sym e);
+  known = subst (λ ps. IsKnown ps (map key_view new.later.keys)) (sym e) k;
   places = subst (λ pairs. IsTable pairs (table_names new.places) (table_lists new.places)) (sym (ap named_places e ∙ named-push (listed_packages old) p)) places;
   provided = subst (λ pairs. IsTable pairs (table_names new.provided) (table_lists new.provided)) (sym (ap (provided_places arch) e ∙ provided-push arch (listed_packages old) p)) provided;
   small = subst (AllByRecursion IsSmall) (sym e) (all-push IsSmall (listed_packages old) p o.small small);

@@ -1,5 +1,5 @@
--- An index has room for the packages of a text: together they ask for little more than the text has bytes.
-use Rattle.std.proofs.Common.{◌≡◌, ◌<◌, ◌≤◌, ◌+◌, ◌*◌, ℕ, Bool, true, false, List, [], ◌∷◌, length, Option, Some, None, refl, ap, ◌∙◌, arith}
+-- An index has room for the packages of a text and of a background: together they ask for little more than the texts have bytes.
+use Rattle.std.proofs.Common.{◌≡◌, ◌<◌, ◌≤◌, ◌+◌, ◌-◌, ◌*◌, ℕ, Bool, true, false, List, [], ◌∷◌, length, Option, Some, None, refl, ap, ◌∙◌, arith}
 use Rattle.std.specs.List.{list_any, sum_by}
 use Rattle.std.proofs.lemmas.List.Sums.{sum_by-append, sum_by-cons}
 use Rattle.deb_control.specs.Stanzas.{Unread, size_of, stanzas_of}
@@ -13,13 +13,14 @@ use Rattle.deb_index.proofs.StepLemmas.{Steps}
 abbrev asked : IndexView → ℕ
 asked index = sum_by asked_count index.packages
 
--- what the packages ask for, and what is left may ask for, is bounded by the bytes of a text and four more for each stanza that was read
-pub record IsRoomy (index : IndexView) (left : Unread) : Type 0 where
-  pub counts : index.stanzas ≡ left.count
-  pub room : asked index + 4 * sum_by size_of left.stanzas ≤ 4 * (byte_limit + 1) + 4 * left.count
+-- what the packages ask for, and what is left may ask for, is bounded by the bytes of the texts and four more for each stanza that was read
+pub record IsRoomy (before start : ℕ) (index : IndexView) (left : Unread) : Type 0 where
+  pub counts : index.stanzas ≡ before + left.count
+  pub room : asked index + sum_by size_of left.stanzas ≤ start + (byte_limit + 1) + 4 * left.count
+  pub few : start ≤ byte_limit + 1 + 4 * before
 
-left-sizes : (arch : List ℕ) (left new : Unread) (read : Option PackageView) (step : Steps arch left read new) → sum_by size_of left.stanzas ≡ size_of step.stanza + sum_by size_of new.stanzas
-left-sizes arch left new read step = ap (sum_by size_of) step.first ∙ sum_by-cons size_of step.stanza new.stanzas
+left-sizes : (arch : List ℕ) (before : ℕ) (left new : Unread) (read : Option PackageView) (step : Steps arch before left read new) → sum_by size_of left.stanzas ≡ size_of step.stanza + sum_by size_of new.stanzas
+left-sizes arch before left new read step = ap (sum_by size_of) step.first ∙ sum_by-cons size_of step.stanza new.stanzas
 
 asked-more : (t : Bool) (index : IndexView) (p : PackageView) → list_any (λ q. same_package q p) index.packages ≡ t → asked (with_reading index (Some p)) ≤ asked index + asked_count p
 asked-more true index p e = rw e (omega arith)
@@ -29,35 +30,45 @@ stanzas-more : (t : Bool) (index : IndexView) (p : PackageView) → list_any (λ
 stanzas-more true index p e = rw e refl
 stanzas-more false index p e = rw e refl
 
-module _ (arch : List ℕ) (index : IndexView) (left new : Unread) where
+module _ (arch : List ℕ) (before start : ℕ) (index : IndexView) (left new : Unread) where
   -- a stanza that is read is none too many
-  pub read-few : (read : Option PackageView) → IsRoomy index left → Steps arch left read new → index.stanzas < stanza_limit
-  read-few read roomy step = omega (arith, roomy.counts, step.counts, stanza-few arch new.count step.stanza read step.reads)
+  pub read-few : (read : Option PackageView) → IsRoomy before start index left → Steps arch before left read new → index.stanzas < stanza_limit
+  read-few read roomy step = omega (arith, roomy.counts, step.counts, stanza-few arch before new.count step.stanza read step.reads)
 
-  pub read-room : (read : Option PackageView) → IsRoomy index left → Steps arch left read new → HasRoom index read
+  pub read-room : (read : Option PackageView) → IsRoomy before start index left → Steps arch before left read new → HasRoom index read
   read-room None roomy step = tt
   read-room (Some p) roomy step =
-      let fits = stanza-fits arch new.count step.stanza p step.reads in
-      let few = stanza-few arch new.count step.stanza (Some p) step.reads in
-      let sizes = left-sizes arch left new (Some p) step in
-      (omega (arith, roomy.room, step.counts, fits.1, few, sizes), omega (arith, roomy.room, step.counts, fits.0, few, sizes))
+      let fits = stanza-fits arch before new.count step.stanza p step.reads in
+      let few = stanza-few arch before new.count step.stanza (Some p) step.reads in
+      let sizes = left-sizes arch before left new (Some p) step in
+      (omega (arith, roomy.room, roomy.few, step.counts, fits.1, few, sizes), omega (arith, roomy.room, roomy.few, step.counts, fits.0, few, sizes))
 
-  pub stays-roomy : (read : Option PackageView) → IsRoomy index left → Steps arch left read new → IsRoomy (with_reading index read) new
+  pub stays-roomy : (read : Option PackageView) → IsRoomy before start index left → Steps arch before left read new → IsRoomy before start (with_reading index read) new
   stays-roomy None roomy step =
-      let sizes = left-sizes arch left new None step in
-      record { counts = omega (arith, roomy.counts, step.counts); room = omega (arith, roomy.room, step.counts, sizes) }
+      let sizes = left-sizes arch before left new None step in
+      record { counts = omega (arith, roomy.counts, step.counts); room = omega (arith, roomy.room, step.counts, sizes); few = roomy.few }
   stays-roomy (Some p) roomy step =
-      let fits = stanza-fits arch new.count step.stanza p step.reads in
-      let sizes = left-sizes arch left new (Some p) step in
+      let fits = stanza-fits arch before new.count step.stanza p step.reads in
+      let sizes = left-sizes arch before left new (Some p) step in
       let more = asked-more _ index p refl in
       let stanzas = stanzas-more _ index p refl in
-      record { counts = omega (arith, roomy.counts, step.counts, stanzas); room = omega (arith, roomy.room, step.counts, fits.0, sizes, more) }
+      record { counts = omega (arith, roomy.counts, step.counts, stanzas); room = omega (arith, roomy.room, step.counts, fits.0, sizes, more); few = roomy.few }
 
-no-packages : (arch : List ℕ) (with_essential : Bool) → ((collected arch with_essential []).stanzas ≡ 0) × (asked (collected arch with_essential []) ≡ 0)
+pub starts-roomy : (index : IndexView) (text : List ℕ) → length text ≤ byte_limit → asked index ≤ byte_limit + 1 + 4 * index.stanzas → IsRoomy index.stanzas (asked index) index (record { stanzas = stanzas_of text; count = 0 })
+starts-roomy index text short room = record { counts = omega arith; room = omega (arith, stanza-sizes text, short); few = room }
+
+-- and what it has room for afterwards
+pub ends-roomy : (before start : ℕ) (index : IndexView) (left : Unread) → IsRoomy before start index left → (asked index ≤ start + (byte_limit + 1) + 4 * (index.stanzas - before)) × (before ≤ index.stanzas)
+ends-roomy before start index left roomy = (omega (arith, roomy.room, roomy.counts), omega (arith, roomy.counts))
+
+fresh : (arch : List ℕ) (with_essential : Bool) → asked (collected arch with_essential []) ≡ 0
 unfolding collected first_of_each
-no-packages arch with_essential = (refl, refl)
+fresh arch with_essential = refl
 
-pub starts-roomy : (text arch : List ℕ) (with_essential : Bool) → length text ≤ byte_limit → IsRoomy (collected arch with_essential []) (record { stanzas = stanzas_of text; count = 0 })
-starts-roomy text arch with_essential short =
-    let none = no-packages arch with_essential in
-    record { counts = none.0; room = omega (arith, none.1, stanza-sizes text, short) }
+pub fresh-room : (arch : List ℕ) (with_essential : Bool) (index : IndexView) → index ≡ collected arch with_essential [] → asked index ≤ byte_limit + 1 + 4 * index.stanzas
+fresh-room arch with_essential index is = omega (arith, ap asked is, fresh arch with_essential)
+
+-- after the first text there is room for a second one
+pub fore-room : (arch : List ℕ) (with_essential : Bool) (old new : IndexView) → old ≡ collected arch with_essential [] → asked new ≤ asked old + (byte_limit + 1) + 4 * (new.stanzas - old.stanzas)
+    → asked new ≤ byte_limit + 1 + 4 * new.stanzas
+fore-room arch with_essential old new is room = omega (arith, ap asked is, fresh arch with_essential, room)

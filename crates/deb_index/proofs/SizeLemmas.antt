@@ -1,6 +1,6 @@
 -- How much a package asks for and provides, against the bytes of its stanza.
-use Rattle.std.proofs.Common.{◌≡◌, ◌≤◌, ◌+◌, ◌*◌, ℕ, Bool, true, false, cond, ltb, List, [], ◌∷◌, ◌++◌, length, Option, Some, None, unwrap_or, Result, Ok, Err, refl, sym, subst, ap, ◌∙◌, arith, length-append, ltb-false}
-use Rattle.std.specs.List.{All, find, list_all}
+use Rattle.std.proofs.Common.{◌≡◌, ◌≤◌, ◌+◌, ℕ, Bool, true, false, cond, ltb, List, [], ◌∷◌, ◌++◌, length, Option, Some, None, unwrap_or, Result, Ok, Err, refl, sym, subst, ap, ◌∙◌, arith, length-append, ltb-false}
+use Rattle.std.specs.List.{All, find, list_all, sum_by}
 use Rattle.std.specs.Option.{option_and_then}
 use Rattle.std.proofs.lemmas.List.{map-id}
 use Rattle.std.proofs.lemmas.List.Elements.{All-tail}
@@ -8,7 +8,8 @@ use Rattle.deb_control.specs.declared.error.ControlError.{ControlError}
 use Rattle.deb_control.specs.Lines.{is_empty}
 use Rattle.deb_control.specs.Fields.{Entry, field_value, same_name}
 use Rattle.deb_control.specs.Stanzas.{size_of, read_stanza}
-use Rattle.deb_control.proofs.SizeLemmas.{values-short}
+use Rattle.deb_control.proofs.SizeLemmas.{values-short, values-fit}
+use Rattle.deb_index.proofs.FieldSums.{four-fit}
 use Rattle.deb_relation.specs.declared.atom.RelationError.{RelationError}
 use Rattle.deb_relation.specs.Relationship.{AtomText, atoms_of, groups_of}
 use Rattle.deb_relation.proofs.Counts.{atoms-few, groups-few}
@@ -75,83 +76,86 @@ text-short k fields field short = of (field_value fields (field_name field)) (λ
     of None h = omega arith
     of (Some value) h = h value refl
 
-groups-fit : (n k : ℕ) (fields : List Entry) (field : RelField) (groups : List (List AtomText)) → AreShort k fields → groups_in n fields field ≡ Ok groups → length groups ≤ k + 1
-groups-fit n k fields field groups short e =
+groups-fit : (n : ℕ) (fields : List Entry) (field : RelField) (groups : List (List AtomText)) → groups_in n fields field ≡ Ok groups → length groups ≤ length (relation_text fields field) + 1
+groups-fit n fields field groups e =
     let read = well n field (groups_of (relation_text fields field)) groups e in
     let few = groups-few (λ (g : List AtomText). g) groups (relation_text fields field) (read ∙ ap Ok (sym (map-id groups))) in
-    omega (arith, few, text-short k fields field short)
+    omega (arith, few)
 
-atoms-fit : (n k : ℕ) (fields : List Entry) (field : RelField) (atoms : List AtomText) → AreShort k fields → atoms_in n fields field ≡ Ok atoms → length atoms ≤ k + 1
-atoms-fit n k fields field atoms short e =
+atoms-fit : (n : ℕ) (fields : List Entry) (field : RelField) (atoms : List AtomText) → atoms_in n fields field ≡ Ok atoms → length atoms ≤ length (relation_text fields field) + 1
+atoms-fit n fields field atoms e =
     let read = well n field (atoms_of (relation_text fields field)) atoms e in
     let few = atoms-few (λ (a : AtomText). a) atoms (relation_text fields field) (read ∙ ap Ok (sym (map-id atoms))) in
-    omega (arith, few, text-short k fields field short)
+    omega (arith, few)
 
 provides-fit : (n k : ℕ) (fields : List Entry) (atoms : List AtomText) → AreShort k fields → provides_in n fields ≡ Ok atoms → length atoms ≤ k + 1
 unfolding provides_in
 provides-fit n k fields atoms short e =
     let read = done (atoms_in n fields Provides) (provided n) atoms e in
     let are = kept (list_all is_provided read.0) read.0 atoms _ read.2 in
-    omega (arith, atoms-fit n k fields Provides read.0 short read.1, ap (λ (xs : List AtomText). length xs) are)
+    omega (arith, atoms-fit n fields Provides read.0 read.1, text-short k fields Provides short, ap (λ (xs : List AtomText). length xs) are)
 
 -- ---- packages
 
 -- a package asks for and provides at most so much
 abbrev pub Fits : ℕ → PackageView → Type 0
-Fits k p = (asked_count p ≤ 4 * (k + 1)) × (length p.provides ≤ k + 1)
+Fits k p = (asked_count p ≤ k + 4) × (length p.provides ≤ k + 1)
 
-package-fits : (n k : ℕ) (fields : List Entry) (head : HeadView) (p : PackageView) → AreShort k fields → package_of n fields head ≡ Ok p → Fits k p
+package-fits : (n k : ℕ) (fields : List Entry) (head : HeadView) (p : PackageView) → AreShort k fields → sum_by (λ entry. length entry.value) fields ≤ k → package_of n fields head ≡ Ok p → Fits k p
 unfolding package_of
-package-fits n k fields head p short e =
+package-fits n k fields head p short fit e =
     let pre_depends = done (groups_in n fields PreDepends) _ p e in
     let depends = done (groups_in n fields Depends) _ p pre_depends.2 in
     let conflicts = done (atoms_in n fields Conflicts) _ p depends.2 in
     let breaks = done (atoms_in n fields Breaks) _ p conflicts.2 in
     let provides = done (provides_in n fields) _ p breaks.2 in
-    let asked : (length (pre_depends.0 ++ depends.0) + length (conflicts.0 ++ breaks.0)) ≤ 4 * (k + 1) = omega (
+    let texts = four-fit (field_name PreDepends) (field_name Depends) (field_name Conflicts) (field_name Breaks) refl refl refl refl refl refl fields in
+    let asked : (length (pre_depends.0 ++ depends.0) + length (conflicts.0 ++ breaks.0)) ≤ k + 4 = omega (
       arith,
       length-append pre_depends.0 depends.0,
       length-append conflicts.0 breaks.0,
-      groups-fit n k fields PreDepends pre_depends.0 short pre_depends.1,
-      groups-fit n k fields Depends depends.0 short depends.1,
-      atoms-fit n k fields Conflicts conflicts.0 short conflicts.1,
-      atoms-fit n k fields Breaks breaks.0 short breaks.1,
+      groups-fit n fields PreDepends pre_depends.0 pre_depends.1,
+      groups-fit n fields Depends depends.0 depends.1,
+      atoms-fit n fields Conflicts conflicts.0 conflicts.1,
+      atoms-fit n fields Breaks breaks.0 breaks.1,
+      texts,
+      fit,
     ) in
     subst (Fits k) (same _ p provides.2) (asked, provides-fit n k fields provides.0 short provides.1)
 
-counted-fits : (b : Bool) (n k : ℕ) (fields : List Entry) (head : HeadView) (p : PackageView) → AreShort k fields → cond b (package_of n fields head >>= λ q. Ok (Some q)) (Ok None) ≡ Ok (Some p) → Fits k p
-counted-fits true n k fields head p short e =
+counted-fits : (b : Bool) (n k : ℕ) (fields : List Entry) (head : HeadView) (p : PackageView) → AreShort k fields → sum_by (λ entry. length entry.value) fields ≤ k → cond b (package_of n fields head >>= λ q. Ok (Some q)) (Ok None) ≡ Ok (Some p) → Fits k p
+counted-fits true n k fields head p short fit e =
     let read = done (package_of n fields head) (λ q. Ok (Some q)) (Some p) e in
     let is : read.0 ≡ p = some-same read.0 p (same (Some read.0) (Some p) read.2) in
-    package-fits n k fields head p short (read.1 ∙ ap Ok is)
+    package-fits n k fields head p short fit (read.1 ∙ ap Ok is)
   where
     some-same : (q r : PackageView) → Some q ≡ Some r → q ≡ r
     some-same q r h = cc
-counted-fits false n k fields head p short e = absurd cc
+counted-fits false n k fields head p short fit e = absurd cc
 
-reading-fits : (arch : List ℕ) (n k : ℕ) (fields : List Entry) (p : PackageView) → AreShort k fields → reading_of arch n fields ≡ Ok (Some p) → Fits k p
+reading-fits : (arch : List ℕ) (n k : ℕ) (fields : List Entry) (p : PackageView) → AreShort k fields → sum_by (λ entry. length entry.value) fields ≤ k → reading_of arch n fields ≡ Ok (Some p) → Fits k p
 unfolding reading_of
-reading-fits arch n k fields p short e =
+reading-fits arch n k fields p short fit e =
     let head = done (head_of n fields) _ (Some p) e in
-    counted-fits (is_for arch head.0.architecture) n k fields head.0 p short head.2
+    counted-fits (is_for arch head.0.architecture) n k fields head.0 p short fit head.2
 
 limited-fits : (b : Bool) (arch : List ℕ) (n : ℕ) (stanza : List (List ℕ)) (p : PackageView)
     → cond b (Err (TooManyStanzas n)) (from_control (read_stanza n stanza) >>= λ fields. reading_of arch n fields) ≡ Ok (Some p) → Fits (size_of stanza) p
 limited-fits true arch n stanza p e = absurd cc
 limited-fits false arch n stanza p e =
     let read = done (from_control (read_stanza n stanza)) _ (Some p) e in
-    reading-fits arch n (size_of stanza) read.0 p (values-short n stanza read.0 (read-well (read_stanza n stanza) read.0 read.1)) read.2
+    reading-fits arch n (size_of stanza) read.0 p (values-short n stanza read.0 (read-well (read_stanza n stanza) read.0 read.1)) (values-fit n stanza read.0 (read-well (read_stanza n stanza) read.0 read.1)) read.2
 
 -- a package asks for and provides no more than its stanza has room for
-pub stanza-fits : (arch : List ℕ) (n : ℕ) (stanza : List (List ℕ)) (p : PackageView) → stanza_reading arch n stanza ≡ Ok (Some p) → Fits (size_of stanza) p
+pub stanza-fits : (arch : List ℕ) (before n : ℕ) (stanza : List (List ℕ)) (p : PackageView) → stanza_reading arch before n stanza ≡ Ok (Some p) → Fits (size_of stanza) p
 unfolding stanza_reading
-stanza-fits arch n stanza p e = limited-fits (ltb stanza_limit n) arch n stanza p e
+stanza-fits arch before n stanza p e = limited-fits (ltb stanza_limit (before + n)) arch n stanza p e
 
-limited-few : (b : Bool) (n : ℕ) (read : Result (Option PackageView) IndexError) (r : Option PackageView) → ltb stanza_limit n ≡ b → cond b (Err (TooManyStanzas n)) read ≡ Ok r → n ≤ stanza_limit
-limited-few true n read r h e = absurd cc
-limited-few false n read r h e = ltb-false stanza_limit n h
+limited-few : (b : Bool) (total n : ℕ) (read : Result (Option PackageView) IndexError) (r : Option PackageView) → ltb stanza_limit total ≡ b → cond b (Err (TooManyStanzas n)) read ≡ Ok r → total ≤ stanza_limit
+limited-few true total n read r h e = absurd cc
+limited-few false total n read r h e = ltb-false stanza_limit total h
 
 -- a stanza that is read is none too many
-pub stanza-few : (arch : List ℕ) (n : ℕ) (stanza : List (List ℕ)) (r : Option PackageView) → stanza_reading arch n stanza ≡ Ok r → n ≤ stanza_limit
+pub stanza-few : (arch : List ℕ) (before n : ℕ) (stanza : List (List ℕ)) (r : Option PackageView) → stanza_reading arch before n stanza ≡ Ok r → before + n ≤ stanza_limit
 unfolding stanza_reading
-stanza-few arch n stanza r e = limited-few (ltb stanza_limit n) n _ r refl e
+stanza-few arch before n stanza r e = limited-few (ltb stanza_limit (before + n)) (before + n) n _ r refl e

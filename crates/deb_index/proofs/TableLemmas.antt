@@ -102,7 +102,7 @@ position-is {K} name bytes (k ∷ ks) = by (bytes_eq name (bytes k)) refl (posit
 
 -- ---- the table
 
-none-any : (name : List ℕ) (ks : List (List ℕ)) → number_in name ks ≡ None → list_any (bytes_eq name) ks ≡ false
+pub none-any : (name : List ℕ) (ks : List (List ℕ)) → number_in name ks ≡ None → list_any (bytes_eq name) ks ≡ false
 none-any name [] e = refl
 none-any name (k ∷ ks) e = by (bytes_eq name k) (number_in name ks) refl refl (none-any name ks)
   where
@@ -111,7 +111,7 @@ none-any name (k ∷ ks) e = by (bytes_eq name k) (number_in name ks) refl refl 
     by false None t h ih = rw t (ih h)
     by false (Some j) t h ih = absurd (none-some (suc j) (sym (rw (t, h) at e)))
 
-some-any : (name : List ℕ) (ks : List (List ℕ)) (i : ℕ) → number_in name ks ≡ Some i → list_any (bytes_eq name) ks ≡ true
+pub some-any : (name : List ℕ) (ks : List (List ℕ)) (i : ℕ) → number_in name ks ≡ Some i → list_any (bytes_eq name) ks ≡ true
 some-any name [] i e = absurd (none-some i e)
 some-any name (k ∷ ks) i e = by (bytes_eq name k) (number_in name ks) refl refl (some-any name ks)
   where

@@ -21,9 +21,9 @@ pub record PackageView : Type 0 where
 
 abbrev pub package_view : Package → PackageView
 package_view p = record {
-  name = p.name.items;
+  name = p.name;
   version = p.version;
-  architecture = p.architecture.items;
+  architecture = p.architecture;
   essential = p.essential;
   multi_arch_allowed = p.multi_arch_allowed;
   pre_depends = map atoms_view p.pre_depends.items;
@@ -41,6 +41,7 @@ pub record IndexView : Type 0 where
   pub stanzas : ℕ
   pub skipped : ℕ
   pub duplicates : ℕ
+  pub foreground : ℕ
 
 -- the groups that a package needs, and the entries that it stands apart from
 abbrev pub needs : PackageView → List (List AtomText)

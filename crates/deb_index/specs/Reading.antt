@@ -1,6 +1,6 @@
--- What the stanzas of a text read as: the index that they make, or the first fault.
-use Rattle.std.specs.Prelude.{◌≡◌, ℕ, ◌+◌, ◌-◌, Bool, true, false, ◌&&◌, ◌||◌, nat_lt, List, [], ◌∷◌, ◌++◌, length, filter_map, Option, Some, None, Result, Ok, Err, if◌then◌else◌, codes, unwrap_or}
-use Rattle.std.specs.List.{list_all, list_any}
+-- What the stanzas of a text, or of a text and a background behind it, read as: the index that they make, or the first fault.
+use Rattle.std.specs.Prelude.{◌≡◌, ◌≢◌, ℕ, ◌+◌, ◌-◌, Bool, true, false, ◌&&◌, ◌||◌, nat_lt, List, [], ◌∷◌, ◌++◌, length, filter_map, Option, Some, None, Result, Ok, Err, if◌then◌else◌, codes, unwrap_or}
+use Rattle.std.specs.List.{list_all, list_any, fold}
 use Rattle.std.specs.Option.{option_map_or, is_none}
 use Rattle.std.specs.Str.{bytes_eq}
 use Rattle.deb_control.specs.declared.error.ControlError.{ControlError}
@@ -15,6 +15,8 @@ use Rattle.deb_relation.specs.Relationship.{AtomText, atoms_of, groups_of, is_na
 use Rattle.deb_relation.specs.VersionText.{fault_of}
 use Rattle.deb_index.specs.declared.error.IndexError.{IndexError}
 use Rattle.deb_index.specs.declared.error.IndexError.TheVariants.{BadLine, RepeatedField, MissingField, BadName, BadVersion, BadRelation, TooManyStanzas, Memory}
+use Rattle.deb_index.specs.declared.error.BothError.{BothError}
+use Rattle.deb_index.specs.declared.error.BothError.TheVariants.{Fore, Back}
 use Rattle.deb_index.specs.declared.error.RelField.{RelField}
 use Rattle.deb_index.specs.declared.error.RelField.TheVariants.{PreDepends, Depends, Conflicts, Breaks, Provides}
 use Rattle.deb_index.specs.declared.package.Reading.{Reading}
@@ -22,17 +24,17 @@ use Rattle.deb_index.specs.declared.package.Reading.TheVariants as reading
 use Rattle.deb_index.specs.declared.package.Head.{Head}
 use Rattle.deb_index.specs.Packages.{PackageView, IndexView, package_view, first_of_each}
 
--- how many bytes a text may have
+-- how many bytes each text may have
 abbrev pub byte_limit : ℕ
-byte_limit = 268435456
+byte_limit = 1073741824
 
--- how many stanzas a text may have
+-- how many stanzas there may be, over both texts
 abbrev pub stanza_limit : ℕ
-stanza_limit = 1048576
+stanza_limit = 4194304
 
 -- reading goes on with the value of a step that did not fail
 infixl 10 ◌>>=◌
-abbrev pub ◌>>=◌ : {A B : Type 0} → Result A IndexError → (A → Result B IndexError) → Result B IndexError
+abbrev pub ◌>>=◌ : {A B E : Type 0} → Result A E → (A → Result B E) → Result B E
 (Ok x) >>= f = f x
 (Err e) >>= f = Err e
 
@@ -155,7 +157,7 @@ abbrev pub reading_view : Reading → Option PackageView
 reading_view reading.Skipped = None
 reading_view (reading.Kept p) = Some (package_view p)
 
--- ---- the stanzas of a text
+-- ---- the stanzas of a text, where so many stood in an earlier one
 
 abbrev pub control_fault : ControlError → IndexError
 control_fault (control.BadLine n) = BadLine n
@@ -167,23 +169,23 @@ from_control (Ok x) = Ok x
 from_control (Err e) = Err (control_fault e)
 
 -- the fault of the n-th stanza where its lines or fields have one: that there are too many stanzas goes first
-abbrev pub stanza_fault : ℕ → ControlError → IndexError
-stanza_fault n control.Memory = Memory
-stanza_fault n (control.BadLine m) = if nat_lt stanza_limit n then TooManyStanzas n else BadLine m
-stanza_fault n (control.RepeatedField m) = if nat_lt stanza_limit n then TooManyStanzas n else RepeatedField m
+abbrev pub stanza_fault : ℕ → ℕ → ControlError → IndexError
+stanza_fault before n control.Memory = Memory
+stanza_fault before n (control.BadLine m) = if nat_lt stanza_limit (before + n) then TooManyStanzas n else BadLine m
+stanza_fault before n (control.RepeatedField m) = if nat_lt stanza_limit (before + n) then TooManyStanzas n else RepeatedField m
 
 -- the n-th stanza: that there are too many goes first, then the faults of its lines and fields
-unfoldable pub stanza_reading : List ℕ → ℕ → List (List ℕ) → Result (Option PackageView) IndexError
-stanza_reading arch n lines =
-    if nat_lt stanza_limit n then Err (TooManyStanzas n)
+unfoldable pub stanza_reading : List ℕ → ℕ → ℕ → List (List ℕ) → Result (Option PackageView) IndexError
+stanza_reading arch before n lines =
+    if nat_lt stanza_limit (before + n) then Err (TooManyStanzas n)
     else (from_control (read_stanza n lines) >>= λ fields. reading_of arch n fields)
 
--- each stanza in turn, or the fault of the first that has one; n were read before
-unfoldable pub readings : List ℕ → ℕ → List (List (List ℕ)) → Result (List (Option PackageView)) IndexError
-readings arch n [] = Ok []
-readings arch n (stanza ∷ more) = do
-  first ← stanza_reading arch (n + 1) stanza
-  others ← readings arch (n + 1) more
+-- each stanza in turn, or the fault of the first that has one; n of this text were read before
+unfoldable pub readings : List ℕ → ℕ → ℕ → List (List (List ℕ)) → Result (List (Option PackageView)) IndexError
+readings arch before n [] = Ok []
+readings arch before n (stanza ∷ more) = do
+  first ← stanza_reading arch before (n + 1) stanza
+  others ← readings arch before (n + 1) more
   Ok (first ∷ others)
 
 -- two stanzas of one package have its name and its version text
@@ -193,23 +195,50 @@ same_package p q = bytes_eq p.name q.name && bytes_eq p.version q.version
 abbrev pub kept : List (Option PackageView) → List PackageView
 kept read = filter_map (λ (r : Option PackageView). r) read
 
--- the index of a text's stanzas: the first of each package, and what was left out
+-- the index of what stanzas read as: the first of each package, and what was left out; none is the foreground's yet
 unfoldable pub collected : List ℕ → Bool → List (Option PackageView) → IndexView
 collected arch with_essential read =
     let packages = first_of_each same_package (kept read) in
-    record { arch = arch; packages = packages; with_essential = with_essential; stanzas = length read; skipped = length read - length (kept read); duplicates = length (kept read) - length packages }
+    record { arch = arch; packages = packages; with_essential = with_essential; stanzas = length read; skipped = length read - length (kept read); duplicates = length (kept read) - length packages; foreground = 0 }
+
+-- all packages are the foreground's
+abbrev pub with_foreground : IndexView → IndexView
+with_foreground index = record index { foreground = length index.packages }
 
 -- the index of a text, or its first fault
 unfoldable pub index_of : List ℕ → List ℕ → Bool → Result IndexView IndexError
 index_of text arch with_essential = do
-  read ← readings arch 0 (stanzas_of text)
-  Ok (collected arch with_essential read)
+  read ← readings arch 0 0 (stanzas_of text)
+  Ok (with_foreground (collected arch with_essential read))
+
+-- ---- a text and a background
+
+abbrev pub in_fore : {A : Type 0} → Result A IndexError → Result A BothError
+in_fore (Ok x) = Ok x
+in_fore (Err e) = Err (Fore e)
+
+abbrev pub in_back : {A : Type 0} → Result A IndexError → Result A BothError
+in_back (Ok x) = Ok x
+in_back (Err e) = Err (Back e)
+
+-- want of memory is no fault of either text
+abbrev pub IsBare : BothError → Type 0
+IsBare e = (e ≢ Fore Memory) × (e ≢ Back Memory)
+
+-- the index of the stanzas of both, or the first fault, where the text's goes first; the packages of the text are the foreground
+unfoldable pub index_of_both : List ℕ → List ℕ → List ℕ → Bool → Result IndexView BothError
+index_of_both text background arch with_essential = do
+  fore ← in_fore (readings arch 0 0 (stanzas_of text))
+  back ← in_back (readings arch (length fore) 0 (stanzas_of background))
+  Ok (record (collected arch with_essential (fore ++ back)) { foreground = length (collected arch with_essential fore).packages })
+
+-- ---- one stanza after the other
 
 -- the next stanza of a reader, if there is one, and what is left
-unfoldable pub next_reading : List ℕ → List (List (List ℕ)) → ℕ → Result (Option (Option PackageView) × Unread) IndexError
-next_reading arch [] n = Ok (None, record { stanzas = []; count = n })
-next_reading arch (stanza ∷ more) n = do
-  r ← stanza_reading arch (n + 1) stanza
+unfoldable pub next_reading : List ℕ → ℕ → List (List (List ℕ)) → ℕ → Result (Option (Option PackageView) × Unread) IndexError
+next_reading arch before [] n = Ok (None, record { stanzas = []; count = n })
+next_reading arch before (stanza ∷ more) n = do
+  r ← stanza_reading arch before (n + 1) stanza
   Ok (Some r, record { stanzas = more; count = n + 1 })
 
 -- an index with one stanza more
@@ -218,3 +247,7 @@ with_reading index None = record index { stanzas = index.stanzas + 1; skipped = 
 with_reading index (Some p) =
     if list_any (λ q. same_package q p) index.packages then record index { stanzas = index.stanzas + 1; duplicates = index.duplicates + 1 }
     else record index { packages = index.packages ++ p ∷ []; stanzas = index.stanzas + 1 }
+
+-- an index, continued with what is read
+abbrev pub continued : IndexView → Result (List (Option PackageView)) IndexError → Result IndexView IndexError
+continued index read = read >>= λ rest. Ok (fold with_reading index rest)

@@ -1,16 +1,16 @@
 -- Tables from names to the items that were put down under each, names and items in the order of their coming.
-use Rattle.std.specs.Prelude.{◌≡◌, ◌<◌, ◌≤◌, ◌+◌, ◌^◌, ℕ, Bool, false, ◌&&◌, List, [], ◌∷◌, map, filter, length, sum_by, slice_get, Option, Some, None, if◌then◌else◌}
+use Rattle.std.specs.Prelude.{◌≡◌, ◌<◌, ◌≤◌, ◌+◌, ◌^◌, ℕ, Bool, false, ◌&&◌, ◌||◌, List, [], ◌∷◌, map, filter, find, length, sum_by, slice_get, Option, Some, None, if◌then◌else◌}
 use Prim.Native.Nat.{suc}
 use Rattle.std.specs.Option.{option_map, option_map_or}
-use Rattle.std.specs.List.{enumerate_from, flat_map, AllByRecursion}
+use Rattle.std.specs.List.{enumerate_from, flat_map, list_any, AllByRecursion}
 use Rattle.std.specs.Str.{bytes_eq}
 use Rattle.deb_relation.specs.Relationship.{AtomText}
 use Rattle.deb_index.specs.declared.table.Table.{Table}
 use Rattle.deb_index.specs.declared.listing.Listing.{Listing}
 use Rattle.deb_index.specs.declared.listing.PackageKey.{PackageKey}
-use Rattle.deb_index.specs.Packages.{PackageView, IndexView, package_view, first_of_each, needs, aparts}
+use Rattle.deb_index.specs.Packages.{PackageView, IndexView, package_view, first_of_each, is_named, needs, aparts}
 use Rattle.deb_relation.specs.Usable.{is_usable}
-use Rattle.deb_index.specs.Reading.{stanza_limit}
+use Rattle.deb_index.specs.Reading.{same_package, stanza_limit}
 
 abbrev pub table_names : {T : Type 0} → Table T → List (List ℕ)
 table_names t = map (λ k. k.items) t.names.keys
@@ -56,6 +56,13 @@ key_view k = (k.name.items, k.version.items)
 abbrev pub same_key : List ℕ × List ℕ → List ℕ × List ℕ → Bool
 same_key k l = bytes_eq k.0 l.0 && bytes_eq k.1 l.1
 
+-- a package is known by the version of the first package of its name, or by the key of a later one
+abbrev pub is_known : List PackageView → List (List ℕ × List ℕ) → PackageView → Bool
+is_known packages later p = option_map_or (λ q. bytes_eq q.version p.version) (find (is_named p.name) packages) false || list_any (same_key (package_key p)) later
+
+abbrev pub IsKnown : List PackageView → List (List ℕ × List ℕ) → Type 0
+IsKnown packages later = (p : PackageView) → list_any (λ q. same_package q p) packages ≡ is_known packages later p
+
 -- there is a package at a place, and it is marked essential
 abbrev pub is_marked : IndexView → ℕ → Bool
 is_marked index place = option_map_or (λ p. p.essential) (slice_get index.packages place) false
@@ -64,9 +71,9 @@ is_marked index place = option_map_or (λ p. p.essential) (slice_get index.packa
 abbrev pub asked_count : PackageView → ℕ
 asked_count p = length (needs p) + length (aparts p)
 
--- how many groups and entries the packages of an index have at most, in all
+-- how many groups and entries the packages of an index have at most, in all: a byte of the texts for each, and what the fields of each stanza may have more
 abbrev pub asked_limit : ℕ
-asked_limit = 2147483648
+asked_limit = 2164260866
 
 -- the entries of Provides are numbered by 32 bits
 abbrev pub IsSmall : PackageView → Type 0
@@ -82,7 +89,7 @@ listed_packages l = map package_view l.packages.items
 
 -- the tables over packages, and that their numbers are small
 pub record IsListed (arch : List ℕ) (l : Listing) : Type 0 where
-  pub keys : map key_view l.keys.keys ≡ map package_key (listed_packages l)
+  pub known : IsKnown (listed_packages l) (map key_view l.later.keys)
   pub places : IsTable (named_places (listed_packages l)) (table_names l.places) (table_lists l.places)
   pub provided : IsTable (provided_places arch (listed_packages l)) (table_names l.provided) (table_lists l.provided)
   pub small : AllByRecursion IsSmall (listed_packages l)
@@ -92,4 +99,5 @@ pub record IsListed (arch : List ℕ) (l : Listing) : Type 0 where
 pub record IsTabled (index : IndexView) (l : Listing) : Type 0 where
   pub listed : IsListed index.arch l
   pub counted : length index.packages + index.skipped + index.duplicates ≡ index.stanzas
+  pub front : index.foreground ≤ length index.packages
   pub few : index.stanzas ≤ stanza_limit

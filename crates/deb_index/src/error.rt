@@ -1,6 +1,7 @@
 //! Why an index is refused.
-ghost use Rattle.std.specs.Prelude.{◌≡◌, Err, Result, ℕ};
+ghost use Rattle.std.specs.Prelude.{◌≡◌, ◌≢◌, Err, Result, ℕ};
 ghost use Rattle.deb_index.specs.declared.error.IndexError.TheVariants.{Memory};
+ghost use Rattle.deb_index.specs.Reading.{IsBare};
 
 use deb_control::ControlError;
 use std::alloc::{AllocError, AllocFailed};
@@ -40,7 +41,7 @@ pub enum IndexError {
     /// architecture have no such fault.
     #[error("stanza {stanza}: bad relation")]
     BadRelation { stanza: u64, field: RelField },
-    /// The text has more than `STANZA_LIMIT` stanzas, 1,048,576, and this is the first one beyond.
+    /// There are more than `STANZA_LIMIT` stanzas, 4,194,304, and this is the first one beyond.
     #[error("stanza {stanza}: too many stanzas")]
     TooManyStanzas { stanza: u64 },
     /// Memory was refused.
@@ -61,5 +62,52 @@ impl<T: Drop> From<AllocFailed<T>> for IndexError {
 
     fn from(_e: AllocFailed<T>) -> IndexError {
         IndexError::Memory
+    }
+}
+
+/// Why an index of two texts is refused. The foreground's fault goes first. Want of memory is `Memory`, and never inside the other two.
+#[derive(Clone, Copy, PartialEq, Eq, Debug, Error)]
+pub enum BothError {
+    /// The fault of the foreground.
+    #[error("{0}")]
+    Fore(IndexError),
+    /// The fault of the background, whose stanzas count from 1 again. `TooManyStanzas` is here the first stanza that is above `STANZA_LIMIT`
+    /// together with all of the foreground's.
+    #[error("background: {0}")]
+    Back(IndexError),
+    /// Memory was refused.
+    #[error("out of memory")]
+    Memory,
+}
+
+impl From<AllocError> for BothError {
+    ghost use Rattle.deb_index.specs.declared.error.BothError.TheVariants.{Memory};
+
+    ghost from_gives = { λ _ e. e ≡ Memory };
+
+    fn from(_e: AllocError) -> BothError {
+        BothError::Memory
+    }
+}
+
+pub(crate) fn in_fore(error: IndexError) -> BothError
+    ensures value { error ≢ Memory → result ≡ BothError.Fore error }
+    ensures memory { error ≡ Memory → result ≡ BothError.Memory }
+    ensures bare { IsBare result }
+{
+    match error {
+        IndexError::Memory => BothError::Memory,
+        fault => BothError::Fore(fault),
+    }
+}
+
+pub(crate) fn in_back(error: IndexError) -> BothError
+    ensures value { error ≢ Memory → result ≡ BothError.Back error }
+    ensures memory { error ≡ Memory → result ≡ BothError.Memory }
+    ensures bare { IsBare result }
+{
+    match error {
+        IndexError::Memory => BothError::Memory,
+        fault => BothError::Back(fault),
     }
 }

@@ -1,5 +1,6 @@
 //! One test for each call that can want memory; bench/growths runs them with each growth refused in turn.
 use super::*;
+use crate::both_tests::{NEEDED, NEEDING, expect_used, read_both};
 use crate::need_tests::MARKED;
 use crate::tests::{VERSIONED, read};
 use deb_relation::{Atom, parse_list};
@@ -34,6 +35,20 @@ fn of_read(rt: HostRuntime) -> Result<(), Fail> {
         }
         Err(fault) => {
             assert!(rt; fault == IndexError::Memory);
+            Err(Fail::new("out of memory"))
+        }
+    }
+}
+
+#[test]
+fn of_read_both(rt: HostRuntime) -> Result<(), Fail> {
+    match read_both(rt.alloc(), NEEDING.as_bytes(), NEEDED.as_bytes(), true) {
+        Ok(index) => {
+            expect_used(&rt, &index);
+            Ok(())
+        }
+        Err(fault) => {
+            assert!(rt; fault == BothError::Memory);
             Err(Fail::new("out of memory"))
         }
     }

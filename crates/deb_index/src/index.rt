@@ -1,17 +1,19 @@
-//! The index of a text.
-ghost use Rattle.std.specs.Prelude.{◌≡◌, ◌≢◌, ◌<◌, ◌≤◌, ◌+◌, ◌^◌, All, IfOk, IfErr, Ok, Err, OnOk, IfSome, IsTrue, [], ◌++◌, length, map, sum_by, position, nat_le};
+//! The index of a text, or of a text and a background.
+ghost use Rattle.std.specs.Prelude.{◌≡◌, ◌≢◌, ◌<◌, ◌≤◌, ◌+◌, ◌-◌, ◌*◌, ◌^◌, All, IfOk, IfErr, Ok, Err, OnOk, Some, IfSome, IsTrue, [], ◌++◌, length, map, sum_by, position, nat_le, slice_get};
 ghost use Rattle.std.specs.Option.{is_some};
 ghost use Rattle.std.specs.Str.{bytes_eq};
 ghost use Rattle.deb_relation.specs.AtomView.{atom_view};
 ghost use Rattle.deb_index.specs.Packages.{package_view, names, places_of, essential_names, needs_at, aparts_at, need_at, apart_at, package_at, name_at};
-ghost use Rattle.deb_index.specs.Reading.{Gives, index_of, byte_limit, stanza_limit};
+ghost use Rattle.deb_index.specs.Reading.{Gives, IsBare, continued, index_of, index_of_both, byte_limit, readings, stanza_limit};
 ghost use Rattle.deb_index.specs.Meets.{meets_at, meets_need_at, need_satisfiers, satisfiers, group_satisfiers, provided_at};
 ghost use Rattle.deb_index.specs.Constraints.{constraints_at, constraints_of, IsOfIndex};
+ghost use Rattle.deb_control.specs.Stanzas.{stanzas_of};
 ghost use Rattle.deb_index.specs.Tables.{asked_count, asked_limit};
+ghost use Rattle.deb_index.specs.Links.{first_position};
 ghost use Rattle.deb_index.specs.Rows.{candidate_count, group_candidates, row_limit};
 
 use crate::constraint::Constraint;
-use crate::error::IndexError;
+use crate::error::{BothError, IndexError, in_back, in_fore};
 use crate::links::Links;
 use crate::meets::Role;
 use crate::package::{Package, next_reading};
@@ -21,8 +23,9 @@ use deb_relation::Atom;
 use std::alloc::{AllocError, Global};
 use std::marker::Model;
 
-/// The index of a text for one architecture. Its packages have places from 0, in the order of the text, and their distinct
-/// names have numbers from 0, in the order in which they first occur.
+/// The index of a text for one architecture, or of a text, the foreground, and a background behind it. Its packages have places from 0,
+/// in the order of the text, and behind these in that of the background; their distinct names have numbers from 0, in the order in which
+/// they first occur.
 #[derive(Drop)]
 pub struct Index {
     tables: Tables,
@@ -42,8 +45,33 @@ impl Model for Index {
     ghost invariant = { λ i. (i.essential.items ≡ essential_names i.tables) × IsLinked i.tables i.tables.packages i.links };
 }
 
+// Takes the stanzas of a text into the tables, behind those that they have.
+fn read_into(alloc: Global, text: &[u8], arch: &[u8], tables: &mut Tables) -> Result<(), IndexError>
+    requires short { length text.now ≤ byte_limit }
+    requires few { tables.old.stanzas ≤ stanza_limit }
+    requires room { sum_by asked_count tables.old.packages ≤ byte_limit + 1 + 4 * tables.old.stanzas }
+    ensures room { OnOk result (sum_by asked_count tables.new.packages ≤ sum_by asked_count tables.old.packages + (byte_limit + 1) + 4 * (tables.new.stanzas - tables.old.stanzas)) }
+    ensures more { OnOk result (tables.old.stanzas ≤ tables.new.stanzas) }
+    ensures accepted { IfOk result (λ _. continued tables.old (readings arch.now tables.old.stanzas 0 (stanzas_of text.now)) ≡ Ok tables.new) }
+    ensures refused { IfErr result (λ e. e ≢ IndexError.Memory → continued tables.old (readings arch.now tables.old.stanzas 0 (stanzas_of text.now)) ≡ Err e) }
+{
+    let before = tables.stanzas();
+    let mut reader = Reader::new(text);
+    'stanzas: while let Some(reading) = next_reading(
+        alloc,
+        arch,
+        before,
+        tables.stanzas() - before,
+        &mut reader,
+    )? {
+        tables.add(alloc, reading)?;
+    }
+    Ok(())
+}
+
 impl Index {
-    /// Reads the index of a text for an architecture, or its first fault; without `essential` no name is essential.
+    /// Reads the index of a text for an architecture; without `essential` no name is essential. The error is the fault of the first
+    /// stanza that has one, or want of memory.
     ///
     /// The text has at most `TEXT_LIMIT` bytes. A text of more than `STANZA_LIMIT` stanzas is refused as `TooManyStanzas`.
     pub fn read(
@@ -56,16 +84,48 @@ impl Index {
         ensures accepted { IfOk result (λ index. index_of text.now arch.now essential ≡ Ok index) }
         ensures refused { IfErr result (λ e. e ≢ IndexError.Memory → index_of text.now arch.now essential ≡ Err e) }
     {
-        let mut reader = Reader::new(text);
         let mut tables = Tables::new(alloc, arch.as_bytes(), essential)?;
-        'stanzas: while let Some(reading) = next_reading(
-            alloc,
-            arch.as_bytes(),
-            tables.stanzas(),
-            &mut reader,
-        )? {
-            tables.add(alloc, reading)?;
+        read_into(alloc, text, arch.as_bytes(), &mut tables)?;
+        tables.end_foreground();
+        let index = Index::over(alloc, tables)?;
+        Ok(index)
+    }
+
+    /// Reads the index of a text, the foreground, and of a background behind it. A stanza with the name and the version text of an earlier
+    /// one that was kept, of either text, is a duplicate; names, essential names, constraints and what is counted go over both. The error
+    /// is the first fault of the text or, where it has none, that of the background; or want of memory.
+    ///
+    /// Each text has at most `TEXT_LIMIT` bytes. Both together have at most `STANZA_LIMIT` stanzas; the first one beyond is refused as
+    /// `TooManyStanzas` in the text where it stands. With an empty background this is `read`.
+    pub fn read_both(
+        alloc: Global,
+        text: &[u8],
+        background: &[u8],
+        arch: &str,
+        essential: bool,
+    ) -> Result<Index, BothError>
+        requires fore { length text.now ≤ byte_limit }
+        requires back { length background.now ≤ byte_limit }
+        ensures accepted { IfOk result (λ index. index_of_both text.now background.now arch.now essential ≡ Ok index) }
+        ensures refused { IfErr result (λ e. e ≢ BothError.Memory → index_of_both text.now background.now arch.now essential ≡ Err e) }
+        ensures bare { IfErr result IsBare }
+    {
+        let mut tables = Tables::new(alloc, arch.as_bytes(), essential)?;
+        if let Err(error) = read_into(alloc, text, arch.as_bytes(), &mut tables) {
+            return Err(in_fore(error));
         }
+        tables.end_foreground();
+        if let Err(error) = read_into(alloc, background, arch.as_bytes(), &mut tables) {
+            return Err(in_back(error));
+        }
+        let index = Index::over(alloc, tables)?;
+        Ok(index)
+    }
+
+    // The index that the tables make.
+    fn over(alloc: Global, tables: Tables) -> Result<Index, AllocError>
+        ensures { IfOk result (λ index. index ≡ tables) }
+    {
         let essential = tables.essential_names(alloc)?;
         let links = Links::of(alloc, &tables)?;
         Ok(Index {
@@ -75,8 +135,16 @@ impl Index {
         })
     }
 
-    /// How many packages there are: at most `STANZA_LIMIT`, the most stanzas that a text may have. Together they have at most
-    /// 2,147,483,648 groups and entries.
+    /// How many packages are the foreground's: their places are those below this number. Where there is no background, all are.
+    pub fn foreground(&self) -> u32
+        ensures value { result ≡ self.now.foreground }
+        ensures front { self.now.foreground ≤ length self.now.packages }
+    {
+        self.tables.foreground()
+    }
+
+    /// How many packages there are: at most `STANZA_LIMIT`, the most stanzas that the texts may have. Together they have at most
+    /// 2,164,260,866 groups and entries.
     pub fn len(&self) -> u32
         ensures value { result ≡ length self.now.packages }
         ensures few { length self.now.packages ≤ stanza_limit }
@@ -173,12 +241,21 @@ impl Index {
         self.tables.places_named(number)
     }
 
+    /// The number of the name of the package at a place.
+    pub fn name_of(&self, place: u32) -> u32
+        requires { place < length self.now.packages }
+        ensures within { result < length (names self.now) }
+        ensures name { name_at self.now result ≡ (package_at self.now place).name }
+    {
+        self.links.numbers[place as usize]
+    }
+
     /// The places of all packages that have the name of the package at a place, rising; the place is among them.
     pub fn versions_of(&self, place: u32) -> &[u32]
         requires { place < length self.now.packages }
         ensures { result.now ≡ places_of self.now (package_at self.now place).name }
     {
-        self.tables.places_named(self.links.numbers[place as usize])
+        self.places_named(self.name_of(place))
     }
 
     /// How many groups the package at a place needs: those of Pre-Depends and of Depends (Debian Policy 7.2).
@@ -223,21 +300,21 @@ impl Index {
         self.links.entries.get(first as usize + number as usize)
     }
 
-    /// How many stanzas the text has: at most `STANZA_LIMIT`.
+    /// How many stanzas the text and the background have: at most `STANZA_LIMIT`.
     pub fn stanzas(&self) -> u32
         ensures { result ≡ self.now.stanzas }
     {
         self.tables.stanzas()
     }
 
-    /// How many stanzas are passed over, since their architecture is neither the index's nor `all`.
+    /// How many stanzas of both are passed over, since their architecture is neither the index's nor `all`.
     pub fn skipped(&self) -> u32
         ensures { result ≡ self.now.skipped }
     {
         self.tables.skipped()
     }
 
-    /// How many stanzas have the name and the version text of an earlier one that was kept, and are left out.
+    /// How many stanzas of both have the name and the version text of an earlier one that was kept, and are left out.
     pub fn duplicates(&self) -> u32
         ensures { result ≡ self.now.duplicates }
     {
@@ -270,7 +347,8 @@ impl Index {
         ensures { IfOk result (λ v. v.items ≡ need_satisfiers self.now (atom_view atom.now)) }
     {
         let mut found = Vec::new(alloc);
-        let (named, provided) = (self.places_of(&atom.name), self.provides_of(&atom.name));
+        let name = atom.name.as_slice();
+        let (named, provided) = (self.places_of(name), self.provides_of(name));
         self.tables
             .find(Role::Alternative, atom, named, provided, &mut found)?;
         Ok(found)
@@ -284,7 +362,8 @@ impl Index {
         ensures { IfOk result (λ v. v.items ≡ satisfiers self.now (atom_view atom.now)) }
     {
         let mut found = Vec::new(alloc);
-        let (named, provided) = (self.places_of(&atom.name), self.provides_of(&atom.name));
+        let name = atom.name.as_slice();
+        let (named, provided) = (self.places_of(name), self.provides_of(name));
         self.tables
             .find(Role::Entry, atom, named, provided, &mut found)?;
         Ok(found)
@@ -308,6 +387,85 @@ impl Index {
             found.push(Constraint::Only(number))?;
         }
         Ok(found)
+    }
+
+    /// Where a group of the package at a place stands in the list of all constraints.
+    pub fn need_position(&self, place: u32, number: u32) -> u32
+        requires place { place < length self.now.packages }
+        requires number { number < length (needs_at self.now place) }
+        ensures { slice_get (constraints_of self.now) result ≡ Some (Constraint.Need place number) }
+    {
+        self.first_position(place) + number
+    }
+
+    /// Where an entry of the package at a place stands in the list of all constraints.
+    pub fn apart_position(&self, place: u32, number: u32) -> u32
+        requires place { place < length self.now.packages }
+        requires number { number < length (aparts_at self.now place) }
+        ensures { slice_get (constraints_of self.now) result ≡ Some (Constraint.Apart place number) }
+    {
+        self.first_position(place) + self.need_count(place) + number
+    }
+
+    /// Where it stands in the list of all constraints that at most one package of the name with a number is in.
+    pub fn only_position(&self, name: u32) -> u32
+        requires { name < length (names self.now) }
+        ensures { slice_get (constraints_of self.now) result ≡ Some (Constraint.Only name) }
+    {
+        self.first_position(self.len()) + name
+    }
+
+    /// The constraint at a position of the list of all. It is looked for by halving.
+    pub fn constraint_at(&self, position: u32) -> Constraint
+        requires { position < length (constraints_of self.now) }
+        ensures { slice_get (constraints_of self.now) position ≡ Some result }
+    {
+        if let Some(name) = self.essential.get(position as usize) {
+            return Constraint::Essential(*name);
+        }
+        let asked = self.first_position(self.len());
+        if position >= asked {
+            return Constraint::Only(position - asked);
+        }
+        let place = self.asking_place(position);
+        let number = position - self.first_position(place);
+        let groups = self.need_count(place);
+        if number < groups {
+            Constraint::Need(place, number)
+        } else {
+            Constraint::Apart(place, number - groups)
+        }
+    }
+
+    // Where the constraints of the package at a place begin in the list of all, and behind the last place those of the names.
+    fn first_position(&self, place: u32) -> u32
+        requires { place ≤ length self.now.packages }
+        ensures value { result ≡ first_position self.now place }
+        ensures few { length (constraints_of self.now) < 2 ^ 32 }
+    {
+        prove!(place <= self.len());
+        let start = self.links.starts[place as usize];
+        self.essential.len() as u32 + start.group + start.entry
+    }
+
+    // The place of the package whose constraint stands at a position.
+    fn asking_place(&self, position: u32) -> u32
+        requires begun { first_position self.now 0 ≤ position }
+        requires within { position < first_position self.now (length self.now.packages) }
+        ensures within { result < length self.now.packages }
+        ensures begun { first_position self.now result ≤ position }
+        ensures ends { position < first_position self.now (result + 1) }
+    {
+        let (mut low, mut high) = (0, self.len());
+        'halve: while high - low > 1 {
+            let middle = low + (high - low) / 2;
+            if self.first_position(middle) <= position {
+                low = middle;
+            } else {
+                high = middle;
+            }
+        }
+        low
     }
 
     // Adds what the package at a place asks for.

@@ -7,12 +7,14 @@
 //! - `table`: lists of items by name; `listing`: the packages by place, with such tables; `tables`: these, filled stanza by stanza.
 //! - `walk`: all places that meet an atom, found by the tables.
 //! - `rows`: lists of places, one behind the other; `links`: the row of each group and of each entry, made once.
-//! - `index`: the index of a text, and all that is read from it; `constraint`: its constraints.
+//! - `index`: the index of a text, or of a text and a background, and all that is read from it; `constraint`: its constraints.
+//! - `laws`: what a background adds.
 #![tactic(auto)]
 
 mod constraint;
 mod error;
 mod index;
+pub mod laws;
 mod limits;
 mod links;
 mod listing;
@@ -24,15 +26,19 @@ mod tables;
 mod walk;
 
 pub use constraint::Constraint;
-pub use error::{IndexError, RelField};
+pub use error::{BothError, IndexError, RelField};
 pub use index::Index;
 pub use limits::{STANZA_LIMIT, TEXT_LIMIT};
 pub use package::Package;
 
 #[cfg(test)]
+mod both_tests;
+#[cfg(test)]
 mod growths;
 #[cfg(test)]
 mod need_tests;
+#[cfg(test)]
+mod position_tests;
 #[cfg(test)]
 mod row_tests;
 #[cfg(test)]

@@ -1,7 +1,7 @@
 //! How large an index may be.
 
-/// The most bytes of a text that `Index::read` takes.
-pub const TEXT_LIMIT: usize = 268_435_456;
+/// The most bytes of a text that `Index::read` takes, and of each that `Index::read_both` takes.
+pub const TEXT_LIMIT: usize = 1_073_741_824;
 
-/// The most stanzas of a text, and so the most packages of an index.
-pub const STANZA_LIMIT: u32 = 1_048_576;
+/// The most stanzas of a text, or of a foreground and a background together, and so the most packages of an index.
+pub const STANZA_LIMIT: u32 = 4_194_304;

@@ -72,7 +72,7 @@ impl Links {
     {
         let asking = tables.package(place);
         self.numbers
-            .push(tables.name_number(&asking.name).unwrap_or(0))?;
+            .push(tables.name_number(asking.name.as_slice()).unwrap_or(0))?;
         finder.add_groups(tables, asking, &mut self.groups)?;
         finder.add_entries(tables, asking, &mut self.entries)?;
         self.starts.push(Start {
@@ -148,7 +148,8 @@ impl Finder {
         requires { length tables.now.packages ≤ stanza_limit }
         ensures { OnOk result (rows.new ≡ rows.old ++ row_as role tables.now (atom_view atom.now) ∷ []) }
     {
-        let (named, provided) = (tables.places_of(&atom.name), tables.provides_of(&atom.name));
+        let name = atom.name.as_slice();
+        let (named, provided) = (tables.places_of(name), tables.provides_of(name));
         if named.len() + provided.len() > ROW_LIMIT {
             return rows.leave_out();
         }
@@ -183,7 +184,8 @@ impl Finder {
         let mut count = 0;
         self.found.clear();
         'alternatives: for (number, atom) in group.iter().enumerate() {
-            let (named, provided) = (tables.places_of(&atom.name), tables.provides_of(&atom.name));
+            let name = atom.name.as_slice();
+            let (named, provided) = (tables.places_of(name), tables.provides_of(name));
             count += named.len() + provided.len();
             if count > ROW_LIMIT {
                 return rows.leave_out();

@@ -1,5 +1,5 @@
 //! One stanza, read as a package.
-ghost use Rattle.std.specs.Prelude.{◌≡◌, ◌+◌, map, codes};
+ghost use Rattle.std.specs.Prelude.{◌≡◌, ◌+◌, ◌<◌, ◌^◌, map, codes};
 ghost use Rattle.std.specs.Option.{option_map};
 ghost use Rattle.std.specs.List.{list_all};
 ghost use Rattle.deb_control.specs.Fields.{field_value};
@@ -12,17 +12,17 @@ use crate::error::{IndexError, RelField};
 use crate::limits::STANZA_LIMIT;
 use deb_control::{ControlError, Reader, Stanza};
 use deb_relation::{
-    Atom, Op, RelationError, Version, VersionError, is_name, parse_groups, parse_list,
+    Atom, Op, RelationError, SmallText, Version, VersionError, is_name, parse_groups, parse_list,
 };
 use std::alloc::Global;
 
 /// A package, as its stanza gives it (Debian Policy 5.3 and 7). A field of relationships that is absent or empty gives an empty list.
 #[derive(Drop)]
 pub struct Package {
-    pub name: Vec<u8>,
+    pub name: SmallText,
     pub version: Version,
     /// The stanza's own value: the checked architecture or `all`.
-    pub architecture: Vec<u8>,
+    pub architecture: SmallText,
     /// Whether the stanza says `Essential: yes` (Debian Policy 3.8); any other value means no.
     pub essential: bool,
     /// Whether the stanza says `Multi-Arch: allowed` (deb-control(5)), and so meets alternatives with the qualifier `any`;
@@ -221,9 +221,9 @@ fn read_package(
     let breaks = read_atoms(alloc, number, stanza, RelField::Breaks)?;
     let provides = read_provides(alloc, number, stanza)?;
     Ok(Package {
-        name: Vec::from_slice(alloc, head.name)?,
+        name: SmallText::from_slice(alloc, head.name)?,
         version: head.version,
-        architecture: Vec::from_slice(alloc, head.architecture)?,
+        architecture: SmallText::from_slice(alloc, head.architecture)?,
         essential: is_marked(stanza),
         multi_arch_allowed: is_allowed(stanza),
         pre_depends,
@@ -259,38 +259,43 @@ fn read_fields(
     }
 }
 
-// What the fault of the `number`-th stanza is in an index; that there are too many stanzas goes first.
-fn stanza_fault(number: u64, error: ControlError) -> IndexError
-    ensures { result ≡ spec.stanza_fault number error }
+// What the fault of the `number`-th stanza is in an index, where so many stood in an earlier text; that there are too many goes first.
+fn stanza_fault(before: u32, number: u64, error: ControlError) -> IndexError
+    requires { number < 2 ^ 33 }
+    ensures { result ≡ spec.stanza_fault before number error }
 {
     match error {
         ControlError::Memory => IndexError::Memory,
-        _ if number > u64::from(STANZA_LIMIT) => IndexError::TooManyStanzas { stanza: number },
+        _ if u64::from(before) + number > u64::from(STANZA_LIMIT) => {
+            IndexError::TooManyStanzas { stanza: number }
+        }
         ControlError::BadLine { stanza } => IndexError::BadLine { stanza },
         ControlError::RepeatedField { stanza } => IndexError::RepeatedField { stanza },
     }
 }
 
-/// Reads the next stanza of a text, if there is one; `count` were read before.
+/// Reads the next stanza of a text, if there is one; `count` of the text were read before, and `before` of an earlier text.
 pub(crate) fn next_reading(
     alloc: Global,
     arch: &[u8],
+    before: u32,
     count: u32,
     reader: &mut Reader,
 ) -> Result<Option<Reading>, IndexError>
     requires { count ≡ reader.old.count }
-    ensures { Gives (λ found. (option_map reading_view found, reader.new)) result (next_reading arch.now reader.old.stanzas reader.old.count) }
+    ensures { Gives (λ found. (option_map reading_view found, reader.new)) result (next_reading arch.now before reader.old.stanzas reader.old.count) }
 {
     let number = u64::from(count) + 1;
+    let total = u64::from(before) + number;
     match reader.next_stanza(alloc) {
         Ok(None) => Ok(None),
         Ok(Some(stanza)) => {
-            if count >= STANZA_LIMIT {
+            if total > u64::from(STANZA_LIMIT) {
                 return Err(IndexError::TooManyStanzas { stanza: number });
             }
             let reading = read_fields(alloc, arch, number, &stanza)?;
             Ok(Some(reading))
         }
-        Err(error) => Err(stanza_fault(number, error)),
+        Err(error) => Err(stanza_fault(before, number, error)),
     }
 }

@@ -1,5 +1,6 @@
 //! Tables from names to lists of items, names and items in the order of their coming.
 ghost use Rattle.std.specs.Prelude.{◌≡◌, ℕ, ◌<◌, ◌∷◌, ◌++◌, [], List, map, length, Some, IfSome, vec_len, ◌≤◌, IfOk, OnOk, slice_index_or};
+ghost use Rattle.std.specs.List.{list_any};
 ghost use Rattle.std.specs.Option.{option_copied, option_map};
 ghost use Rattle.std.specs.Str.{bytes_eq};
 
@@ -34,23 +35,25 @@ impl<T: Drop> Table<T> {
         self.names.get_index_of(name)
     }
 
-    /// Puts an item down under a name, last.
-    pub(crate) fn add(&mut self, alloc: Global, name: &[u8], item: T) -> Result<(), AllocError>
-        ensures { OnOk result ((pairs : List (List ℕ × T)) → IsTable pairs (table_names self.old) (table_lists self.old)
+    /// Puts an item down under a name, last, and tells whether the name was there.
+    pub(crate) fn add(&mut self, alloc: Global, name: &[u8], item: T) -> Result<bool, AllocError>
+        ensures there { IfOk result (λ there. there ≡ list_any (bytes_eq name.now) (table_names self.old)) }
+        ensures table { OnOk result ((pairs : List (List ℕ × T)) → IsTable pairs (table_names self.old) (table_lists self.old)
             → IsTable (pairs ++ (name.now, item) ∷ []) (table_names self.new) (table_lists self.new)) }
     {
         match self.number(name) {
             Some(number) => {
                 self.lists[number].push(item)?;
+                Ok(true)
             }
             None => {
                 let mut list = Vec::new(alloc);
                 list.push(item)?;
                 self.lists.push(list)?;
                 self.names.insert(Vec::from_slice(alloc, name)?)?;
+                Ok(false)
             }
         }
-        Ok(())
     }
 
     /// The items under a name.

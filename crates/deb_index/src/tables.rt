@@ -5,9 +5,9 @@ ghost use Rattle.deb_index.specs.Packages.{IndexView, package_view, essential_na
 ghost use Rattle.std.specs.Str.{bytes_eq};
 ghost use Rattle.deb_index.specs.Meets.{provided_at};
 ghost use Rattle.deb_index.specs.Tables.{HasRoom, IsSmall, asked_count, asked_limit, is_marked};
-ghost use Rattle.deb_index.specs.Reading.{collected, reading_view, stanza_limit, with_reading};
+ghost use Rattle.deb_index.specs.Reading.{collected, reading_view, stanza_limit, with_foreground, with_reading};
 
-use crate::listing::{Listing, PackageKey};
+use crate::listing::Listing;
 use crate::package::{Package, Reading};
 use std::alloc::{AllocError, Global};
 use std::marker::Model;
@@ -20,6 +20,7 @@ pub(crate) struct Tables {
     stanzas: u32,
     skipped: u32,
     duplicates: u32,
+    foreground: u32,
     listing: Listing,
 }
 
@@ -30,9 +31,9 @@ impl Model for Tables {
 
     ghost Value = { IndexView };
 
-    ghost view = { λ t. record { arch = t.arch.items; packages = listed_packages t.listing; with_essential = t.with_essential; stanzas = t.stanzas; skipped = t.skipped; duplicates = t.duplicates } };
+    ghost view = { λ t. record { arch = t.arch.items; packages = listed_packages t.listing; with_essential = t.with_essential; stanzas = t.stanzas; skipped = t.skipped; duplicates = t.duplicates; foreground = t.foreground } };
 
-    ghost invariant = { λ t. IsTabled (record { arch = t.arch.items; packages = listed_packages t.listing; with_essential = t.with_essential; stanzas = t.stanzas; skipped = t.skipped; duplicates = t.duplicates }) t.listing };
+    ghost invariant = { λ t. IsTabled (record { arch = t.arch.items; packages = listed_packages t.listing; with_essential = t.with_essential; stanzas = t.stanzas; skipped = t.skipped; duplicates = t.duplicates; foreground = t.foreground }) t.listing };
 }
 
 impl Tables {
@@ -49,6 +50,7 @@ impl Tables {
             stanzas: 0,
             skipped: 0,
             duplicates: 0,
+            foreground: 0,
             listing: Listing::new(alloc),
         })
     }
@@ -59,13 +61,12 @@ impl Tables {
         requires room { HasRoom self.old (Some (package_view candidate)) }
         ensures { OnOk result (self.new ≡ with_reading self.old (Some (package_view candidate))) }
     {
-        let key = PackageKey::of(alloc, &candidate)?;
-        if self.listing.contains(&key) {
+        if self.listing.contains(alloc, &candidate)? {
             self.duplicates += 1;
             self.stanzas += 1;
             return Ok(());
         }
-        match self.listing.push(alloc, &self.arch, key, candidate) {
+        match self.listing.push(alloc, &self.arch, candidate) {
             Ok(()) => {
                 self.stanzas += 1;
                 Ok(())
@@ -75,6 +76,7 @@ impl Tables {
                 self.stanzas = 0;
                 self.skipped = 0;
                 self.duplicates = 0;
+                self.foreground = 0;
                 Err(error)
             }
         }
@@ -203,6 +205,20 @@ impl Tables {
         ensures { result ≡ self.now.skipped }
     {
         self.skipped
+    }
+
+    /// Makes all packages so far the foreground.
+    pub(crate) fn end_foreground(&mut self)
+        ensures { self.new ≡ with_foreground self.old }
+    {
+        self.foreground = self.listing.packages.len() as u32;
+    }
+
+    pub(crate) fn foreground(&self) -> u32
+        ensures value { result ≡ self.now.foreground }
+        ensures front { self.now.foreground ≤ length self.now.packages }
+    {
+        self.foreground
     }
 
     pub(crate) fn duplicates(&self) -> u32

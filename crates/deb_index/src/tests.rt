@@ -53,7 +53,7 @@ Architecture: all
 Depends: m1, m2
 ";
 
-const SPELLED: &str = "Package: a
+pub const SPELLED: &str = "Package: a
 Version: 1.0
 Architecture: amd64
 
@@ -71,7 +71,7 @@ Version: 1.00
 Architecture: amd64
 ";
 
-const TWICE: &str = "Package: v
+pub const TWICE: &str = "Package: v
 Version: 1
 Architecture: all
 Provides: v (= 2), v
@@ -362,7 +362,7 @@ fn fields_in_order(rt: HostRuntime) -> Result<(), Fail> {
     Ok(())
 }
 
-const REFUSED: [(&str, IndexError); 10] = [
+pub const REFUSED: [(&str, IndexError); 10] = [
     (" x", IndexError::BadLine { stanza: 1 }),
     (
         "Package: a\nVersion: 1\nArchitecture: all\nDepends: b (>=",
@@ -418,10 +418,10 @@ fn refusals(rt: HostRuntime) {
     }
 }
 
-const COPY: &[u8] = b"Package: a\nVersion: 1\nArchitecture: all\n\n";
+pub const COPY: &[u8] = b"Package: a\nVersion: 1\nArchitecture: all\n\n";
 
 // Copies of one stanza, with an empty line behind each.
-fn copies(alloc: Global, count: u32) -> Result<Vec<u8>, AllocError> {
+pub fn copies(alloc: Global, count: u32) -> Result<Vec<u8>, AllocError> {
     let mut text = Vec::new(alloc);
     for _ in 0..count {
         text.extend_from_slice(COPY)?;
@@ -429,30 +429,29 @@ fn copies(alloc: Global, count: u32) -> Result<Vec<u8>, AllocError> {
     Ok(text)
 }
 
-fn expect_as_many_as_may_be(rt: &(impl Abort + AllocGlobal), text: &[u8]) -> Result<(), Fail> {
-    assert!(rt; text.len() <= TEXT_LIMIT);
-    let index = Index::read(rt.alloc(), text, "amd64", true)?;
-    expect_one_package(rt, &index);
-    Ok(())
-}
-
 fn expect_one_package(rt: &impl Abort, index: &Index) {
     assert_eq!(rt; index.len(), 1);
-    assert_eq!(rt; index.stanzas(), 1_048_576);
-    assert_eq!(rt; index.duplicates(), 1_048_575);
+    assert_eq!(rt; index.stanzas(), 4_194_304);
+    assert_eq!(rt; index.duplicates(), 4_194_303);
+}
+
+#[test]
+fn as_many_stanzas_as_may_be(rt: HostRuntime) -> Result<(), Fail> {
+    let text = copies(rt.alloc(), STANZA_LIMIT)?;
+    let index = read(rt.alloc(), &text, true)?;
+    expect_one_package(&rt, &index);
+    Ok(())
 }
 
 #[test]
 fn a_stanza_too_many(rt: HostRuntime) -> Result<(), Fail> {
     let mut text = copies(rt.alloc(), STANZA_LIMIT)?;
-    expect_as_many_as_may_be(&rt, &text)?;
     let len = text.len();
     for beyond in [COPY, b"no stanza"] {
         text.truncate(len);
         text.extend_from_slice(beyond)?;
-        assert!(rt; text.len() <= TEXT_LIMIT);
-        let fault = Index::read(rt.alloc(), &text, "amd64", true).err();
-        assert!(rt; fault == Some(IndexError::TooManyStanzas { stanza: 1_048_577 }));
+        let fault = read(rt.alloc(), &text, true).err();
+        assert!(rt; fault == Some(IndexError::TooManyStanzas { stanza: 4_194_305 }));
     }
     Ok(())
 }

@@ -69,9 +69,6 @@ pub record VisitsBelow (index : IndexView) (ins : NumberSet) (place number : ℕ
   pub grows : Grows (length index.packages) before after
   pub so_far : (j : ℕ) → j < number → IsAnswered ins (answers index place j) (members_of after)
 
-pub visits_first : (index : IndexView) (ins : NumberSet) (place : ℕ) (before : List ℕ) → VisitsBelow index ins place 0 before before
-visits_first index ins place before = record { grows = grows_none (length index.packages) before; so_far = λ j below. absurd (omega arith) }
-
 pub visits_more : (index : IndexView) (ins : NumberSet) (place number : ℕ) (before between after : List ℕ) → VisitsBelow index ins place number before between
     → Brings (length index.packages) ins (answers index place number) between after → VisitsBelow index ins place (number + 1) before after
 visits_more index ins place number before between after visits brings = record {
@@ -111,9 +108,6 @@ pub record VisitsList (index : IndexView) (ins : NumberSet) (list : List ℕ) (n
   pub grows : Grows (length index.packages) before after
   pub so_far : (k : ℕ) → k < number → IsVisited index ins (get_or list k 0) (members_of after)
 
-pub list_first : (index : IndexView) (ins : NumberSet) (list before : List ℕ) → VisitsList index ins list 0 before before
-list_first index ins list before = record { grows = grows_none (length index.packages) before; so_far = λ k below. absurd (omega arith) }
-
 -- the list may grow too, where only places that were there are visited
 pub list_more : (index : IndexView) (ins : NumberSet) (list list_then : List ℕ) (number place : ℕ) (before between after : List ℕ) → get_or list number 0 ≡ place
     → ((k : ℕ) → k < number + 1 → get_or list_then k 0 ≡ get_or list k 0)
@@ -143,9 +137,6 @@ list_visited index ins list number before after past visits =
 pub record EssentialBelow (index : IndexView) (ins : NumberSet) (list : List ℕ) (number : ℕ) (before after : List ℕ) : Type 0 where
   pub grows : Grows (length index.packages) before after
   pub so_far : (k : ℕ) → k < number → IsAnswered ins (λ q. has_name index q (get_or list k 0)) (members_of after)
-
-pub essential_first : (index : IndexView) (ins : NumberSet) (list before : List ℕ) → EssentialBelow index ins list 0 before before
-essential_first index ins list before = record { grows = grows_none (length index.packages) before; so_far = λ k below. absurd (omega arith) }
 
 pub essential_more : (index : IndexView) (ins : NumberSet) (list : List ℕ) (number name : ℕ) (row before between after : List ℕ) → get_or list number 0 ≡ name
     → row ≡ places_of index (name_at index name)

@@ -1,6 +1,6 @@
 -- Clauses that are added for one number after the other, and what they say together.
 use Rattle.std.proofs.Common.{◌≡◌, ℕ, ◌+◌, ◌<◌, ◌≤◌, true, List, [], ◌∷◌, ◌++◌, length, get_or, take, All, ◌↔◌, sym, subst, ◌∙◌, ap, inl, inr, arith}
-use Rattle.std.proofs.lemmas.Bool.{false≢true, cases_lt}
+use Rattle.std.proofs.lemmas.Bool.{cases_lt}
 use Rattle.std.proofs.lemmas.List.{take_more}
 use Rattle.deb_index.specs.declared.constraint.Constraint.{Constraint}
 use Rattle.deb_index.specs.declared.constraint.Constraint.TheVariants.{Essential, Need, Apart, Only}
@@ -12,7 +12,7 @@ use Rattle.deb_verdict.specs.Adding.{Adds, AllHold}
 use Rattle.deb_verdict.specs.Health.{IsHealthy}
 use Rattle.deb_verdict.specs.Play.{placed, AddsPlaces}
 use Rattle.deb_verdict.specs.Standings.{HasNoEarlier, MeetsNeeds, MeetsConflicts, MeetsPlace}
-use Rattle.deb_verdict.proofs.AddLemmas.{adds_none, adds_both, adds_as, in_push, front_in, last_in}
+use Rattle.deb_verdict.proofs.AddLemmas.{adds_both, adds_as, in_push, front_in, last_in}
 use Rattle.deb_verdict.proofs.AddSteps.{take_whole}
 use Rattle.deb_verdict.proofs.Encoded.{members_of_at}
 use Rattle.deb_verdict.proofs.Told.{placed_in_play}
@@ -22,9 +22,6 @@ module _ (group : ℕ) (Means : ℕ → NumberSet → Type 0) where
   -- each number of a list was told
   abbrev pub AddsEach : List ℕ → Clauses → Clauses → Type 0
   AddsEach xs before after = Adds group (λ vars. (q : ℕ) → members_of xs q ≡ true → Means q vars) before after
-
-  pub each_none : (before : Clauses) → AddsEach [] before before
-  each_none before = adds_none group (λ vars. (q : ℕ) → members_of [] q ≡ true → Means q vars) before (λ vars q never. absurd (false≢true never))
 
   pub each_more : (xs : List ℕ) (i : ℕ) (before between after : Clauses) → i < length xs → AddsEach (take i xs) before between → Adds group (Means (get_or xs i 0)) between after
       → AddsEach (take (i + 1) xs) before after
@@ -55,9 +52,6 @@ module _ (group : ℕ) (Means : ℕ → NumberSet → Type 0) where
   -- each number below a limit was told
   abbrev pub AddsBelow : ℕ → Clauses → Clauses → Type 0
   AddsBelow limit before after = Adds group (λ vars. (j : ℕ) → j < limit → Means j vars) before after
-
-  pub below_none : (before : Clauses) → AddsBelow 0 before before
-  below_none before = adds_none group (λ vars. (j : ℕ) → j < 0 → Means j vars) before (λ vars j never. absurd (omega arith))
 
   pub below_next : (i : ℕ) (before between after : Clauses) → AddsBelow i before between → Adds group (Means i) between after → AddsBelow (i + 1) before after
   below_next i before between after so_far one =

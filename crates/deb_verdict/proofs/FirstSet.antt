@@ -15,7 +15,7 @@ use Rattle.deb_verdict.specs.Play.{placed, Describes}
 use Rattle.deb_verdict.specs.Verdicts.{IsFirstInstallation}
 use Rattle.deb_verdict.proofs.Cutting.{cut_installation, meets_from_healthy}
 use Rattle.deb_verdict.proofs.Encoded.{members_of_at, at_members_of, rising_lt}
-use Rattle.deb_verdict.proofs.CoreCarried.{position_in, group_at, same_position}
+use Rattle.deb_verdict.proofs.PositionsOf.{position_in, group_at, same_position}
 use Rattle.deb_verdict.proofs.Answered.{same_test}
 use Rattle.deb_verdict.proofs.AddSteps.{below_members}
 

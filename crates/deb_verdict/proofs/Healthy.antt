@@ -93,7 +93,7 @@ module _ (index : IndexView) where
       (at.0, at.1, sym (same-name name (name_at index at.0) at.2))
 
   -- the package at a place has the name that its place is found under
-  name_is : (q number : ℕ) → has_name index q number ≡ true → name_at index number ≡ (package_at index q).name
+  pub name_is : (q number : ℕ) → has_name index q number ≡ true → name_at index number ≡ (package_at index q).name
   name_is q number named =
       let inside : q < length index.packages = named_is_place index q number named in
       same-name (name_at index number) (package_at index q).name (sym (ap (λ there. option_map_or (is_named (name_at index number)) there false) (slice_get-get_or index.packages q no_package inside)) ∙ named)

@@ -8,7 +8,7 @@ use Rattle.deb_verdict.specs.Encoding.{positions_of}
 use Rattle.deb_verdict.specs.PlaceSets.{with_place}
 use Rattle.deb_verdict.specs.Play.{placed}
 use Rattle.deb_verdict.proofs.Encoded.{members_of_at, at_members_of}
-use Rattle.deb_verdict.proofs.CoreCarried.{position_in, group_at}
+use Rattle.deb_verdict.proofs.PositionsOf.{position_in, group_at}
 use Rattle.deb_verdict.proofs.Answered.{same_test}
 use Rattle.deb_verdict.proofs.AddSteps.{below_members}
 use Rattle.deb_verdict.proofs.PlaceSetLemmas.{position_at_most}

@@ -6,7 +6,7 @@ use Rattle.std.proofs.lemmas.Option.{slice_get_within, get_or_from_slice_get}
 use Rattle.sat_solve.specs.Sets.{NumberSet, members_of}
 use Rattle.deb_verdict.specs.Encoding.{positions_of}
 use Rattle.deb_verdict.specs.Play.{placed}
-use Rattle.deb_verdict.proofs.CoreCarried.{group_at, same_position}
+use Rattle.deb_verdict.proofs.PositionsOf.{group_at, same_position}
 use Rattle.deb_verdict.proofs.Encoded.{at_members_of}
 
 placed_free : (ins members : List ℕ) (vars : NumberSet) (place : ℕ) → members_of ins place ≡ false → placed ins members vars place ≡ positions_of members vars place

@@ -21,7 +21,7 @@ use Rattle.deb_verdict.specs.Standings.{IsClear, HasNoEarlier}
 use Rattle.deb_verdict.proofs.IndexFacts.{member_satisfiers}
 use Rattle.deb_verdict.proofs.AddLemmas.{adds_none, adds_both, adds_as}
 use Rattle.deb_verdict.proofs.Encoded.{at_members_of}
-use Rattle.deb_verdict.proofs.CoreCarried.{group_at}
+use Rattle.deb_verdict.proofs.PositionsOf.{group_at}
 use Rattle.deb_verdict.proofs.Widening.{need_says, essential_says}
 use Rattle.deb_verdict.proofs.Clearing.{AddsClear}
 

@@ -1,35 +1,66 @@
--- Where each place is a variable and each constraint a group: the first true set is the first healthy set, and the first groups without one are the first core.
-use Rattle.std.proofs.Common.{◌≡◌, ℕ, ◌+◌, ◌<◌, true, List, [], ◌∷◌, ◌++◌, length, get_or, take, map, All, Some, slice_get, sym, ◌∙◌, ap, arith}
-use Rattle.std.proofs.lemmas.Bool.{and_parts, ltb-true}
+-- The constraints at positions of the list, and the first positions that admit none.
+use Rattle.std.proofs.Common.{◌≡◌, ℕ, ◌+◌, ◌-◌, ◌^◌, ◌<◌, ◌≤◌, true, ltb, List, [], ◌∷◌, ◌++◌, length, get_or, take, map, All, Some, slice_get, Result, Ok, Err, IfOk, refl, sym, ◌∙◌, ap, arith}
+use Rattle.std.specs.Prelude.{sum_by}
+use Rattle.std.proofs.lemmas.Bool.{and_parts, and_from, ltb-true, lt-ltb}
 use Rattle.std.proofs.lemmas.List.{take_more, map-append, get_or-map, length-map}
-use Rattle.std.proofs.lemmas.Option.{slice_get-get_or}
+use Rattle.std.proofs.lemmas.Option.{slice_get_within}
 use Rattle.deb_index.specs.declared.constraint.Constraint.{Constraint}
-use Rattle.sat_solve.specs.Sets.{NumberSet, IsFirst}
-use Rattle.sat_solve.specs.Clauses.{Clauses}
+use Rattle.deb_index.specs.Packages.{IndexView}
+use Rattle.deb_index.specs.Constraints.{constraints_of}
+use Rattle.deb_index.specs.Reading.{stanza_limit}
+use Rattle.deb_index.specs.Tables.{asked_count, asked_limit}
+use Rattle.deb_index.proofs.ConstraintLemmas.{constraints-few}
+use Rattle.sat_solve.specs.Sets.{NumberSet, members_of, IsFirst}
 use Rattle.sat_solve.proofs.SetLemmas.{first_within}
 use Rattle.deb_verdict.specs.Closure.{cut}
-use Rattle.deb_verdict.specs.Reduction.{all_below}
-use Rattle.deb_verdict.specs.Groups.{HasNoTrueSet, no_true_upward}
+use Rattle.deb_verdict.specs.Gathering.{all_of}
+use Rattle.deb_verdict.specs.Health.{IsInstallation, AdmitsNone}
+use Rattle.deb_verdict.specs.Reduction.{all_below, listed, IsRefutation}
+use Rattle.deb_verdict.proofs.Cutting.{healthy_from_meets}
 use Rattle.deb_verdict.proofs.IndexFacts.{All-at}
 
--- the first groups without a true set are groups that the formula has
-pub first_groups_below : (formula : Clauses) (must : ℕ) (groups : NumberSet) → IsFirst (HasNoTrueSet formula must) groups → (group : ℕ) → groups group ≡ true → group < formula.groups
-first_groups_below formula must groups first group is_in =
-    let ranged : HasNoTrueSet formula must (cut groups (all_below formula.groups)) = (no_true_upward formula must).ranged groups first.0 in
-    let same : groups ≡ cut groups (all_below formula.groups) = first_within (HasNoTrueSet formula must) groups (all_below formula.groups) first ranged in
-    ltb-true group formula.groups ((and_parts (groups group) (all_below formula.groups group) (sym (ap (λ (s : NumberSet). s group) same) ∙ is_in)).1)
+module _ (index : IndexView) (p : ℕ) where
+  -- where no healthy set has p, all constraints admit none
+  pub all_admit_none : ((set : NumberSet) → IsInstallation index p set → ⊥) → AdmitsNone index p all_of
+  all_admit_none none admits = none admits.0 (healthy_from_meets index admits.0 all_of (λ k below. refl) admits.2, admits.1)
+
+  -- positions behind the list keep out no set
+  none_in_list : (positions list : NumberSet) → ((k : ℕ) → k < length (constraints_of index) → list k ≡ true) → AdmitsNone index p positions → AdmitsNone index p (cut positions list)
+  none_in_list positions list whole none admits =
+      none (admits.0, admits.1, λ k constraint asked there. admits.2 k constraint (and_from (positions k) (list k) asked (whole k (slice_get_within (constraints_of index) k constraint there))) there)
+
+  -- so the first ones that admit none are positions of the list
+  pub first_in_list : (positions : NumberSet) → IsFirst (AdmitsNone index p) positions → (k : ℕ) → positions k ≡ true → k < length (constraints_of index)
+  first_in_list positions first k is_in =
+      let list : NumberSet = all_below (length (constraints_of index)) in
+      let none : AdmitsNone index p (cut positions list) = none_in_list positions list (λ k below. lt-ltb k (length (constraints_of index)) below) first.0 in
+      let same : positions ≡ cut positions list = first_within (AdmitsNone index p) positions list first none in
+      ltb-true k (length (constraints_of index)) ((and_parts (positions k) (list k) (sym (ap (λ (s : NumberSet). s k) same) ∙ is_in)).1)
+
+  -- a refutation by a list is one by those of its numbers that have a next one
+  pub refuted_listed : length index.packages ≤ stanza_limit → sum_by asked_count index.packages ≤ asked_limit → (part : NumberSet) (used : List ℕ)
+      → IsRefutation (AdmitsNone index p) part (members_of used) → IsRefutation (AdmitsNone index p) part (listed used)
+  refuted_listed few few_asked part used refuted = record {
+    within = λ k is_used. refuted.within k ((and_parts (members_of used k) (ltb k (2 ^ 32 - 1)) is_used).0);
+    fails = none_in_list (members_of used) (λ k. ltb k (2 ^ 32 - 1)) (λ k below. lt-ltb k (2 ^ 32 - 1) (omega (arith, constraints-few index few few_asked))) refuted.fails;
+  }
+
+-- what holds of an answer that is there, and what follows from it
+pub if_ok_more : {T E : Type 0} (result : Result T E) (P Q : T → Type 0) → ((x : T) → P x → Q x) → IfOk result P → IfOk result Q
+if_ok_more (Ok x) P Q more holds = more x holds
+if_ok_more (Err e) P Q more holds = holds
 
 -- one constraint more of those at a list of numbers
-pub named_more : (constraints : List Constraint) (numbers : List ℕ) (core core_then : List Constraint) (i : ℕ) (d : Constraint) → i < length numbers → get_or numbers i 0 < length constraints
-    → core_then ≡ core ++ get_or constraints (get_or numbers i 0) d ∷ []
+pub named_more : (constraints : List Constraint) (numbers : List ℕ) (core core_then : List Constraint) (i : ℕ) (constraint : Constraint) → i < length numbers
+    → slice_get constraints (get_or numbers i 0) ≡ Some constraint → core_then ≡ core ++ constraint ∷ []
     → map (slice_get constraints) (take i numbers) ≡ map Some core → map (slice_get constraints) (take (i + 1) numbers) ≡ map Some core_then
-named_more constraints numbers core core_then i d inside in_list pushed so_far =
+named_more constraints numbers core core_then i constraint inside there pushed so_far =
     let number : ℕ = get_or numbers i 0 in
     ap (map (slice_get constraints)) (take_more numbers i 0 inside)
     ∙ (map-append (slice_get constraints) (take i numbers) (number ∷ [])
     ∙ (ap (λ front. front ++ slice_get constraints number ∷ []) so_far
-    ∙ (ap (λ last. map Some core ++ last ∷ []) (slice_get-get_or constraints number d in_list)
-    ∙ sym (ap (map Some) pushed ∙ map-append Some core (get_or constraints number d ∷ [])))))
+    ∙ (ap (λ last. map Some core ++ last ∷ []) there
+    ∙ sym (ap (map Some) pushed ∙ map-append Some core (constraint ∷ [])))))
 
 -- what stands at numbers of a list has what all of the list have
 pub named_all : (P : Constraint → Type 0) (constraints core : List Constraint) (numbers : List ℕ) → All P constraints → map (slice_get constraints) numbers ≡ map Some core → All P core

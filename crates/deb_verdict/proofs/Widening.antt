@@ -46,13 +46,6 @@ any_kept test (suc i) (x ∷ xs) holds =
     ]
 
 module _ (count : ℕ) where
-  -- nothing was done, for a test that never passes
-  pub widens_none : (test : NumberSet → Bool) (clause : List Lit) → ((vars : NumberSet) → test vars ≡ false) → Widens test count clause clause false
-  widens_none test clause never = record {
-    in_range = λ all. all;
-    says = λ vars. sym (ap (λ b. clause_holds vars clause || b) (never vars) ∙ or_false (clause_holds vars clause));
-  }
-
   -- for one test, and then for another one
   pub widens_both : (A B : NumberSet → Bool) (before between after : List Lit) (anyway : Bool) → Widens A count before between false → Widens B count between after anyway
       → Widens (λ vars. A vars || B vars) count before after anyway

@@ -4,6 +4,8 @@ use Rattle.deb_index.specs.declared.constraint.Constraint.{Constraint}
 use Rattle.deb_index.specs.Packages.{IndexView}
 use Rattle.deb_index.specs.Constraints.{Holds, constraints_of}
 use Rattle.sat_solve.specs.Sets.{NumberSet}
+use Rattle.deb_verdict.specs.Closure.{IsWithin}
+use Rattle.deb_verdict.specs.Reduction.{IsUpward}
 
 -- the set meets all constraints of the index
 abbrev pub IsHealthy : IndexView → NumberSet → Type 0
@@ -25,3 +27,10 @@ Admits index p positions = (set : NumberSet) × (set p ≡ true) × MeetsAt inde
 -- no set that contains p meets them
 abbrev pub AdmitsNone : IndexView → ℕ → NumberSet → Type 0
 AdmitsNone index p positions = Admits index p positions → ⊥
+
+-- more constraints admit none either
+admits_fewer : (index : IndexView) (p : ℕ) (fewer more : NumberSet) → IsWithin fewer more → Admits index p more → Admits index p fewer
+admits_fewer index p fewer more within admits = (admits.0, admits.1, λ k constraint asked there. admits.2 k constraint (within k asked) there)
+
+pub admits_none_upward : (index : IndexView) (p : ℕ) → IsUpward (AdmitsNone index p)
+admits_none_upward index p a b within none admits = none (admits_fewer index p a b within admits)

@@ -1,95 +1,77 @@
 //! How many questions a reduction asks.
 
-ghost use Rattle.std.specs.Prelude.{◌<◌};
+ghost use Rattle.std.specs.Prelude.{◌≡◌};
+ghost use Rattle.sat_solve.specs.Sets.{members_of};
+ghost use Rattle.deb_verdict.specs.Reduction.{left};
 
-use crate::reduction::{Question, first_failing};
+use crate::reduction::{Question, first_failing, next_of};
 use std::alloc::{AllocError, Global};
 use std::process::Abort;
 use std::test::Fail;
 
-/// Whether sets have one number below a count. Each question is counted.
+/// Whether sets have all needed numbers. Each question is counted, and each refutation uses these numbers alone.
 #[derive(Drop)]
-struct Counting {
-    count: u32,
-    needed: u32,
+struct Counting<'a> {
+    needed: &'a [u32],
     asked: u32,
-    ghost in_range: { needed < count },
 }
 
-impl Question for Counting {
-    ghost use Rattle.deb_verdict.specs.Having.{Has, having_upward};
+/// Whether a number is kept or stands from `rest` on.
+fn is_left(kept: &[u32], rest: u32, number: u32) -> bool
+    ensures { result ≡ left (members_of kept.now) rest number }
+{
+    kept.contains(&number) || rest <= number
+}
 
-    ghost count = { λ q. q.count };
+impl<'a> Question for Counting<'a> {
+    ghost use Rattle.deb_verdict.specs.Reduction.{listed};
+    ghost use Rattle.deb_verdict.specs.Having.{HasAll, having_upward};
 
-    ghost is_failing = { λ q. Has q.needed };
+    ghost is_failing = { λ q. HasAll (listed q.needed.now) };
 
-    ghost upward = { λ q. having_upward q.needed q.count q.in_range };
+    ghost used = { λ q. listed q.needed.now };
 
-    fn fails(&mut self, _alloc: Global, kept: &[u32], rest: u32) -> Result<bool, AllocError> {
+    ghost upward = { λ q. having_upward (listed q.needed.now) };
+
+    fn refute(&mut self, _alloc: Global, kept: &[u32], rest: u32) -> Result<bool, AllocError> {
         self.asked = self.asked.saturating_add(1);
-        if kept.contains(&self.needed) {
-            return Ok(true);
+        let mut at = 0;
+        while let Some(number) = next_of(self.needed, at) {
+            if !is_left(kept, rest, number) {
+                return Ok(false);
+            }
+            at = number + 1;
         }
-        Ok(rest <= self.needed)
+        Ok(true)
+    }
+
+    fn next_used(&self, from: u32) -> Option<u32> {
+        next_of(self.needed, from)
     }
 }
 
-/// Where the last number alone is needed, there is one question at first, and one for each lower half that goes out.
-#[test]
-fn last_alone(rt: HostRuntime) -> Result<(), Fail> {
-    let mut question = Counting {
-        count: 1024,
-        needed: 1023,
-        asked: 0,
-    };
-    let kept = first_failing(rt.alloc(), &mut question, 1024, &[])?;
-    assert!(rt; kept.as_slice() == [1023].as_slice());
-    assert!(rt; question.asked <= 11);
-    Ok(())
-}
-
-#[test]
-fn first_alone(rt: HostRuntime) -> Result<(), Fail> {
-    let mut question = Counting {
-        count: 1024,
-        needed: 0,
-        asked: 0,
-    };
-    let kept = first_failing(rt.alloc(), &mut question, 1024, &[])?;
-    assert!(rt; kept.as_slice() == [0].as_slice());
-    assert!(rt; question.asked <= 21);
-    Ok(())
-}
-
-/// How many questions it takes with these cuts where one number of 1,024 alone is needed; none, where the answer is another.
-fn asked_with(alloc: Global, needed: u32, cuts: &[u32]) -> Result<Option<u32>, AllocError>
-    requires { needed < 1024 }
-{
-    let mut question = Counting {
-        count: 1024,
-        needed,
-        asked: 0,
-    };
-    let kept = first_failing(alloc, &mut question, 1024, cuts)?;
-    if kept.as_slice() == [needed].as_slice() {
+/// How many questions it takes where these numbers are needed; none, where the answer is another.
+fn asked_for(alloc: Global, needed: &[u32]) -> Result<Option<u32>, AllocError> {
+    let mut question = Counting { needed, asked: 0 };
+    let kept = first_failing(alloc, &mut question)?;
+    if kept.as_slice() == needed {
         return Ok(Some(question.asked));
     }
     Ok(None)
 }
 
-/// Cuts around the answer spare all but three questions. Others cost one each, and those out of order or range none.
+/// One question at first, and one for each number that is needed, wherever it stands.
 #[test]
-fn cuts_around_the_answer(rt: HostRuntime) -> Result<(), Fail> {
-    for (needed, cuts, asked) in [
-        (1023, [].as_slice(), 11),
-        (1023, &[1023, 1024], 2),
-        (0, &[0, 1], 2),
-        (700, &[700, 701], 3),
-        (700, &[700, 701, 3, 1025, 5000], 3),
-        (1023, &[512], 11),
-        (700, &[512, 513, 700, 701], 5),
+fn questions_of_exact_refutations(rt: HostRuntime) -> Result<(), Fail> {
+    for (needed, asked) in [
+        ([].as_slice(), 1),
+        (&[0], 2),
+        (&[700], 2),
+        (&[1023], 2),
+        (&[0, 1023], 3),
+        (&[1, 2, 3, 511, 512, 1000], 7),
     ] {
-        assert_eq!(rt; asked_with(rt.alloc(), needed, cuts)?, Some(asked));
+        assert_eq!(rt; asked_for(rt.alloc(), needed)?, Some(asked));
     }
     Ok(())
 }

@@ -34,7 +34,7 @@ pub struct Groundwork<'a> {
 }
 
 /// Whether a place that is in answers a need. `false` where the answers are too many for a row.
-fn is_answered(index: &Index, ins: &PlaceSet, place: u32, number: u32) -> bool
+pub(crate) fn is_answered(index: &Index, ins: &PlaceSet, place: u32, number: u32) -> bool
     requires place { place < length index.now.packages }
     requires number { number < length (needs_at index.now place) }
     ensures { result ≡ true → (q : ℕ) × (members_of ins.now q ≡ true) × (answers index.now place number q ≡ true) }

@@ -8,29 +8,36 @@
 //! - `groundwork` knows what all verdicts of an index have in common; `forced` finds the places that are in every healthy set.
 //! - `first_set` finds the first healthy set: `gather` says which places are in anyway and which are in play, `scene` how each
 //!   place stands, `clauses` makes clauses of one constraint, `describe` of all of them, and the solver finds their first true set.
-//! - `first_core` finds the first set of constraints that no set meets: `kept_constraints` lists those that speak of the closure,
-//!   each is a group of clauses, `unsolvable` asks the solver about the groups that `marks` keeps, and `reduction` takes out blocks
-//!   of them, which end where `guess` says.
+//! - `first_core` finds the first set of constraints that no set meets: `reduction` takes out those that no refutation needs, and asks
+//!   `question` whether a `part` of them, by their positions, admits none. Three modules answer, the next where one cannot tell:
+//!   - `propagation` refutes a part by what the package asks for with no choice; `derivation` has the steps of such a refutation, and
+//!     checks them.
+//!   - `witness` sees, without a search, that some set meets a part.
+//!   - `by_formula` knows of each part: `kept_positions` lists its constraints that speak of the closure, each is a group of clauses,
+//!     and the solver says which groups it used.
 #![tactic(auto)]
 
 mod answer;
+mod by_formula;
 mod clauses;
 mod decision;
+mod derivation;
 mod describe;
 mod first_core;
 mod first_set;
 mod forced;
 mod gather;
 mod groundwork;
-mod guess;
-mod kept_constraints;
+mod kept_positions;
 pub mod laws;
-mod marks;
+mod part;
 mod place_set;
+mod propagation;
+mod question;
 mod reach;
 mod reduction;
 mod scene;
-mod unsolvable;
+mod witness;
 mod workspace;
 
 pub use answer::Verdict;
@@ -39,16 +46,12 @@ pub use groundwork::Groundwork;
 pub use workspace::Workspace;
 
 #[cfg(test)]
-mod any_tests;
-#[cfg(test)]
-mod comparison;
-#[cfg(test)]
 mod counting;
 #[cfg(test)]
 mod gather_tests;
 #[cfg(test)]
 mod growths;
 #[cfg(test)]
-mod guess_tests;
-#[cfg(test)]
 mod tests;
+#[cfg(test)]
+mod witness_tests;

@@ -1,7 +1,8 @@
 //! The buffers of a verdict.
 
-use crate::guess::Guess;
 use crate::place_set::PlaceSet;
+use crate::propagation::Propagation;
+use deb_index::Constraint;
 use sat_solve::{Formula, Lit};
 use std::alloc::{AllocError, Global};
 
@@ -14,9 +15,16 @@ pub struct Workspace {
     pub(crate) members: PlaceSet,
     pub(crate) formula: Formula,
     pub(crate) clause: Vec<Lit>,
-    pub(crate) keep: Vec<bool>,
-    pub(crate) guess: Guess,
     pub(crate) solver: sat_solve::Workspace,
+    pub(crate) propagation: Propagation,
+    /// The constraints that a formula has a group each for, and where they stand.
+    pub(crate) positions: Vec<u32>,
+    pub(crate) constraints: Vec<Constraint>,
+    /// The groups that a solve keeps, and those that it used.
+    pub(crate) keep: Vec<bool>,
+    pub(crate) marks: Vec<bool>,
+    /// The positions of the constraints that the last refutation used.
+    pub(crate) used: Vec<u32>,
 }
 
 impl Workspace {
@@ -27,9 +35,13 @@ impl Workspace {
             members: PlaceSet::new(alloc),
             formula: Formula::new(alloc, 0, 0)?,
             clause: Vec::new(alloc),
-            keep: Vec::new(alloc),
-            guess: Guess::new(alloc),
             solver: sat_solve::Workspace::new(alloc),
+            propagation: Propagation::new(alloc),
+            positions: Vec::new(alloc),
+            constraints: Vec::new(alloc),
+            keep: Vec::new(alloc),
+            marks: Vec::new(alloc),
+            used: Vec::new(alloc),
         })
     }
 }

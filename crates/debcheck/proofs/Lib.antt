@@ -1,10 +1,9 @@
-mod AskedLemmas
+mod BackgroundLemmas
 mod DeviceLemmas
+mod FaultLemmas
+mod IndexLemmas
 mod LineFacts
 mod LineLemmas
-mod ListLemmas
 mod OneReport
-mod PlaceLemmas
-mod ReportLemmas
 mod PhaseLemmas
 mod RunLemmas

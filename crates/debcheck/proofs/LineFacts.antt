@@ -1,5 +1,5 @@
 -- From what the parse of the words says to what the command line asks for.
-use Rattle.std.proofs.Common.{◌≡◌, ◌∙◌, ◌<◌, ◌≤◌, ◌==◌, ◌&&◌, ◌||◌, ◌⊎◌, ℕ, Bool, List, [], ◌∷◌, Result, Ok, Err, Option, Some, None, IfErr, IfOk, IfSome, OnOk, All, ap, ap₂, arith, codes, false, true, inl, inr, length, not, option_map, refl, string_bytes, sym, true≢false}
+use Rattle.std.proofs.Common.{◌≡◌, ◌∙◌, ◌<◌, ◌≤◌, ◌==◌, ◌&&◌, ◌||◌, ◌⊎◌, ℕ, Bool, List, [], ◌∷◌, Result, Ok, Err, Option, Some, None, IfErr, IfOk, IfSome, OnOk, All, ap, ap₂, arith, codes, false, true, inl, inr, is_some, length, not, option_map, refl, string_bytes, sym, true≢false}
 use Rattle.std.specs.List.{list_all, list_any}
 use Rattle.std.specs.Str.Parse.{digits_value}
 use Rattle.std.specs.Option.{option_map_or}
@@ -10,11 +10,11 @@ use Rattle.clap.specs.declared.error.kind.ErrorKind.{ErrorKind}
 use Rattle.clap.specs.declared.error.kind.ErrorKind.TheVariants as kind
 use Rattle.clap.specs.declared.parser.matches.ArgMatches.{ArgMatches}
 use Rattle.deb_relation.specs.Relationship.{is_name}
-use Rattle.debcheck.specs.declared.config.Config.{Config}
+use Rattle.deb_report.specs.declared.config.Config.{Config}
 use Rattle.debcheck.specs.declared.line.LineFault.{LineFault}
 use Rattle.debcheck.specs.declared.line.LineFault.TheVariants.{Refused, Help, Memory}
-use Rattle.debcheck.specs.Line.{Accepts, IsFaultOf, RefusesLine, RefusesUnless, Request, asked_by, has_good_names, has_good_values, is_architecture, is_count, is_help, line_app, line_faults, line_rows, names_in, request_of, value_of}
-use Rattle.debcheck.specs.Run.{settings_of}
+use Rattle.deb_report.specs.Settings.{is_architecture, settings_of}
+use Rattle.debcheck.specs.Line.{Accepts, IsFaultOf, RefusesLine, RefusesUnless, Request, asked_by, format_of, has_good_background, has_good_names, has_good_values, is_count, is_help, is_version, line_app, line_faults, line_rows, names_in, request_of, value_of}
 use Rattle.debcheck.proofs.LineLemmas.{count-least}
 
 -- ---- the program's command
@@ -59,7 +59,7 @@ accepts words rows (Err fault) some none are good request = tt
 
 -- ---- what is refused
 
-bad-values : (faults : List ErrorKind) (good : Bool) → faults ≡ [] → good ≡ false → (list_any (λ k. not (is_help k)) faults || (length faults == 0 && not good)) ≡ true
+bad-values : (faults : List ErrorKind) (good : Bool) → faults ≡ [] → good ≡ false → (list_any (λ k. not (is_help k || is_version k)) faults || (length faults == 0 && not good)) ≡ true
 bad-values faults good none bad = rw (none, bad) refl
 
 refuses-one : (words : List Text) (fault : LineFault) → 0 < length words → line_faults words ≡ [] → RefusesUnless (has_good_values (line_rows words)) fault → RefusesLine words fault
@@ -89,10 +89,12 @@ pub refuses-words : (words : List Text) (k : ErrorKind) (fault : LineFault) → 
 refuses-words [] k fault some why what = absurd (omega (arith, some))
 refuses-words (word ∷ words) k (Refused text) some (inl same) what = absurd (what.1 same)
 refuses-words (word ∷ words) k (Refused text) some (inr among) what =
-    front-true (list_any (λ k. not (is_help k)) (line_faults (word ∷ words))) _
-    (any-among (λ k. not (is_help k)) k (line_faults (word ∷ words)) among (ap not what.0))
-refuses-words (word ∷ words) k (Help text) some (inl same) what = absurd (true≢false (sym what ∙ ap is_help same))
-refuses-words (word ∷ words) k (Help text) some (inr among) what = any-among is_help k (line_faults (word ∷ words)) among what
+    front-true (list_any (λ k. not (is_help k || is_version k)) (line_faults (word ∷ words))) _
+    (any-among (λ k. not (is_help k || is_version k)) k (line_faults (word ∷ words)) among (ap not what.0))
+refuses-words (word ∷ words) k (Help text) some (inl same) (inl help) = absurd (true≢false (sym help ∙ ap is_help same))
+refuses-words (word ∷ words) k (Help text) some (inl same) (inr version) = absurd (true≢false (sym version.0 ∙ ap is_version same))
+refuses-words (word ∷ words) k (Help text) some (inr among) (inl help) = inl (any-among is_help k (line_faults (word ∷ words)) among help)
+refuses-words (word ∷ words) k (Help text) some (inr among) (inr version) = inr (any-among is_version k (line_faults (word ∷ words)) among version.0, version.1)
 refuses-words (word ∷ words) k Memory some why what = tt
 
 -- ---- what an accepted line is good for
@@ -101,20 +103,21 @@ both : (a b : Bool) → (a && b) ≡ true → (a ≡ true) × (b ≡ true)
 both true b e = (refl, e)
 both false b e = absurd (true≢false (sym e))
 
-four : (a b c d : Bool) → (a && b && c && d) ≡ true → (a ≡ true) × (b ≡ true) × (c ≡ true) × (d ≡ true)
-four true true true true e = (refl, refl, refl, refl)
-four true true true false e = absurd (true≢false (sym e))
-four true true false d e = absurd (true≢false (sym e))
-four true false c d e = absurd (true≢false (sym e))
-four false b c d e = absurd (true≢false (sym e))
+-- the first four of six that hold
+first-four : (a b c d e f : Bool) → (a && b && c && d && e && f) ≡ true → (a ≡ true) × (b ≡ true) × (c ≡ true) × (d ≡ true)
+first-four true true true true e f is = (refl, refl, refl, refl)
+first-four true true true false e f is = absurd (true≢false (sym is))
+first-four true true false d e f is = absurd (true≢false (sym is))
+first-four true false c d e f is = absurd (true≢false (sym is))
+first-four false b c d e f is = absurd (true≢false (sym is))
 
 abbrev HasGoodParts : List Row → Type 0
 HasGoodParts rows = (is_architecture (value_of (codes "arch") rows) ≡ true) × (is_count 64 (value_of (codes "workers") rows) ≡ true)
     × (is_count 1000000 (value_of (codes "chunk") rows) ≡ true) × (has_good_names rows ≡ true)
 
 good-parts : (rows : List Row) → has_good_values rows ≡ true → HasGoodParts rows
-good-parts rows good = four (is_architecture (value_of (codes "arch") rows)) (is_count 64 (value_of (codes "workers") rows))
-    (is_count 1000000 (value_of (codes "chunk") rows)) (has_good_names rows) good
+good-parts rows good = first-four (is_architecture (value_of (codes "arch") rows)) (is_count 64 (value_of (codes "workers") rows))
+    (is_count 1000000 (value_of (codes "chunk") rows)) (has_good_names rows) (has_good_background rows) (is_some (format_of (value_of (codes "format") rows))) good
 
 accepted-parts : (words : List Text) (word : Text) (config : Config) → Accepts (word ∷ words) config → HasGoodParts (line_rows (word ∷ words))
 accepted-parts words word config accepted = good-parts (line_rows (word ∷ words)) (both _ _ accepted.0).1

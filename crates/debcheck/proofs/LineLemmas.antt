@@ -7,7 +7,8 @@ use Rattle.std.proofs.lemmas.Str.Parse.{IsNumeralModel, numerals_by_value, parse
 use Rattle.std.specs.Str.{bytes_eq}
 use Rattle.std.proofs.lemmas.Bool.{eqb-true}
 use Rattle.std.proofs.lemmas.Slice.Eq.{bytes_eq-Decides}
-use Rattle.debcheck.specs.Line.{is_count, is_excluded}
+use Rattle.deb_report.specs.Settings.{is_excluded}
+use Rattle.debcheck.specs.Line.{is_count}
 
 -- decimal digits, and the number that they write
 own : IsNumeralModel (λ ds. list_all is_ascii_digit ds ≡ true) (digits_value 10)

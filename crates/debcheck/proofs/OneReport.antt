@@ -5,9 +5,11 @@ use Rattle.deb_index.specs.Packages.{IndexView}
 use Rattle.deb_verdict.specs.Verdicts.{Blocked, Found, IsFirstCore, IsFirstInstallation, IsVerdict, VerdictView}
 use Rattle.sat_solve.specs.Sets.{members_of}
 use Rattle.work_draw.specs.Checks.{AnswersEach}
-use Rattle.debcheck.specs.declared.summary.Summary.{Summary}
-use Rattle.debcheck.specs.Report.{report_text, summary_of}
-use Rattle.debcheck.specs.Run.{IsReport, IsReportOn, Settings}
+use Rattle.deb_report.specs.declared.summary.Summary.{Summary}
+use Rattle.deb_report.specs.Report.{summary_of}
+use Rattle.deb_report.specs.Settings.{Settings}
+use Rattle.deb_report.specs.Written.{written_report}
+use Rattle.debcheck.specs.Run.{IsReport, IsReportOn}
 
 -- a package has one first healthy set and one first core
 abbrev OneInstallation : Type 0
@@ -42,8 +44,8 @@ one_report_on sets cores settings index a b m n first second =
     let P : List ℕ → Type 0 = λ places. AnswersEach (IsVerdict index) places first.verdicts in
     let verdicts : first.verdicts ≡ second.verdicts = one_each sets cores index second.asked first.verdicts second.verdicts (subst P asked first.are_verdicts) second.are_verdicts in (
       first.is_output
-          ∙ ap (λ places. report_text index places first.verdicts settings.explain settings.show) asked
-          ∙ ap (λ found. report_text index second.asked found settings.explain settings.show) verdicts
+          ∙ ap (λ places. written_report settings index places first.verdicts) asked
+          ∙ ap (λ found. written_report settings index second.asked found) verdicts
           ∙ sym second.is_output,
       first.is_summary
           ∙ ap (λ places. summary_of index places first.verdicts) asked
@@ -51,9 +53,9 @@ one_report_on sets cores settings index a b m n first second =
           ∙ sym second.is_summary,
     )
 
-pub one_report : OneInstallation → OneCore → (settings : Settings) (text a b : List ℕ) (m n : Summary)
-    → IsReport settings text a m → IsReport settings text b n → (a ≡ b) × (m ≡ n)
-one_report sets cores settings text a b m n first second =
+pub one_report : OneInstallation → OneCore → (settings : Settings) (text background a b : List ℕ) (m n : Summary)
+    → IsReport settings text background a m → IsReport settings text background b n → (a ≡ b) × (m ≡ n)
+one_report sets cores settings text background a b m n first second =
     let read_first = first.is_index in
     let read_second = second.is_index in
     let index : first.index ≡ second.index = cc in

@@ -1,71 +1,146 @@
 -- From the phases of a run to the whole run.
-use Rattle.std.proofs.Common.{◌≡◌, ℕ, ◌≤◌, Bool, List, Option, Some, None, Ok, length, refl, true}
-use Rattle.std.specs.Io.KnownBytes.{Appends, Keeps}
+use Rattle.std.proofs.Common.{◌≡◌, ◌∙◌, ℕ, ◌≤◌, Bool, true, false, List, [], Option, Some, None, Ok, Err, IfSome, if◌then◌else◌, ◌++◌, append-nil, ap, length, refl, sym, subst, ◌≢◌}
+use Rattle.std.specs.Io.KnownBytes.{Appends, Consumes, IsAtEnd, Keeps}
 use Rattle.deb_index.specs.Packages.{IndexView}
-use Rattle.deb_index.specs.Reading.{byte_limit, index_of}
+use Rattle.deb_index.specs.Reading.{byte_limit, index_of, index_of_both}
+use Rattle.deb_index.specs.declared.error.BothError.TheVariants.{Fore}
+use Rattle.deb_index.specs.declared.error.IndexError.{IndexError}
+use Rattle.deb_index.specs.declared.error.IndexError.TheVariants as index_error
 use Rattle.debcheck.specs.declared.fault.RunFault.{RunFault}
-use Rattle.debcheck.specs.declared.fault.RunFault.TheVariants.{Read, TooLong, Index, UnknownAsked, Memory, Write}
-use Rattle.debcheck.specs.declared.summary.Summary.{Summary}
+use Rattle.debcheck.specs.declared.fault.RunFault.TheVariants.{Read, TooLong, BackgroundRead, BackgroundTooLong, Index, Background, UnknownAsked, Memory, Write}
+use Rattle.deb_report.specs.declared.summary.Summary.{Summary}
 use Rattle.debcheck.specs.Devices.{AppendsPart}
-use Rattle.debcheck.specs.Run.{Fails, FailsToIndex, FailsToReport, HasAsked, IfIndexed, IfRead, IsReport, IsReportOn, Leaves, Settings, WritesFront, WritesReport}
+use Rattle.deb_report.specs.Settings.{Settings}
+use Rattle.debcheck.specs.Run.{Fails, FailsToIndex, FailsToReport, HasAsked, IfTold, Input, IsRead, IsReadAs, IsReport, IsReportOn, Leaves, ReadsAs, WritesFront, WritesReport, behind, input}
+use Rattle.debcheck.proofs.IndexLemmas.{both-fore}
 
--- the text was read, and is this index
-abbrev pub ReadsAs : Settings → Option (List ℕ) → Bool → IndexView → Type 0
-ReadsAs settings text failed index = IfRead text failed (λ bytes. index_of bytes settings.arch settings.essential ≡ Ok index)
+-- ---- reading
+
+-- all bytes that are told were read
+whole : (old new : Option (List ℕ)) (bytes : List ℕ) → Consumes old new bytes → IsAtEnd new → IfSome old (λ told. told ≡ bytes)
+whole None new bytes consumes ends = tt
+whole (Some xs) None bytes consumes ends = absurd consumes
+whole (Some xs) (Some ys) bytes consumes ends = consumes ∙ ap (λ rest. bytes ++ rest) ends ∙ append-nil bytes
+
+pub read_whole : (old new : Option (List ℕ)) (failed : Bool) (bytes : List ℕ) → Consumes old new bytes → IsAtEnd new → failed ≡ false → length bytes ≤ byte_limit → IsReadAs (input old failed) bytes
+read_whole old new failed bytes consumes ends unfailed within = (unfailed, whole old new bytes consumes ends, within)
+
+told_within : (told : Option (List ℕ)) (bytes : List ℕ) → IfSome told (λ all. all ≡ bytes) → length bytes ≤ byte_limit → IfSome told (λ all. length all ≤ byte_limit)
+told_within None bytes same within = tt
+told_within (Some all) bytes same within = rw same within
+
+read-as : (source : Input) (bytes : List ℕ) → IsReadAs source bytes → IsRead source
+read-as source bytes reads = (reads.0, told_within source.text bytes reads.1 reads.2)
+
+-- what holds of the bytes that were read, holds of those that are told
+told_text : (told : Option (List ℕ)) (bytes : List ℕ) (P : List ℕ → Type 0) → IfSome told (λ all. all ≡ bytes) → P bytes → IfSome told P
+told_text None bytes P same h = tt
+told_text (Some all) bytes P same h = subst P (sym same) h
+
+-- the fault of the index
+pub fore-refused : (settings : Settings) (text background : Input) (bytes more : List ℕ) (fault : IndexError) → IsReadAs text bytes → IsReadAs (behind settings background) more → fault ≢ index_error.Memory
+    → index_of_both bytes more settings.arch settings.essential ≡ Err (Fore fault) → FailsToIndex settings text background (Index fault)
+fore-refused settings text background bytes more fault first second other h = (
+  other,
+  (read-as text bytes first, read-as (behind settings background) more second),
+  told_text text.text bytes (λ (a : List ℕ). index_of a settings.arch settings.essential ≡ Err fault) first.1 (both-fore bytes more settings.arch settings.essential fault h),
+)
+
+-- ---- failing
 
 -- where there is no index, the run fails
-pub indexing-fails : (settings : Settings) (text : Option (List ℕ)) (read_failed write_failed : Bool) (fault : RunFault) → FailsToIndex settings text read_failed fault → Fails settings text read_failed write_failed fault
-indexing-fails settings text r w Read h = h
-indexing-fails settings text r w TooLong h = h
-indexing-fails settings text r w (Index fault) h = h
-indexing-fails settings text r w (UnknownAsked name) h = absurd h
-indexing-fails settings text r w Memory h = h
-indexing-fails settings text r w Write h = absurd h
+pub indexing-fails : (settings : Settings) (text background : Input) (write_failed : Bool) (fault : RunFault) → FailsToIndex settings text background fault → Fails settings text background write_failed fault
+indexing-fails settings text background w Read h = h
+indexing-fails settings text background w TooLong h = h
+indexing-fails settings text background w BackgroundRead h = h
+indexing-fails settings text background w BackgroundTooLong h = h
+indexing-fails settings text background w (Index fault) h = h
+indexing-fails settings text background w (Background fault) h = h
+indexing-fails settings text background w (UnknownAsked name) h = absurd h
+indexing-fails settings text background w Memory h = h
+indexing-fails settings text background w Write h = absurd h
 
 pub kept-itself : (held : Option (List ℕ)) → Keeps held held
 kept-itself None = tt
 kept-itself (Some bytes) = refl
 
+-- a property of what is told follows from another one
+told_weaker : (first second : Option (List ℕ)) (P Q : List ℕ → List ℕ → Type 0) → ((a b : List ℕ) → P a b → Q a b) → IfSome first (λ a. IfSome second (P a)) → IfSome first (λ a. IfSome second (Q a))
+told_weaker None second P Q f h = tt
+told_weaker (Some a) None P Q f h = tt
+told_weaker (Some a) (Some b) P Q f h = f a b h
+
 -- an index that was read, with a property that it has
-indexed : (settings : Settings) (text : Option (List ℕ)) (failed : Bool) (index : IndexView) (P : IndexView → Type 0) → ReadsAs settings text failed index → P index → IfIndexed settings text failed P
-indexed settings None failed index P reads h = reads
-indexed settings (Some bytes) failed index P reads h = (reads.0, (reads.1.0, (index, reads.1.1, h)))
+indexed : (settings : Settings) (text background : Input) (index : IndexView) (P : IndexView → Type 0) → ReadsAs settings text background index → P index
+    → IfTold settings text background (λ bytes more. (view : IndexView) × (index_of_both bytes more settings.arch settings.essential ≡ Ok view) × P view)
+indexed settings text background index P reads h =
+    told_weaker text.text (behind settings background).text (λ (a b : List ℕ). index_of_both a b settings.arch settings.essential ≡ Ok index)
+    (λ (a b : List ℕ). (view : IndexView) × (index_of_both a b settings.arch settings.essential ≡ Ok view) × P view) (λ a b is. (index, is, h)) reads.1
 
 -- what fails once the index is there, fails as a run
-pub report-fails : (settings : Settings) (text : Option (List ℕ)) (index : IndexView) (read_failed write_failed : Bool) (fault : RunFault) → ReadsAs settings text read_failed index → FailsToReport settings index fault
-    → Fails settings text read_failed write_failed fault
-report-fails settings text index r w Read reads h = absurd h
-report-fails settings text index r w TooLong reads h = absurd h
-report-fails settings text index r w (Index fault) reads h = absurd h
-report-fails settings text index r w (UnknownAsked name) reads h = indexed settings text r index (λ view. FailsToReport settings view (UnknownAsked name)) reads h
-report-fails settings text index r w Memory reads h = reads.0
-report-fails settings text index r w Write reads h = absurd h
+pub report-fails : (settings : Settings) (text background : Input) (index : IndexView) (write_failed : Bool) (fault : RunFault) → ReadsAs settings text background index → FailsToReport settings index fault
+    → Fails settings text background write_failed fault
+report-fails settings text background index w Read reads h = absurd h
+report-fails settings text background index w TooLong reads h = absurd h
+report-fails settings text background index w BackgroundRead reads h = absurd h
+report-fails settings text background index w BackgroundTooLong reads h = absurd h
+report-fails settings text background index w (Index fault) reads h = absurd h
+report-fails settings text background index w (Background fault) reads h = absurd h
+report-fails settings text background index w (UnknownAsked name) reads h = (reads.0, indexed settings text background index (λ view. FailsToReport settings view (UnknownAsked name)) reads h)
+report-fails settings text background index w Memory reads h = (reads.0.0.0, reads.0.1.0)
+report-fails settings text background index w Write reads h = absurd h
 
 -- and so does what fails once the report is there
-pub writing-fails : (settings : Settings) (text : Option (List ℕ)) (index : IndexView) (read_failed write_failed : Bool) (output : List ℕ) (summary : Summary) → ReadsAs settings text read_failed index
-    → IsReportOn settings index output summary → write_failed ≡ true → Fails settings text read_failed write_failed Write
-writing-fails settings text index r w output summary reads on failed = (failed, indexed settings text r index (HasAsked settings) reads (on.asked, on.is_asked))
+pub writing-fails : (settings : Settings) (text background : Input) (index : IndexView) (write_failed : Bool) (output : List ℕ) (summary : Summary) → ReadsAs settings text background index
+    → IsReportOn settings index output summary → write_failed ≡ true → Fails settings text background write_failed Write
+writing-fails settings text background index w output summary reads on failed = (failed, (reads.0, indexed settings text background index (HasAsked settings) reads (on.asked, on.is_asked)))
 
 -- and it leaves nothing written
-pub report-leaves : (settings : Settings) (text held : Option (List ℕ)) (index : IndexView) (fault : RunFault) → FailsToReport settings index fault → Leaves settings text held held fault
-report-leaves settings text held index Read h = absurd h
-report-leaves settings text held index TooLong h = absurd h
-report-leaves settings text held index (Index fault) h = absurd h
-report-leaves settings text held index (UnknownAsked name) h = kept-itself held
-report-leaves settings text held index Memory h = kept-itself held
-report-leaves settings text held index Write h = absurd h
+pub report-leaves : (settings : Settings) (text background : Input) (held : Option (List ℕ)) (index : IndexView) (fault : RunFault) → FailsToReport settings index fault → Leaves settings text background held held fault
+report-leaves settings text background held index Read h = absurd h
+report-leaves settings text background held index TooLong h = absurd h
+report-leaves settings text background held index BackgroundRead h = absurd h
+report-leaves settings text background held index BackgroundTooLong h = absurd h
+report-leaves settings text background held index (Index fault) h = absurd h
+report-leaves settings text background held index (Background fault) h = absurd h
+report-leaves settings text background held index (UnknownAsked name) h = kept-itself held
+report-leaves settings text background held index Memory h = kept-itself held
+report-leaves settings text background held index Write h = absurd h
 
--- a report on the index is one on the text
-report-on-text : (settings : Settings) (bytes : List ℕ) (index : IndexView) (output : List ℕ) (summary : Summary) → (length bytes ≤ byte_limit) × (index_of bytes settings.arch settings.essential ≡ Ok index)
-    → IsReportOn settings index output summary → IsReport settings bytes output summary
-report-on-text settings bytes index output summary reads on = record { index = index; within = reads.0; is_index = reads.1; is_report = on }
+-- ---- writing
 
-pub report-written : (settings : Settings) (text old new : Option (List ℕ)) (failed : Bool) (index : IndexView) (output : List ℕ) (summary : Summary) → ReadsAs settings text failed index
-    → IsReportOn settings index output summary → Appends old new output → WritesReport settings text old new summary
-report-written settings None old new failed index output summary reads on h = tt
-report-written settings (Some bytes) old new failed index output summary reads on h = (output, report-on-text settings bytes index output summary reads.1 on, h)
+-- a background that is not asked for has no bytes
+no_bytes : (told : Option (List ℕ)) → IfSome told (λ bytes. true ≡ false → bytes ≡ [])
+no_bytes None = tt
+no_bytes (Some bytes) = λ other. absurd cc
 
-pub front-written : (settings : Settings) (text old new : Option (List ℕ)) (failed : Bool) (index : IndexView) (output : List ℕ) (summary : Summary) → ReadsAs settings text failed index
-    → IsReportOn settings index output summary → AppendsPart old new output → WritesFront settings text old new
-front-written settings None old new failed index output summary reads on h = tt
-front-written settings (Some bytes) old new failed index output summary reads on h = (output, summary, report-on-text settings bytes index output summary reads.1 on, h)
+unread_if : (read : Bool) (background : Input) → IfSome (if read then background else input (Some []) false).text (λ bytes. read ≡ false → bytes ≡ [])
+unread_if true background = no_bytes background.text
+unread_if false background = λ unread. refl
+
+-- a report on the index is one on the texts
+reported : (settings : Settings) (first second : Option (List ℕ)) (index : IndexView) (output : List ℕ) (summary : Summary)
+    → IfSome first (λ bytes. length bytes ≤ byte_limit) → IfSome second (λ bytes. length bytes ≤ byte_limit) → IfSome second (λ bytes. settings.background ≡ false → bytes ≡ [])
+    → IfSome first (λ a. IfSome second (λ b. index_of_both a b settings.arch settings.essential ≡ Ok index)) → IsReportOn settings index output summary
+    → IfSome first (λ a. IfSome second (λ b. IsReport settings a b output summary))
+reported settings None second index output summary short small none is on = tt
+reported settings (Some a) None index output summary short small none is on = tt
+reported settings (Some a) (Some b) index output summary short small none is on = record { index = index; within = short; background_within = small; no_background = none; is_index = is; is_report = on }
+
+report-on-texts : (settings : Settings) (text background : Input) (index : IndexView) (output : List ℕ) (summary : Summary) → ReadsAs settings text background index → IsReportOn settings index output summary
+    → IfTold settings text background (λ bytes more. IsReport settings bytes more output summary)
+report-on-texts settings text background index output summary reads on =
+    reported settings text.text (behind settings background).text index output summary reads.0.0.1 reads.0.1.1 (unread_if settings.background background) reads.1 on
+
+pub report-written : (settings : Settings) (text background : Input) (old new : Option (List ℕ)) (index : IndexView) (output : List ℕ) (summary : Summary) → ReadsAs settings text background index
+    → IsReportOn settings index output summary → Appends old new output → WritesReport settings text background old new summary
+report-written settings text background old new index output summary reads on h =
+    told_weaker text.text (behind settings background).text (λ (a b : List ℕ). IsReport settings a b output summary)
+    (λ (a b : List ℕ). (output : List ℕ) × IsReport settings a b output summary × Appends old new output) (λ a b report. (output, report, h)) (report-on-texts settings text background index output summary reads on)
+
+pub front-written : (settings : Settings) (text background : Input) (old new : Option (List ℕ)) (index : IndexView) (output : List ℕ) (summary : Summary) → ReadsAs settings text background index
+    → IsReportOn settings index output summary → AppendsPart old new output → WritesFront settings text background old new
+front-written settings text background old new index output summary reads on h =
+    told_weaker text.text (behind settings background).text (λ (a b : List ℕ). IsReport settings a b output summary)
+    (λ (a b : List ℕ). (output : List ℕ) × (summary : Summary) × IsReport settings a b output summary × AppendsPart old new output) (λ a b report. (output, summary, report, h))
+    (report-on-texts settings text background index output summary reads on)

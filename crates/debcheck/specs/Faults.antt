@@ -5,14 +5,14 @@ use Rattle.deb_index.specs.declared.error.IndexError.TheVariants.{BadLine, Repea
 use Rattle.deb_index.specs.declared.error.IndexError.TheVariants as index
 use Rattle.deb_index.specs.Reading.{field_name}
 use Rattle.debcheck.specs.declared.fault.RunFault.{RunFault}
-use Rattle.debcheck.specs.declared.fault.RunFault.TheVariants.{Read, TooLong, Index, UnknownAsked, Memory, Write}
-use Rattle.debcheck.specs.declared.summary.Summary.{Summary}
+use Rattle.debcheck.specs.declared.fault.RunFault.TheVariants.{Read, TooLong, BackgroundRead, BackgroundTooLong, Index, Background, UnknownAsked, Memory, Write}
+use Rattle.deb_report.specs.declared.summary.Summary.{Summary}
 
 -- a fault of a stanza, with its number
 unfoldable pub stanza_text : ℕ → List ℕ → List ℕ
 stanza_text stanza what = codes "stanza " ++ decimal stanza ++ codes ": " ++ what
 
--- what is said of a fault of the text
+-- what is said of a fault of a text
 unfoldable pub index_fault_text : IndexError → List ℕ
 index_fault_text (BadLine stanza) = stanza_text stanza (codes "bad line")
 index_fault_text (RepeatedField stanza) = stanza_text stanza (codes "repeated field")
@@ -27,7 +27,10 @@ index_fault_text index.Memory = codes "out of memory"
 unfoldable pub fault_text : RunFault → List ℕ
 fault_text Read = codes "cannot read the index"
 fault_text TooLong = codes "the index is too long"
+fault_text BackgroundRead = codes "cannot read the background"
+fault_text BackgroundTooLong = codes "the background is too long"
 fault_text (Index fault) = index_fault_text fault
+fault_text (Background fault) = codes "background: " ++ index_fault_text fault
 fault_text (UnknownAsked name) = codes "unknown package " ++ name.items
 fault_text Memory = codes "out of memory"
 fault_text Write = codes "cannot write the report"
@@ -40,8 +43,11 @@ fault_line fault = codes "debcheck: " ++ fault_text fault ++ (10 ∷ [])
 abbrev pub status_of : Result Summary RunFault → ℕ
 status_of (Ok summary) = if summary.broken == 0 then 0 else 1
 status_of (Err (Index fault)) = 65
+status_of (Err (Background fault)) = 65
 status_of (Err (UnknownAsked name)) = 66
 status_of (Err Read) = 67
 status_of (Err TooLong) = 67
+status_of (Err BackgroundRead) = 67
+status_of (Err BackgroundTooLong) = 67
 status_of (Err Write) = 68
 status_of (Err Memory) = 69

@@ -1,6 +1,6 @@
 -- What a command line asks for.
-use Rattle.std.specs.Prelude.{◌≡◌, ◌≢◌, ℕ, ◌==◌, nat_le, Bool, true, false, not, ◌&&◌, ◌||◌, List, [], ◌∷◌, length, Some, codes, ◌++◌, Option, string_bytes}
-use Rattle.std.specs.Char.{is_ascii_alphanumeric, is_ascii_digit}
+use Rattle.std.specs.Prelude.{◌≡◌, ◌≢◌, ◌⊎◌, ℕ, ◌==◌, nat_le, Bool, true, false, not, ◌&&◌, ◌||◌, List, [], ◌∷◌, length, Some, None, codes, if◌then◌else◌, is_some, ◌++◌, Option, string_bytes}
+use Rattle.std.specs.Char.{is_ascii_digit}
 use Rattle.std.specs.List.{list_all, list_any, slice_split}
 use Rattle.std.specs.Option.{option_map, option_map_or, unwrap_or}
 use Rattle.std.specs.Str.{bytes_eq}
@@ -10,24 +10,29 @@ use Rattle.clap.specs.declared.builder.action.ArgAction.TheVariants as action
 use Rattle.clap.specs.declared.error.kind.ErrorKind.{ErrorKind}
 use Rattle.clap.specs.declared.error.kind.ErrorKind.TheVariants as kind
 use Rattle.deb_relation.specs.Relationship.{is_name}
-use Rattle.debcheck.specs.declared.config.Config.{Config}
-use Rattle.debcheck.specs.declared.config.Show.{Show}
-use Rattle.debcheck.specs.declared.config.Show.TheVariants.{All, Failures, Successes}
+use Rattle.deb_report.specs.declared.config.Config.{Config}
+use Rattle.deb_report.specs.declared.config.Format.{Format}
+use Rattle.deb_report.specs.declared.config.Format.TheVariants as form
+use Rattle.debcheck.specs.declared.line.TheConstants.{VERSION_LINE}
+use Rattle.deb_report.specs.declared.config.Show.{Show}
+use Rattle.deb_report.specs.declared.config.Show.TheVariants.{All, Failures, Successes}
 use Rattle.debcheck.specs.declared.line.LineFault.{LineFault}
 use Rattle.debcheck.specs.declared.line.LineFault.TheVariants.{Refused, Help, Memory}
 use Rattle.std.specs.Io.KnownBytes.{Appends}
 use Rattle.debcheck.specs.declared.fault.RunFault.TheVariants as run_fault
 use Rattle.debcheck.specs.Faults.{fault_line}
-use Rattle.debcheck.specs.Run.{Settings, settings_of, usual_settings}
+use Rattle.deb_report.specs.Settings.{Settings, is_architecture, settings_of, usual_settings}
 
 -- all that a configuration says
 pub record Request : Type 0 where
   pub settings : Settings
+  pub bg : Option Text
   pub workers : ℕ
   pub chunk : ℕ
+  pub quiet : Bool
 
 abbrev pub request_of : Config → Request
-request_of config = record { settings = settings_of config; workers = config.workers; chunk = config.chunk }
+request_of config = record { settings = settings_of config; bg = option_map string_bytes config.bg; workers = config.workers; chunk = config.chunk; quiet = config.quiet }
 
 -- ---- the options
 
@@ -42,15 +47,21 @@ flag_rule name = record (new_rule name) { long = Some name; action = Some action
 abbrev pub help_rule : Rule
 help_rule = record (new_rule (codes "help")) { long = Some (codes "help"); action = Some action.Help }
 
--- the architecture has to be said, the numbers have usual values
-abbrev pub first_rules : List Rule
-first_rules = record (value_rule (codes "arch")) { required = true }
+abbrev pub version_rule : Rule
+version_rule = record (new_rule (codes "version")) { long = Some (codes "version"); action = Some action.Version }
+
+-- the architecture has to be said, the report's form and the numbers have usual values
+abbrev pub value_rules : List Rule
+value_rules = record (value_rule (codes "arch")) { required = true }
+    ∷ value_rule (codes "bg")
+    ∷ value_rule (codes "checkonly")
+    ∷ record (value_rule (codes "format")) { defaults = codes "text" ∷ [] }
     ∷ record (value_rule (codes "workers")) { defaults = codes "4" ∷ [] }
     ∷ record (value_rule (codes "chunk")) { defaults = codes "64" ∷ [] } ∷ []
 
 abbrev pub other_rules : List Rule
-other_rules = flag_rule (codes "explain") ∷ flag_rule (codes "failures") ∷ flag_rule (codes "successes") ∷ flag_rule (codes "ignore-essential")
-    ∷ value_rule (codes "checkonly") ∷ help_rule ∷ []
+other_rules = flag_rule (codes "explain") ∷ flag_rule (codes "failures") ∷ flag_rule (codes "successes") ∷ flag_rule (codes "causes") ∷ flag_rule (codes "ignore-essential")
+    ∷ flag_rule (codes "quiet") ∷ help_rule ∷ version_rule ∷ []
 
 -- the program's command with these options, whose words come without the program's name
 abbrev pub app_with : List Rule → App
@@ -59,21 +70,9 @@ app_with rules = let new = new_app (codes "debcheck") in
 
 -- each option has its long name alone
 abbrev pub line_app : App
-line_app = app_with (first_rules ++ other_rules)
+line_app = app_with (value_rules ++ other_rules)
 
 -- ---- the values
-
--- the bytes of an architecture
-abbrev pub is_architecture_byte : ℕ → Bool
-is_architecture_byte b = is_ascii_alphanumeric b || b == 45
-
--- what is no architecture, though its bytes may be: the empty text, and the words for all and for any of them
-abbrev pub is_excluded : List ℕ → Bool
-is_excluded text = length text == 0 || bytes_eq text (codes "all") || bytes_eq text (codes "any")
-
--- an architecture is made of letters, digits and `-`, and neither `all` nor `any` is one
-abbrev pub is_architecture : List ℕ → Bool
-is_architecture text = not (is_excluded text) && list_all is_architecture_byte text
 
 -- decimal digits of a number from 1 to this one
 abbrev pub is_count : ℕ → List ℕ → Bool
@@ -95,12 +94,22 @@ is_set name rows = option_map_or (λ value. bytes_eq value (codes "true")) (firs
 abbrev pub has_good_names : List Row → Bool
 has_good_names rows = option_map_or (λ text. list_all is_name (names_in text)) (first_of (codes "checkonly") rows) true
 
+-- the background's file, where there is one, has a name
+abbrev pub has_good_background : List Row → Bool
+has_good_background rows = option_map_or (λ file. not (length file == 0)) (first_of (codes "bg") rows) true
+
+-- the form of the report that a word names
+abbrev pub format_of : List ℕ → Option Format
+format_of text = if bytes_eq text (codes "text") then Some form.Text else (if bytes_eq text (codes "json") then Some form.Json else None)
+
 -- the values are of their forms
 abbrev pub has_good_values : List Row → Bool
 has_good_values rows = is_architecture (value_of (codes "arch") rows)
     && is_count 64 (value_of (codes "workers") rows)
     && is_count 1000000 (value_of (codes "chunk") rows)
     && has_good_names rows
+    && has_good_background rows
+    && is_some (format_of (value_of (codes "format") rows))
 
 -- which packages are shown, by whether failures and successes are asked for: all for both or neither
 abbrev pub show_of : Bool → Bool → Show
@@ -117,22 +126,27 @@ asked_by rows = record {
     show = show_of (is_set (codes "failures") rows) (is_set (codes "successes") rows);
     essential = not (is_set (codes "ignore-essential") rows);
     only = option_map names_in (first_of (codes "checkonly") rows);
+    background = is_some (first_of (codes "bg") rows);
+    causes = is_set (codes "causes") rows;
+    format = unwrap_or (format_of (value_of (codes "format") rows)) form.Text;
   };
+  bg = first_of (codes "bg") rows;
   workers = digits_value 10 (value_of (codes "workers") rows);
   chunk = digits_value 10 (value_of (codes "chunk") rows);
+  quiet = is_set (codes "quiet") rows;
 }
 
 -- ---- the line
 
 -- the request where nothing is said
 abbrev pub usual_request : Request
-usual_request = record { settings = usual_settings; workers = 4; chunk = 64 }
+usual_request = record { settings = usual_settings; bg = None; workers = 4; chunk = 64; quiet = false }
 
 -- the options that the words give, by the conventions of long options
 unfoldable pub line_rows : List Text → List Row
 line_rows words = matches_of line_app words
 
--- what is wrong with the words, by these conventions; help counts as wrong
+-- what is wrong with the words, by these conventions; to ask for help or the version counts as wrong
 unfoldable pub line_faults : List Text → List ErrorKind
 line_faults words = fault_of line_app words
 
@@ -140,8 +154,19 @@ abbrev pub is_help : ErrorKind → Bool
 is_help kind.DisplayHelp = true
 is_help _ = false
 
+abbrev pub is_version : ErrorKind → Bool
+is_version kind.DisplayVersion = true
+is_version _ = false
+
 abbrev pub asks_help : List Text → Bool
 asks_help words = list_any is_help (line_faults words)
+
+abbrev pub asks_version : List Text → Bool
+asks_version words = list_any is_version (line_faults words)
+
+-- the name of the program and its version
+abbrev pub version_line : List ℕ
+version_line = VERSION_LINE.now
 
 -- the words are options with values of their forms
 abbrev pub is_accepted : List Text → Bool
@@ -149,7 +174,7 @@ is_accepted words = length (line_faults words) == 0 && has_good_values (line_row
 
 -- a word is wrong, or a value isn't of its form
 abbrev pub is_refused : List Text → Bool
-is_refused words = list_any (λ k. not (is_help k)) (line_faults words)
+is_refused words = list_any (λ k. not (is_help k || is_version k)) (line_faults words)
     || (length (line_faults words) == 0 && not (has_good_values (line_rows words)))
 
 -- the configuration is what the words ask for; no words ask for the usual one
@@ -157,14 +182,14 @@ abbrev pub Accepts : List Text → Config → Type 0
 Accepts [] config = request_of config ≡ usual_request
 Accepts (word ∷ words) config = (is_accepted (word ∷ words) ≡ true) × (request_of config ≡ asked_by (line_rows (word ∷ words)))
 
--- why the words give no configuration
+-- why the words give no configuration. A text for the output is that of help, or it is the version's line
 abbrev pub RefusesLine : List Text → LineFault → Type 0
 RefusesLine [] fault = fault ≡ Memory
 RefusesLine (word ∷ words) (Refused text) = is_refused (word ∷ words) ≡ true
-RefusesLine (word ∷ words) (Help text) = asks_help (word ∷ words) ≡ true
+RefusesLine (word ∷ words) (Help text) = (asks_help (word ∷ words) ≡ true) ⊎ ((asks_version (word ∷ words) ≡ true) × (string_bytes text ≡ version_line))
 RefusesLine (word ∷ words) Memory = Unit {0}
 
--- a refusal of a value, and no answer to help
+-- a refusal of a value, and no text for the output
 abbrev pub IsRefusal : LineFault → Type 0
 IsRefusal (Refused text) = Unit {0}
 IsRefusal (Help text) = ⊥
@@ -178,8 +203,8 @@ RefusesUnless good Memory = Unit {0}
 
 -- what an error of this kind comes to
 abbrev pub IsFaultOf : ErrorKind → LineFault → Type 0
-IsFaultOf k (Refused text) = (is_help k ≡ false) × (k ≢ kind.OutOfMemory)
-IsFaultOf k (Help text) = is_help k ≡ true
+IsFaultOf k (Refused text) = ((is_help k || is_version k) ≡ false) × (k ≢ kind.OutOfMemory)
+IsFaultOf k (Help text) = (is_help k ≡ true) ⊎ ((is_version k ≡ true) × (string_bytes text ≡ version_line))
 IsFaultOf k Memory = k ≡ kind.OutOfMemory
 
 -- the exit status where there is no configuration
@@ -188,7 +213,7 @@ line_status_of (Refused text) = 64
 line_status_of (Help text) = 0
 line_status_of Memory = 69
 
--- where the text on a fault of the line goes: help to the output, all else to the errors
+-- where the text on a fault of the line goes: help and the version to the output, all else to the errors
 abbrev pub TellsLine : LineFault → Option (List ℕ) → Option (List ℕ) → Option (List ℕ) → Option (List ℕ) → Type 0
 TellsLine (Help text) output now errors later = Appends output now (string_bytes text)
 TellsLine (Refused text) output now errors later = Appends errors later (string_bytes text)

@@ -1,37 +1,20 @@
 -- What a run answers and writes.
-use Rattle.std.specs.Prelude.{◌≡◌, ◌≢◌, ℕ, ◌+◌, ◌<◌, ◌≤◌, Bool, false, true, List, Option, None, Ok, Err, IfSome, length, map, string_bytes, codes}
-use Rattle.std.specs.Option.{option_map}
+use Rattle.std.specs.Prelude.{◌≡◌, ◌≢◌, ℕ, ◌+◌, ◌<◌, ◌≤◌, Bool, false, true, List, [], Option, Some, Ok, Err, IfSome, if◌then◌else◌, length}
 use Rattle.std.specs.Io.KnownBytes.{Appends, Consumes, Keeps}
 use Rattle.deb_index.specs.Packages.{IndexView}
-use Rattle.deb_index.specs.Reading.{byte_limit, index_of}
+use Rattle.deb_index.specs.Reading.{byte_limit, index_of, index_of_both}
 use Rattle.deb_verdict.specs.Verdicts.{IsVerdict, VerdictView}
 use Rattle.work_draw.specs.Checks.{AnswersEach}
+use Rattle.deb_index.specs.declared.error.BothError.TheVariants.{Back}
 use Rattle.deb_index.specs.declared.error.IndexError.TheVariants as index_error
-use Rattle.debcheck.specs.declared.config.Config.{Config}
-use Rattle.debcheck.specs.declared.config.Show.{Show}
-use Rattle.debcheck.specs.declared.config.Show.TheVariants.{All}
 use Rattle.debcheck.specs.declared.fault.RunFault.{RunFault}
-use Rattle.debcheck.specs.declared.fault.RunFault.TheVariants.{Read, TooLong, Index, UnknownAsked, Memory, Write}
-use Rattle.debcheck.specs.declared.summary.Summary.{Summary}
-use Rattle.debcheck.specs.Asked.{asked_places}
+use Rattle.debcheck.specs.declared.fault.RunFault.TheVariants.{Read, TooLong, BackgroundRead, BackgroundTooLong, Index, Background, UnknownAsked, Memory, Write}
+use Rattle.deb_report.specs.declared.summary.Summary.{Summary}
+use Rattle.deb_report.specs.Asked.{asked_places}
 use Rattle.debcheck.specs.Devices.{AppendsPart}
-use Rattle.debcheck.specs.Report.{report_text, summary_of}
-
--- what a report depends on: the architecture, what is shown, whether names may be essential, and the names that are asked; not how the work is dealt out
-pub record Settings : Type 0 where
-  pub arch : List ℕ
-  pub explain : Bool
-  pub show : Show
-  pub essential : Bool
-  pub only : Option (List (List ℕ))
-
--- the settings that a report depends on
-abbrev pub settings_of : Config → Settings
-settings_of config = record { arch = string_bytes config.arch; explain = config.explain; show = config.show; essential = config.essential; only = option_map (λ names. map (λ name. name.items) names.items) config.only }
-
--- the settings where nothing is said
-abbrev pub usual_settings : Settings
-usual_settings = record { arch = codes "amd64"; explain = true; show = All; essential = true; only = None }
+use Rattle.deb_report.specs.Report.{summary_of}
+use Rattle.deb_report.specs.Settings.{Settings}
+use Rattle.deb_report.specs.Written.{written_report}
 
 -- the report on an index, with its numbers
 pub record IsReportOn (settings : Settings) (index : IndexView) (output : List ℕ) (summary : Summary) : Type 0 where
@@ -39,31 +22,73 @@ pub record IsReportOn (settings : Settings) (index : IndexView) (output : List �
   pub verdicts : List VerdictView
   pub is_asked : asked_places index settings.only ≡ Ok asked
   pub are_verdicts : AnswersEach (IsVerdict index) asked verdicts
-  pub is_output : output ≡ report_text index asked verdicts settings.explain settings.show
+  pub is_output : output ≡ written_report settings index asked verdicts
   pub is_summary : summary ≡ summary_of index asked verdicts
 
--- the report on a text, with its numbers
-pub record IsReport (settings : Settings) (text output : List ℕ) (summary : Summary) : Type 0 where
+-- the report on a text and on the background behind it, with its numbers; a background that is not asked for has no bytes
+pub record IsReport (settings : Settings) (text background output : List ℕ) (summary : Summary) : Type 0 where
   pub index : IndexView
   pub within : length text ≤ byte_limit
-  pub is_index : index_of text settings.arch settings.essential ≡ Ok index
+  pub background_within : length background ≤ byte_limit
+  pub no_background : settings.background ≡ false → background ≡ []
+  pub is_index : index_of_both text background settings.arch settings.essential ≡ Ok index
   pub is_report : IsReportOn settings index output summary
 
--- where the text is told, its report was added
-abbrev pub WritesReport : Settings → Option (List ℕ) → Option (List ℕ) → Option (List ℕ) → Summary → Type 0
-WritesReport settings text old new summary = IfSome text (λ bytes. (output : List ℕ) × IsReport settings bytes output summary × Appends old new output)
+-- ---- what is read
 
--- where the text is told, the front of its report was added
-abbrev pub WritesFront : Settings → Option (List ℕ) → Option (List ℕ) → Option (List ℕ) → Type 0
-WritesFront settings text old new = IfSome text (λ bytes. (output : List ℕ) × (summary : Summary) × IsReport settings bytes output summary × AppendsPart old new output)
+-- what is known of a reader: the bytes that were left in it at the call, where it tells them, and whether a read of it has failed
+pub record Input : Type 0 where
+  pub text : Option (List ℕ)
+  pub failed : Bool
 
--- the text was read: no read failed, and where it is told, it is within the limit and has this property
-abbrev pub IfRead : Option (List ℕ) → Bool → (List ℕ → Type 0) → Type 0
-IfRead text failed P = (failed ≡ false) × IfSome text (λ bytes. (length bytes ≤ byte_limit) × P bytes)
+abbrev pub input : Option (List ℕ) → Bool → Input
+input text failed = record { text = text; failed = failed }
 
--- it was read, and is accepted as an index with this property
-abbrev pub IfIndexed : Settings → Option (List ℕ) → Bool → (IndexView → Type 0) → Type 0
-IfIndexed settings text failed P = IfRead text failed (λ bytes. (index : IndexView) × (index_of bytes settings.arch settings.essential ≡ Ok index) × P index)
+-- what is read behind the index: the background, where one is asked for; else no bytes, and no read fails
+abbrev pub behind : Settings → Input → Input
+behind settings background = if settings.background then background else input (Some []) false
+
+-- all of it was read: no read failed, and where its bytes are told, they are within the limit
+abbrev pub IsRead : Input → Type 0
+IsRead source = (source.failed ≡ false) × IfSome source.text (λ bytes. length bytes ≤ byte_limit)
+
+-- it was read, as these bytes
+abbrev pub IsReadAs : Input → List ℕ → Type 0
+IsReadAs source bytes = (source.failed ≡ false) × IfSome source.text (λ told. told ≡ bytes) × (length bytes ≤ byte_limit)
+
+-- no read failed, and where its bytes are told, they are more than the limit
+abbrev pub IsTooLong : Input → Type 0
+IsTooLong source = (source.failed ≡ false) × IfSome source.text (λ bytes. byte_limit < length bytes)
+
+-- both were read
+abbrev pub AreRead : Settings → Input → Input → Type 0
+AreRead settings text background = IsRead text × IsRead (behind settings background)
+
+-- where the bytes of both are told, they have this property
+abbrev pub IfTold : Settings → Input → Input → (List ℕ → List ℕ → Type 0) → Type 0
+IfTold settings text background P = IfSome text.text (λ bytes. IfSome (behind settings background).text (P bytes))
+
+-- both were read, and are accepted as an index with this property
+abbrev pub IfIndexed : Settings → Input → Input → (IndexView → Type 0) → Type 0
+IfIndexed settings text background P = AreRead settings text background
+    × IfTold settings text background (λ bytes more. (index : IndexView) × (index_of_both bytes more settings.arch settings.essential ≡ Ok index) × P index)
+
+-- both were read, as this index
+abbrev pub ReadsAs : Settings → Input → Input → IndexView → Type 0
+ReadsAs settings text background index = AreRead settings text background
+    × IfTold settings text background (λ bytes more. index_of_both bytes more settings.arch settings.essential ≡ Ok index)
+
+-- ---- what is written
+
+-- where the texts are told, their report was added
+abbrev pub WritesReport : Settings → Input → Input → Option (List ℕ) → Option (List ℕ) → Summary → Type 0
+WritesReport settings text background old new summary = IfTold settings text background (λ bytes more. (output : List ℕ) × IsReport settings bytes more output summary × Appends old new output)
+
+-- where the texts are told, the front of their report was added
+abbrev pub WritesFront : Settings → Input → Input → Option (List ℕ) → Option (List ℕ) → Type 0
+WritesFront settings text background old new = IfTold settings text background (λ bytes more. (output : List ℕ) × (summary : Summary) × IsReport settings bytes more output summary × AppendsPart old new output)
+
+-- ---- why there is no report
 
 -- why reading ends without a text, by the reader's marks before and after: a read failed; or none did, and there were more bytes than the limit, or memory was wanted
 abbrev pub FailsToRead : Option (List ℕ) → Bool → Bool → ℕ → RunFault → Type 0
@@ -77,10 +102,39 @@ abbrev pub ReadsOneOver : ℕ → Option (List ℕ) → Option (List ℕ) → Ru
 ReadsOneOver limit old new TooLong = (bytes : List ℕ) × (length bytes ≡ limit + 1) × Consumes old new bytes
 ReadsOneOver limit old new _ = Unit {0}
 
--- why there is no index: reading ended without a text, or the text has a fault
-abbrev pub FailsToIndex : Settings → Option (List ℕ) → Bool → RunFault → Type 0
-FailsToIndex settings text failed (Index fault) = (fault ≢ index_error.Memory) × IfRead text failed (λ bytes. index_of bytes settings.arch settings.essential ≡ Err fault)
-FailsToIndex settings text failed fault = FailsToRead text false failed byte_limit fault
+-- why what stands behind the index is not read
+abbrev pub FailsToReadBehind : Input → RunFault → Type 0
+FailsToReadBehind source BackgroundRead = source.failed ≡ true
+FailsToReadBehind source BackgroundTooLong = IsTooLong source
+FailsToReadBehind source Memory = source.failed ≡ false
+FailsToReadBehind source _ = ⊥
+
+-- why there is no index, in the order in which one cause goes before another: a read of the text failed, or it is too long; it was read, and a read of the background failed, or that is too long; both were read, and
+-- the text has a fault; or it has none, and the background that was asked for has one. Where memory was wanted, no read had failed
+abbrev pub FailsToIndex : Settings → Input → Input → RunFault → Type 0
+FailsToIndex settings text background Read = text.failed ≡ true
+FailsToIndex settings text background TooLong = IsTooLong text
+FailsToIndex settings text background BackgroundRead = IsRead text × ((behind settings background).failed ≡ true)
+FailsToIndex settings text background BackgroundTooLong = IsRead text × IsTooLong (behind settings background)
+FailsToIndex settings text background (Index fault) = (fault ≢ index_error.Memory) × AreRead settings text background
+    × IfSome text.text (λ bytes. index_of bytes settings.arch settings.essential ≡ Err fault)
+FailsToIndex settings text background (Background fault) = (settings.background ≡ true) × (fault ≢ index_error.Memory) × AreRead settings text background
+    × IfTold settings text background (λ bytes more. index_of_both bytes more settings.arch settings.essential ≡ Err (Back fault))
+FailsToIndex settings text background Memory = (text.failed ≡ false) × ((behind settings background).failed ≡ false)
+FailsToIndex settings text background _ = ⊥
+
+-- the fault is one of the background
+abbrev pub is_of_background : RunFault → Bool
+is_of_background BackgroundRead = true
+is_of_background BackgroundTooLong = true
+is_of_background (Background fault) = true
+is_of_background _ = false
+
+-- the index itself was not read
+abbrev pub is_unread : RunFault → Bool
+is_unread Read = true
+is_unread TooLong = true
+is_unread _ = false
 
 -- why there is no report on an index: an asked name is unknown, or memory was wanted
 abbrev pub FailsToReport : Settings → IndexView → RunFault → Type 0
@@ -88,17 +142,17 @@ FailsToReport settings index (UnknownAsked name) = asked_places index settings.o
 FailsToReport settings index Memory = Unit {0}
 FailsToReport settings index _ = ⊥
 
--- each asked name is one of a package of the index
+-- each asked name is one of a package of the foreground
 abbrev pub HasAsked : Settings → IndexView → Type 0
 HasAsked settings index = (asked : List ℕ) × (asked_places index settings.only ≡ Ok asked)
 
 -- why a run fails: there is no index; or there is one, and an asked name is unknown; or all are known, and the writer failed. Where memory was wanted, no read had failed
-abbrev pub Fails : Settings → Option (List ℕ) → Bool → Bool → RunFault → Type 0
-Fails settings text read_failed write_failed (UnknownAsked name) = IfIndexed settings text read_failed (λ index. FailsToReport settings index (UnknownAsked name))
-Fails settings text read_failed write_failed Write = (write_failed ≡ true) × IfIndexed settings text read_failed (HasAsked settings)
-Fails settings text read_failed write_failed fault = FailsToIndex settings text read_failed fault
+abbrev pub Fails : Settings → Input → Input → Bool → RunFault → Type 0
+Fails settings text background write_failed (UnknownAsked name) = IfIndexed settings text background (λ index. FailsToReport settings index (UnknownAsked name))
+Fails settings text background write_failed Write = (write_failed ≡ true) × IfIndexed settings text background (HasAsked settings)
+Fails settings text background write_failed fault = FailsToIndex settings text background fault
 
 -- what a failed run leaves written: the front of the report where writing failed, else nothing
-abbrev pub Leaves : Settings → Option (List ℕ) → Option (List ℕ) → Option (List ℕ) → RunFault → Type 0
-Leaves settings text old new Write = WritesFront settings text old new
-Leaves settings text old new _ = Keeps old new
+abbrev pub Leaves : Settings → Input → Input → Option (List ℕ) → Option (List ℕ) → RunFault → Type 0
+Leaves settings text background old new Write = WritesFront settings text background old new
+Leaves settings text background old new _ = Keeps old new

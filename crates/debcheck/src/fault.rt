@@ -5,8 +5,8 @@ ghost use Rattle.deb_index.specs.Reading.{field_name};
 ghost use Rattle.debcheck.specs.Faults.{fault_line, fault_text, index_fault_text, stanza_text, status_of};
 ghost use Rattle.debcheck.specs.declared.fault.RunFault.TheVariants.{Memory};
 
-use crate::summary::Summary;
 use deb_index::{IndexError, RelField};
+use deb_report::Summary;
 use std::alloc::{AllocError, AllocFailed, Global};
 use thiserror::Error;
 
@@ -19,10 +19,19 @@ pub enum RunFault {
     /// The text has more than `deb_index::TEXT_LIMIT` bytes.
     #[error("the index is too long")]
     TooLong,
-    /// A stanza has a fault: the first that has one. Never want of memory, which is `Memory`.
+    /// The reader of the background failed.
+    #[error("cannot read the background")]
+    BackgroundRead,
+    /// The background has more than `deb_index::TEXT_LIMIT` bytes.
+    #[error("the background is too long")]
+    BackgroundTooLong,
+    /// A stanza of the index has a fault: the first that has one. Never want of memory, which is `Memory`.
     #[error("{0}")]
     Index(IndexError),
-    /// No package of the index has this name: the first such name of those that were asked.
+    /// A stanza of the background has a fault: the first that has one, counted from 1 in the background. Never want of memory.
+    #[error("background: {0}")]
+    Background(IndexError),
+    /// No package of the index has this name, whatever the background has: the first such name of those that were asked.
     #[error("unknown package")]
     UnknownAsked { name: Vec<u8> },
     /// Some growth was refused.
@@ -49,16 +58,17 @@ impl<T: Drop> From<AllocFailed<T>> for RunFault {
     }
 }
 
-/// The exit status of a run: 0 where all asked packages can be installed, 1 where some cannot, 65 for a fault of the text, 66 for an unknown
-/// name, 67 where reading failed or the text is too long, 68 where writing failed, 69 for want of memory.
+/// The exit status of a run: 0 where all asked packages can be installed, 1 where some cannot, 65 for a fault of a text, 66 for an unknown
+/// name, 67 where reading failed or a text is too long, 68 where writing failed, 69 for want of memory.
 pub fn status(outcome: &Result<Summary, RunFault>) -> u8
     ensures { result ≡ status_of outcome.now }
 {
     match outcome {
         Ok(summary) => u8::from(summary.broken != 0),
-        Err(RunFault::Index(_)) => 65,
+        Err(RunFault::Index(_) | RunFault::Background(_)) => 65,
         Err(RunFault::UnknownAsked { .. }) => 66,
         Err(RunFault::Read | RunFault::TooLong) => 67,
+        Err(RunFault::BackgroundRead | RunFault::BackgroundTooLong) => 67,
         Err(RunFault::Write) => 68,
         Err(RunFault::Memory) => 69,
     }
@@ -117,7 +127,14 @@ fn push_fault(alloc: Global, out: &mut Vec<u8>, fault: &RunFault) -> Result<(), 
     match fault {
         RunFault::Read => out.extend_from_slice(b"cannot read the index"),
         RunFault::TooLong => out.extend_from_slice(b"the index is too long"),
+        RunFault::BackgroundRead => out.extend_from_slice(b"cannot read the background"),
+        RunFault::BackgroundTooLong => out.extend_from_slice(b"the background is too long"),
         RunFault::Index(fault) => push_index_fault(alloc, out, fault),
+        RunFault::Background(fault) => {
+            out.extend_from_slice(b"background: ")?;
+            push_index_fault(alloc, out, fault)?;
+            Ok(())
+        }
         RunFault::UnknownAsked { name } => {
             out.extend_from_slice(b"unknown package ")?;
             out.extend_from_slice(name.as_slice())?;
@@ -136,7 +153,7 @@ pub(crate) fn memory_line() -> &'static [u8]
     b"debcheck: out of memory\n"
 }
 
-/// The line of a fault for standard error: `debcheck: `, what it is, and LF. Stanzas count from 1.
+/// The line of a fault for standard error: `debcheck: `, what it is, and LF. Stanzas count from 1 in each text.
 ///
 /// `AllocError` where there is no memory for it.
 #[tactic(auto, unfolding(crate::specs::Faults::fault_line))]

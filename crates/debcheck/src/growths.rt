@@ -2,23 +2,18 @@
 
 ghost use Rattle.std.specs.Prelude.{◌≡◌, ◌<◌, ◌≤◌, IfOk, false};
 
-use crate::asked::asked_places;
-use crate::config::{Config, Show};
 use crate::fault::{RunFault, fault_line, status};
 use crate::input::read_all;
-use crate::layout::report;
 use crate::line::{LineFault, line_status, read_line};
 use crate::output::write_fault;
 use crate::phases::run;
-use crate::summary::Summary;
 use crate::tests::line::{is_plain, words_of};
-use crate::tests::{EMPTY, Held, named, sink_of, source_of};
-use deb_index::{Index, TEXT_LIMIT};
+use crate::tests::{EMPTY, Held, sink_of, source_of};
+use deb_report::{Config, Summary};
 use std::alloc::{AllocError, Global};
 use std::process::Abort;
 use std::test::Fail;
-use std::thread::Threads;
-use work_draw::{OpenGate, check_all};
+use work_draw::OpenGate;
 
 /// Three bytes where three are allowed, one more, and a reader that fails.
 #[test]
@@ -116,6 +111,7 @@ fn of_run(rt: HostRuntime) -> Result<(), Fail> {
         rt.alloc(),
         &config,
         &mut nothing,
+        &mut source_of(b"", 1),
         &mut output,
         &OpenGate,
     );
@@ -133,6 +129,7 @@ fn of_run_with_a_failing_writer(rt: HostRuntime) -> Result<(), Fail> {
         rt.alloc(),
         &config,
         &mut nothing,
+        &mut source_of(b"", 1),
         &mut output,
         &OpenGate,
     );
@@ -142,151 +139,6 @@ fn of_run_with_a_failing_writer(rt: HostRuntime) -> Result<(), Fail> {
     assert_eq!(rt; output.bytes.as_slice(), b"arch".as_slice());
     assert_eq!(rt; status(&outcome), 68);
     Ok(())
-}
-
-const ONE: &[u8] = b"Package: a
-Version: 1
-Architecture: amd64";
-
-const TWO_NEEDED: &[u8] = b"Package: a
-Version: 1
-Architecture: all
-Depends: b, c
-
-Package: b
-Version: 1
-Architecture: all
-Conflicts: c
-
-Package: c
-Version: 1
-Architecture: all
-";
-
-// The places of the listed names, or the name that is unknown.
-fn expect_asked(
-    rt: &(impl Abort + AllocGlobal),
-    index: &Index,
-    names: &[&[u8]],
-    places: &[u32],
-    unknown: &[u8],
-) -> Result<(), Fail> {
-    let mut config = Config::usual(rt.alloc())?;
-    config.only = Some(named(rt.alloc(), names)?);
-    match asked_places(rt.alloc(), index, &config) {
-        Ok(asked) => {
-            assert!(rt; unknown.is_empty());
-            assert_eq!(rt; asked.as_slice(), places);
-        }
-        Err(RunFault::UnknownAsked { name }) => assert_eq!(rt; name.as_slice(), unknown),
-        Err(RunFault::Memory) => return Err(Fail::new("out of memory")),
-        Err(_) => assert!(rt; false, "no fault of the asked names"),
-    }
-    Ok(())
-}
-
-// The same of the index of a text.
-fn expect_asked_of(
-    rt: &(impl Abort + AllocGlobal),
-    text: &[u8],
-    names: &[&[u8]],
-    places: &[u32],
-    unknown: &[u8],
-) -> Result<(), Fail> {
-    assert!(rt; text.len() <= TEXT_LIMIT);
-    let index = Index::read(rt.alloc(), text, "amd64", true)?;
-    expect_asked(rt, &index, names, places, unknown)
-}
-
-/// Two of three names, one of them twice, and a name that is unknown.
-#[test]
-fn of_asked_places(rt: HostRuntime) -> Result<(), Fail> {
-    expect_asked_of(&rt, TWO_NEEDED, &[b"b", b"a", b"b"], &[0, 1], b"")?;
-    expect_asked_of(&rt, ONE, &[b"zz"], &[], b"zz")
-}
-
-const CHAIN: &[u8] = b"Package: a
-Version: 1
-Architecture: all
-Depends: b
-
-Package: b
-Version: 1
-Architecture: all
-Depends: c (>= 2)
-
-Package: c
-Version: 1
-Architecture: all
-";
-
-const CHAIN_HEAD: &str = "architecture: amd64
-report:
-";
-
-const CHAIN_BROKEN: &str = " -
-  package: a
-  version: 1
-  architecture: all
-  status: broken
-  reasons:
-   - depends: a 1 Depends: b
-   - missing: b 1 Depends: c (>= 2)
- -
-  package: b
-  version: 1
-  architecture: all
-  status: broken
-  reasons:
-   - missing: b 1 Depends: c (>= 2)
-";
-
-const CHAIN_OK: &str = " -
-  package: c
-  version: 1
-  architecture: all
-  status: ok
-  installation-set:
-   - c 1
-";
-
-const CHAIN_TAIL: &str = "stanzas: 3
-skipped: 0
-duplicates: 0
-asked: 3
-broken: 2
-";
-
-// The report on all three packages with these blocks.
-fn expect_shown(
-    rt: &(impl Abort + Threads + Sync + AllocGlobal),
-    index: &Index,
-    show: Show,
-    broken: &str,
-    ok: &str,
-) -> Result<(), Fail> {
-    let mut config = Config::usual(rt.alloc())?;
-    config.show = show;
-    let asked = asked_places(rt.alloc(), index, &config)?;
-    let asked = asked.as_slice();
-    let verdicts = check_all(rt, rt.alloc(), index, asked, 2, 1, &OpenGate)?;
-    let wanted = format!(in rt.alloc(); "{CHAIN_HEAD}{broken}{ok}{CHAIN_TAIL}")?;
-    match report(rt.alloc(), index, asked, verdicts.as_slice(), &config) {
-        Ok(text) => {
-            assert_eq!(rt; text.as_slice(), wanted.as_bytes());
-            Ok(())
-        }
-        Err(AllocError) => Err(Fail::new("out of memory")),
-    }
-}
-
-/// Broken packages alone, the others alone, and all.
-#[test]
-fn of_report(rt: HostRuntime) -> Result<(), Fail> {
-    let index = Index::read(rt.alloc(), CHAIN, "amd64", true)?;
-    expect_shown(&rt, &index, Show::Failures, CHAIN_BROKEN, "")?;
-    expect_shown(&rt, &index, Show::Successes, "", CHAIN_OK)?;
-    expect_shown(&rt, &index, Show::All, CHAIN_BROKEN, CHAIN_OK)
 }
 
 #[test]
@@ -316,20 +168,6 @@ fn of_write_fault(rt: HostRuntime) -> Result<(), Fail> {
     let wanted = b"debcheck: out of memory\n";
     assert_eq!(rt; errors.bytes.as_slice(), wanted.as_slice());
     Err(Fail::new("out of memory"))
-}
-
-#[test]
-fn of_usual(rt: HostRuntime) -> Result<(), Fail> {
-    match Config::usual(rt.alloc()) {
-        Ok(mut config) => {
-            assert!(rt; config.explain);
-            assert!(rt; config.arch.as_str() == "amd64");
-            config.explain = false;
-            assert!(rt; is_plain(&config));
-            Ok(())
-        }
-        Err(AllocError) => Err(Fail::new("out of memory")),
-    }
 }
 
 // The line is taken, with the usual settings but for explanations, or it is refused.

@@ -1,18 +1,32 @@
 //! Laws of the definitions: functions without work, whose contracts say what holds.
 
-ghost use Rattle.std.specs.Prelude.{◌≡◌, ℕ, List, Some, false};
+ghost use Rattle.std.specs.Prelude.{◌≡◌, ℕ, Bool, List, Ok, Some, false};
+ghost use Rattle.deb_index.specs.Packages.{IndexView};
+ghost use Rattle.deb_index.specs.Reading.{index_of};
+ghost use Rattle.deb_report.specs.declared.summary.Summary.{Summary};
+ghost use Rattle.deb_report.specs.Settings.{Settings};
 ghost use Rattle.debcheck.specs.declared.fault.RunFault.{RunFault};
-ghost use Rattle.debcheck.specs.declared.summary.Summary.{Summary};
-ghost use Rattle.debcheck.specs.Run.{Fails, IsReport, Settings};
+ghost use Rattle.debcheck.specs.Run.{Fails, Input, IsReport, IsReportOn, input, is_of_background};
 
-/// Where a text has a report under these settings and no device failed, a run on it is refused for want of memory alone.
+pub use deb_report::laws::{causes_have_reasons, plain_texts};
+
+/// Where a text and its background have a report under these settings and no device failed, a run on them is refused for want of memory alone.
 pub fn refused_for_memory()
-    ensures { (settings : Settings) (text output : List ℕ) (summary : Summary) (fault : RunFault) → IsReport settings text output summary → Fails settings (Some text) false false fault → fault ≡ RunFault.Memory }
+    ensures { (settings : Settings) (text background output : List ℕ) (summary : Summary) (fault : RunFault) → IsReport settings text background output summary
+        → Fails settings (input (Some text) false) (input (Some background) false) false fault → fault ≡ RunFault.Memory }
 {}
 
-/// A text has at most one report under the same settings, and one set of numbers.
+/// A text and its background have at most one report under the same settings, and one set of numbers.
 pub fn one_report()
-    ensures { (settings : Settings) (text a b : List ℕ) (m n : Summary) → IsReport settings text a m → IsReport settings text b n → (a ≡ b) × (m ≡ n) }
+    ensures { (settings : Settings) (text background a b : List ℕ) (m n : Summary) → IsReport settings text background a m → IsReport settings text background b n → (a ≡ b) × (m ≡ n) }
 {
     deb_verdict::laws::one_verdict();
 }
+
+/// Without a background the report is that on the index of the text alone, and no fault is told of a background.
+pub fn without_background()
+    ensures report { (settings : Settings) (text background output : List ℕ) (summary : Summary) (index : IndexView) → settings.background ≡ false
+        → index_of text settings.arch settings.essential ≡ Ok index → IsReport settings text background output summary → IsReportOn settings index output summary }
+    ensures faults { (settings : Settings) (text background : Input) (write_failed : Bool) (fault : RunFault) → settings.background ≡ false
+        → Fails settings text background write_failed fault → is_of_background fault ≡ false }
+{}

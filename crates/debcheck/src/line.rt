@@ -1,24 +1,27 @@
 //! The command line.
 
-ghost use Rattle.std.specs.Prelude.{◌≡◌, ◌<◌, ◌≤◌, ℕ, All, IfOk, IfErr, IfSome, OnOk, codes, map, option_map, string_bytes, true, false};
+ghost use Rattle.std.specs.Prelude.{◌≡◌, ◌<◌, ◌≤◌, ℕ, All, IfOk, IfErr, IfSome, OnOk, codes, is_some, map, option_map, string_bytes, true, false, unwrap_or};
 ghost use Rattle.std.specs.Str.Parse.{digits_value};
 ghost use Rattle.clap.specs.Words.{first_of, found_of, kind_of, rows_of};
 ghost use Rattle.deb_relation.specs.Relationship.{is_name};
-ghost use Rattle.debcheck.specs.Line.{Accepts, IsFaultOf, IsRefusal, KeepsOther, RefusesLine, RefusesUnless, TellsLine, asked_by, has_good_names, has_good_values, is_architecture, is_count, is_set, line_status_of, names_in, request_of, show_of, value_of};
-ghost use Rattle.debcheck.specs.Run.{settings_of};
+ghost use Rattle.deb_report.specs.Settings.{is_architecture, settings_of};
+ghost use Rattle.debcheck.specs.Line.{Accepts, IsFaultOf, IsRefusal, KeepsOther, RefusesLine, RefusesUnless, TellsLine, asked_by, format_of, has_good_background, has_good_names, has_good_values, is_count, is_set, line_status_of, names_in, request_of, show_of, value_of};
 ghost use Rattle.debcheck.specs.declared.line.LineFault.TheVariants.{Memory};
 
-use crate::config::{CHUNK_LIMIT, Config, Show};
 use crate::device::{DeviceFault, Sink};
 use crate::fault::memory_line;
 use crate::options::{command, given, is_set, value_of};
 use crate::output::write_all;
-use crate::values::{count_of, is_architecture, names_of};
+use crate::values::{count_of, format_of, is_architecture, names_of};
 use clap::ArgMatches;
 use clap::error::ErrorKind;
+use deb_report::{CHUNK_LIMIT, Config, Format, Show};
 use std::alloc::{AllocError, AllocFailed, Global};
 use thiserror::Error;
 use work_draw::WORKER_LIMIT;
+
+/// What `--version` writes: the name of the program and its version.
+pub const VERSION_LINE: &str = "debcheck 1.0.0\n";
 
 /// Why a command line gives no configuration.
 #[derive(Debug, Drop, Error)]
@@ -26,8 +29,8 @@ pub enum LineFault {
     /// A word or a value isn't of the form that the program takes. The text for standard error says what is wrong and what is allowed.
     #[error("the command line is refused")]
     Refused { text: String },
-    /// Help was asked for: the text for standard output.
-    #[error("help was asked for")]
+    /// Help or the version was asked for: the text for standard output.
+    #[error("help or the version was asked for")]
     Help { text: String },
     /// Some growth was refused.
     #[error("out of memory")]
@@ -50,7 +53,7 @@ impl<T: Drop> From<AllocFailed<T>> for LineFault {
     }
 }
 
-/// The exit status where a command line gives no configuration: 64 where it is refused, 0 for help, 69 for want of memory.
+/// The exit status where a command line gives no configuration: 64 where it is refused, 0 for help and the version, 69 for want of memory.
 pub fn line_status(fault: &LineFault) -> u8
     ensures { result ≡ line_status_of fault.now }
 {
@@ -65,11 +68,17 @@ pub fn line_status(fault: &LineFault) -> u8
 fn fault_from(alloc: Global, error: &clap::Error) -> Result<LineFault, AllocError>
     ensures { IfOk result (IsFaultOf (kind_of error.now)) }
 {
-    let text = error.to_string(alloc)?;
     Ok(match error.kind() {
         ErrorKind::OutOfMemory => LineFault::Memory,
-        ErrorKind::DisplayHelp => LineFault::Help { text },
-        _ => LineFault::Refused { text },
+        ErrorKind::DisplayHelp => LineFault::Help {
+            text: error.to_string(alloc)?,
+        },
+        ErrorKind::DisplayVersion => LineFault::Help {
+            text: String::from_str(alloc, VERSION_LINE)?,
+        },
+        _ => LineFault::Refused {
+            text: error.to_string(alloc)?,
+        },
     })
 }
 
@@ -139,6 +148,30 @@ fn only(alloc: Global, matches: &ArgMatches<'_>) -> Result<Option<Vec<Vec<u8>>>,
     }
 }
 
+fn background(alloc: Global, matches: &ArgMatches<'_>) -> Result<Option<String>, LineFault>
+    ensures value { IfOk result (λ bg. option_map string_bytes bg ≡ first_of (codes "bg") (rows_of (found_of matches.now))) }
+    ensures good { OnOk result (has_good_background (rows_of (found_of matches.now)) ≡ true) }
+    ensures refused { IfErr result (RefusesUnless (has_good_background (rows_of (found_of matches.now)))) }
+{
+    match given(matches, "bg") {
+        None => Ok(None),
+        Some("") => Err(refusal(alloc, "--bg <FILE>", "", "the name of a file")?),
+        Some(file) => Ok(Some(String::from_str(alloc, file)?)),
+    }
+}
+
+fn report_format(alloc: Global, matches: &ArgMatches<'_>) -> Result<Format, LineFault>
+    ensures value { IfOk result (λ f. f ≡ unwrap_or (format_of (value_of (codes "format") (rows_of (found_of matches.now)))) Format.Text) }
+    ensures good { OnOk result (is_some (format_of (value_of (codes "format") (rows_of (found_of matches.now)))) ≡ true) }
+    ensures refused { IfErr result (RefusesUnless (is_some (format_of (value_of (codes "format") (rows_of (found_of matches.now)))))) }
+{
+    let value = value_of(matches, "format");
+    match format_of(value) {
+        Some(form) => Ok(form),
+        None => Err(refusal(alloc, "--format <FORM>", value, "text or json")?),
+    }
+}
+
 fn show(matches: &ArgMatches<'_>) -> Show
     ensures { result ≡ show_of (is_set (codes "failures") (rows_of (found_of matches.now))) (is_set (codes "successes") (rows_of (found_of matches.now))) }
 {
@@ -163,6 +196,10 @@ fn config_of(alloc: Global, matches: &ArgMatches<'_>) -> Result<Config, LineFaul
         show: show(matches),
         essential: !is_set(matches, "ignore-essential"),
         only: only(alloc, matches)?,
+        bg: background(alloc, matches)?,
+        causes: is_set(matches, "causes"),
+        format: report_format(alloc, matches)?,
+        quiet: is_set(matches, "quiet"),
     })
 }
 
@@ -189,9 +226,12 @@ fn read_words(alloc: Global, words: &[String]) -> Result<Config, LineFault>
 /// `--arch A` has to be said: one or more letters, digits and `-`, neither `all` nor `any`. `--workers N` (1 to 64, 4 where it isn't said)
 /// and `--chunk K` (1 to 1,000,000, 64) take decimal digits alone. `--explain` tells sets and reasons, `--failures` and `--successes` say which
 /// packages are shown (all for both or neither), `--ignore-essential` asks for no essential packages, and `--checkonly N1,N2,..` takes
-/// package names with commas between them. A value comes as the next word or after `=`; one that begins with `-` comes after `=`.
+/// package names with commas between them. `--bg FILE` names the file of a background, which is not empty; `--causes` asks for causes, `--format`
+/// takes `text` (where it isn't said) or `json`, and `--quiet` asks for no progress. A value comes as the next word or after `=`; one that
+/// begins with `-` comes after `=`. No option comes twice.
 ///
-/// `Help` is the answer to `--help`, `Refused` to words or values of another form, with a text that says what is wrong. The words are consumed.
+/// `Help` is the answer to `--help`, and to `--version` with `VERSION_LINE`, whichever comes first; `Refused` is the answer to words or values of
+/// another form, with a text that says what is wrong. The words are consumed.
 pub fn read_line(alloc: Global, words: Vec<String>) -> Result<Config, LineFault>
     ensures accepted { IfOk result (Accepts (map string_bytes words.items)) }
     ensures refused { IfErr result (RefusesLine (map string_bytes words.items)) }

@@ -1,8 +1,8 @@
 //! The options of the command line, as `clap` reads them.
 
-ghost use Rattle.std.specs.Prelude.{◌≡◌, IfOk, false, option_map};
+ghost use Rattle.std.specs.Prelude.{◌≡◌, IfOk, [], false, option_map};
 ghost use Rattle.clap.specs.Words.{app_of, first_of, found_of, rows_of, rule_of};
-ghost use Rattle.debcheck.specs.Line.{app_with, first_rules, flag_rule, help_rule, is_set, line_app, value_of, value_rule};
+ghost use Rattle.debcheck.specs.Line.{app_with, flag_rule, help_rule, is_set, line_app, value_of, value_rule, value_rules, version_rule};
 
 use clap::{Arg, ArgAction, ArgMatches, Command};
 use std::alloc::{AllocError, Global};
@@ -41,36 +41,46 @@ fn help_flag<'a>(alloc: Global) -> Arg<'a>
         .help("Prints this help")
 }
 
-// The program's command with the options for the architecture and the numbers. It has no short options, not even `-h`.
-fn begun<'a>(alloc: Global) -> Result<Command<'a>, AllocError>
-    ensures { IfOk result (λ command. app_of command ≡ app_with first_rules) }
+// The call for the version.
+fn version_flag<'a>(alloc: Global) -> Arg<'a>
+    ensures rule { rule_of result ≡ version_rule }
+    ensures local { result.global ≡ false }
 {
-    let arch = valued(
-        alloc,
-        "arch",
-        "A",
-        "The architecture: letters, digits and -, neither all nor any",
-    )
-    .required(true);
-    let workers = valued(alloc, "workers", "N", "How many workers check, 1 to 64").default_value(
-        "4",
-    );
-    let chunk = valued(
-        alloc,
-        "chunk",
-        "K",
-        "How many packages a worker takes at once, 1 to 1000000",
-    )
-    .default_value("64");
+    Arg::new(alloc, "version")
+        .long("version")
+        .action(ArgAction::Version)
+        .help("Prints the program's version")
+}
+
+// The program's command without options. It has no short ones, not even `-h`.
+fn bare<'a>(alloc: Global) -> Command<'a>
+    ensures { app_of result ≡ app_with [] }
+{
     Command::new(alloc, "debcheck")
         .about(
             "Checks which packages of the Debian package index on standard input can be installed",
         )
         .no_binary_name(true)
         .disable_help_flag(true)
-        .arg(arch)?
-        .arg(workers)?
-        .arg(chunk)
+}
+
+// The program's command with the options that have values.
+fn with_values<'a>(alloc: Global) -> Result<Command<'a>, AllocError>
+    ensures { IfOk result (λ command. app_of command ≡ app_with value_rules) }
+{
+    let arch = "The architecture: letters, digits and -, neither all nor any";
+    let background = "A second index, whose packages may be used and are not checked";
+    let only = "Checks the packages of these names alone";
+    let format = "The form of the report, text or json";
+    let workers = "How many workers check, 1 to 64";
+    let chunk = "How many packages a worker takes at once, 1 to 1000000";
+    bare(alloc)
+        .arg(valued(alloc, "arch", "A", arch).required(true))?
+        .arg(valued(alloc, "bg", "FILE", background))?
+        .arg(valued(alloc, "checkonly", "N1,N2,..", only))?
+        .arg(valued(alloc, "format", "FORM", format).default_value("text"))?
+        .arg(valued(alloc, "workers", "N", workers).default_value("4"))?
+        .arg(valued(alloc, "chunk", "K", chunk).default_value("64"))
 }
 
 // The program's command.
@@ -80,15 +90,18 @@ pub(crate) fn command<'a>(alloc: Global) -> Result<Command<'a>, AllocError>
     let explain = "Tells the set that was found, or the reasons why there is none";
     let failures = "Shows the packages that cannot be installed";
     let successes = "Shows the packages that can be installed";
+    let causes = "Tells what is wrong in the end, each cause with the packages that it breaks";
     let essential = "Asks for no essential packages in a set";
-    let only = "Checks the packages of these names alone";
-    begun(alloc)?
+    let quiet = "Shows no progress on a terminal";
+    with_values(alloc)?
         .arg(flag(alloc, "explain", explain))?
         .arg(flag(alloc, "failures", failures))?
         .arg(flag(alloc, "successes", successes))?
+        .arg(flag(alloc, "causes", causes))?
         .arg(flag(alloc, "ignore-essential", essential))?
-        .arg(valued(alloc, "checkonly", "N1,N2,..", only))?
-        .arg(help_flag(alloc))
+        .arg(flag(alloc, "quiet", quiet))?
+        .arg(help_flag(alloc))?
+        .arg(version_flag(alloc))
 }
 
 // The value of an option, where it has one.

@@ -2,40 +2,76 @@
 
 ghost use Rattle.std.specs.Prelude.{◌≡◌, ◌≢◌, ◌<◌, ◌≤◌, IfErr, IfOk, OnOk, false, true};
 ghost use Rattle.std.specs.Io.KnownBytes.{IsAtEnd};
-ghost use Rattle.deb_index.specs.Reading.{index_of};
-ghost use Rattle.debcheck.specs.Run.{Fails, FailsToIndex, FailsToReport, IfRead, IsReportOn, Leaves, WritesReport, settings_of};
+ghost use Rattle.deb_report.specs.Settings.{settings_of};
+ghost use Rattle.debcheck.specs.Run.{Fails, FailsToIndex, FailsToReadBehind, FailsToReport, IsReadAs, IsReportOn, Leaves, ReadsAs, WritesReport, behind, input, is_unread};
 
 use crate::asked::asked_places;
-use crate::config::Config;
 use crate::device::{Sink, Source};
 use crate::fault::RunFault;
 use crate::input::read_all;
-use crate::layout::{report, summary_of};
 use crate::output::write_all;
-use crate::summary::Summary;
-use deb_index::{Index, IndexError, TEXT_LIMIT};
+use deb_index::{BothError, Index, TEXT_LIMIT};
+use deb_report::{Config, Summary, report, summary_of};
 use std::alloc::Global;
 use std::thread::Threads;
 use work_draw::{Gate, check_all};
 
-// Reads the index. Its text is dropped at the end.
-fn read_index<S: Source>(alloc: Global, config: &Config, reader: &mut S) -> Result<Index, RunFault>
+// Reads what stands behind the index: the background, where one is asked for, else no bytes.
+fn read_behind<B: Source>(
+    alloc: Global,
+    config: &Config,
+    background: &mut B,
+) -> Result<Vec<u8>, RunFault>
+    requires background { B.failed background.old ≡ false }
+    ensures end { OnOk result ((settings_of config.now).background ≡ true → IsAtEnd (B.remaining background.new)) }
+    ensures spared { (settings_of config.now).background ≡ false → background.new ≡ background.old }
+    ensures unfailed { OnOk result (B.failed background.new ≡ false) }
+    ensures bytes { IfOk result (λ bytes. IsReadAs (behind (settings_of config.now) (input (B.remaining background.old) (B.failed background.new))) bytes.items) }
+    ensures refused { IfErr result (FailsToReadBehind (behind (settings_of config.now) (input (B.remaining background.old) (B.failed background.new)))) }
+{
+    if config.bg.is_none() {
+        return Ok(Vec::new(alloc));
+    }
+    match read_all(alloc, background, TEXT_LIMIT) {
+        Ok(bytes) => Ok(bytes),
+        Err(RunFault::Read) => Err(RunFault::BackgroundRead),
+        Err(RunFault::TooLong) => Err(RunFault::BackgroundTooLong),
+        Err(fault) => Err(fault),
+    }
+}
+
+// Reads the index and what stands behind it. The texts are dropped at the end.
+fn read_index<S: Source, B: Source>(
+    alloc: Global,
+    config: &Config,
+    reader: &mut S,
+    background: &mut B,
+) -> Result<Index, RunFault>
     requires reader { S.failed reader.old ≡ false }
+    requires background { B.failed background.old ≡ false }
     ensures end { OnOk result (IsAtEnd (S.remaining reader.new)) }
-    ensures index { IfOk result (λ index. IfRead (S.remaining reader.old) (S.failed reader.new)
-        (λ text. index_of text (settings_of config.now).arch config.now.essential ≡ Ok index)) }
-    ensures refused { IfErr result (FailsToIndex (settings_of config.now) (S.remaining reader.old) (S.failed reader.new)) }
+    ensures background_end { OnOk result ((settings_of config.now).background ≡ true → IsAtEnd (B.remaining background.new)) }
+    ensures spared { (settings_of config.now).background ≡ false → background.new ≡ background.old }
+    ensures unbegun { IfErr result (λ fault. is_unread fault ≡ true → background.new ≡ background.old) }
+    ensures unfailed { OnOk result ((S.failed reader.new ≡ false) × (B.failed background.new ≡ false)) }
+    ensures index { IfOk result (λ index. ReadsAs (settings_of config.now)
+        (input (S.remaining reader.old) (S.failed reader.new)) (input (B.remaining background.old) (B.failed background.new)) index) }
+    ensures refused { IfErr result (FailsToIndex (settings_of config.now)
+        (input (S.remaining reader.old) (S.failed reader.new)) (input (B.remaining background.old) (B.failed background.new))) }
 {
     let text = read_all(alloc, reader, TEXT_LIMIT)?;
-    match Index::read(
+    let behind = read_behind(alloc, config, background)?;
+    match Index::read_both(
         alloc,
         text.as_slice(),
+        behind.as_slice(),
         config.arch.as_str(),
         config.essential,
     ) {
         Ok(index) => Ok(index),
-        Err(IndexError::Memory) => Err(RunFault::Memory),
-        Err(fault) => Err(RunFault::Index(fault)),
+        Err(BothError::Memory) => Err(RunFault::Memory),
+        Err(BothError::Fore(fault)) => Err(RunFault::Index(fault)),
+        Err(BothError::Back(fault)) => Err(RunFault::Background(fault)),
     }
 }
 
@@ -60,39 +96,50 @@ fn check_and_report<G: Gate + Sync, R: Threads + Sync>(
     Ok((output, summary_of(index, asked, verdicts.as_slice())))
 }
 
-/// Reads the index to its end, checks each asked package, writes the report and flushes. It may wait for its workers.
+/// Reads the index to its end, and with `bg` the background; checks each asked package of the index, writes the report and flushes. It may wait
+/// for its workers.
 ///
-/// After `Ok` the reader has no byte left, and what was written is the report of all bytes that were left in it, under the settings,
-/// for any number of workers (1 to 64) and any chunk from 1; the summary has its numbers. Neither device has failed before.
+/// After `Ok` the reader has no byte left, nor has `background` where `bg` is there, and what was written is the report of all bytes that were left
+/// in each, under the settings, for any number of workers (1 to 64) and any chunk from 1; the summary has its numbers. Without `bg` nothing is read
+/// from `background`. No device has failed before.
 ///
-/// The first of these faults is answered: `Read` (some read failed), `TooLong` (over `deb_index::TEXT_LIMIT` bytes), `Index` (the first stanza with a
-/// fault, Debian Policy 5.1 and 7.1), `UnknownAsked`, `Write` (some write or flush failed). Want of memory is `Memory`; it may come at any
-/// time before writing, and never after a failed read. All but `Write` leave the writer as it was; under `Write` a front of the report was
+/// The first of these faults is answered: `Read` (some read failed), `TooLong` (over `deb_index::TEXT_LIMIT` bytes), `BackgroundRead` and
+/// `BackgroundTooLong` (the same of the background, which is read only then), `Index` (the first stanza with a fault, Debian Policy 5.1 and 7.1),
+/// `Background` (the first one of the background), `UnknownAsked`, `Write` (some write or flush failed). Want of memory is `Memory`; it may come at
+/// any time before writing, and never after a failed read. All but `Write` leave the writer as it was; under `Write` a front of the report was
 /// written.
-pub fn run<S: Source, K: Sink, G: Gate + Sync, R: Threads + Sync>(
+pub fn run<S: Source, B: Source, K: Sink, G: Gate + Sync, R: Threads + Sync>(
     rt: &R,
     alloc: Global,
     config: &Config,
     reader: &mut S,
+    background: &mut B,
     writer: &mut K,
     gate: &G,
 ) -> Result<Summary, RunFault>
     requires workers { (0 < config.now.workers) × (config.now.workers ≤ 64) }
     requires chunk { 0 < config.now.chunk }
     requires reader { S.failed reader.old ≡ false }
+    requires background { B.failed background.old ≡ false }
     requires writer { K.failed writer.old ≡ false }
     ensures end { OnOk result (IsAtEnd (S.remaining reader.new)) }
-    ensures report { IfOk result (WritesReport (settings_of config.now) (S.remaining reader.old)
+    ensures background_end { OnOk result ((settings_of config.now).background ≡ true → IsAtEnd (B.remaining background.new)) }
+    ensures spared { (settings_of config.now).background ≡ false → background.new ≡ background.old }
+    ensures unbegun { IfErr result (λ fault. is_unread fault ≡ true → background.new ≡ background.old) }
+    ensures report { IfOk result (WritesReport (settings_of config.now)
+        (input (S.remaining reader.old) (S.failed reader.new)) (input (B.remaining background.old) (B.failed background.new))
         (K.contents writer.old) (K.contents writer.new)) }
     ensures flushed { OnOk result (K.flushed writer.new ≡ true) }
-    ensures unfailed { OnOk result ((S.failed reader.new ≡ false) × (K.failed writer.new ≡ false)) }
-    ensures refused { IfErr result (Fails (settings_of config.now) (S.remaining reader.old)
-        (S.failed reader.new) (K.failed writer.new)) }
+    ensures unfailed { OnOk result ((S.failed reader.new ≡ false) × (B.failed background.new ≡ false) × (K.failed writer.new ≡ false)) }
+    ensures refused { IfErr result (Fails (settings_of config.now)
+        (input (S.remaining reader.old) (S.failed reader.new)) (input (B.remaining background.old) (B.failed background.new))
+        (K.failed writer.new)) }
     ensures untouched { IfErr result (λ fault. fault ≢ RunFault.Write → writer.new ≡ writer.old) }
-    ensures left { IfErr result (Leaves (settings_of config.now) (S.remaining reader.old)
+    ensures left { IfErr result (Leaves (settings_of config.now)
+        (input (S.remaining reader.old) (S.failed reader.new)) (input (B.remaining background.old) (B.failed background.new))
         (K.contents writer.old) (K.contents writer.new)) }
 {
-    let index = read_index(alloc, config, reader)?;
+    let index = read_index(alloc, config, reader, background)?;
     let (output, summary) = check_and_report(rt, alloc, config, &index, gate)?;
     match write_all(writer, output.as_slice()) {
         Ok(()) => Ok(summary),

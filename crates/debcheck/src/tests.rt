@@ -3,16 +3,14 @@
 ghost use Rattle.std.specs.Prelude.{◌≡◌, IfOk, None, false};
 
 pub(crate) mod line;
-mod parts;
 
-use crate::config::{Config, Show};
 use crate::device::{DeviceFault, Sink, Source};
 use crate::fault::{RunFault, fault_line, status};
 use crate::input::read_all;
 use crate::output::{write_all, write_fault};
 use crate::phases::run;
-use crate::summary::Summary;
 use deb_index::{IndexError, RelField};
+use deb_report::{Config, Show, Summary};
 use std::alloc::{AllocError, Global};
 use std::process::Abort;
 use std::test::Fail;
@@ -171,7 +169,7 @@ fn says(
 }
 
 #[test]
-fn faults_of_a_text_have_their_lines(rt: HostRuntime) -> Result<(), Fail> {
+fn faults_of_both_texts_have_their_lines(rt: HostRuntime) -> Result<(), Fail> {
     let (stanza, field) = (6, RelField::PreDepends);
     let relation = "stanza 6: bad relation in Pre-Depends";
     let table = [
@@ -191,12 +189,14 @@ fn faults_of_a_text_have_their_lines(rt: HostRuntime) -> Result<(), Fail> {
         ),
         (IndexError::BadRelation { stanza, field }, relation),
         (
-            IndexError::TooManyStanzas { stanza: 1_048_577 },
-            "stanza 1048577: too many stanzas",
+            IndexError::TooManyStanzas { stanza: 4_194_305 },
+            "stanza 4194305: too many stanzas",
         ),
     ];
     for (fault, what) in table {
         says(&rt, RunFault::Index(fault), 65, what)?;
+        let what = format!(in rt.alloc(); "background: {what}")?;
+        says(&rt, RunFault::Background(fault), 65, what.as_str())?;
     }
     Ok(())
 }
@@ -212,6 +212,10 @@ fn faults_of_a_run_have_their_lines(rt: HostRuntime) -> Result<(), Fail> {
     )?;
     says(&rt, RunFault::Read, 67, "cannot read the index")?;
     says(&rt, RunFault::TooLong, 67, "the index is too long")?;
+    let unread = "cannot read the background";
+    says(&rt, RunFault::BackgroundRead, 67, unread)?;
+    let long = "the background is too long";
+    says(&rt, RunFault::BackgroundTooLong, 67, long)?;
     says(&rt, RunFault::Write, 68, "cannot write the report")?;
     says(&rt, RunFault::Memory, 69, "out of memory")?;
     Ok(())
@@ -222,6 +226,7 @@ fn numbers(stanzas: u32, asked: u32, broken: u32) -> Summary {
         stanzas,
         skipped: 0,
         duplicates: 0,
+        background: 0,
         asked,
         broken,
     }
@@ -256,6 +261,7 @@ fn an_empty_text_has_a_report_of_seven_lines(rt: HostRuntime) -> Result<(), Fail
         rt.alloc(),
         &config,
         &mut source_of(b"", 1),
+        &mut source_of(b"", 1),
         &mut output,
         &OpenGate,
     );
@@ -267,6 +273,7 @@ fn an_empty_text_has_a_report_of_seven_lines(rt: HostRuntime) -> Result<(), Fail
         &rt,
         rt.alloc(),
         &config,
+        &mut source_of(b"", 1),
         &mut source_of(b"", 1),
         &mut fifth,
         &OpenGate,
@@ -291,6 +298,7 @@ fn alternatives(rt: HostRuntime) -> Result<(), Fail> {
         rt.alloc(),
         &config,
         &mut source_of(ALTERNATIVES, 11),
+        &mut source_of(b"", 1),
         &mut output,
         &OpenGate,
     );
@@ -315,6 +323,7 @@ fn failures_alone_with_their_reasons(rt: HostRuntime) -> Result<(), Fail> {
         rt.alloc(),
         &config,
         &mut source_of(CHAIN, 1000),
+        &mut source_of(b"", 1),
         &mut output,
         &OpenGate,
     );
@@ -324,7 +333,7 @@ fn failures_alone_with_their_reasons(rt: HostRuntime) -> Result<(), Fail> {
 }
 
 // The names as a list.
-pub(crate) fn named(alloc: Global, names: &[&[u8]]) -> Result<Vec<Vec<u8>>, AllocError> {
+fn named(alloc: Global, names: &[&[u8]]) -> Result<Vec<Vec<u8>>, AllocError> {
     let mut list = Vec::new(alloc);
     for name in names {
         list.push(Vec::from_slice(alloc, name)?)?;
@@ -346,6 +355,7 @@ fn named_packages_in_the_order_of_the_index(rt: HostRuntime) -> Result<(), Fail>
         rt.alloc(),
         &config,
         &mut source_of(CHAIN, 1000),
+        &mut source_of(b"", 1),
         &mut output,
         &OpenGate,
     );
@@ -358,6 +368,7 @@ fn named_packages_in_the_order_of_the_index(rt: HostRuntime) -> Result<(), Fail>
         rt.alloc(),
         &config,
         &mut source_of(CHAIN, 1000),
+        &mut source_of(b"", 1),
         &mut nothing,
         &OpenGate,
     );
@@ -378,6 +389,7 @@ fn faults_of_the_text_and_the_reader(rt: HostRuntime) -> Result<(), Fail> {
         rt.alloc(),
         &config,
         &mut source_of(b" x", 1),
+        &mut source_of(b"", 1),
         &mut output,
         &OpenGate,
     );
@@ -395,6 +407,7 @@ fn faults_of_the_text_and_the_reader(rt: HostRuntime) -> Result<(), Fail> {
         rt.alloc(),
         &config,
         &mut broken,
+        &mut source_of(b"", 1),
         &mut nothing,
         &OpenGate,
     );

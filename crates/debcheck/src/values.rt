@@ -4,10 +4,12 @@ ghost use Rattle.std.specs.Prelude.{◌≡◌, ◌==◌, IfOk, MatchOption, map,
 ghost use Rattle.std.specs.Char.{is_ascii_digit};
 ghost use Rattle.std.specs.List.{list_all};
 ghost use Rattle.std.specs.Str.Parse.{digits_value};
-ghost use Rattle.debcheck.specs.Line.{is_architecture, is_architecture_byte, is_count, names_in};
+ghost use Rattle.deb_report.specs.Settings.{is_architecture, is_architecture_byte};
+ghost use Rattle.debcheck.specs.Line.{format_of, is_count, names_in};
 ghost use Rattle.deb_relation.specs.Relationship.{is_name};
 
 use deb_relation::is_name;
+use deb_report::Format;
 use std::alloc::{AllocError, Global};
 
 // Whether all bytes of a text are letters, digits or `-`.
@@ -42,6 +44,17 @@ pub(crate) fn count_of(text: &str, most: u32) -> Option<u32>
     }
     match text.parse::<u32>() {
         Ok(count) if 1 <= count && count <= most => Some(count),
+        _ => None,
+    }
+}
+
+// The form of the report that a word names.
+pub(crate) fn format_of(text: &str) -> Option<Format>
+    ensures { result ≡ format_of text.now }
+{
+    match text {
+        "text" => Some(Format::Text),
+        "json" => Some(Format::Json),
         _ => None,
     }
 }

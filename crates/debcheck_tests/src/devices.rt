@@ -81,6 +81,42 @@ impl Source for Endless {
     }
 }
 
+/// Gives so many line feeds, as many a call as there is room for.
+#[derive(Drop)]
+pub struct Feeds {
+    left: usize,
+    failed: bool,
+}
+
+impl Feeds {
+    ghost use Rattle.std.specs.Prelude.{◌≡◌, false};
+
+    /// Nothing read yet.
+    pub fn new(count: usize) -> Feeds
+        ensures { result.failed ≡ false }
+    {
+        Feeds {
+            left: count,
+            failed: false,
+        }
+    }
+}
+
+impl Source for Feeds {
+    ghost use Rattle.std.specs.Prelude.{None};
+
+    ghost remaining = { λ _. None };
+
+    ghost failed = { λ s. s.failed };
+
+    fn read_some(&mut self, buf: &mut [u8]) -> Result<usize, DeviceFault> {
+        let count = self.left.min(buf.len());
+        buf[..count].fill(b'\n');
+        self.left -= count;
+        Ok(count)
+    }
+}
+
 /// Where a writer fails. Writes count from 1.
 #[derive(Clone, Copy, Debug, PartialEq, Eq)]
 pub enum Trouble {

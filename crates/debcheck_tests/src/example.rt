@@ -1,7 +1,7 @@
 //! What an example is, and how it is run.
 ghost use Rattle.std.specs.Prelude.{◌≡◌, ◌<◌, ◌≤◌, IfOk, false};
 
-use crate::devices::{Kept, Trouble};
+use crate::devices::{Endless, Kept, Trouble};
 use debcheck::{Config, Source, Std, fault_line, read_line, run, status};
 use std::alloc::Global;
 use std::test::Fail;
@@ -42,7 +42,7 @@ impl Outcome {
 }
 
 /// The configuration that the words ask for.
-fn config_of(alloc: Global, words: &str) -> Result<Config, Fail>
+pub fn config_of(alloc: Global, words: &str) -> Result<Config, Fail>
     ensures workers { IfOk result (λ config. (0 < config.workers) × (config.workers ≤ 64)) }
     ensures chunk { IfOk result (λ config. 0 < config.chunk) }
 {
@@ -53,19 +53,82 @@ fn config_of(alloc: Global, words: &str) -> Result<Config, Fail>
     Ok(read_line(alloc, list)?)
 }
 
-/// A run under these words from this reader to this writer.
+/// A run under a configuration from this reader to this writer. Nothing is read from a second reader.
+pub fn outcome_under<S: Source, R: Threads + Sync>(
+    rt: &R,
+    alloc: Global,
+    config: &Config,
+    reader: &mut S,
+    writer: Kept,
+) -> Result<Outcome, Fail>
+    requires workers { (0 < config.now.workers) × (config.now.workers ≤ 64) }
+    requires chunk { 0 < config.now.chunk }
+    requires reader { S.failed reader.old ≡ false }
+    requires writer { writer.failed ≡ false }
+{
+    let mut unread = Endless::new();
+    let found = outcome_from(rt, alloc, config, reader, &mut unread, writer)?;
+    if unread.reads > 0 {
+        return Err("a second reader was read".into());
+    }
+    Ok(found)
+}
+
+/// A run under these words from this reader to this writer. Nothing is read from a second reader.
 pub fn outcome_on<S: Source, R: Threads + Sync>(
     rt: &R,
     alloc: Global,
     words: &str,
     reader: &mut S,
-    mut writer: Kept,
+    writer: Kept,
 ) -> Result<Outcome, Fail>
     requires reader { S.failed reader.old ≡ false }
     requires writer { writer.failed ≡ false }
 {
-    let config = config_of(alloc, words)?;
-    let answer = run(rt, alloc, &config, reader, &mut writer, &OpenGate);
+    outcome_under(rt, alloc, &config_of(alloc, words)?, reader, writer)
+}
+
+/// A run under these words from this reader, with a background from the second one, to this writer.
+pub fn outcome_behind<S: Source, B: Source, R: Threads + Sync>(
+    rt: &R,
+    alloc: Global,
+    words: &str,
+    reader: &mut S,
+    background: &mut B,
+    writer: Kept,
+) -> Result<Outcome, Fail>
+    requires reader { S.failed reader.old ≡ false }
+    requires background { B.failed background.old ≡ false }
+    requires writer { writer.failed ≡ false }
+{
+    let mut config = config_of(alloc, words)?;
+    config.bg = Some(String::from_str(alloc, "background")?);
+    outcome_from(rt, alloc, &config, reader, background, writer)
+}
+
+fn outcome_from<S: Source, B: Source, R: Threads + Sync>(
+    rt: &R,
+    alloc: Global,
+    config: &Config,
+    reader: &mut S,
+    background: &mut B,
+    mut writer: Kept,
+) -> Result<Outcome, Fail>
+    requires workers { (0 < config.now.workers) × (config.now.workers ≤ 64) }
+    requires chunk { 0 < config.now.chunk }
+    requires reader { S.failed reader.old ≡ false }
+    requires background { B.failed background.old ≡ false }
+    requires writer { writer.failed ≡ false }
+{
+    let answer = run(
+        rt,
+        alloc,
+        config,
+        reader,
+        background,
+        &mut writer,
+        &OpenGate,
+    );
     let fault = match &answer {
         Ok(_) => Vec::new(alloc),
         Err(fault) => fault_line(alloc, fault)?,

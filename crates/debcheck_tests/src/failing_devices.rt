@@ -1,9 +1,9 @@
 //! Devices that fail at each place where they can.
 
 use crate::devices::{Endless, Kept, Torn, Trouble};
-use crate::example::{EXPLAINED, Outcome, outcome_on};
+use crate::example::{EXPLAINED, Outcome, outcome_behind, outcome_on};
 use crate::relations::EMPTY_REPORT;
-use crate::sample;
+use crate::{backgrounds, sample};
 use debcheck::{RunFault, Std, read_all};
 use std::alloc::Global;
 use std::process::Abort;
@@ -132,5 +132,76 @@ fn a_failed_flush_is_a_failed_write(rt: HostRuntime) -> Result<(), Fail> {
     let found = outcome_under(&rt, rt.alloc(), sample::TEXT, Trouble::FailsToFlush)?;
     expect_front(&rt, &found, sample::REPORT.as_bytes());
     assert_eq!(rt; found.writer.flushes, 1);
+    Ok(())
+}
+
+#[test]
+fn a_reader_of_the_background_fails_behind_each_byte(rt: HostRuntime) -> Result<(), Fail> {
+    let background = sample::TEXT.as_bytes();
+    for count in 0..=background.len() {
+        let mut reader = Std::new(backgrounds::NEEDS_ONE.as_bytes());
+        let mut torn = Torn::new(&background[..count], 1);
+        let writer = Kept::new(rt.alloc(), 100, Trouble::Never);
+        let found = outcome_behind(&rt, rt.alloc(), EXPLAINED, &mut reader, &mut torn, writer)?;
+        assert!(rt;
+            found.is("", "debcheck: cannot read the background\n", 67),
+            "behind {count} bytes"
+        );
+    }
+    Ok(())
+}
+
+#[test]
+fn the_index_fails_before_its_background_is_read(rt: HostRuntime) -> Result<(), Fail> {
+    let text = sample::TEXT.as_bytes();
+    for count in 0..=text.len() {
+        let mut reader = Torn::new(&text[..count], 1);
+        let mut unread = Endless::new();
+        let writer = Kept::new(rt.alloc(), 100, Trouble::Never);
+        let found = outcome_behind(&rt, rt.alloc(), EXPLAINED, &mut reader, &mut unread, writer)?;
+        assert!(rt;
+            found.is("", "debcheck: cannot read the index\n", 67),
+            "behind {count} bytes"
+        );
+        assert_eq!(rt; unread.reads, 0);
+    }
+    Ok(())
+}
+
+#[test]
+fn a_failed_read_of_the_background_goes_before_the_faults(rt: HostRuntime) -> Result<(), Fail> {
+    for text in [" x", "Package: a!"] {
+        let mut reader = Std::new(text.as_bytes());
+        let mut torn = Torn::new(b" x", 1);
+        let writer = Kept::new(rt.alloc(), 100, Trouble::Never);
+        let words = "--arch amd64 --checkonly nobody";
+        let found = outcome_behind(&rt, rt.alloc(), words, &mut reader, &mut torn, writer)?;
+        assert!(rt; found.is("", "debcheck: cannot read the background\n", 67));
+    }
+    Ok(())
+}
+
+#[test]
+fn each_write_of_a_report_with_a_background_fails_in_turn(rt: HostRuntime) -> Result<(), Fail> {
+    let report = backgrounds::NEEDS_ONE_REPORT.as_bytes();
+    for written in 0..=report.len() {
+        let mut reader = Std::new(backgrounds::NEEDS_ONE.as_bytes());
+        let mut background = Std::new(backgrounds::HAS_TWO.as_bytes());
+        let trouble = if written < report.len() {
+            Trouble::FailsAt(written + 1)
+        } else {
+            Trouble::FailsToFlush
+        };
+        let writer = Kept::new(rt.alloc(), 1, trouble);
+        let found = outcome_behind(
+            &rt,
+            rt.alloc(),
+            EXPLAINED,
+            &mut reader,
+            &mut background,
+            writer,
+        )?;
+        expect_front(&rt, &found, &report[..written]);
+    }
     Ok(())
 }

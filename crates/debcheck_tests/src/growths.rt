@@ -1,16 +1,16 @@
-//! One test for each number of workers of a run on the sample; bench/growths runs them with each growth refused in turn.
+//! One test for each number of workers of a run on the sample, and one of a run with a background; bench/growths runs them with each growth refused in turn.
 
 ghost use Rattle.std.specs.Prelude.{◌≡◌, ◌<◌, ◌≤◌, IfOk, false};
 
-use crate::devices::{Kept, Trouble};
-use crate::sample;
+use crate::devices::{Endless, Kept, Trouble};
+use crate::{backgrounds, sample};
 use debcheck::{Config, RunFault, Std, run, status};
 use std::alloc::{AllocError, Global};
 use std::process::Abort;
 use std::sync::atomic::{AtomicU32, Ordering};
 use std::test::Fail;
 use std::thread::Threads;
-use work_draw::Gate;
+use work_draw::{Gate, OpenGate};
 
 /// How often the gate let each of three chunks begin and end.
 #[derive(Drop)]
@@ -89,7 +89,17 @@ fn expect_sample(rt: &(impl Abort + Threads + Sync + AllocGlobal), workers: u32)
     let mut output = writer_with_room(rt.alloc())?;
     let mut text = Std::new(sample::TEXT.as_bytes());
     let tally = Tally::new();
-    let outcome = run(rt, rt.alloc(), &config, &mut text, &mut output, &tally);
+    let mut unread = Endless::new();
+    let outcome = run(
+        rt,
+        rt.alloc(),
+        &config,
+        &mut text,
+        &mut unread,
+        &mut output,
+        &tally,
+    );
+    assert_eq!(rt; unread.reads, 0);
     assert!(rt; tally.has_at_least(u32::from(outcome.is_ok())));
     if matches!(&outcome, Err(RunFault::Memory)) {
         assert_eq!(rt; output.writes, 0);
@@ -111,4 +121,36 @@ fn of_run_with_one_worker(rt: HostRuntime) -> Result<(), Fail> {
 #[test]
 fn of_run_with_two_workers(rt: HostRuntime) -> Result<(), Fail> {
     expect_sample(&rt, 2)
+}
+
+/// One package that needs one of the background, in one chunk, by two workers.
+#[test]
+fn of_run_with_a_background(rt: HostRuntime) -> Result<(), Fail> {
+    let mut config = config_with(rt.alloc(), 2)?;
+    config.bg = Some(String::from_str(rt.alloc(), "background")?);
+    let mut output = writer_with_room(rt.alloc())?;
+    let mut text = Std::new(backgrounds::NEEDS_ONE.as_bytes());
+    let mut background = Std::new(backgrounds::HAS_TWO.as_bytes());
+    let outcome = run(
+        &rt,
+        rt.alloc(),
+        &config,
+        &mut text,
+        &mut background,
+        &mut output,
+        &OpenGate,
+    );
+    if matches!(&outcome, Err(RunFault::Memory)) {
+        assert_eq!(rt; output.writes, 0);
+        assert!(rt; output.bytes.is_empty());
+        assert_eq!(rt; status(&outcome), 69);
+        return Err(Fail::new("out of memory"));
+    }
+    assert_eq!(rt;
+        output.bytes.as_slice(),
+        backgrounds::NEEDS_ONE_REPORT.as_bytes()
+    );
+    assert_eq!(rt; output.flushes, 1);
+    assert_eq!(rt; status(&outcome), 0);
+    Ok(())
 }

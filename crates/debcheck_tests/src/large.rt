@@ -1,6 +1,8 @@
-//! A group of 10,000 alternatives, and a package with 20,000 groups.
+//! A group of 10,000 alternatives, a package with 20,000 groups, and many line feeds.
 
-use crate::example::outcome_of;
+use crate::devices::{Feeds, Kept, Trouble};
+use crate::example::{EXPLAINED, outcome_of, outcome_on};
+use crate::relations::EMPTY_REPORT;
 use std::alloc::{AllocError, Global};
 use std::process::Abort;
 use std::test::Fail;
@@ -134,4 +136,13 @@ fn many_groups_of_two_alternatives(rt: HostRuntime) -> Result<(), Fail> {
     let report = report_of(rt.alloc(), "p", explained.as_str(), 40_001, 0)?;
     let words = "--arch amd64 --explain --checkonly p";
     expect(&rt, rt.alloc(), words, text.as_str(), report.as_str(), 0)
+}
+
+#[test]
+fn line_feeds_alone_are_an_empty_index(rt: HostRuntime) -> Result<(), Fail> {
+    let mut reader = Feeds::new(268_435_457);
+    let writer = Kept::new(rt.alloc(), 1_000, Trouble::Never);
+    let found = outcome_on(&rt, rt.alloc(), EXPLAINED, &mut reader, writer)?;
+    assert!(rt; found.is(EMPTY_REPORT, "", 0));
+    Ok(())
 }

@@ -1,9 +1,12 @@
 //! Worked examples over all crates: words and a text go in, and the bytes of the report are compared.
 //!
 //! `devices` has readers and a writer over memory, and is proved. The rest is tests: `example` says what an example is and runs it, `reports` goes over those of
-//! `relations`, `meanings`, `qualifiers`, `settings` and `refusals`; `cut_texts`, `failing_devices`, `large`, `workers` and `growths` have inputs of their own.
+//! `relations`, `meanings`, `qualifiers`, `settings` and `refusals`; `backgrounds` has those with a second text, `json_reports` documents in JSON, which it reads back;
+//! `cut_texts`, `failing_devices`, `large`, `workers` and `growths` have inputs of their own.
 #![tactic(auto)]
 
+#[cfg(test)]
+mod backgrounds;
 #[cfg(test)]
 mod cut_texts;
 pub mod devices;
@@ -13,6 +16,8 @@ mod example;
 mod failing_devices;
 #[cfg(test)]
 mod growths;
+#[cfg(test)]
+mod json_reports;
 #[cfg(test)]
 mod large;
 #[cfg(test)]

@@ -10,7 +10,7 @@ use Rattle.sat_solve.specs.Reasons.{variables_of, named_by, AgreesOn, RestsOn, F
 use Rattle.sat_solve.specs.declared.clause.Lit.{Lit}
 use Rattle.sat_solve.specs.declared.trail.Step.{Step}
 use Rattle.sat_solve.specs.declared.trail.Reason.{Reason}
-use Rattle.sat_solve.specs.declared.trail.Reason.TheVariants.{Decision, Given, Clause, Decisions, AllOlder}
+use Rattle.sat_solve.specs.declared.trail.Reason.TheVariants.{Decision, Given, Clause, Pair, Decisions, AllOlder}
 use Rattle.sat_solve.specs.declared.problem.Problem.{Problem}
 use Rattle.sat_solve.proofs.ClauseLemmas.{literal_sign}
 
@@ -81,6 +81,7 @@ pub named_same : (problem : Problem) (old new : List ℕ) (reason : Reason) (end
 named_same problem old new Decision end part same = refl
 named_same problem old new Given end part same = refl
 named_same problem old new (Clause number) end part same = refl
+named_same problem old new (Pair group owner other) end part same = refl
 named_same problem old new (Decisions start stop) end part same = ap members_of (slice_same old new start stop end part.0 part.1 same)
 named_same problem old new AllOlder end part same = refl
 
@@ -88,6 +89,7 @@ pub end_before_within : (reason : Reason) (end : ℕ) → IsPart reason end → 
 end_before_within Decision end part = omega arith
 end_before_within Given end part = omega arith
 end_before_within (Clause number) end part = omega arith
+end_before_within (Pair group owner other) end part = omega arith
 end_before_within (Decisions start stop) end part = omega (arith, part.0, part.1)
 end_before_within AllOlder end part = omega arith
 

@@ -1,26 +1,28 @@
 -- How a solver goes on by one step.
-use Rattle.std.proofs.Common.{◌≡◌, ◌≢◌, ℕ, ◌-◌, ◌<◌, ◌≤◌, true, false, Option, Some, None, List, ◌∷◌, length, get_or, slice_range, refl, sym, ◌∙◌, ap, subst, inl, inr, arith}
+use Rattle.std.proofs.Common.{◌≡◌, ◌≢◌, ℕ, ◌-◌, ◌<◌, ◌≤◌, true, false, is_some, Contains, slice_get, Option, Some, None, List, ◌∷◌, length, get_or, slice_range, refl, sym, ◌∙◌, ap, subst, inl, inr, arith}
 use mathlib.Core.Path.{fun_ext}
 use Rattle.std.proofs.lemmas.Bool.{false≢true}
+use Rattle.std.proofs.lemmas.List.Elements.{All-contains}
 use Rattle.std.proofs.lemmas.Bool.Decides.{eqb_tells}
 use Rattle.sat_solve.specs.Sets.{NumberSet, IsFirst, members_of}
-use Rattle.sat_solve.specs.Clauses.{clause_holds}
-use Rattle.sat_solve.specs.Spans.{no_span}
+use Rattle.sat_solve.specs.Clauses.{clause_holds, not_both}
+use Rattle.sat_solve.specs.Spans.{clauses_of, no_span}
 use Rattle.sat_solve.specs.ClauseStatus.{ComesDownTo}
 use Rattle.sat_solve.specs.Trail.{value_in, set_of, is_decided, Follows, IsSound, IsLinked, rank, power_of_three, steps_of, IsTrail}
-use Rattle.sat_solve.specs.Reasons.{IsProblem, IsSolution, Backs, named_by, RestsOn, AreReasoned, AreParts, FailsOn}
+use Rattle.sat_solve.specs.Reasons.{IsProblem, IsSolution, Backs, named_by, RestsOn, AreReasoned, AreParts, FailsOn, Gives, end_before}
 use Rattle.sat_solve.specs.SolverState.{IsSolver, GoesOn, height}
 use Rattle.sat_solve.specs.declared.clause.Lit.{Lit}
 use Rattle.sat_solve.specs.declared.trail.Step.{Step}
 use Rattle.sat_solve.specs.declared.trail.Trail.{Trail}
 use Rattle.sat_solve.specs.declared.trail.Reason.{Reason}
-use Rattle.sat_solve.specs.declared.trail.Reason.TheVariants.{Decision, Clause, AllOlder}
+use Rattle.sat_solve.specs.declared.trail.Reason.TheVariants.{Decision, Clause, Pair, AllOlder}
 use Rattle.sat_solve.specs.declared.problem.Problem.{Problem}
 use Rattle.sat_solve.specs.declared.solver.Solver.{Solver}
 use Rattle.sat_solve.proofs.TrailLemmas.{value_in_newest, value_in_older, rank_rises, set_of_is_first}
 use Rattle.sat_solve.proofs.StepLemmas.{forced_sound, decided_sound, only_set}
 use Rattle.sat_solve.proofs.RoundLemmas.{work_falls}
 use Rattle.sat_solve.proofs.SpanLemmas.{clause_met}
+use Rattle.sat_solve.proofs.MarkLemmas.{there_if_read}
 use Rattle.sat_solve.proofs.ReasonLemmas.{forced_rests, conflict_fails, refuted_fails}
 
 -- what was set is set under a newer step
@@ -43,32 +45,55 @@ pushed_solver problem old trail cursor propagated step is follows rests parts be
   used = is.used;
 }
 
-module _ (problem : Problem) (old : Solver) (clause : ℕ) (asked : IsProblem problem) (is : IsSolver problem old) (inside : clause < length problem.spans.now) (kept : get_or problem.keep.now (get_or problem.spans.now clause no_span).group false ≡ true) where
-  meets : (set : NumberSet) → IsSolution problem set → clause_holds set (slice_range problem.literals.now (get_or problem.spans.now clause no_span).start (get_or problem.spans.now clause no_span).end) ≡ true
-  meets set holds = clause_met problem.vars (length problem.keep.now) problem.literals.now problem.spans.now asked.clauses clause no_span inside problem.keep.now set refl kept holds.meets
-
-  meets_backed : (set : NumberSet) → Backs problem old.used.items (Clause clause) set → clause_holds set (slice_range problem.literals.now (get_or problem.spans.now clause no_span).start (get_or problem.spans.now clause no_span).end) ≡ true
-  meets_backed set holds = holds.1 inside kept
+module _ (problem : Problem) (old : Solver) (reason : Reason) (clause : List Lit) (is : IsSolver problem old) (gives : Gives problem reason clause) where
+  brought : (set : NumberSet) → Backs problem old.used.items reason set → clause_holds set clause ≡ true
+  brought set holds = gives.brought set holds.1
 
   -- a clause that comes down to one free literal forces it
-  pub goes_on_forced : (trail : Trail) (literal : Lit) → ComesDownTo old.trail.vars (steps_of old.trail) (slice_range problem.literals.now (get_or problem.spans.now clause no_span).start (get_or problem.spans.now clause no_span).end) (Some literal) → IsTrail trail → trail.vars ≡ old.trail.vars → steps_of trail ≡ record { var = literal.var; value = literal.positive; reason = Clause clause } ∷ steps_of old.trail → GoesOn problem old (record { trail = trail; arena = old.arena; cursor = old.cursor; propagated = old.propagated; used = old.used }) None
+  pub goes_on_forced : (trail : Trail) (literal : Lit) → ComesDownTo old.trail.vars (steps_of old.trail) clause (Some literal) → IsTrail trail → trail.vars ≡ old.trail.vars → steps_of trail ≡ record { var = literal.var; value = literal.positive; reason = reason } ∷ steps_of old.trail → GoesOn problem old (record { trail = trail; arena = old.arena; cursor = old.cursor; propagated = old.propagated; used = old.used }) None
   goes_on_forced trail literal down linked vars pushed =
       let P : NumberSet → Type 0 = IsSolution problem in
-      let step : Step = record { var = literal.var; value = literal.positive; reason = Clause clause } in
-      let sound = forced_sound P (steps_of old.trail) is.sound old.trail.vars (Clause clause) (slice_range problem.literals.now (get_or problem.spans.now clause no_span).start (get_or problem.spans.now clause no_span).end) literal refl meets down in
+      let step : Step = record { var = literal.var; value = literal.positive; reason = reason } in
+      let sound = forced_sound P (steps_of old.trail) is.sound old.trail.vars reason clause literal gives.implied gives.meets down in
+      let rests = forced_rests (Backs problem old.used.items reason) old.trail.vars (steps_of old.trail) clause brought reason literal down in
+      let parts : AreParts (steps_of old.trail) (end_before reason (length old.arena.items)) = subst (AreParts (steps_of old.trail)) (sym (gives.ends (length old.arena.items))) is.parts in
       record {
-        solver = pushed_solver problem old trail old.cursor old.propagated step is sound.0 (λ _. forced_rests (Backs problem old.used.items (Clause clause)) old.trail.vars (steps_of old.trail) (slice_range problem.literals.now (get_or problem.spans.now clause no_span).start (get_or problem.spans.now clause no_span).end) meets_backed (Clause clause) literal down) (tt, is.parts) is.below linked vars pushed;
+        solver = pushed_solver problem old trail old.cursor old.propagated step is sound.0
+            (λ _. subst (RestsOn (Backs problem old.used.items reason) (steps_of old.trail) step) (sym (gives.named old.arena.items)) rests)
+            (gives.part (length old.arena.items), parts) is.below linked vars pushed;
         rises = subst (λ steps. rank problem.vars (steps_of old.trail) ≤ rank problem.vars steps) (sym pushed) (omega (arith, rank_rises problem.vars step (steps_of old.trail)));
         conflict = tt;
       }
 
   -- a clause that fails
-  pub goes_on_conflict : ComesDownTo old.trail.vars (steps_of old.trail) (slice_range problem.literals.now (get_or problem.spans.now clause no_span).start (get_or problem.spans.now clause no_span).end) None → GoesOn problem old old (Some (Clause clause))
+  pub goes_on_conflict : ComesDownTo old.trail.vars (steps_of old.trail) clause None → GoesOn problem old old (Some reason)
   goes_on_conflict down = record {
     solver = is;
     rises = omega arith;
-    conflict = conflict_fails (Backs problem old.used.items (Clause clause)) old.trail.vars (steps_of old.trail) (slice_range problem.literals.now (get_or problem.spans.now clause no_span).start (get_or problem.spans.now clause no_span).end) meets_backed down;
+    conflict = subst (FailsOn (Backs problem old.used.items reason) (steps_of old.trail)) (sym (gives.named old.arena.items)) (conflict_fails (Backs problem old.used.items reason) old.trail.vars (steps_of old.trail) clause brought down);
   }
+
+-- a kept clause gives itself
+pub clause_gives : (problem : Problem) (clause : ℕ) → IsProblem problem → clause < length problem.spans.now → is_some (get_or problem.spans.now clause no_span).owner ≡ false → get_or problem.keep.now (get_or problem.spans.now clause no_span).group false ≡ true → Gives problem (Clause clause) (slice_range problem.literals.now (get_or problem.spans.now clause no_span).start (get_or problem.spans.now clause no_span).end)
+clause_gives problem clause asked inside unowned kept = record {
+  implied = refl;
+  meets = λ set holds. clause_met problem.vars (length problem.keep.now) problem.literals.now problem.spans.now asked.clauses clause no_span inside problem.keep.now set refl unowned kept holds.meets;
+  brought = λ set brings. brings inside unowned kept;
+  part = λ end. tt;
+  ends = λ end. refl;
+  named = λ arena. refl;
+}
+
+-- a kept pair gives the clause that the two are not both in
+pub pair_gives : (problem : Problem) (group owner other : ℕ) → get_or problem.keep.now group false ≡ true → Contains (clauses_of problem.literals.now problem.spans.now) (record { group = group; literals = not_both owner other }) → Gives problem (Pair group owner other) (not_both owner other)
+pair_gives problem group owner other kept listed = record {
+  implied = refl;
+  meets = λ set holds. All-contains (λ clause. slice_get problem.keep.now clause.group ≡ Some true → clause_holds set clause.literals ≡ true) (clauses_of problem.literals.now problem.spans.now) (record { group = group; literals = not_both owner other }) holds.meets listed (there_if_read problem.keep.now group kept);
+  brought = λ set brings. brings listed kept;
+  part = λ end. tt;
+  ends = λ end. refl;
+  named = λ arena. refl;
+}
 
 -- the least free variable is decided
 pub decided_solver : (problem : Problem) (old : Solver) (trail : Trail) (var : ℕ) → IsSolver problem old → ((lower : ℕ) → lower < var → value_in (steps_of old.trail) lower ≢ None) → IsTrail trail → trail.vars ≡ old.trail.vars → steps_of trail ≡ record { var = var; value = false; reason = Decision } ∷ steps_of old.trail → IsSolver problem (record { trail = trail; arena = old.arena; cursor = var; propagated = old.propagated; used = old.used })
@@ -83,6 +108,10 @@ decided_rises problem old trail var pushed =
 -- one stretch after another
 pub goes_on : (problem : Problem) (first mid last : Solver) (earlier found : Option Reason) → GoesOn problem first mid earlier → GoesOn problem mid last found → GoesOn problem first last found
 goes_on problem first mid last earlier found before after = record { solver = after.solver; rises = omega (arith, before.rises, after.rises); conflict = after.conflict }
+
+pub went_on : (problem : Problem) (first mid last : Solver) (found : Option Reason) → is_some found ≡ false → GoesOn problem first mid None → GoesOn problem mid last found → GoesOn problem first last None
+went_on problem first mid last None none before after = goes_on problem first mid last None None before after
+went_on problem first mid last (Some conflict) none before after = absurd (false≢true (sym none))
 
 -- where all variables are set, and not as the problem wants it, no set agrees with the trail
 pub full_fails : (problem : Problem) (solver : Solver) → IsSolver problem solver → ((var : ℕ) → var < problem.vars → value_in (steps_of solver.trail) var ≢ None) → (IsSolution problem (set_of (steps_of solver.trail)) → ⊥) → FailsOn (Backs problem solver.used.items AllOlder) (steps_of solver.trail) (λ _. true)

@@ -1,14 +1,14 @@
 -- Why variables have their values: what steps and conflicts rest on.
-use Rattle.std.specs.Prelude.{◌≡◌, ℕ, ◌<◌, ◌≤◌, ◌==◌, Bool, true, false, Some, None, List, [], ◌∷◌, ◌⊎◌, length, take, ◌+◌, ◌*◌, ◌-◌, slice_range, slice_index_or}
+use Rattle.std.specs.Prelude.{◌≡◌, ℕ, ◌<◌, ◌≤◌, ◌==◌, Bool, true, false, Some, None, is_some, List, [], ◌∷◌, ◌⊎◌, Contains, length, take, ◌+◌, ◌*◌, ◌-◌, slice_range, slice_index_or}
 use Rattle.std.specs.List.{list_any}
 use Rattle.sat_solve.specs.Sets.{NumberSet, members_of}
-use Rattle.sat_solve.specs.Clauses.{IsTrueSet, AreWithin, clause_holds}
+use Rattle.sat_solve.specs.Clauses.{IsTrueSet, AreWithin, clause_holds, not_both}
 use Rattle.sat_solve.specs.Spans.{clause_at, clauses_of, no_span, AreClauses}
 use Rattle.sat_solve.specs.Trail.{value_in, is_decision, is_decided, rank, power_of_three}
 use Rattle.sat_solve.specs.declared.clause.Lit.{Lit}
 use Rattle.sat_solve.specs.declared.trail.Step.{Step}
 use Rattle.sat_solve.specs.declared.trail.Reason.{Reason}
-use Rattle.sat_solve.specs.declared.trail.Reason.TheVariants.{Decision, Given, Clause, Decisions, AllOlder}
+use Rattle.sat_solve.specs.declared.trail.Reason.TheVariants.{Decision, Given, Clause, Pair, Decisions, AllOlder}
 use Rattle.sat_solve.specs.declared.problem.Problem.{Problem}
 
 -- the clauses and the variable that a problem names are in range
@@ -29,18 +29,27 @@ pub record IsUsed (problem : Problem) (used : List Bool) : Type 0 where
   pub sized : length used ≡ length problem.keep.now
   pub within : AreWithin used problem.keep.now
 
--- the clause of this number holds in the set, where it is a kept one
+-- the clause of this number holds in the set, where it is one and is kept
 abbrev pub MeetsOne : Problem → ℕ → NumberSet → Type 0
 MeetsOne problem number set =
     number < length problem.spans.now
+    → is_some (slice_index_or problem.spans.now number no_span).owner ≡ false
     → slice_index_or problem.keep.now (slice_index_or problem.spans.now number no_span).group false ≡ true
     → clause_holds set (clause_at problem.literals.now (slice_index_or problem.spans.now number no_span)).literals ≡ true
+
+-- two variables are not both in the set, where that is a clause of a kept group
+abbrev pub MeetsPair : Problem → ℕ → ℕ → ℕ → NumberSet → Type 0
+MeetsPair problem group owner other set =
+    Contains (clauses_of problem.literals.now problem.spans.now) (record { group = group; literals = not_both owner other })
+    → slice_index_or problem.keep.now group false ≡ true
+    → clause_holds set (not_both owner other) ≡ true
 
 -- the set meets what a reason brings in
 abbrev pub Brings : Problem → Reason → NumberSet → Type 0
 Brings problem Decision set = Unit {0}
 Brings problem Given set = Unit {0}
 Brings problem (Clause number) set = MeetsOne problem number set
+Brings problem (Pair group owner other) set = MeetsPair problem group owner other set
 Brings problem (Decisions start end) set = Unit {0}
 Brings problem AllOlder set = IsSolution problem set
 
@@ -57,6 +66,7 @@ abbrev pub named_by : Problem → List ℕ → Reason → NumberSet
 named_by problem arena Decision = λ _. false
 named_by problem arena Given = λ _. false
 named_by problem arena (Clause number) = variables_of (clause_at problem.literals.now (slice_index_or problem.spans.now number no_span)).literals
+named_by problem arena (Pair group owner other) = variables_of (not_both owner other)
 named_by problem arena (Decisions start end) = members_of (slice_range arena start end)
 named_by problem arena AllOlder = λ _. true
 
@@ -90,6 +100,15 @@ IsPart _ end = Unit {0}
 abbrev pub end_before : Reason → ℕ → ℕ
 end_before (Decisions start stop) end = start
 end_before _ end = end
+
+-- a reason brings in just this clause
+pub record Gives (problem : Problem) (reason : Reason) (clause : List Lit) : Type 0 where
+  pub implied : is_decision reason ≡ false
+  pub meets : (set : NumberSet) → IsSolution problem set → clause_holds set clause ≡ true
+  pub brought : (set : NumberSet) → Brings problem reason set → clause_holds set clause ≡ true
+  pub part : (end : ℕ) → IsPart reason end
+  pub ends : (end : ℕ) → end_before reason end ≡ end
+  pub named : (arena : List ℕ) → named_by problem arena reason ≡ variables_of clause
 
 -- the parts of the steps lie in the arena one below another, the newest step's highest
 abbrev pub AreParts : List Step → ℕ → Type 0

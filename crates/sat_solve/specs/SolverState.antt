@@ -1,10 +1,14 @@
 -- The state of a solve between two steps of it.
-use Rattle.std.specs.Prelude.{◌≡◌, ◌≢◌, ℕ, ◌<◌, ◌≤◌, Option, Some, None, length}
+use Rattle.std.specs.Prelude.{◌≡◌, ◌≢◌, ℕ, ◌<◌, ◌≤◌, true, not, Option, Some, None, List, length, slice_range}
+use Rattle.std.specs.List.{list_all}
+use Rattle.sat_solve.specs.Sets.{NumberSet}
 use Rattle.sat_solve.specs.Trail.{value_in, set_of, IsSound, rank, steps_of, IsTrail}
 use Rattle.sat_solve.specs.Reasons.{IsSolution, IsUsed, Backs, named_by, AreReasoned, AreParts, FailsOn}
+use Rattle.sat_solve.specs.declared.clause.Lit.{Lit}
 use Rattle.sat_solve.specs.declared.trail.Reason.{Reason}
 use Rattle.sat_solve.specs.declared.problem.Problem.{Problem}
 use Rattle.sat_solve.specs.declared.solver.Solver.{Solver}
+use Rattle.sat_solve.specs.declared.search.ClearPart.{ClearPart}
 use Rattle.sat_solve.specs.declared.search.Progress.{Progress}
 use Rattle.sat_solve.specs.declared.search.Progress.TheVariants.{Going, Conflict, Solved}
 
@@ -17,6 +21,10 @@ pub record IsSolver (problem : Problem) (solver : Solver) : Type 0 where
   pub parts : AreParts (steps_of solver.trail) (length solver.arena.items)
   pub below : (var : ℕ) → var < solver.cursor → value_in (steps_of solver.trail) var ≢ None
   pub used : IsUsed problem solver.used.items
+
+-- no literal of this part has a variable of the set
+abbrev pub IsClearPart : NumberSet → List Lit → ClearPart → Type 0
+IsClearPart set literals part = list_all (λ literal. not (set literal.var)) (slice_range literals part.start part.end) ≡ true
 
 -- a conflict: no set that backs the reason agrees with the trail on what the reason names
 abbrev pub IsConflict : Problem → Solver → Reason → Type 0

@@ -3,8 +3,9 @@
 //! The search goes back to the newest of these, past all that was decided after it: conflict-directed backjumping
 //! (P. Prosser, "Hybrid algorithms for the constraint satisfaction problem", 1993).
 
-ghost use Rattle.std.specs.Prelude.{◌≡◌, ℕ, ◌<◌, ◌≤◌, true, false, List, [], length, slice_index_or, slice_set, IfOk};
+ghost use Rattle.std.specs.Prelude.{◌≡◌, ℕ, ◌<◌, ◌≤◌, true, false, Some, List, [], length, slice_get, slice_index_or, slice_set, IfOk};
 ghost use Rattle.sat_solve.specs.Sets.{NumberSet, members_of};
+ghost use Rattle.sat_solve.specs.Clauses.{AreWithin};
 ghost use Rattle.sat_solve.specs.Trail.{steps_of, IsSound};
 ghost use Rattle.sat_solve.specs.Reasons.{IsSolution, IsMarkedSolution, IsUsed, Backs, IsProblem, LacksAll, FailsOn, AreReasoned, Picks, named_by, is_seen, variables_of, SeesAll};
 
@@ -104,6 +105,19 @@ impl Analysis {
                     self.see_all();
                 }
             }
+            Reason::Pair(_, owner, other) => {
+                let pair = [
+                    Lit {
+                        var: owner,
+                        positive: false,
+                    },
+                    Lit {
+                        var: other,
+                        positive: false,
+                    },
+                ];
+                self.see_literals(&pair);
+            }
             Reason::Decisions(start, end) => {
                 if start <= end && end <= arena.len() {
                     self.see_each(&arena[start..end]);
@@ -112,6 +126,19 @@ impl Analysis {
                 }
             }
             Reason::AllOlder => self.see_all(),
+        }
+    }
+
+    /// Marks a group, if it is kept.
+    fn use_group(problem: &Problem, used: &mut Vec<bool>, group: u32)
+        requires { IsUsed problem.now used.old.items }
+        ensures used { IsUsed problem.now used.new.items }
+        ensures within { AreWithin used.old.items used.new.items }
+        ensures marked { slice_index_or problem.now.keep.now group false ≡ true → slice_get used.new.items group ≡ Some true }
+    {
+        let group = group as usize;
+        if group < problem.keep.len() && problem.keep[group] {
+            used[group] = true;
         }
     }
 
@@ -125,11 +152,12 @@ impl Analysis {
         match reason {
             Reason::Clause(clause) => {
                 if clause < problem.spans.len() {
-                    let group = problem.spans[clause].group as usize;
-                    if problem.keep[group] {
-                        used[group] = true;
-                    }
+                    Analysis::use_group(problem, used, problem.spans[clause].group);
                 }
+                Ok(())
+            }
+            Reason::Pair(group, _, _) => {
+                Analysis::use_group(problem, used, group);
                 Ok(())
             }
             Reason::AllOlder => {

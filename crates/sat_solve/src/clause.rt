@@ -11,10 +11,23 @@ pub struct Lit {
     pub positive: bool,
 }
 
+/// A variable that excludes the other ones of a list.
+#[derive(Clone, Copy, PartialEq, Eq, Debug)]
+pub struct Owner {
+    /// The group that this is said in.
+    pub group: u32,
+    /// The variable, counted from 0.
+    pub var: u32,
+}
+
 /// Where a clause's literals stand, and the group that it is in.
+///
+/// Where there is an owner, the literals stand for a list of variables, and the span for one clause with each other variable of
+/// the list: it and the owner are not both in.
 #[derive(Clone, Copy)]
 pub(crate) struct Span {
     pub group: u32,
     pub start: usize,
     pub end: usize,
+    pub owner: Option<u32>,
 }

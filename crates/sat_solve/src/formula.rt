@@ -1,11 +1,11 @@
 //! A formula: clauses in groups, and the calls that solve it.
 
-ghost use Rattle.std.specs.Prelude.{◌≡◌, ℕ, ◌+◌, ◌<◌, ◌≤◌, length, All, IfOk, OnErr, IfSome, IfNone, [], ◌∷◌, ◌++◌};
+ghost use Rattle.std.specs.Prelude.{◌≡◌, ℕ, ◌+◌, ◌<◌, ◌≤◌, length, All, IfOk, OnErr, IfSome, IfNone, [], ◌∷◌, ◌++◌, map, false, Some, flat_map};
 ghost use Rattle.std.specs.List.Sorted.{IsStrictlyIncreasing};
 ghost use Rattle.sat_solve.specs.Sets.{NumberSet, members_of, IsFirst};
-ghost use Rattle.sat_solve.specs.Clauses.{IsTrueSet, AreWithin};
+ghost use Rattle.sat_solve.specs.Clauses.{IsTrueSet, AreWithin, exclusions};
 
-use crate::clause::{Lit, Span};
+use crate::clause::{Lit, Owner, Span};
 use crate::problem::Problem;
 use crate::search::Workspace;
 use std::alloc::{AllocError, Global};
@@ -85,7 +85,31 @@ impl Formula {
         let start = self.literals.len();
         self.literals.extend_from_slice(clause)?;
         let end = self.literals.len();
-        self.spans.push(Span { group, start, end })?;
+        self.spans.push(Span {
+            group,
+            start,
+            end,
+            owner: None,
+        })?;
+        Ok(())
+    }
+
+    /// Adds that each owner excludes each other variable of a list: in the owner's group, one clause for each, that it and the owner
+    /// are not both in.
+    ///
+    /// The list takes the memory of one clause, however many owners it has. With all of the list as owners, at most one of it is in.
+    /// The error is want of memory, and leaves the formula as it was.
+    pub fn exclude(&mut self, owners: &[Owner], list: &[u32]) -> Result<(), AllocError>
+        requires groups { All (λ owner. owner.group < self.old.groups) owners.now }
+        requires owners { All (λ owner. owner.var < self.old.vars) owners.now }
+        requires list { All (λ var. var < self.old.vars) list.now }
+        ensures ok { IfOk result (λ _. self.new ≡ record self.old { clauses = self.old.clauses ++ flat_map (λ owner. exclusions owner.group owner.var list.now) owners.now }) }
+        ensures err { OnErr result (self.new ≡ self.old) }
+    {
+        let start = self.literals.len();
+        push_list(list, &mut self.literals)?;
+        let end = self.literals.len();
+        push_owners(owners, start, end, &mut self.spans)?;
         Ok(())
     }
 
@@ -180,4 +204,49 @@ impl Formula {
         };
         workspace.solve(alloc, &problem)
     }
+}
+
+/// Puts the variables of a list behind the literals, each as the literal that it is out.
+fn push_list(list: &[u32], literals: &mut Vec<Lit>) -> Result<(), AllocError>
+    ensures ok { IfOk result (λ _. literals.new.items ≡ literals.old.items ++ map (λ var. record { var = var; positive = false }) list.now) }
+    ensures err { OnErr result (literals.new.items ≡ literals.old.items) }
+{
+    let start = literals.len();
+    for var in list {
+        let literal = Lit {
+            var: *var,
+            positive: false,
+        };
+        if let Err(error) = literals.push(literal) {
+            literals.truncate(start);
+            return Err(error.into());
+        }
+    }
+    Ok(())
+}
+
+/// Puts a span for each owner of the list at these places behind the others.
+fn push_owners(
+    owners: &[Owner],
+    start: usize,
+    end: usize,
+    spans: &mut Vec<Span>,
+) -> Result<(), AllocError>
+    ensures ok { IfOk result (λ _. spans.new.items ≡ spans.old.items ++ map (λ owner. record { group = owner.group; start = start; end = end; owner = Some owner.var }) owners.now) }
+    ensures err { OnErr result (spans.new.items ≡ spans.old.items) }
+{
+    let count = spans.len();
+    for owner in owners {
+        let span = Span {
+            group: owner.group,
+            start,
+            end,
+            owner: Some(owner.var),
+        };
+        if let Err(error) = spans.push(span) {
+            spans.truncate(count);
+            return Err(error.into());
+        }
+    }
+    Ok(())
 }

@@ -3,7 +3,7 @@
 ghost use Rattle.std.specs.Prelude.{◌≡◌, ◌<◌, IfOk};
 
 use crate::tests::{is_set, lit, not};
-use crate::{Formula, Workspace};
+use crate::{Formula, Owner, Workspace};
 use std::alloc::{AllocError, AllocGlobal, Global};
 use std::process::Abort;
 use std::test::Fail;
@@ -129,6 +129,25 @@ fn of_add_after_restart(rt: HostRuntime) -> Result<(), Fail> {
             expect_solved(&rt, &formula, [true, true], Some(&[0]))?;
             formula.add(1, &[not(0), lit(4), lit(3), lit(2), lit(1), lit(4)])?;
             expect_solved(&rt, &formula, [true, true], Some(&[0, 4]))?;
+            Err(Fail::new("out of memory"))
+        }
+    }
+}
+
+/// A formula that refused a list and its owners has none of the pairs, and takes all of them the second time.
+#[test]
+fn of_exclude(rt: HostRuntime) -> Result<(), Fail> {
+    let mut formula = formula(rt.alloc())?;
+    let owners = [Owner { group: 1, var: 0 }, Owner { group: 0, var: 1 }];
+    match formula.exclude(&owners, &[0, 1]) {
+        Ok(()) => {
+            expect_solved(&rt, &formula, [true, true], None)?;
+            expect_solved(&rt, &formula, [true, false], Some(&[0, 2]))
+        }
+        Err(AllocError) => {
+            expect_solved(&rt, &formula, [true, true], Some(&[0, 1]))?;
+            formula.exclude(&owners, &[0, 1])?;
+            expect_solved(&rt, &formula, [true, true], None)?;
             Err(Fail::new("out of memory"))
         }
     }

@@ -81,7 +81,8 @@ fn sweep(
 {
     let mut forced = false;
     for span in spans {
-        if keep[span.group as usize] {
+        // Lists are looked at once all variables are set.
+        if span.owner.is_none() && keep[span.group as usize] {
             match trail.status(&literals[span.start..span.end]) {
                 ClauseStatus::Satisfied | ClauseStatus::Unresolved => {}
                 ClauseStatus::Unit(literal) => {

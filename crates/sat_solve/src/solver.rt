@@ -1,11 +1,12 @@
 //! The state of a solve: deciding, forcing, and going back.
 
-ghost use Rattle.std.specs.Prelude.{◌≡◌, ◌≢◌, ℕ, ◌+◌, ◌*◌, ◌-◌, ◌<◌, ◌≤◌, true, false, Some, None, List, [], ◌∷◌, length, take, min, IfOk, IfSome, IfNone, OnSome};
+ghost use Rattle.std.specs.Prelude.{◌≡◌, ◌≢◌, ℕ, ◌+◌, ◌*◌, ◌-◌, ◌<◌, ◌≤◌, true, false, Some, None, List, [], ◌∷◌, All, length, take, min, IfOk, IfSome, IfNone, OnSome};
 ghost use Rattle.sat_solve.specs.Sets.{NumberSet, members_of};
 ghost use Rattle.sat_solve.specs.Trail.{value_in, steps_of, IsTrail};
-ghost use Rattle.sat_solve.specs.Reasons.{IsSolution, IsMarkedSolution, IsProblem, LacksAll, Picks, IsReasonFor, UndoneThrough};
+ghost use Rattle.sat_solve.specs.Reasons.{IsSolution, IsMarkedSolution, IsProblem, Gives, LacksAll, Picks, IsReasonFor, UndoneThrough};
 ghost use Rattle.sat_solve.specs.SolverState.{IsSolver, GoesOn, height};
 
+use crate::clause::Lit;
 use crate::problem::Problem;
 use crate::trail::{ClauseStatus, Reason, Step, Trail};
 use std::alloc::{AllocError, Global};
@@ -85,20 +86,73 @@ impl Solver {
             return Ok(None);
         }
         let span = problem.spans[clause];
-        if !problem.keep[span.group as usize] {
+        if span.owner.is_some() || !problem.keep[span.group as usize] {
             return Ok(None);
         }
-        match self.trail.status(&problem.literals[span.start..span.end]) {
+        let literals = &problem.literals[span.start..span.end];
+        self.force(problem, literals, Reason::Clause(clause))
+    }
+
+    /// Looks at the owner of a list and the variable at a place of it: where one is in, the other is forced out, if that is kept.
+    pub fn examine_pair(
+        &mut self,
+        problem: &Problem,
+        span: usize,
+        place: usize,
+    ) -> Result<Option<Reason>, AllocError>
+        requires problem { IsProblem problem.now }
+        requires solver { IsSolver problem.now self.old }
+        ensures { IfOk result (GoesOn problem.now self.old self.new) }
+    {
+        if span >= problem.spans.len() {
+            return Ok(None);
+        }
+        let span = problem.spans[span];
+        if place < span.start || span.end <= place || !problem.keep[span.group as usize] {
+            return Ok(None);
+        }
+        let other = problem.literals[place].var;
+        match span.owner {
+            Some(owner) if owner != other => {
+                let pair = [
+                    Lit {
+                        var: owner,
+                        positive: false,
+                    },
+                    Lit {
+                        var: other,
+                        positive: false,
+                    },
+                ];
+                self.force(problem, &pair, Reason::Pair(span.group, owner, other))
+            }
+            _ => Ok(None),
+        }
+    }
+
+    /// Looks at a clause that a reason brings in: where all its literals fail but one that is free, that one is forced.
+    fn force(
+        &mut self,
+        problem: &Problem,
+        clause: &[Lit],
+        reason: Reason,
+    ) -> Result<Option<Reason>, AllocError>
+        requires solver { IsSolver problem.now self.old }
+        requires in_range { All (λ literal. literal.var < problem.now.vars) clause.now }
+        requires gives { Gives problem.now reason clause.now }
+        ensures { IfOk result (GoesOn problem.now self.old self.new) }
+    {
+        match self.trail.status(clause) {
             ClauseStatus::Satisfied | ClauseStatus::Unresolved => Ok(None),
             ClauseStatus::Unit(literal) => {
                 self.trail.push(Step {
                     var: literal.var,
                     value: literal.positive,
-                    reason: Reason::Clause(clause),
+                    reason,
                 })?;
                 Ok(None)
             }
-            ClauseStatus::Conflict => Ok(Some(Reason::Clause(clause))),
+            ClauseStatus::Conflict => Ok(Some(reason)),
         }
     }
 

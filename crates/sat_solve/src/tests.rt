@@ -25,7 +25,7 @@ pub fn not(var: u32) -> Lit
 }
 
 /// What the plain search answers.
-fn plainly(
+pub fn plainly(
     alloc: Global,
     formula: &Formula,
     keep: &[bool],
@@ -213,12 +213,12 @@ fn a_group_that_the_refutation_does_without(rt: HostRuntime) -> Result<(), Fail>
 
 /// Numbers that look random, and are the same in each run.
 #[derive(Drop)]
-struct Numbers {
-    state: u64,
+pub struct Numbers {
+    pub state: u64,
 }
 
 impl Numbers {
-    fn below(&mut self, bound: u32) -> u32
+    pub fn below(&mut self, bound: u32) -> u32
         requires { 0 < bound }
         ensures { result < bound }
     {
@@ -230,7 +230,7 @@ impl Numbers {
         high % bound
     }
 
-    fn literal(&mut self) -> Lit
+    pub fn literal(&mut self) -> Lit
         ensures { result.var < 5 }
     {
         Lit {
@@ -242,10 +242,10 @@ impl Numbers {
 
 /// A clause of at most three literals.
 #[derive(Clone, Copy)]
-struct Small {
-    group: u32,
-    literals: [Lit; 3],
-    size: usize,
+pub struct Small {
+    pub group: u32,
+    pub literals: [Lit; 3],
+    pub size: usize,
 }
 
 /// Whether the set of this number, whose first digit of five in base 2 is variable 0, has a variable.
@@ -267,7 +267,7 @@ fn holds(set: u32, clause: &Small) -> bool {
 }
 
 /// The number of the first set of five variables with `must` that makes the kept clauses true.
-fn by_trial(clauses: &[Small], keep: &[bool], must: u32) -> Option<u32> {
+pub fn by_trial(clauses: &[Small], keep: &[bool], must: u32) -> Option<u32> {
     for set in 0..32 {
         let mut met = has(set, must);
         for clause in clauses {
@@ -284,7 +284,7 @@ fn by_trial(clauses: &[Small], keep: &[bool], must: u32) -> Option<u32> {
 }
 
 /// Whether what was found is the set of this number.
-fn is_number(found: &Option<Vec<u32>>, wanted: Option<u32>) -> bool {
+pub fn is_number(found: &Option<Vec<u32>>, wanted: Option<u32>) -> bool {
     match (found, wanted) {
         (Some(members), Some(set)) => {
             for var in 0..5 {
@@ -310,7 +310,7 @@ fn are_within(marks: &[bool], keep: &[bool]) -> bool {
 }
 
 /// Whether the solve with marks answers as the trial of all sets does, and its marks stand on kept groups that admit no set.
-fn marks_agree(
+pub fn marks_agree(
     alloc: Global,
     formula: &Formula,
     workspace: &mut Workspace,

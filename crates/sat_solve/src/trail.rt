@@ -2,7 +2,8 @@
 
 ghost use Rattle.std.specs.Prelude.{◌≡◌, ◌≢◌, ℕ, Bool, true, false, Some, None, ◌+◌, ◌<◌, ◌≤◌, [], ◌∷◌, length, reverse, IfOk, IfSome, IfNone, List};
 ghost use Rattle.std.specs.List.Sorted.{IsStrictlyIncreasing};
-ghost use Rattle.std.specs.Prelude.{All};
+ghost use Rattle.std.specs.Prelude.{All, not, ◌||◌, ◌==◌};
+ghost use Rattle.std.specs.List.{list_all};
 ghost use Rattle.sat_solve.specs.Sets.{members_of};
 ghost use Rattle.sat_solve.specs.Clauses.{clause_holds};
 ghost use Rattle.sat_solve.specs.ClauseStatus.{IsStatus};
@@ -34,6 +35,8 @@ pub enum Reason {
     Given,
     /// On the older values of the variables of the clause of this number.
     Clause(usize),
+    /// On the other one of two variables that are not both in, by a clause of this group.
+    Pair(u32, u32, u32),
     /// On the decisions that stand in the arena from one place to another.
     Decisions(usize, usize),
     /// On all older values.
@@ -180,6 +183,34 @@ impl Trail {
             }
         }
         false
+    }
+
+    /// Whether these literals have no variable that is in.
+    pub fn has_none(&self, literals: &[Lit]) -> bool
+        requires linked { IsTrail self.now }
+        requires in_range { All (λ literal. literal.var < self.now.vars) literals.now }
+        ensures { result ≡ list_all (λ literal. not (set_of (steps_of self.now) literal.var)) literals.now }
+    {
+        for literal in literals {
+            if self.is_in(literal.var) {
+                return false;
+            }
+        }
+        true
+    }
+
+    /// Whether these literals have no variable that is in, but for this one.
+    pub fn has_no_other(&self, literals: &[Lit], var: u32) -> bool
+        requires linked { IsTrail self.now }
+        requires in_range { All (λ literal. literal.var < self.now.vars) literals.now }
+        ensures { result ≡ list_all (λ literal. literal.var == var || not (set_of (steps_of self.now) literal.var)) literals.now }
+    {
+        for literal in literals {
+            if literal.var != var && self.is_in(literal.var) {
+                return false;
+            }
+        }
+        true
     }
 
     /// Takes back the newest step, if there is one.

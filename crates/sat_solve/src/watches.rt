@@ -5,6 +5,7 @@ ghost use Rattle.sat_solve.specs.Reasons.{IsProblem};
 ghost use Rattle.sat_solve.specs.SolverState.{IsSolver, GoesOn};
 
 use crate::clause::Lit;
+use crate::exclusions::Exclusions;
 use crate::problem::Problem;
 use crate::solver::Solver;
 use crate::trail::{Reason, Trail};
@@ -25,6 +26,7 @@ pub(crate) struct Watches {
     next: Vec<u32>,
     /// Where the literal of each watch stands among all literals.
     place: Vec<usize>,
+    exclusions: Exclusions,
 }
 
 /// What is to become of a watch whose literal failed.
@@ -44,6 +46,7 @@ impl Watches {
             head: Vec::new(alloc),
             next: Vec::new(alloc),
             place: Vec::new(alloc),
+            exclusions: Exclusions::new(alloc),
         }
     }
 
@@ -56,6 +59,7 @@ impl Watches {
         self.next.clear();
         self.next.resize(watches, END)?;
         self.place.clear();
+        self.exclusions.restart();
         self.place.resize(watches, 0)
     }
 
@@ -188,7 +192,7 @@ impl Watches {
         Ok(conflict)
     }
 
-    /// Looks at the clauses that watch what failed by the steps not yet propagated.
+    /// Looks at the clauses that watch what failed by the steps not yet propagated, and at the lists of what came in.
     pub fn propagate(
         &mut self,
         problem: &Problem,
@@ -212,11 +216,17 @@ impl Watches {
             if conflict.is_some() {
                 return Ok(conflict);
             }
+            if step.value {
+                let conflict = self.exclusions.visit(problem, solver, step.var)?;
+                if conflict.is_some() {
+                    return Ok(conflict);
+                }
+            }
         }
         Ok(None)
     }
 
-    /// Watches the kept clauses of two literals or more, and looks at the shorter ones.
+    /// Watches the kept clauses of two literals or more and the lists, and looks at the shorter clauses.
     pub fn load(
         &mut self,
         problem: &Problem,
@@ -228,7 +238,9 @@ impl Watches {
     {
         for clause in 0..problem.spans.len() {
             let span = problem.spans[clause];
-            if span.end - span.start >= 2 {
+            if span.owner.is_some() {
+                self.exclusions.attach(problem, clause)?;
+            } else if span.end - span.start >= 2 {
                 if problem.keep[span.group as usize] {
                     self.attach(problem, clause);
                 }

@@ -1,8 +1,8 @@
 //! Command lines, and what they ask for.
 
-use crate::config::{Config, Show};
 use crate::line::{LineFault, line_status, read_line, write_line_fault};
 use crate::tests::sink_of;
+use deb_report::{Config, Format, Show};
 use std::alloc::{AllocError, Global};
 use std::process::Abort;
 use std::test::Fail;
@@ -47,6 +47,10 @@ pub(crate) fn is_plain(config: &Config) -> bool {
         && config.show == Show::All
         && config.essential
         && config.only.is_none()
+        && config.bg.is_none()
+        && !config.causes
+        && config.format == Format::Text
+        && !config.quiet
 }
 
 #[test]
@@ -82,9 +86,19 @@ fn a_line_of_all_options(rt: HostRuntime) -> Result<(), Fail> {
         "--workers=64",
         "--arch",
         "i386",
+        "--quiet",
+        "--format",
+        "json",
+        "--bg",
+        "main/Packages",
+        "--causes",
     ];
     let config = config_of(rt.alloc(), &line)?;
     assert!(rt; config.arch.as_str() == "i386");
+    assert!(rt; config.quiet);
+    assert!(rt; config.causes);
+    assert!(rt; config.format == Format::Json);
+    assert!(rt; config.bg.as_deref() == Some("main/Packages"));
     assert_eq!(rt; config.workers, 64);
     assert_eq!(rt; config.chunk, 1_000_000);
     assert!(rt; config.explain);
@@ -125,6 +139,75 @@ fn each_option_by_itself(rt: HostRuntime) -> Result<(), Fail> {
     assert!(rt; config.only.is_some());
     config.only = None;
     assert!(rt; is_plain(&config));
+    Ok(())
+}
+
+#[test]
+fn each_later_option_by_itself(rt: HostRuntime) -> Result<(), Fail> {
+    let mut config = config_of(rt.alloc(), &["--arch", "amd64", "--bg", "f"])?;
+    assert!(rt; config.bg.as_deref() == Some("f"));
+    config.bg = None;
+    assert!(rt; is_plain(&config));
+    let mut config = config_of(rt.alloc(), &["--arch", "amd64", "--causes"])?;
+    assert!(rt; config.causes);
+    config.causes = false;
+    assert!(rt; is_plain(&config));
+    let mut config = config_of(rt.alloc(), &["--arch", "amd64", "--format", "json"])?;
+    assert!(rt; config.format == Format::Json);
+    config.format = Format::Text;
+    assert!(rt; is_plain(&config));
+    let mut config = config_of(rt.alloc(), &["--arch", "amd64", "--quiet"])?;
+    assert!(rt; config.quiet);
+    config.quiet = false;
+    assert!(rt; is_plain(&config));
+    let text = config_of(rt.alloc(), &["--arch", "amd64", "--format=text"])?;
+    assert!(rt; is_plain(&text));
+    Ok(())
+}
+
+#[test]
+fn a_background_is_named_once(rt: HostRuntime) -> Result<(), Fail> {
+    for name in ["f", "-", "main/Packages", "a b", "ä", "."] {
+        let config = config_of(rt.alloc(), &["--bg", name, "--arch", "amd64"])?;
+        assert!(rt; config.bg.as_deref() == Some(name));
+    }
+    let attached = config_of(rt.alloc(), &["--arch", "amd64", "--bg=-x=y"])?;
+    assert!(rt; attached.bg.as_deref() == Some("-x=y"));
+    refuses(&rt, &["--arch", "amd64", "--bg"], &["--bg"])?;
+    refuses(&rt, &["--arch", "amd64", "--bg", ""], &["--bg", "--help"])?;
+    refuses(&rt, &["--arch", "amd64", "--bg="], &["--bg", "--help"])?;
+    refuses(&rt, &["--bg", "--arch", "amd64"], &["--bg"])?;
+    refuses(&rt, &["--bg", "f"], &["--arch"])?;
+    let twice = ["--bg", "f", "--arch", "amd64", "--bg", "g"];
+    refuses(&rt, &twice, &["--bg"])
+}
+
+#[test]
+fn a_report_is_text_or_json(rt: HostRuntime) -> Result<(), Fail> {
+    for word in ["", "Text", "JSON", "yaml", "text,json", " json", "jsonl"] {
+        let line = ["--arch", "amd64", "--format", word];
+        refuses(&rt, &line, &["--format", "text or json", "--help"])?;
+    }
+    refuses(&rt, &["--arch", "amd64", "--format="], &["--format"])?;
+    refuses(&rt, &["--arch", "amd64", "--format"], &["--format"])?;
+    let twice = ["--arch", "amd64", "--format=json", "--format=json"];
+    refuses(&rt, &twice, &["--format"])
+}
+
+#[test]
+fn an_option_without_a_value_comes_once(rt: HostRuntime) -> Result<(), Fail> {
+    for word in [
+        "--explain",
+        "--failures",
+        "--successes",
+        "--causes",
+        "--ignore-essential",
+        "--quiet",
+    ] {
+        refuses(&rt, &["--arch", "amd64", word, word], &[word])?;
+        let valued = format!(in rt.alloc(); "{word}=yes")?;
+        refuses(&rt, &["--arch", "amd64", valued.as_str()], &[word])?;
+    }
     Ok(())
 }
 
@@ -252,11 +335,18 @@ fn other_words_are_refused(rt: HostRuntime) -> Result<(), Fail> {
     refuses(&rt, &["-e", "--arch", "amd64"], &["-e"])?;
     refuses(&rt, &["--arch", "amd64", "Packages"], &["Packages"])?;
     refuses(&rt, &["--arch", "amd64", "--", "--explain"], &["--explain"])?;
-    refuses(&rt, &["--arch", "amd64", "--version"], &["--version"])?;
+    refuses(&rt, &["--arch", "amd64", "-V"], &["-V"])?;
     refuses(&rt, &["--arch", "amd64", "--explain=yes"], &["--explain"])?;
     refuses(&rt, &["help"], &["help"])?;
     refuses(&rt, &[""], &["--help"])?;
-    for word in ["--arch", "--workers", "--chunk", "--checkonly"] {
+    for word in [
+        "--arch",
+        "--workers",
+        "--chunk",
+        "--checkonly",
+        "--bg",
+        "--format",
+    ] {
         refuses(&rt, &[word], &[word])?;
     }
     refuses(&rt, &["--arch", "amd64", "--workers"], &["--workers"])?;
@@ -274,7 +364,12 @@ fn help_names_each_option(rt: HostRuntime) -> Result<(), Fail> {
         "--successes",
         "--ignore-essential",
         "--checkonly",
+        "--bg",
+        "--causes",
+        "--format",
+        "--quiet",
         "--help",
+        "--version",
     ];
     match read_line(rt.alloc(), words_of(rt.alloc(), &["--help"])?) {
         Err(fault) => {
@@ -297,6 +392,30 @@ fn help_names_each_option(rt: HostRuntime) -> Result<(), Fail> {
         Ok(_) => assert!(rt; false, "help is no configuration"),
     }
     Ok(())
+}
+
+#[test]
+fn the_version_is_one_line(rt: HostRuntime) -> Result<(), Fail> {
+    let lines: [&[&str]; 3] = [
+        &["--version"],
+        &["--arch", "amd64", "--version"],
+        &["--version", "--help"],
+    ];
+    for line in lines {
+        match read_line(rt.alloc(), words_of(rt.alloc(), line)?) {
+            Err(fault) => {
+                assert_eq!(rt; line_status(&fault), 0);
+                let mut output = sink_of(rt.alloc(), 7, 0, false);
+                let mut errors = sink_of(rt.alloc(), 7, 0, false);
+                assert!(rt; write_line_fault(&mut output, &mut errors, &fault).is_ok());
+                assert!(rt; errors.bytes.is_empty());
+                assert_eq!(rt; output.bytes.as_slice(), b"debcheck 1.0.0\n".as_slice());
+            }
+            Ok(_) => assert!(rt; false, "the version is no configuration"),
+        }
+    }
+    refuses(&rt, &["--versio"], &["--versio"])?;
+    refuses(&rt, &["--version=1"], &["--version"])
 }
 
 #[test]

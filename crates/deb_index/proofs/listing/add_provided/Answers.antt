@@ -21,8 +21,8 @@ loop-number-preserved c = λ pairs t.
       | then-usable+in_ok-add w ↦
           subst (λ (table : Table (ℕ × ℕ)). IsTable next (table_names table) (table_lists table)) (sym w.provided-is)
           (subst (λ l. IsTable l (table_names w.add.new.self) (table_lists w.add.new.self))
-          (ap (λ (name : List ℕ). so_far ++ (name, (place, i)) ∷ []) w.deref.ensures.value ∙ entry-taken arch place entries i entry within c.index-entries-number.is (usable ∙ w.if-usable.true) pairs)
-          (w.in_ok-add.ensures so_far (c.loop-number.invariant pairs t)))
+          (ap (λ (name : List ℕ). so_far ++ (name, (place, i)) ∷ []) w.as_slice.ensures.value ∙ entry-taken arch place entries i entry within c.index-entries-number.is (usable ∙ w.if-usable.true) pairs)
+          (w.in_ok-add.ensures.table so_far (c.loop-number.invariant pairs t)))
       | else-usable w ↦
           subst (λ (table : Table (ℕ × ℕ)). IsTable next (table_names table) (table_lists table)) (sym w.provided-is)
           (subst (λ l. IsTable l (table_names c.loop-number.provided) (table_lists c.loop-number.provided))

@@ -1,7 +1,7 @@
 use Rattle.std.proofs.Common.{codes}
 use Rattle.deb_index.specs.Reading.{field_name}
 use Rattle.debcheck.specs.Faults.{index_fault_text}
-use Rattle.debcheck.proofs.ReportLemmas.{stanza_text-more}
+use Rattle.debcheck.proofs.FaultLemmas.{stanza_text-more}
 use Rattle.debcheck.proofs.fault.push_index_fault.Goals as goal
 
 pub returns-in_ok-extend_from_slice-in-BadRelation : goal.returns-in_ok-extend_from_slice-in-BadRelation

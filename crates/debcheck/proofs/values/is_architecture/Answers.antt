@@ -1,5 +1,5 @@
 use Rattle.std.proofs.Common.{◌≡◌, false, rules}
-use Rattle.debcheck.specs.Line.{is_excluded}
+use Rattle.deb_report.specs.Settings.{is_excluded}
 use Rattle.debcheck.proofs.LineLemmas.{names-another}
 use Rattle.debcheck.proofs.values.is_architecture.Goals as goal
 

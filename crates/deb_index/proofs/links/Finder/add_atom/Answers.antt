@@ -5,4 +5,4 @@ use Rattle.deb_index.proofs.RowLemmas.{row-short}
 use Rattle.deb_index.proofs.links.Finder.add_atom.Goals as goal
 
 pub push-requires : goal.push-requires
-push-requires c = row-short (λ q. meets_as c.args.role c.args.tables.now.arch q (atom_view c.args.atom.now)) c.args.tables.now.packages _ c.requires (c.deref-3.ensures.value ∙ c.in_ok-find.ensures)
+push-requires c = row-short (λ q. meets_as c.args.role c.args.tables.now.arch q (atom_view c.args.atom.now)) c.args.tables.now.packages _ c.requires (c.deref.ensures.value ∙ c.in_ok-find.ensures)

@@ -19,8 +19,8 @@ returns-then-count-gt-ROW_LIMIT c =
     let i = c.alternatives.number in
     let a = c.index-group-number.result in
     let within : i < length group = omega arith in
-    let named = ap length (c.places_of-named.ensures ∙ ap (places_of index) c.deref.ensures.value) in
-    let provided = ap length (c.provides_of-provided.ensures ∙ ap (provided_at index) c.deref-in-alternatives.ensures.value) in
+    let named = ap length (c.places_of-named.ensures ∙ ap (places_of index) c.as_slice-name.ensures.value) in
+    let provided = ap length (c.provides_of-provided.ensures ∙ ap (provided_at index) c.as_slice-name.ensures.value) in
     let past = count-past index group i a within c.index-group-number.is (omega (arith, c.alternatives.invariant.2, named, provided)) in
     on-ok c.leave_out.result (λ e. e ∙ (λ j. c.alternatives.invariant.0 j ++ sym (group-left index (map atom_view group) past) j ∷ [])) c.leave_out.ensures
 
@@ -31,10 +31,10 @@ alternatives-preserved c =
     let i = c.alternatives.number in
     let a = c.index-group-number.result in
     let within : i < length group = omega arith in
-    let named = ap length (c.places_of-named.ensures ∙ ap (places_of index) c.deref.ensures.value) in
-    let provided = ap length (c.provides_of-provided.ensures ∙ ap (provided_at index) c.deref-in-alternatives.ensures.value) in
+    let named = ap length (c.places_of-named.ensures ∙ ap (places_of index) c.as_slice-name.ensures.value) in
+    let provided = ap length (c.provides_of-provided.ensures ∙ ap (provided_at index) c.as_slice-name.ensures.value) in
     let merged = c.in_ok-merge.ensures index.packages (λ q. list_any (meets_need index.arch q) (map atom_view (take i group))) (λ q. meets_need index.arch q (atom_view a))
-    (c.deref-in-alternatives-2.ensures.value ∙ c.alternatives.invariant.1) (c.deref-in-alternatives-3.ensures.value ∙ c.in_ok-find.ensures) in (
+    (c.deref.ensures.value ∙ c.alternatives.invariant.1) (c.deref-in-alternatives.ensures.value ∙ c.in_ok-find.ensures) in (
       c.alternatives.invariant.0,
       found-more index group i a within c.index-group-number.is _ (ap (λ v. v.items) c.swap.ensures.x_after ∙ merged),
       omega (arith, c.alternatives.invariant.2, named, provided, count-more index group i a within c.index-group-number.is),

@@ -39,7 +39,7 @@ returns c =
     let place = c.args.place in
     let p = package_view c.package-asking.result.now in
     let more : take (place + 1) packages ≡ take place packages ++ p ∷ [] = take_more packages place no_package c.requires.within ∙ ap (λ q. take place packages ++ q ∷ []) (sym c.package-asking.ensures.value) in
-    let number = c.unwrap_or.ensures ∙ ap (λ o. unwrap_or o 0) (c.name_number.ensures ∙ ap (λ name. position (bytes_eq name) (names index)) c.deref.ensures.value) in
+    let number = c.unwrap_or.ensures ∙ ap (λ o. unwrap_or o 0) (c.name_number.ensures ∙ ap (λ name. position (bytes_eq name) (names index)) c.as_slice.ensures.value) in
     let new : Links = record { numbers = c.push.new.self; starts = c.push-2.new.self; groups = c.add_groups.new.rows; entries = c.add_entries.new.rows } in
     subst (λ ps. IsLinked index ps new) (sym more)
     (linked-push index (take place packages) p c.args.self.now new c.requires.linked c.in_ok-add_groups.ensures c.in_ok-add_entries.ensures c.unwrap_or.result _ c.in_ok-push.ensures.items number c.in_ok-push-2.ensures.items c.len.ensures c.len-2.ensures)

@@ -13,7 +13,7 @@ pub returns-then-not-self : goal.returns-then-not-self
 returns-then-not-self c =
     let P : IndexView → Type 0 = λ v. c.new-found.result.items ≡ essential_names v in
     let packages = listed_packages c.self.inside.listing in
-    let known = names (record { arch = c.self.inside.arch.items; packages = packages; with_essential = c.self.inside.with_essential; stanzas = c.self.inside.stanzas; skipped = c.self.inside.skipped; duplicates = c.self.inside.duplicates }) in
+    let known = names (record { arch = c.self.inside.arch.items; packages = packages; with_essential = c.self.inside.with_essential; stanzas = c.self.inside.stanzas; skipped = c.self.inside.skipped; duplicates = c.self.inside.duplicates; foreground = c.self.inside.foreground }) in
     subst P c.self.view_is (c.new-found.ensures.items ∙ sym (ap (λ b. places_where (λ name. b && list_any (λ (p : PackageView). is_named name p && p.essential) packages) known) c.if-not-self.true ∙ places-none known))
 
 pub loop-number-init : goal.loop-number-init
@@ -24,7 +24,7 @@ pub overflow_cast-number : goal.overflow_cast-number
 overflow_cast-number c =
     let i = c.self.inside in
     let t = c.self.invariant.listed.places in
-    let index : IndexView = record { arch = i.arch.items; packages = listed_packages i.listing; with_essential = i.with_essential; stanzas = i.stanzas; skipped = i.skipped; duplicates = i.duplicates } in
+    let index : IndexView = record { arch = i.arch.items; packages = listed_packages i.listing; with_essential = i.with_essential; stanzas = i.stanzas; skipped = i.skipped; duplicates = i.duplicates; foreground = i.foreground } in
     let few = names-few (listed_packages i.listing) t in
     let named = ap length (table-names (listed_packages i.listing) t) in
     let count = lists-count index (table_names i.listing.places) i.listing.places.lists.items t in

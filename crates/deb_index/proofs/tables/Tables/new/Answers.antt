@@ -7,6 +7,7 @@ pub invariant_of-result : goal.invariant_of-result
 invariant_of-result c = record {
   listed = c.new.ensures.listed _;
   counted = ap (λ ps. length (map package_view ps) + 0 + 0) c.new.ensures.packages;
+  front = omega arith;
   few = omega arith;
 }
 

@@ -1,6 +1,6 @@
-use Rattle.sat_solve.proofs.MarkLemmas.{backed_one}
+use Rattle.sat_solve.proofs.MarkLemmas.{backed_clause}
 use Rattle.sat_solve.proofs.analyze.Analysis.use_groups.Goals as goal
 
-pub returns-then-problem-group-clause-backs : goal.returns-then-problem-group-clause-backs
-returns-then-problem-group-clause-backs c =
-    rw c.in-Clause.is (backed_one c.args.problem.now c.args.used.now.items c.in-Clause.clause c.requires.problem c.requires.used c.if-clause-problem.true c.if-problem-group.true)
+pub returns-then-clause-problem-clause-backs : goal.returns-then-clause-problem-clause-backs
+returns-then-clause-problem-clause-backs c =
+    rw c.in-Clause.is (backed_clause c.args.problem.now c.args.used.now.items c.use_group.new.used.items c.in-Clause.clause c.requires.problem c.use_group.ensures.used c.use_group.ensures.within c.if-clause-problem.true c.use_group.ensures.marked)

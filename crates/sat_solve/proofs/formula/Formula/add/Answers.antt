@@ -1,4 +1,4 @@
-use Rattle.std.proofs.Common.{◌≡◌, ℕ, List, ◌++◌, ◌∷◌, [], length, ◌∙◌, ap, arith, rules}
+use Rattle.std.proofs.Common.{◌≡◌, ℕ, List, ◌++◌, ◌∷◌, [], None, length, ◌∙◌, ap, arith, rules}
 use Rattle.sat_solve.specs.Clauses.{Clause, Clauses}
 use Rattle.sat_solve.specs.Spans.{clauses_of}
 use Rattle.sat_solve.specs.declared.clause.Span.{Span}
@@ -20,7 +20,7 @@ returns-clause-ok c =
     let literals_are : c.extend_from_slice.new.self.items ≡ c.self.inside.literals.items ++ c.args.clause.now = c.in_ok-extend_from_slice.ensures.items in
     let start_is : c.len-start.result ≡ length c.self.inside.literals.items = omega (arith, c.len-start.ensures, c.self.inside.literals.ok) in
     let end_is : c.len-end.result ≡ length (c.self.inside.literals.items ++ c.args.clause.now) = omega (arith, c.len-end.ensures, c.extend_from_slice.new.self.ok, ap length literals_are) in
-    let span : ℕ → ℕ → Span = λ start end. record { group = c.args.group; start = start; end = end } in
+    let span : ℕ → ℕ → Span = λ start end. record { group = c.args.group; start = start; end = end; owner = None } in
     let spans_are : c.push.new.self.items ≡ c.self.inside.spans.items ++ span (length c.self.inside.literals.items) (length (c.self.inside.literals.items ++ c.args.clause.now)) ∷ [] =
     c.in_ok-push.ensures.items
     ∙ (ap (λ start. c.self.inside.spans.items ++ span start c.len-end.result ∷ []) start_is

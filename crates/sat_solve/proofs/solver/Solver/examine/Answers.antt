@@ -1,11 +1,6 @@
-use Rattle.sat_solve.proofs.SolverLemmas.{goes_on_forced, goes_on_conflict}
+use Rattle.std.proofs.Common.{sym}
+use Rattle.sat_solve.proofs.SolverLemmas.{clause_gives}
 use Rattle.sat_solve.proofs.solver.Solver.examine.Goals as goal
 
-pub returns-in_ok-push-in-Unit : goal.returns-in_ok-push-in-Unit
-returns-in_ok-push-in-Unit c =
-    goes_on_forced c.args.problem.now c.args.self.now c.args.clause c.requires.problem c.requires.solver c.if-clause-problem.false c.if-not-problem-span.false
-    c.push.new.self c.in-Unit.literal c.in-Unit.ensures c.in_ok-push-in-Unit.ensures.linked c.in_ok-push-in-Unit.ensures.vars c.in_ok-push-in-Unit.ensures.pushed
-
-pub returns-in-Conflict : goal.returns-in-Conflict
-returns-in-Conflict c =
-    goes_on_conflict c.args.problem.now c.args.self.now c.args.clause c.requires.problem c.requires.solver c.if-clause-problem.false c.if-not-problem-span.false c.in-Conflict.ensures
+pub force-requires-clause-gives : goal.force-requires-clause-gives
+force-requires-clause-gives c = clause_gives c.args.problem.now c.args.clause c.requires.problem c.if-clause-problem.false (sym c.if-is_some.ensures) c.if-not-problem-span.false

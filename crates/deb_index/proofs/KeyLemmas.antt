@@ -1,0 +1,187 @@
+-- How a package is known: by the first one of its name, or by a key that is kept of a later one.
+use Rattle.std.proofs.Common.{◌≡◌, ◌<◌, ◌≤◌, ◌+◌, ◌-◌, ℕ, Bool, true, false, cond, ◌&&◌, ◌||◌, List, [], ◌∷◌, ◌++◌, map, filter, length, get_or, drop, Option, Some, None, refl, sym, ap, ◌∙◌, subst, arith}
+use Prim.Native.Nat.{suc}
+use Rattle.std.specs.Prelude.{find}
+use Rattle.std.specs.List.{enumerate_from, list_any}
+use Rattle.std.specs.Option.{option_map_or}
+use Rattle.std.specs.Str.{bytes_eq}
+use Rattle.std.proofs.lemmas.Bool.{false≢true}
+use Rattle.std.proofs.lemmas.List.{append-nil, get_or-map, length-map}
+use Rattle.deb_index.specs.declared.package.Package.{Package}
+use Rattle.deb_index.specs.Packages.{PackageView, is_named, package_view, places_where}
+use Rattle.deb_index.specs.Reading.{same_package}
+use Rattle.deb_index.specs.Tables.{IsKnown, IsTable, is_known, named_places, package_key, same_key}
+use Rattle.deb_index.proofs.FirstLemmas.{names-turned, same-name}
+use Rattle.deb_index.proofs.ListingLemmas.{any-map}
+use Rattle.deb_index.proofs.NameLemmas.{table-names}
+use Rattle.deb_index.proofs.TableLemmas.{any-first}
+
+or-false : (b : Bool) → (b || false) ≡ b
+or-false true = refl
+or-false false = refl
+
+or-joined : (a b c : Bool) → ((a || b) || c) ≡ (a || (b || c))
+or-joined true b c = refl
+or-joined false b c = refl
+
+or-turned : (a b : Bool) → (a || b) ≡ (b || a)
+or-turned true true = refl
+or-turned true false = refl
+or-turned false true = refl
+or-turned false false = refl
+
+or-none : (a b : Bool) → (a || b) ≡ false → b ≡ false
+or-none true b e = absurd (false≢true (sym e))
+or-none false b e = e
+
+module _ {A : Type 0} (test : A → Bool) where
+  any-push : (xs : List A) (x : A) → list_any test (xs ++ x ∷ []) ≡ (list_any test xs || test x)
+  any-push [] x = or-false (test x)
+  any-push (y ∷ ys) x = ap (λ r. test y || r) (any-push ys x) ∙ sym (or-joined (test y) (list_any test ys) (test x))
+
+  find-none : (xs : List A) → list_any test xs ≡ false → find test xs ≡ None
+  find-none [] h = refl
+  find-none (x ∷ xs) h = by (test x) refl (find-none xs)
+    where
+      by : (t : Bool) → test x ≡ t → (list_any test xs ≡ false → find test xs ≡ None) → find test (x ∷ xs) ≡ None
+      by true e ih = absurd (false≢true (sym h ∙ rw e refl))
+      by false e ih = rw e (ih (rw e at h))
+
+  find-push : (xs : List A) (x : A) → find test (xs ++ x ∷ []) ≡ cond (list_any test xs) (find test xs) (cond (test x) (Some x) None)
+  find-push [] x = refl
+  find-push (y ∷ ys) x = by (test y) refl (find-push ys x)
+    where
+      by : (t : Bool) → test y ≡ t → find test (ys ++ x ∷ []) ≡ cond (list_any test ys) (find test ys) (cond (test x) (Some x) None)
+          → find test ((y ∷ ys) ++ x ∷ []) ≡ cond (list_any test (y ∷ ys)) (find test (y ∷ ys)) (cond (test x) (Some x) None)
+      by true e ih = rw e refl
+      by false e ih = rw e ih
+
+  -- the first place where the test holds
+  first-from : (n : ℕ) (xs : List A) (place : ℕ) (rest : List ℕ) → map (λ (e : ℕ × A). e.0) (filter (λ (e : ℕ × A). test e.1) (enumerate_from n xs)) ≡ place ∷ rest
+      → (n ≤ place) × (place < n + length xs) × ((d : A) → find test xs ≡ Some (get_or xs (place - n) d))
+  first-from n [] place rest e = absurd (let k = ap length e in omega arith)
+  first-from n (x ∷ xs) place rest e = by (test x) refl (first-from (n + 1) xs place rest)
+    where
+      by : (t : Bool) → test x ≡ t
+          → (map (λ (e : ℕ × A). e.0) (filter (λ (e : ℕ × A). test e.1) (enumerate_from (n + 1) xs)) ≡ place ∷ rest
+          → (n + 1 ≤ place) × (place < n + 1 + length xs) × ((d : A) → find test xs ≡ Some (get_or xs (place - (n + 1)) d)))
+          → (n ≤ place) × (place < n + length (x ∷ xs)) × ((d : A) → find test (x ∷ xs) ≡ Some (get_or (x ∷ xs) (place - n) d))
+      by true t ih =
+          let same : n ≡ place = ap (λ l. get_or l 0 0) (rw t at e) in
+          let zero : place - n ≡ 0 = omega arith in
+          (omega arith, omega arith, λ d. rw (t, zero) refl)
+      by false t ih =
+          let r = ih (rw t at e) in
+          let low = r.0 in
+          let high = r.1 in
+          let next : place - n ≡ suc (place - (n + 1)) = omega arith in
+          (omega arith, omega arith, λ d. rw (t, next) (r.2 d))
+
+  none-from : (n : ℕ) (xs : List A) → map (λ (e : ℕ × A). e.0) (filter (λ (e : ℕ × A). test e.1) (enumerate_from n xs)) ≡ [] → list_any test xs ≡ false
+  none-from n [] e = refl
+  none-from n (x ∷ xs) e = by (test x) refl (none-from (n + 1) xs)
+    where
+      by : (t : Bool) → test x ≡ t → (map (λ (e : ℕ × A). e.0) (filter (λ (e : ℕ × A). test e.1) (enumerate_from (n + 1) xs)) ≡ [] → list_any test xs ≡ false) → list_any test (x ∷ xs) ≡ false
+      by true t ih = absurd (let k = ap length (rw t at e) in omega arith)
+      by false t ih = rw t (ih (rw t at e))
+
+-- the first place of a name has the first package of the name
+pub first-named : (name : List ℕ) (packages : List PackageView) (place : ℕ) (rest : List ℕ) → places_where (is_named name) packages ≡ place ∷ rest
+    → (place < length packages) × ((d : PackageView) → find (is_named name) packages ≡ Some (get_or packages place d))
+unfolding places_where
+first-named name packages place rest e =
+    let r = first-from (is_named name) 0 packages place rest e in
+    let high = r.1 in
+    let same : place - 0 ≡ place = omega arith in
+    (omega arith, λ d. r.2 d ∙ ap (λ n. Some (get_or packages n d)) same)
+
+none-same : (p : PackageView) (packages : List PackageView) → list_any (is_named p.name) packages ≡ false → list_any (λ q. same_package q p) packages ≡ false
+none-same p [] h = refl
+none-same p (q ∷ qs) h = by (bytes_eq p.name q.name) refl (none-same p qs)
+  where
+    by : (t : Bool) → bytes_eq p.name q.name ≡ t → (list_any (is_named p.name) qs ≡ false → list_any (λ q. same_package q p) qs ≡ false) → list_any (λ q. same_package q p) (q ∷ qs) ≡ false
+    by true t ih = absurd (false≢true (sym h ∙ rw t refl))
+    by false t ih = let turned : bytes_eq q.name p.name ≡ false = names-turned q.name p.name ∙ t in rw turned (ih (rw t at h))
+
+-- no package is known by a name without places
+pub known-none : (p : PackageView) (packages : List PackageView) (places : List ℕ) → places ≡ places_where (is_named p.name) packages → length places < 1 → list_any (λ q. same_package q p) packages ≡ false
+unfolding places_where
+known-none p packages [] e few = none-same p packages (none-from (is_named p.name) 0 packages (sym e))
+known-none p packages (place ∷ rest) e few = absurd (omega arith)
+
+first-cons : (places : List ℕ) → 1 ≤ length places → places ≡ get_or places 0 0 ∷ drop 1 places
+first-cons [] some = absurd (omega arith)
+first-cons (place ∷ rest) some = refl
+
+-- the first place of a name is that of a package
+pub first-within : (name : List ℕ) (packages : List PackageView) (places : List ℕ) → places ≡ places_where (is_named name) packages → 1 ≤ length places → get_or places 0 0 < length packages
+first-within name packages places e some = (first-named name packages (get_or places 0 0) (drop 1 places) (sym e ∙ first-cons places some)).0
+
+-- one with places is known by the version of the package at the first, or by its key
+pub known-first : (p : PackageView) (packages : List Package) (later : List (List ℕ × List ℕ)) (places : List ℕ) (q : Package) → IsKnown (map package_view packages) later
+    → places ≡ places_where (is_named p.name) (map package_view packages) → 1 ≤ length places → q ≡ get_or packages (get_or places 0 0) q
+    → list_any (λ r. same_package r p) (map package_view packages) ≡ (bytes_eq (package_view q).version p.version || list_any (same_key (package_key p)) later)
+known-first p packages later places q known e some at =
+    let first = first-named p.name (map package_view packages) (get_or places 0 0) (drop 1 places) (sym e ∙ first-cons places some) in
+    let long = length-map packages package_view in
+    let low = first.0 in
+    let within : get_or places 0 0 < length packages = omega arith in
+    let there : get_or (map package_view packages) (get_or places 0 0) (package_view q) ≡ package_view q = get_or-map package_view packages (get_or places 0 0) q (package_view q) within ∙ ap package_view (sym at) in
+    known p ∙ ap (λ o. option_map_or (λ (r : PackageView). bytes_eq r.version p.version) o false || list_any (same_key (package_key p)) later) (first.1 (package_view q) ∙ ap (λ (r : PackageView). Some r) there)
+
+-- the key of a package that isn't known is not there
+pub key-apart : (p : PackageView) (packages : List PackageView) (later : List (List ℕ × List ℕ)) → IsKnown packages later → list_any (λ q. same_package q p) packages ≡ false → list_any (same_key (package_key p)) later ≡ false
+key-apart p packages later known apart = or-none _ _ (sym (known p) ∙ apart)
+
+-- one package more, whose key is kept where its name was there
+pub known-push : (packages : List PackageView) (later : List (List ℕ × List ℕ)) (q : PackageView) → IsKnown packages later → IsKnown (packages ++ q ∷ []) (later ++ cond (list_any (is_named q.name) packages) (package_key q ∷ []) [])
+known-push packages later q known p =
+    any-push (λ r. same_package r p) packages q ∙ ap (λ b. b || same_package q p) (known p) ∙ by (bytes_eq p.name q.name) (list_any (is_named p.name) packages) refl refl
+  where
+    version_is : Option PackageView → Bool
+    version_is o = option_map_or (λ (r : PackageView). bytes_eq r.version p.version) o false
+
+    front : Bool
+    front = version_is (find (is_named p.name) packages)
+
+    kept : Bool
+    kept = list_any (same_key (package_key p)) later
+
+    more : Bool → List (List ℕ × List ℕ)
+    more b = later ++ cond b (package_key q ∷ []) []
+
+    same : Bool
+    same = bytes_eq q.version p.version
+
+    -- what the keys tell of another name
+    other : (b : Bool) → bytes_eq p.name q.name ≡ false → list_any (same_key (package_key p)) (more b) ≡ kept
+    other true e = any-push (same_key (package_key p)) later (package_key q) ∙ ap (λ t. kept || (t && bytes_eq p.version q.version)) e ∙ or-false kept
+    other false e = ap (list_any (same_key (package_key p))) (append-nil later)
+
+    by : (n a : Bool) → bytes_eq p.name q.name ≡ n → list_any (is_named p.name) packages ≡ a → ((front || kept) || same_package q p) ≡ is_known (packages ++ q ∷ []) (more (list_any (is_named q.name) packages)) p
+    by true true e h =
+        let named : list_any (is_named q.name) packages ≡ true = subst (λ m. list_any (is_named m) packages ≡ true) (same-name p.name q.name e) h in
+        let found : find (is_named p.name) (packages ++ q ∷ []) ≡ find (is_named p.name) packages = find-push (is_named p.name) packages q ∙ rw h refl in
+        let keys : list_any (same_key (package_key p)) (more (list_any (is_named q.name) packages)) ≡ (kept || same_key (package_key p) (package_key q)) =
+        ap (λ b. list_any (same_key (package_key p)) (more b)) named ∙ any-push (same_key (package_key p)) later (package_key q) in
+        ap (λ t. (front || kept) || t) (λ i. names-turned q.name p.name i && names-turned q.version p.version i) ∙ or-joined front kept (same_key (package_key p) (package_key q))
+        ∙ sym (λ i. version_is (found i) || keys i)
+    by true false e h =
+        let named : list_any (is_named q.name) packages ≡ false = subst (λ m. list_any (is_named m) packages ≡ false) (same-name p.name q.name e) h in
+        let found : find (is_named p.name) (packages ++ q ∷ []) ≡ Some q = find-push (is_named p.name) packages q ∙ rw (h, e) refl in
+        let keys : list_any (same_key (package_key p)) (more (list_any (is_named q.name) packages)) ≡ kept = ap (λ b. list_any (same_key (package_key p)) (more b)) named ∙ ap (list_any (same_key (package_key p))) (append-nil later) in
+        let none : front ≡ false = ap version_is (find-none (is_named p.name) packages h) in
+        let turned : bytes_eq q.name p.name ≡ true = names-turned q.name p.name ∙ e in
+        (λ i. (none i || kept) || (turned i && same)) ∙ or-turned kept same ∙ sym (λ i. version_is (found i) || keys i)
+    by false a e h =
+        let turned : bytes_eq q.name p.name ≡ false = names-turned q.name p.name ∙ e in
+        let found : find (is_named p.name) (packages ++ q ∷ []) ≡ find (is_named p.name) packages = find-push (is_named p.name) packages q ∙ passed a h in
+        (λ i. (front || kept) || (turned i && same)) ∙ or-false (front || kept) ∙ sym (λ i. version_is (found i) || other (list_any (is_named q.name) packages) e i)
+      where
+        passed : (a : Bool) → list_any (is_named p.name) packages ≡ a → cond (list_any (is_named p.name) packages) (find (is_named p.name) packages) (cond (bytes_eq p.name q.name) (Some q) None) ≡ find (is_named p.name) packages
+        passed true h = rw h refl
+        passed false h = rw (h, e) (sym (find-none (is_named p.name) packages h))
+
+-- a table has a name where a package has it
+pub there-named : (name : List ℕ) (packages : List PackageView) {ks : List (List ℕ)} {lists : List (List ℕ)} → IsTable (named_places packages) ks lists → list_any (bytes_eq name) ks ≡ list_any (is_named name) packages
+there-named name packages t = ap (list_any (bytes_eq name)) (table-names packages t) ∙ any-first name (map (λ (p : PackageView). p.name) packages) ∙ any-map (bytes_eq name) (λ (p : PackageView). p.name) packages

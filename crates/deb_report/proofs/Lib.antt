@@ -1,0 +1,12 @@
+mod AskedLemmas
+mod CauseKeyLemmas
+mod CauseLaws
+mod CauseOrder
+mod GatherLemmas
+mod JsonLemmas
+mod ListLemmas
+mod NearLemmas
+mod PlainIndex
+mod PlainTexts
+mod PlaceLemmas
+mod ReportLemmas

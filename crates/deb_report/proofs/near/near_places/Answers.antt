@@ -1,0 +1,25 @@
+use Rattle.std.proofs.Common.{◌≡◌, ◌<◌, ◌∙◌, ap, arith, length, map, take}
+use Rattle.std.proofs.lemmas.List.{take_all}
+use Rattle.std.proofs.lemmas.List.Elements.{All-same}
+use Rattle.std.specs.List.{flat_map}
+use Rattle.deb_relation.specs.AtomView.{atom_view}
+use Rattle.deb_report.specs.Causes.{near_places, places_near}
+use Rattle.deb_report.proofs.NearLemmas.{near-places, within-places}
+use Rattle.deb_report.proofs.near.near_places.Goals as goal
+
+pub returns-clause-value : goal.returns-clause-value
+returns-clause-value c =
+    let whole : take c.loop-atom.atom-index c.args.atoms.now ≡ c.args.atoms.now = take_all _ _ (omega arith) in
+    near-places c.args.index.now (map (λ atom. atom_view atom.now) c.args.atoms.now) c.loop-atom.places.items c.sort_once.new.numbers.items
+    (c.loop-atom.invariant ∙ ap (λ atoms. flat_map (places_near c.args.index.now) (map (λ atom. atom_view atom.now) atoms)) whole)
+    c.sort_once.ensures.rising c.sort_once.ensures.same
+
+pub returns-clause-within : goal.returns-clause-within
+returns-clause-within c =
+    let atoms = map (λ atom. atom_view atom.now) c.args.atoms.now in
+    let whole : take c.loop-atom.atom-index c.args.atoms.now ≡ c.args.atoms.now = take_all _ _ (omega arith) in
+    All-same (λ place. place < length c.args.index.now.packages) c.sort_once.new.numbers.items (near_places c.args.index.now atoms)
+    (near-places c.args.index.now atoms c.loop-atom.places.items c.sort_once.new.numbers.items
+    (c.loop-atom.invariant ∙ ap (λ xs. flat_map (places_near c.args.index.now) (map (λ atom. atom_view atom.now) xs)) whole)
+    c.sort_once.ensures.rising c.sort_once.ensures.same)
+    (within-places c.args.index.now atoms)

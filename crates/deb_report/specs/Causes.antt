@@ -1,0 +1,187 @@
+-- The causes of broken packages, and what an index has near the missing ones.
+use Rattle.std.specs.Prelude.{ℕ, ◌==◌, ◌<◌, Bool, true, false, ◌&&◌, ◌||◌, All, List, [], ◌∷◌, ◌++◌, length, map, filter, codes, decimal, if◌then◌else◌, slice_index_or}
+use Prim.Native.Nat.{zero, suc}
+use Rattle.std.specs.List.{flat_map, join_by, list_any, zip}
+use Rattle.deb_relation.specs.Relationship.{AtomText, printed}
+use Rattle.deb_index.specs.declared.constraint.Constraint.{Constraint}
+use Rattle.deb_index.specs.declared.constraint.Constraint.TheVariants.{Essential, Need, Apart, Only}
+use Rattle.deb_index.specs.Constraints.{IsOfIndex}
+use Rattle.deb_index.specs.Meets.{is_providing}
+use Rattle.deb_index.specs.Packages.{IndexView, PackageView, first_of_each, is_named, need_at, no_atom, package_at, places_where}
+use Rattle.deb_verdict.specs.Verdicts.{VerdictView, Found, Blocked}
+use Rattle.deb_report.specs.declared.causes.Cause.{Cause}
+use Rattle.deb_report.specs.declared.config.Show.{Show}
+use Rattle.deb_report.specs.declared.near.NearMiss.{NearMiss}
+use Rattle.deb_report.specs.Report.{is_missing, label_of, line, place_line, reason_of, report_text}
+
+-- ---- what a cause is
+
+-- no need that some package of the index meets
+unfoldable pub is_final : IndexView → Constraint → Bool
+is_final index (Essential name) = true
+is_final index (Need place number) = is_missing index (need_at index place number)
+is_final index (Apart place number) = true
+is_final index (Only name) = true
+
+-- the cause that a core has: its constraints, in their order, without the needs that some package of the index meets
+abbrev pub cause_in : IndexView → List Constraint → List Constraint
+cause_in index core = filter (is_final index) core
+
+-- the asked place with its cause, where the package is broken
+abbrev pub cause_at : IndexView → ℕ → VerdictView → List (List Constraint × ℕ)
+cause_at index place (Found places) = []
+cause_at index place (Blocked core) = (cause_in index core, place) ∷ []
+
+-- the causes of the asked places, each with its place
+unfoldable pub found_causes : IndexView → List ℕ → List VerdictView → List (List Constraint × ℕ)
+found_causes index asked verdicts = flat_map (λ pair. cause_at index pair.0 pair.1) (zip asked verdicts)
+
+-- ---- causes with the packages that they break
+
+-- the two constraints are one
+abbrev pub same_constraint : Constraint → Constraint → Bool
+same_constraint (Essential m) (Essential n) = m == n
+same_constraint (Need p j) (Need q k) = p == q && j == k
+same_constraint (Apart p j) (Apart q k) = p == q && j == k
+same_constraint (Only m) (Only n) = m == n
+same_constraint _ _ = false
+
+-- the two causes are one: the same constraints
+abbrev pub same_cause : List Constraint → List Constraint → Bool
+same_cause [] [] = true
+same_cause (x ∷ xs) (y ∷ ys) = same_constraint x y && same_cause xs ys
+same_cause _ _ = false
+
+-- a cause, and the places of the packages that it breaks
+pub record CauseView : Type 0 where
+  pub constraints : List Constraint
+  pub places : List ℕ
+
+abbrev pub cause_view : Cause → CauseView
+cause_view cause = record { constraints = cause.constraints.items; places = cause.places.items }
+
+-- it speaks of constraints and places that the index has
+abbrev pub IsCauseOf : IndexView → CauseView → Type 0
+IsCauseOf index cause = All (IsOfIndex index) cause.constraints × All (λ place. place < length index.packages) cause.places
+
+-- the places that have this cause
+unfoldable pub places_broken_by : List (List Constraint × ℕ) → List Constraint → List ℕ
+places_broken_by pairs cause = map (λ pair. pair.1) (filter (λ pair. same_cause cause pair.0) pairs)
+
+abbrev pub gathered : List (List Constraint × ℕ) → List Constraint → CauseView
+gathered pairs cause = record { constraints = cause; places = places_broken_by pairs cause }
+
+-- each cause once, with all its places, in the order of the first of these
+unfoldable pub by_first : List (List Constraint × ℕ) → List CauseView
+by_first pairs = map (gathered pairs) (first_of_each same_cause (map (λ pair. pair.0) pairs))
+
+-- the cause has so many packages
+abbrev pub has_count : ℕ → CauseView → Bool
+has_count count cause = length cause.places == count
+
+-- those with so many packages, then those with fewer, by their counts; those of one count in the order of the list
+unfoldable pub by_count : ℕ → List CauseView → List CauseView
+by_count zero causes = filter (has_count 0) causes
+by_count (suc n) causes = filter (has_count (suc n)) causes ++ by_count n causes
+
+-- the causes of the asked packages: those of more packages first, then by their first packages
+unfoldable pub causes_list : IndexView → List ℕ → List VerdictView → List CauseView
+causes_list index asked verdicts = by_count (length asked) (by_first (found_causes index asked verdicts))
+
+-- ---- near misses
+
+-- the alternatives of a need
+unfoldable pub alternatives : IndexView → Constraint → List AtomText
+alternatives index (Essential name) = []
+alternatives index (Need place number) = need_at index place number
+alternatives index (Apart place number) = []
+alternatives index (Only name) = []
+
+-- the package has the name of one of the atoms
+abbrev pub is_called : List AtomText → PackageView → Bool
+is_called atoms deb = list_any (λ atom. is_named atom.name deb) atoms
+
+-- the entry provides the name of one of them
+abbrev pub provides_one : List ℕ → List AtomText → AtomText → Bool
+provides_one arch atoms entry = list_any (λ atom. is_providing arch atom.name entry) atoms
+
+-- the package has the name, or an entry of its Provides provides it
+abbrev pub is_near : List ℕ → PackageView → AtomText → Bool
+is_near arch deb atom = is_named atom.name deb || list_any (is_providing arch atom.name) deb.provides
+
+-- a package that comes near: it has a name itself, and no entry is told; or these entries of its Provides have one
+pub record NearMissView : Type 0 where
+  pub place : ℕ
+  pub entries : List ℕ
+
+abbrev pub near_view : NearMiss → NearMissView
+near_view miss = record { place = miss.place; entries = miss.entries.items }
+
+-- the entry of a package's Provides with a number
+abbrev pub provide_of : PackageView → ℕ → AtomText
+provide_of deb number = slice_index_or deb.provides number no_atom
+
+-- it speaks of a place and of entries that the index has
+abbrev pub IsNearOf : IndexView → NearMissView → Type 0
+IsNearOf index miss = (miss.place < length index.packages) × All (λ entry. entry < length (package_at index miss.place).provides) miss.entries
+
+-- the entries that are told of a package: none where it has a name itself
+unfoldable pub told_entries : List ℕ → List AtomText → PackageView → List ℕ
+told_entries arch atoms deb = if is_called atoms deb then [] else places_where (provides_one arch atoms) deb.provides
+
+abbrev pub near_miss : IndexView → List AtomText → ℕ → NearMissView
+near_miss index atoms place = record { place = place; entries = told_entries index.arch atoms (package_at index place) }
+
+-- an atom that has a name alone
+abbrev pub named_atom : List ℕ → AtomText
+named_atom name = record no_atom { name = name }
+
+-- the places of the packages that have or provide the name of the atom, rising
+abbrev pub places_near : IndexView → AtomText → List ℕ
+places_near index atom = places_where (λ deb. is_near index.arch deb atom) index.packages
+
+-- those that have or provide the name of one of the atoms
+unfoldable pub near_places : IndexView → List AtomText → List ℕ
+near_places index atoms = places_where (λ deb. list_any (is_near index.arch deb) atoms) index.packages
+
+-- the packages of the index, by place, that have or provide the name of an alternative of a need among these constraints
+unfoldable pub near_misses : IndexView → List Constraint → List NearMissView
+near_misses index constraints = let atoms = flat_map (alternatives index) constraints in map (near_miss index atoms) (near_places index atoms)
+
+-- ---- lines
+
+-- what a package provides, where it comes near by that alone
+unfoldable pub provides_text : List AtomText → List ℕ
+provides_text entries = if length entries == 0 then [] else codes " (provides " ++ join_by printed (codes ", ") entries ++ codes ")"
+
+-- the line of a near miss
+unfoldable pub near_line : IndexView → NearMissView → List ℕ
+near_line index miss = let deb = package_at index miss.place in
+    codes "   - " ++ label_of deb ++ provides_text (map (provide_of deb) miss.entries) ++ (10 ∷ [])
+
+-- lines under a title
+abbrev pub titled : List ℕ → List ℕ → List ℕ
+titled title lines = line title [] ++ lines
+
+-- the near misses, where there are some
+unfoldable pub present_text : IndexView → List NearMissView → List ℕ
+present_text index misses = if length misses == 0 then [] else titled (codes "  present:") (flat_map (near_line index) misses)
+
+-- the first lines of a cause, with the number of its packages
+unfoldable pub cause_head : ℕ → List ℕ
+cause_head count = line (codes " -") [] ++ line (codes "  packages: ") (decimal count)
+
+-- the lines of a cause
+unfoldable pub cause_text : IndexView → CauseView → List ℕ
+cause_text index cause = cause_head (length cause.places)
+    ++ titled (codes "  reasons:") (flat_map (reason_of index) cause.constraints)
+    ++ present_text index (near_misses index cause.constraints)
+    ++ titled (codes "  broken:") (flat_map (place_line index) cause.places)
+
+-- the block of causes
+unfoldable pub causes_text : IndexView → List ℕ → List VerdictView → List ℕ
+causes_text index asked verdicts = line (codes "causes:") [] ++ flat_map (cause_text index) (causes_list index asked verdicts)
+
+-- the report, with the block of causes where it is asked for
+unfoldable pub report_with : IndexView → List ℕ → List VerdictView → Bool → Show → Bool → Bool → List ℕ
+report_with index asked verdicts explain show background causes = report_text index asked verdicts explain show background ++ (if causes then causes_text index asked verdicts else [])

@@ -1,0 +1,9 @@
+pub mod Report
+pub mod Json
+pub mod Plain
+pub mod Causes
+pub mod CauseKeys
+pub mod Gathering
+pub mod Settings
+pub mod Asked
+pub mod Written

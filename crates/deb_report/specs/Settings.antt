@@ -1,0 +1,54 @@
+-- What a report depends on.
+use Rattle.std.specs.Prelude.{ℕ, ◌==◌, Bool, false, true, not, ◌&&◌, ◌||◌, List, Option, None, codes, is_some, length, map, string_bytes}
+use Rattle.std.specs.Char.{is_ascii_alphanumeric}
+use Rattle.std.specs.List.{list_all}
+use Rattle.std.specs.Option.{option_map}
+use Rattle.std.specs.Str.{bytes_eq}
+use Rattle.deb_report.specs.declared.config.Config.{Config}
+use Rattle.deb_report.specs.declared.config.Format.{Format}
+use Rattle.deb_report.specs.declared.config.Format.TheVariants.{Text}
+use Rattle.deb_report.specs.declared.config.Show.{Show}
+use Rattle.deb_report.specs.declared.config.Show.TheVariants.{All}
+
+-- what a report depends on: the architecture, what is shown, whether names may be essential, the names that are asked, whether a background is read, whether causes are told, and the report's form;
+-- not how the work is dealt out, which file the background is, or whether a run tells how far it has come
+pub record Settings : Type 0 where
+  pub arch : List ℕ
+  pub explain : Bool
+  pub show : Show
+  pub essential : Bool
+  pub only : Option (List (List ℕ))
+  pub background : Bool
+  pub causes : Bool
+  pub format : Format
+
+-- the settings that a report depends on
+abbrev pub settings_of : Config → Settings
+settings_of config = record {
+  arch = string_bytes config.arch;
+  explain = config.explain;
+  show = config.show;
+  essential = config.essential;
+  only = option_map (λ names. map (λ name. name.items) names.items) config.only;
+  background = is_some config.bg;
+  causes = config.causes;
+  format = config.format;
+}
+
+-- the settings where nothing is said
+abbrev pub usual_settings : Settings
+usual_settings = record { arch = codes "amd64"; explain = true; show = All; essential = true; only = None; background = false; causes = false; format = Text }
+
+-- ---- architectures
+
+-- the bytes of an architecture
+abbrev pub is_architecture_byte : ℕ → Bool
+is_architecture_byte b = is_ascii_alphanumeric b || b == 45
+
+-- what is no architecture, though its bytes may be: the empty text, and the words for all and for any of them
+abbrev pub is_excluded : List ℕ → Bool
+is_excluded text = length text == 0 || bytes_eq text (codes "all") || bytes_eq text (codes "any")
+
+-- an architecture is made of letters, digits and `-`, and neither `all` nor `any` is one
+abbrev pub is_architecture : List ℕ → Bool
+is_architecture text = not (is_excluded text) && list_all is_architecture_byte text

@@ -1,0 +1,150 @@
+-- What the steps of a refutation give, one after another.
+use Rattle.std.proofs.Common.{◌≡◌, ◌≢◌, ℕ, ◌<◌, true, false, eqb, ◌||◌, List, [], ◌∷◌, ◌++◌, length, Some, slice_get, refl, sym, subst, ◌∙◌, ap, inl, inr}
+use Rattle.std.specs.Option.{option_map_or}
+use Rattle.std.specs.Str.{bytes_eq}
+use Rattle.std.proofs.lemmas.Bool.{false≢true, or_cases, or_left, or_right, eqb-true, eq-eqb}
+use Rattle.std.proofs.lemmas.Option.{slice_get-get_or, slice_get_within, get_or_from_slice_get}
+use Rattle.deb_index.specs.declared.constraint.Constraint.TheVariants.{Essential, Need, Apart, Only}
+use Rattle.deb_index.specs.Packages.{IndexView, no_package, package_at, is_named, names, name_at, places_of, essential_names, need_at}
+use Rattle.deb_index.specs.Meets.{group_satisfiers}
+use Rattle.deb_index.specs.Constraints.{constraints_of, has_name, hits}
+use Rattle.deb_index.proofs.FirstLemmas.{name-itself}
+use Rattle.deb_index.proofs.PositionLemmas.{essential_position}
+use Rattle.sat_solve.specs.Sets.{NumberSet, members_of}
+use Rattle.sat_solve.proofs.MembersLemmas.{members_of_push}
+use Rattle.deb_verdict.specs.declared.derivation.Outcome.{Outcome}
+use Rattle.deb_verdict.specs.declared.derivation.Outcome.TheVariants.{Forced, Contradiction}
+use Rattle.deb_verdict.specs.Closure.{IsWithin}
+use Rattle.deb_verdict.specs.Deriving.{row_of, Comes, Gives}
+use Rattle.deb_verdict.specs.Gathering.{Follows, none_of}
+use Rattle.deb_verdict.specs.Health.{AdmitsNone, MeetsAt}
+use Rattle.deb_verdict.specs.PlaceSets.{with_place}
+use Rattle.deb_verdict.specs.Reduction.{IsRefutation}
+use Rattle.deb_verdict.proofs.IndexFacts.{member_named}
+use Rattle.deb_verdict.proofs.Forcing.{member_answers}
+use Rattle.deb_verdict.proofs.Placing.{with_place_only}
+use Rattle.deb_verdict.proofs.ReachLemmas.{essential_below}
+
+-- ---- one constraint
+
+-- a set that has a place of the row has what the row leaves
+row_comes : (set : NumberSet) (outcome : Outcome) (q : ℕ) → members_of (row_of outcome) q ≡ true → set q ≡ true → Comes set outcome
+row_comes set (Forced place) q is_in has =
+    elim (or_cases (eqb place q) false is_in) [
+      | inl here ↦ ap set (eqb-true place q here) ∙ has
+      | inr never ↦ absurd (false≢true never)
+    ]
+row_comes set Contradiction q never has = absurd (false≢true never)
+
+module _ (index : IndexView) where
+  -- an essential name is a name
+  pub essential_at : (list : List ℕ) (i number : ℕ) → list ≡ essential_names index → slice_get list i ≡ Some number → number < length (names index)
+  essential_at list i number list_is at =
+      let below = essential_below index list list_is i (slice_get_within list i number at) in
+      subst (λ n. n < length (names index)) (get_or_from_slice_get list i number 0 at) below
+
+  pub essential_gives : (i number : ℕ) (outcome : Outcome) → slice_get (essential_names index) i ≡ Some number → places_of index (name_at index number) ≡ row_of outcome → (ins : NumberSet) → Gives index ins i outcome
+  essential_gives i number outcome at row_is ins = record {
+    constraint = Essential number;
+    stands = essential_position index i number at;
+    gives = λ set has holds.
+        row_comes set outcome holds.0 (sym (ap (λ list. members_of list holds.0) row_is) ∙ (member_named index number holds.0 ∙ holds.2)) holds.1;
+  }
+
+  -- its own name
+  named_itself : (q number : ℕ) → q < length index.packages → name_at index number ≡ (package_at index q).name → has_name index q number ≡ true
+  named_itself q number inside is =
+      ap (λ found. option_map_or (is_named (name_at index number)) found false) (slice_get-get_or index.packages q no_package inside)
+      ∙ (ap (λ name. bytes_eq name (package_at index q).name) is ∙ name-itself (package_at index q).name)
+
+  module _ (ins : NumberSet) where
+    pub need_gives : (place j position : ℕ) (outcome : Outcome) → slice_get (constraints_of index) position ≡ Some (Need place j) → ins place ≡ true
+        → group_satisfiers index (need_at index place j) ≡ row_of outcome → Gives index ins position outcome
+    need_gives place j position outcome stands is_in row_is = record {
+      constraint = Need place j;
+      stands = stands;
+      gives = λ set has holds.
+          (let found = holds (has place is_in) in
+          row_comes set outcome found.0 (sym (ap (λ list. members_of list found.0) row_is) ∙ (member_answers index place j found.0 ∙ found.2)) found.1);
+    }
+
+    pub apart_gives : (place j other position : ℕ) → slice_get (constraints_of index) position ≡ Some (Apart place j) → ins place ≡ true → ins other ≡ true → other ≢ place
+        → hits index place j other ≡ true → Gives index ins position Contradiction
+    apart_gives place j other position stands is_in is_too apart hit = record {
+      constraint = Apart place j;
+      stands = stands;
+      gives = λ set has holds. apart (holds (has place is_in) other (has other is_too) hit);
+    }
+
+    pub only_gives : (first second number position : ℕ) → slice_get (constraints_of index) position ≡ Some (Only number) → first < length index.packages → second < length index.packages
+        → ins first ≡ true → ins second ≡ true → second ≢ first → name_at index number ≡ (package_at index first).name → name_at index number ≡ (package_at index second).name
+        → Gives index ins position Contradiction
+    only_gives first second number position stands inside inside_too is_in is_too apart named also = record {
+      constraint = Only number;
+      stands = stands;
+      gives = λ set has holds.
+          apart (holds second first (has second is_too) (has first is_in) (named_itself second number inside_too also) (named_itself first number inside named));
+    }
+
+-- ---- steps
+
+-- steps at positions of a part, and what is in by them
+pub record IsDerived (index : IndexView) (p : ℕ) (part : NumberSet) (positions ins : List ℕ) : Type 0 where
+  pub within : IsWithin (members_of positions) part
+  pub follows : Follows index p (members_of positions) (members_of ins) none_of
+
+-- what is in one list is in a longer one; what came is there, too
+push_old : (numbers : List ℕ) (added number : ℕ) → members_of numbers number ≡ true → members_of (numbers ++ added ∷ []) number ≡ true
+push_old numbers added number is_in = members_of_push numbers added number ∙ or_left (members_of numbers number) (eqb added number || false) is_in
+
+push_new : (numbers : List ℕ) (added : ℕ) → members_of (numbers ++ added ∷ []) added ≡ true
+push_new numbers added = members_of_push numbers added added ∙ or_right (members_of numbers added) (eqb added added || false) (or_left (eqb added added) false (eq-eqb added added refl))
+
+push_within : (part : NumberSet) (numbers : List ℕ) (added : ℕ) → IsWithin (members_of numbers) part → part added ≡ true → IsWithin (members_of (numbers ++ added ∷ [])) part
+push_within part numbers added within has number is_in =
+    elim (or_cases (members_of numbers number) (eqb added number || false) (sym (members_of_push numbers added number) ∙ is_in)) [
+      | inl old ↦ within number old
+      | inr last ↦ elim (or_cases (eqb added number) false last) [
+        | inl here ↦ ap part (sym (eqb-true added number here)) ∙ has
+        | inr never ↦ absurd (false≢true never)
+      ]
+    ]
+
+module _ (index : IndexView) (p : ℕ) (part : NumberSet) where
+  abbrev Derived : List ℕ → List ℕ → Type 0
+  Derived positions ins = IsDerived index p part positions ins
+
+  module _ (positions ins : List ℕ) (position : ℕ) (derived : IsDerived index p part positions ins) (has : part position ≡ true) where
+    -- what a set that meets the constraints of all steps has
+    step_gives : (outcome : Outcome) → Gives index (members_of ins) position outcome → (set : NumberSet) → set p ≡ true → MeetsAt index set (members_of (positions ++ position ∷ [])) → Comes set outcome
+    step_gives outcome gives set has_p meets =
+        let old = derived.follows set has_p (λ k constraint asked there. meets k constraint (push_old positions position k asked) there) in
+        gives.gives set old.has_ins (meets position gives.constraint (push_new positions position) gives.stands)
+
+    pub derived_more : (q : ℕ) (positions_then ins_then : List ℕ) → Gives index (members_of ins) position (Forced q) → positions_then ≡ positions ++ position ∷ [] → ins_then ≡ with_place ins q
+        → Derived positions_then ins_then
+    derived_more q positions_then ins_then gives pushed inserted =
+        subst (λ list. Derived list ins_then) (sym pushed)
+        (subst (λ list. Derived (positions ++ position ∷ []) list) (sym inserted)
+        (record {
+          within = push_within part positions position derived.within has;
+          follows = λ set has_p meets.
+              (let old = derived.follows set has_p (λ k constraint asked there. meets k constraint (push_old positions position k asked) there) in
+              record {
+                has_ins = λ number is_in.
+                    elim (with_place_only ins q number is_in) [
+                      | inl before ↦ old.has_ins number before
+                      | inr here ↦ ap set (sym here) ∙ step_gives (Forced q) gives set has_p meets
+                    ];
+                lacks_outs = old.lacks_outs;
+              });
+        }))
+
+    pub derived_refutes : (positions_then : List ℕ) → Gives index (members_of ins) position Contradiction → positions_then ≡ positions ++ position ∷ []
+        → IsRefutation (AdmitsNone index p) part (members_of positions_then)
+    derived_refutes positions_then gives pushed =
+        subst (λ list. IsRefutation (AdmitsNone index p) part (members_of list)) (sym pushed)
+        (record {
+          within = push_within part positions position derived.within has;
+          fails = λ admits. step_gives Contradiction gives admits.0 admits.1 admits.2;
+        })

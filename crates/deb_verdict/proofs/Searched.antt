@@ -1,0 +1,39 @@
+-- Whether a rising list has a number, as a binary search for it tells.
+use Rattle.std.proofs.Common.{◌≡◌, ℕ, ◌<◌, ◌≤◌, true, false, ◌||◌, leb, List, Result, Ok, Err, is_ok, length, get_or, MatchResult, sym, ◌∙◌, ap, refl, inl, inr, arith}
+use Rattle.std.specs.List.Sorted.{IsStrictlyIncreasing, IsBinarySearchResult}
+use Rattle.std.specs.Ordering.{nat_cmp}
+use Rattle.std.proofs.lemmas.Bool.{cases_lt, lt-leb, false_from_ne_true}
+use Rattle.std.proofs.lemmas.List.Sorted.{searched}
+use Rattle.sat_solve.specs.Sets.{members_of}
+use Rattle.deb_verdict.specs.Reduction.{left}
+use Rattle.deb_verdict.proofs.Encoded.{members_of_at, at_members_of, rising_lt}
+
+never_falls : (xs : List ℕ) → IsStrictlyIncreasing xs → (i j : ℕ) → i ≤ j → j < length xs → get_or xs i 0 ≤ get_or xs j 0
+never_falls xs rising i j before inside =
+    elim (cases_lt i j) [
+      | inl less ↦ omega (arith, rising_lt xs rising i j less inside)
+      | inr past ↦ let same : i ≡ j = omega arith in omega (arith, ap (λ k. get_or xs k 0) same)
+    ]
+
+told : (xs : List ℕ) (x : ℕ) (r : Result ℕ ℕ)
+    → MatchResult r (λ i. (i < length xs) × (get_or xs i 0 ≡ x)) (λ i. (i ≤ length xs) × ((k : ℕ) → k < i → get_or xs k 0 < x) × ((k : ℕ) → i ≤ k → k < length xs → x < get_or xs k 0))
+    → is_ok r ≡ members_of xs x
+told xs x (Ok i) found = sym (ap (λ y. members_of xs y) (sym found.1) ∙ at_members_of xs i found.0)
+told xs x (Err i) parts =
+    sym (false_from_ne_true (members_of xs x) (λ is_in.
+    let at = members_of_at xs x is_in in
+    elim (cases_lt at.0 i) [
+      | inl before ↦ absurd (omega (arith, parts.1 at.0 before, at.2))
+      | inr past ↦ absurd (omega (arith, parts.2 at.0 (omega arith) at.1, at.2))
+    ]))
+
+-- a number before the rest is in the part where it is kept
+pub kept_before : (kept : List ℕ) (rest number : ℕ) (r : Result ℕ ℕ) → IsStrictlyIncreasing kept → number < rest → IsBinarySearchResult (λ y. nat_cmp y number) kept r
+    → is_ok r ≡ left (members_of kept) rest number
+kept_before kept rest number r rising before found =
+    told kept number r (searched kept number r found (never_falls kept rising))
+    ∙ (or_false (members_of kept number) ∙ ap (λ b. members_of kept number || b) (sym (lt-leb rest number before)))
+  where
+    or_false : (b : _) → b ≡ (b || false)
+    or_false true = refl
+    or_false false = refl

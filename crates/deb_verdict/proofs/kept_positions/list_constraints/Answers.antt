@@ -1,0 +1,15 @@
+use Rattle.std.proofs.Common.{◌≡◌, List, ℕ, map, take, slice_get, Some, subst}
+use Rattle.deb_index.specs.Constraints.{constraints_of}
+use Rattle.deb_verdict.proofs.AddSteps.{take_whole}
+use Rattle.deb_verdict.proofs.Whole.{named_more}
+use Rattle.deb_verdict.proofs.kept_positions.list_constraints.Goals as goal
+
+pub loop-position-preserved : goal.loop-position-preserved
+loop-position-preserved c =
+    named_more (constraints_of c.args.index.now) c.args.positions.now c.loop-position.constraints.items c.push.new.self.items c.loop-position.position-index c.constraint_at.result c.loop-position-test.true
+    c.constraint_at.ensures c.in_ok-push.ensures.items c.loop-position.invariant
+
+pub returns : goal.returns
+returns c =
+    let At : List ℕ → Type 0 = λ list. map (slice_get (constraints_of c.args.index.now)) list ≡ map Some c.loop-position.constraints.items in
+    subst At (take_whole c.args.positions.now c.loop-position.position-index c.loop-position-test.false) c.loop-position.invariant

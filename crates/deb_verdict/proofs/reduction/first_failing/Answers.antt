@@ -1,0 +1,20 @@
+use Rattle.std.proofs.Common.{rules, ◌≡◌, ℕ, ◌+◌, false, List, sym, subst}
+use Rattle.sat_solve.specs.Sets.{NumberSet, members_of}
+use Rattle.deb_verdict.specs.Reduction.{left}
+use Rattle.deb_verdict.proofs.Cores.{reduced_pushed, rising_after}
+use Rattle.deb_verdict.proofs.reduction.first_failing.Goals as goal
+
+pub loop-number-preserved-in_ok-push : goal.loop-number-preserved-in_ok-push
+loop-number-preserved-in_ok-push g c =
+    let so_far = c.loop-number.invariant in
+    let numbers : List ℕ = c.loop-number.kept.items in
+    let next : ℕ = c.in-Some.number in
+    let is_false : c.in_ok-refute-2.field-0 ≡ false = search rules in
+    let FailsFrom : List ℕ → Type 0 = λ list. g.Q.Question.is_failing c.loop-number.question (left (members_of list) (next + 1)) in (
+      reduced_pushed (g.Q.Question.is_failing c.refute.new.self) (g.met.Q.Question.upward c.refute.new.self) (g.Q.Question.used c.loop-number.question) (g.Q.Question.used c.refute-in-Some.new.self)
+          numbers c.push.new.self.items c.loop-number.at next c.in-Some.ensures.some.0 c.in-Some.ensures.some.3 so_far.0
+          (λ still. c.in_ok-refute-2.ensures.admitted is_false (subst FailsFrom (sym c.deref.ensures.value) ((so_far.2 (left (members_of numbers) (next + 1))).0 still)))
+          (c.in_ok-refute-2.ensures.still is_false) c.in_ok-push.ensures.items,
+      rising_after numbers c.push.new.self.items c.loop-number.at next c.in-Some.ensures.some.0 so_far.1 so_far.0.settled c.in_ok-push.ensures.items,
+      λ (set : NumberSet). (λ fails. (c.in_ok-refute-2.ensures.same set).0 ((so_far.2 set).0 fails), λ fails. (so_far.2 set).1 ((c.in_ok-refute-2.ensures.same set).1 fails)),
+    )

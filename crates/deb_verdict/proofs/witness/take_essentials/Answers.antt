@@ -1,0 +1,21 @@
+use Rattle.std.proofs.Common.{◌<◌, ℕ, length, get_or, ap, arith}
+use Rattle.std.proofs.lemmas.List.Elements.{All-same}
+use Rattle.deb_index.specs.Packages.{names, is_essential, places_of, name_at}
+use Rattle.deb_index.proofs.ConstraintLemmas.{where-short}
+use Rattle.deb_verdict.proofs.AddSteps.{named_below}
+use Rattle.deb_verdict.proofs.ReachLemmas.{essential_below}
+use Rattle.deb_verdict.proofs.witness.take_essentials.Goals as goal
+
+pub overflow_cast-position : goal.overflow_cast-position
+overflow_cast-position c =
+    omega (arith, c.loop-position-test.true, ap length c.essential_names-name-items.ensures, where-short (is_essential c.args.index.now) (names c.args.index.now), c.name_count-names.ensures)
+
+pub places_named-requires : goal.places_named-requires
+places_named-requires c =
+    essential_below c.args.index.now c.essential_names-name-items.result.now c.essential_names-name-items.ensures c.loop-position.position c.loop-position-test.true
+
+pub take_one-requires : goal.take_one-requires
+take_one-requires c =
+    let count : ℕ = length c.args.index.now.packages in
+    let name : ℕ = get_or c.essential_names-name-items.result.now c.loop-position.position 0 in
+    All-same (λ place. place < count) c.places_named.result.now (places_of c.args.index.now (name_at c.args.index.now name)) c.places_named.ensures (named_below c.args.index.now (name_at c.args.index.now name))

@@ -1,0 +1,12 @@
+use Rattle.std.proofs.Common.{◌-◌, ◌≤◌, length}
+use Rattle.deb_verdict.specs.Growing.{Grows}
+use Rattle.deb_verdict.proofs.witness.take_needs.Given as goal
+
+abbrev pub invariant-loop-visited : goal.invariant-loop-visited
+invariant-loop-visited l = record {
+  reached : l.visited ≤ length l.set;
+  grows : Grows (length l.index.packages) l.initial.set l.set;
+}
+
+abbrev pub decreases-loop-visited : goal.decreases-loop-visited
+decreases-loop-visited l = length l.index.packages - l.visited

@@ -1,0 +1,324 @@
+//! Refutes a part of the constraints by forcing alone: what the package asks for with no choice, down to a contradiction.
+
+ghost use Rattle.std.specs.Prelude.{◌≡◌, ℕ, ◌<◌, true, false, IfOk, OnOk, length};
+ghost use Rattle.std.specs.List.Sorted.{IsStrictlyIncreasing};
+ghost use Rattle.sat_solve.specs.Sets.{members_of};
+ghost use Rattle.deb_index.specs.Packages.{names, needs_at, aparts_at};
+ghost use Rattle.deb_verdict.specs.Growing.{ArePlaces, Grows};
+ghost use Rattle.deb_verdict.specs.Health.{AdmitsNone};
+ghost use Rattle.deb_verdict.specs.Reduction.{left, IsRefutation};
+
+use crate::derivation::{Outcome, Step, is_refutation, name_outcome, need_outcome};
+use crate::kept_positions::sort_once;
+use crate::part::Part;
+use crate::place_set::PlaceSet;
+use deb_index::Index;
+use std::alloc::{AllocError, Global};
+use std::mem;
+
+/// The buffers of propagation.
+#[derive(Drop)]
+pub(crate) struct Propagation {
+    /// What is forced, in the order in which it came.
+    forced: PlaceSet,
+    /// The step that forced each of these but the first.
+    causes: Vec<Step>,
+    /// Which of these steps the contradiction rests on.
+    needed: Vec<bool>,
+    /// The steps that it rests on, with its own.
+    steps: Vec<Step>,
+    /// What is in by the steps that are checked.
+    ins: PlaceSet,
+    /// The positions of their constraints.
+    positions: Vec<u32>,
+}
+
+/// A place of a row, other than this one, that is in.
+fn other_in(row: &[u32], place: u32, ins: &PlaceSet) -> Option<u32> {
+    for other in row {
+        if *other != place && ins.contains(*other) {
+            return Some(*other);
+        }
+    }
+    None
+}
+
+/// Another place that is in and that an entry hits. `None` where what it hits is too much for a row.
+fn hit_in(index: &Index, place: u32, number: u32, ins: &PlaceSet) -> Option<u32>
+    requires place { place < length index.now.packages }
+    requires number { number < length (aparts_at index.now place) }
+{
+    match index.hit_row(place, number) {
+        Some(row) => other_in(row, place, ins),
+        None => None,
+    }
+}
+
+/// Another place of the name that is in. `None` where the name has more places than are in.
+fn version_in(index: &Index, place: u32, ins: &PlaceSet) -> Option<u32>
+    requires { place < length index.now.packages }
+{
+    let row = index.versions_of(place);
+    if row.len() > ins.as_slice().len() {
+        return None;
+    }
+    other_in(row, place, ins)
+}
+
+/// A constraint of the part that keeps a place that is in from another one.
+fn conflict_of(index: &Index, part: Part<'_>, place: u32, ins: &PlaceSet) -> Option<Step>
+    requires { place < length index.now.packages }
+{
+    for number in 0..index.apart_count(place) {
+        if part.has(index.apart_position(place, number)) {
+            if let Some(other) = hit_in(index, place, number, ins) {
+                return Some(Step::Apart(place, number, other));
+            }
+        }
+    }
+    if !part.has(index.only_position(index.name_of(place))) {
+        return None;
+    }
+    let other = version_in(index, place, ins)?;
+    Some(Step::Only(place, other))
+}
+
+/// A constraint of the part that keeps two places apart that are in.
+fn conflict_in(index: &Index, part: Part<'_>, ins: &PlaceSet) -> Option<Step>
+    requires { ArePlaces (length index.now.packages) ins.now }
+{
+    for place in ins.as_slice() {
+        if let Some(step) = conflict_of(index, part, *place, ins) {
+            return Some(step);
+        }
+    }
+    None
+}
+
+/// Marks the step that forced a place; the first place needs none.
+fn mark(forced: &PlaceSet, place: u32, needed: &mut [bool])
+    ensures { length needed.new ≡ length needed.old }
+{
+    if let Some(number) = forced.number_of(place) {
+        if number > 0 && number <= needed.len() {
+            needed[number - 1] = true;
+        }
+    }
+}
+
+/// Marks the steps that forced the places that a step is held against.
+fn mark_places(forced: &PlaceSet, step: Step, needed: &mut [bool])
+    ensures { length needed.new ≡ length needed.old }
+{
+    match step {
+        Step::Essential(_) => {}
+        Step::Need(place, _) => mark(forced, place, needed),
+        Step::Apart(place, _, other) => {
+            mark(forced, place, needed);
+            mark(forced, other, needed);
+        }
+        Step::Only(first, second) => {
+            mark(forced, first, needed);
+            mark(forced, second, needed);
+        }
+    }
+}
+
+/// Marks the steps that marked ones rest on: these are earlier.
+fn mark_causes(forced: &PlaceSet, causes: &[Step], needed: &mut [bool])
+    requires { length needed.old ≡ length causes.now }
+    ensures { length needed.new ≡ length needed.old }
+{
+    for number in (0..causes.len()).rev() {
+        if needed[number] {
+            mark_places(forced, causes[number], needed);
+        }
+    }
+}
+
+impl Propagation {
+    /// Buffers with no room yet.
+    pub(crate) fn new(alloc: Global) -> Propagation {
+        Propagation {
+            forced: PlaceSet::new(alloc),
+            causes: Vec::new(alloc),
+            needed: Vec::new(alloc),
+            steps: Vec::new(alloc),
+            ins: PlaceSet::new(alloc),
+            positions: Vec::new(alloc),
+        }
+    }
+
+    /// A step forces a place, unless an earlier one did.
+    fn force(&mut self, place: u32, cause: Step) -> Result<(), AllocError>
+        ensures { OnOk result ((count : ℕ) → place < count → Grows count self.old.forced self.new.forced) }
+    {
+        if !self.forced.contains(place) {
+            self.forced.insert(place)?;
+            self.causes.push(cause)?;
+        }
+        Ok(())
+    }
+
+    /// Forces what alone answers a need, if the part has it. `true`: nothing answers it.
+    fn force_need(
+        &mut self,
+        index: &Index,
+        part: Part<'_>,
+        place: u32,
+        number: u32,
+    ) -> Result<bool, AllocError>
+        requires place { place < length index.now.packages }
+        requires number { number < length (needs_at index.now place) }
+        ensures { OnOk result (Grows (length index.now.packages) self.old.forced self.new.forced) }
+    {
+        if !part.has(index.need_position(place, number)) {
+            return Ok(false);
+        }
+        match need_outcome(index, place, number) {
+            Some(Outcome::Forced(only)) => {
+                self.force(only, Step::Need(place, number))?;
+                Ok(false)
+            }
+            Some(Outcome::Contradiction) => Ok(true),
+            None => Ok(false),
+        }
+    }
+
+    /// Forces what alone answers a need of a place. A need that nothing answers is a contradiction.
+    fn visit(
+        &mut self,
+        index: &Index,
+        part: Part<'_>,
+        place: u32,
+    ) -> Result<Option<Step>, AllocError>
+        requires { place < length index.now.packages }
+        ensures { OnOk result (Grows (length index.now.packages) self.old.forced self.new.forced) }
+    {
+        for number in 0..index.need_count(place) {
+            if self.force_need(index, part, place, number)? {
+                return Ok(Some(Step::Need(place, number)));
+            }
+        }
+        Ok(None)
+    }
+
+    /// Forces from the first places on that are not visited, and looks for a contradiction.
+    fn propagate(
+        &mut self,
+        index: &Index,
+        part: Part<'_>,
+        start: usize,
+    ) -> Result<Option<Step>, AllocError>
+        requires { ArePlaces (length index.now.packages) self.old.forced }
+        ensures { OnOk result (ArePlaces (length index.now.packages) self.new.forced) }
+    {
+        let mut visited = start;
+        while visited < self.forced.as_slice().len() {
+            let place = self.forced.as_slice()[visited];
+            if let Some(step) = self.visit(index, part, place)? {
+                return Ok(Some(step));
+            }
+            visited += 1;
+        }
+        Ok(conflict_in(index, part, &self.forced))
+    }
+
+    /// Forces the package of an essential name that has one only, if the part has the name.
+    fn force_name(
+        &mut self,
+        index: &Index,
+        part: Part<'_>,
+        number: u32,
+        name: u32,
+    ) -> Result<(), AllocError>
+        requires { name < length (names index.now) }
+        ensures { OnOk result (Grows (length index.now.packages) self.old.forced self.new.forced) }
+    {
+        if !part.has(number) {
+            return Ok(());
+        }
+        if let Some(Outcome::Forced(only)) = name_outcome(index, name) {
+            self.force(only, Step::Essential(number))?;
+        }
+        Ok(())
+    }
+
+    /// Forces the packages of essential names that have one only.
+    fn force_essential(&mut self, index: &Index, part: Part<'_>) -> Result<(), AllocError>
+        ensures { OnOk result (Grows (length index.now.packages) self.old.forced self.new.forced) }
+    {
+        let _names = index.name_count();
+        for (number, name) in index.essential_names().iter().enumerate() {
+            self.force_name(index, part, number as u32, *name)?;
+        }
+        Ok(())
+    }
+
+    /// The step that contradicts, where forcing leads to one. What the package itself asks for goes first.
+    fn find(&mut self, index: &Index, part: Part<'_>, p: u32) -> Result<Option<Step>, AllocError>
+        requires { p < length index.now.packages }
+    {
+        self.forced.clear();
+        self.causes.clear();
+        self.forced.insert(p)?;
+        if let Some(step) = self.propagate(index, part, 0)? {
+            return Ok(Some(step));
+        }
+        let visited = self.forced.as_slice().len();
+        self.force_essential(index, part)?;
+        if self.forced.as_slice().len() == visited {
+            return Ok(None);
+        }
+        self.propagate(index, part, visited)
+    }
+
+    /// Writes down the steps that a contradiction rests on.
+    fn derive(&mut self, conflict: Step) -> Result<(), AllocError> {
+        self.needed.clear();
+        self.needed.resize(self.causes.len(), false)?;
+        mark_places(&self.forced, conflict, &mut self.needed);
+        mark_causes(&self.forced, &self.causes, &mut self.needed);
+        self.steps.clear();
+        for (cause, is_needed) in self.causes.iter().zip(&self.needed) {
+            if *is_needed {
+                self.steps.push(*cause)?;
+            }
+        }
+        self.steps.push(conflict)?;
+        Ok(())
+    }
+}
+
+/// Whether a part of the constraints is seen to admit no set with the package at a place, by forcing alone. Where it is, `used` has, rising,
+/// the positions of constraints of the part that already admit none.
+pub(crate) fn refute_by_forcing(
+    index: &Index,
+    part: Part<'_>,
+    p: u32,
+    buffers: &mut Propagation,
+    used: &mut Vec<u32>,
+) -> Result<bool, AllocError>
+    requires { p < length index.now.packages }
+    ensures refuted { IfOk result (λ refuted. refuted ≡ true → IsRefutation (AdmitsNone index.now p) (left (members_of part.entry.kept.now) part.entry.rest) (members_of used.new.items)) }
+    ensures rising { IfOk result (λ refuted. refuted ≡ true → IsStrictlyIncreasing used.new.items) }
+    ensures still { IfOk result (λ refuted. refuted ≡ false → used.new.items ≡ used.old.items) }
+{
+    let Some(conflict) = buffers.find(index, part, p)? else {
+        return Ok(false);
+    };
+    buffers.derive(conflict)?;
+    if !is_refutation(
+        index,
+        part,
+        p,
+        &buffers.steps,
+        &mut buffers.ins,
+        &mut buffers.positions,
+    )? {
+        return Ok(false);
+    }
+    sort_once(&mut buffers.positions);
+    mem::swap(&mut buffers.positions, used);
+    Ok(true)
+}

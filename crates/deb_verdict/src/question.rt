@@ -1,0 +1,75 @@
+//! The question whether a part of the constraints admits no set with a package.
+
+ghost use Rattle.std.specs.Prelude.{◌≡◌, ◌<◌, true, false, IfOk, length};
+ghost use Rattle.sat_solve.specs.Sets.{members_of};
+ghost use Rattle.deb_verdict.specs.Health.{AdmitsNone};
+ghost use Rattle.deb_verdict.specs.Reduction.{left, IsRefutation};
+
+use crate::by_formula::refute_by_formula;
+use crate::part::Part;
+use crate::propagation::refute_by_forcing;
+use crate::reduction::{Question, next_of};
+use crate::witness::is_seen_to_admit;
+use crate::workspace::Workspace;
+use deb_index::Index;
+use std::alloc::{AllocError, Global};
+
+/// Whether a part of the constraints admits no set with the package at a place. Where it admits none, the workspace's `used` then has the
+/// positions of constraints of the part that already do; where it admits one, `used` stays.
+fn refute_part(
+    alloc: Global,
+    index: &Index,
+    part: Part<'_>,
+    p: u32,
+    workspace: &mut Workspace,
+) -> Result<bool, AllocError>
+    requires { p < length index.now.packages }
+    ensures refuted { IfOk result (λ refuted. refuted ≡ true → IsRefutation (AdmitsNone index.now p) (left (members_of part.entry.kept.now) part.entry.rest) (members_of workspace.new.used.items)) }
+    ensures admitted { IfOk result (λ refuted. refuted ≡ false → AdmitsNone index.now p (left (members_of part.entry.kept.now) part.entry.rest) → ⊥) }
+    ensures still { IfOk result (λ refuted. refuted ≡ false → workspace.new.used.items ≡ workspace.old.used.items) }
+{
+    let refuted = refute_by_forcing(
+        index,
+        part,
+        p,
+        &mut workspace.propagation,
+        &mut workspace.used,
+    )?;
+    if refuted {
+        return Ok(true);
+    }
+    if is_seen_to_admit(index, &part, p, &mut workspace.ins)? {
+        return Ok(false);
+    }
+    refute_by_formula(alloc, index, part, p, workspace)
+}
+
+/// Whether positions of the index's list of constraints admit no set with the package at a place.
+#[derive(Drop)]
+pub(crate) struct Blocking<'a> {
+    pub(crate) index: &'a Index,
+    pub(crate) p: u32,
+    pub(crate) workspace: &'a mut Workspace,
+    ghost place: { p < length index.now.packages },
+}
+
+impl<'a> Question for Blocking<'a> {
+    ghost use Rattle.deb_verdict.specs.Health.{AdmitsNone, admits_none_upward};
+    ghost use Rattle.deb_verdict.specs.Reduction.{listed};
+
+    ghost is_failing = { λ q. AdmitsNone q.index.now q.p };
+
+    ghost used = { λ q. listed q.workspace.now.used.items };
+
+    ghost upward = { λ q. admits_none_upward q.index.now q.p };
+
+    fn refute(&mut self, alloc: Global, kept: &[u32], rest: u32) -> Result<bool, AllocError> {
+        let _limit = self.index.len();
+        let part = Part { kept, rest };
+        refute_part(alloc, self.index, part, self.p, self.workspace)
+    }
+
+    fn next_used(&self, from: u32) -> Option<u32> {
+        next_of(&self.workspace.used, from)
+    }
+}

@@ -1,0 +1,69 @@
+//! An index of a text, and what is expected of its packages.
+
+use deb_index::{Constraint, Index};
+use deb_verdict::{Verdict, closure, verdict};
+use std::alloc::Global;
+use std::process::Abort;
+use std::test::Fail;
+
+/// The index of a text for amd64.
+pub fn read(alloc: Global, text: &[u8], essential: bool) -> Result<Index, Fail> {
+    if text.len() > 100_000 {
+        Err::<(), &str>("the text is long")?;
+    }
+    let index = Index::read(alloc, text, "amd64", essential)?;
+    Ok(index)
+}
+
+pub fn is_found(found: &Verdict, wanted: &[u32]) -> bool {
+    match found {
+        Verdict::Ok(places) => places.as_slice() == wanted,
+        Verdict::Broken(_) => false,
+    }
+}
+
+pub fn is_broken(found: &Verdict, wanted: &[Constraint]) -> bool {
+    match found {
+        Verdict::Ok(_) => false,
+        Verdict::Broken(core) => core.as_slice() == wanted,
+    }
+}
+
+pub fn expect_set(
+    rt: &impl Abort,
+    alloc: Global,
+    index: &Index,
+    p: u32,
+    wanted: &[u32],
+) -> Result<(), Fail> {
+    assert!(rt; p < index.len());
+    let found = verdict(alloc, index, p)?;
+    assert!(rt; is_found(&found, wanted));
+    Ok(())
+}
+
+pub fn expect_core(
+    rt: &impl Abort,
+    alloc: Global,
+    index: &Index,
+    p: u32,
+    wanted: &[Constraint],
+) -> Result<(), Fail> {
+    assert!(rt; p < index.len());
+    let found = verdict(alloc, index, p)?;
+    assert!(rt; is_broken(&found, wanted));
+    Ok(())
+}
+
+pub fn expect_closure(
+    rt: &impl Abort,
+    alloc: Global,
+    index: &Index,
+    p: u32,
+    wanted: &[u32],
+) -> Result<(), Fail> {
+    assert!(rt; p < index.len());
+    let members = closure(alloc, index, p)?;
+    assert!(rt; members.as_slice() == wanted);
+    Ok(())
+}

@@ -1,0 +1,16 @@
+//! Verdicts of small indexes, compared with answers that were found by hand or by trying all sets.
+//!
+//! `expected` says what is expected; `verdicts` and `qualifiers` have worked examples, `workspaces` asks for verdicts by turns in one
+//! workspace, `comparison` tries all sets of places and of constraints on generated indexes.
+#![tactic(auto)]
+
+#[cfg(test)]
+mod comparison;
+#[cfg(test)]
+mod expected;
+#[cfg(test)]
+mod qualifiers;
+#[cfg(test)]
+mod verdicts;
+#[cfg(test)]
+mod workspaces;

@@ -1,0 +1,157 @@
+//! Verdicts of two indexes by turns, in one workspace.
+
+ghost use Rattle.std.specs.Prelude.{◌≡◌};
+
+use crate::expected::{is_broken, is_found, read};
+use deb_index::{Constraint, Index};
+use deb_verdict::{Groundwork, Verdict, Workspace, verdict, verdict_in};
+use std::alloc::{AllocError, Global};
+use std::process::Abort;
+use std::test::Fail;
+
+/// An index with its groundwork.
+#[derive(Drop)]
+struct Grounded<'a> {
+    index: &'a Index,
+    groundwork: Groundwork<'a>,
+    ghost same: { groundwork.index.now ≡ index.now },
+}
+
+impl<'a> Grounded<'a> {
+    fn new(alloc: Global, index: &'a Index) -> Result<Grounded<'a>, AllocError> {
+        let groundwork = Groundwork::new(alloc, index)?;
+        Ok(Grounded { index, groundwork })
+    }
+
+    fn verdict(
+        &self,
+        rt: &impl Abort,
+        alloc: Global,
+        workspace: &mut Workspace,
+        p: u32,
+    ) -> Result<Verdict, Fail> {
+        assert!(rt; p < self.index.len());
+        Ok(verdict_in(alloc, workspace, &self.groundwork, p)?)
+    }
+}
+
+fn expect_same(
+    rt: &impl Abort,
+    alloc: Global,
+    workspace: &mut Workspace,
+    grounded: &Grounded<'_>,
+) -> Result<(), Fail> {
+    for p in 0..grounded.index.len() {
+        let kept = grounded.verdict(rt, alloc, workspace, p)?;
+        let fresh = verdict(alloc, grounded.index, p)?;
+        match &fresh {
+            Verdict::Ok(places) => assert!(rt; is_found(&kept, places)),
+            Verdict::Broken(core) => assert!(rt; is_broken(&kept, core)),
+        }
+    }
+    Ok(())
+}
+
+/// Verdicts of two indexes by turns: an agent that is broken, one that is forced, and a set between them.
+fn expect_by_turns(
+    rt: &impl Abort,
+    alloc: Global,
+    workspace: &mut Workspace,
+    agents: &Grounded<'_>,
+    versions: &Grounded<'_>,
+) -> Result<(), Fail> {
+    let first = versions.verdict(rt, alloc, workspace, 3)?;
+    assert!(rt; is_found(&first, &[1, 3]));
+    let broken = agents.verdict(rt, alloc, workspace, 3)?;
+    let core = [
+        Constraint::Apart(2, 0),
+        Constraint::Need(3, 0),
+        Constraint::Need(3, 1),
+    ];
+    assert!(rt; is_broken(&broken, &core));
+    let forced = agents.verdict(rt, alloc, workspace, 1)?;
+    assert!(rt; is_found(&forced, &[0, 1, 4]));
+    Ok(())
+}
+
+fn expect_all_by_turns(
+    rt: &impl Abort,
+    alloc: Global,
+    agents: &Grounded<'_>,
+    versions: &Grounded<'_>,
+) -> Result<(), Fail> {
+    let mut workspace = Workspace::new(alloc)?;
+    expect_same(rt, alloc, &mut workspace, agents)?;
+    expect_same(rt, alloc, &mut workspace, versions)?;
+    expect_same(rt, alloc, &mut workspace, agents)?;
+    expect_by_turns(rt, alloc, &mut workspace, agents, versions)
+}
+
+fn on_their_groundworks(
+    rt: &impl Abort,
+    alloc: Global,
+    agents: &Index,
+    versions: &Index,
+) -> Result<(), Fail> {
+    let agents = Grounded::new(alloc, agents)?;
+    let versions = Grounded::new(alloc, versions)?;
+    expect_all_by_turns(rt, alloc, &agents, &versions)
+}
+
+#[test]
+fn one_workspace_for_all(rt: HostRuntime) -> Result<(), Fail> {
+    let agents = read(
+        rt.alloc(),
+        b"Package: base
+Version: 1
+Architecture: all
+Essential: yes
+Depends: m1 | m2, lib
+
+Package: m1
+Version: 1
+Architecture: all
+Provides: mail-agent
+Conflicts: mail-agent
+
+Package: m2
+Version: 1
+Architecture: all
+Provides: mail-agent
+Conflicts: mail-agent
+
+Package: u
+Version: 1
+Architecture: all
+Depends: m1, m2
+
+Package: lib
+Version: 1
+Architecture: all
+",
+        true,
+    )?;
+    let versions = read(
+        rt.alloc(),
+        b"Package: n
+Version: 1
+Architecture: all
+
+Package: n
+Version: 2
+Architecture: all
+
+Package: a
+Version: 1
+Architecture: all
+Depends: n (= 1), b
+
+Package: b
+Version: 1
+Architecture: all
+Depends: n (= 2)
+",
+        true,
+    )?;
+    on_their_groundworks(&rt, rt.alloc(), &agents, &versions)
+}

@@ -1,6 +1,0 @@
-use Rattle.std.proofs.Common.{◌≡◌, ◌||◌, ℕ, false, get_or, take}
-use Rattle.debcheck.proofs.PlaceLemmas.{is_among}
-use Rattle.debcheck.proofs.asked.mark_places.Given as goal
-
-abbrev pub invariant-loop-place : goal.invariant-loop-place
-invariant-loop-place l = (k : ℕ) → get_or l.marks k false ≡ (get_or l.initial.marks k false || is_among k (take l.place-index l.places))
