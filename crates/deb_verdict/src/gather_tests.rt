@@ -171,6 +171,11 @@ fn expect_known(rt: &impl Abort, groundwork: &Groundwork<'_>) -> Result<(), Fail
     Ok(())
 }
 
+fn expect_all_known(rt: &impl Abort, alloc: Global, index: &Index) -> Result<(), Fail> {
+    let groundwork = Groundwork::new(alloc, index)?;
+    expect_known(rt, &groundwork)
+}
+
 #[test]
 fn what_is_known_of_all_sets(rt: HostRuntime) -> Result<(), Fail> {
     let text = b"Package: e
@@ -205,6 +210,5 @@ Version: 2
 Architecture: all
 ";
     let index = read(rt.alloc(), text, true)?;
-    let groundwork = Groundwork::new(rt.alloc(), &index)?;
-    expect_known(&rt, &groundwork)
+    expect_all_known(&rt, rt.alloc(), &index)
 }

@@ -3,7 +3,7 @@
 use super::*;
 use crate::tests::{is_broken, is_found, read};
 use deb_index::{Constraint, Index};
-use std::alloc::Global;
+use std::alloc::{AllocGlobal, Global};
 use std::process::Abort;
 use std::test::Fail;
 
@@ -70,21 +70,20 @@ fn expect_closure(
     }
 }
 
-fn expect_closures(
-    rt: &impl Abort,
-    alloc: Global,
-    conflict: &Index,
-    chain: &Index,
-) -> Result<(), Fail> {
-    expect_closure(rt, alloc, conflict, 1, &[0, 1])?;
-    expect_closure(rt, alloc, chain, 0, &[0, 1])
+fn expect_chain(rt: &(impl Abort + AllocGlobal)) -> Result<(), Fail> {
+    let chain = read(rt.alloc(), MISSING_FURTHER_DOWN, true)?;
+    expect_closure(rt, rt.alloc(), &chain, 0, &[0, 1])
+}
+
+fn expect_conflict(rt: &(impl Abort + AllocGlobal)) -> Result<(), Fail> {
+    let conflict = read(rt.alloc(), ESSENTIAL_CONFLICT, true)?;
+    expect_closure(rt, rt.alloc(), &conflict, 1, &[0, 1])
 }
 
 #[test]
 fn of_closure(rt: HostRuntime) -> Result<(), Fail> {
-    let conflict = read(rt.alloc(), ESSENTIAL_CONFLICT, true)?;
-    let chain = read(rt.alloc(), MISSING_FURTHER_DOWN, true)?;
-    expect_closures(&rt, rt.alloc(), &conflict, &chain)
+    expect_conflict(&rt)?;
+    expect_chain(&rt)
 }
 
 fn expect_verdict(rt: &impl Abort, alloc: Global, index: &Index) -> Result<(), Fail> {
@@ -157,22 +156,35 @@ fn expect_both_in_one(
     expect_found_in(rt, alloc, &mut workspace, found)
 }
 
-fn on_their_groundworks(
+fn on_both_groundworks(
+    rt: &impl Abort,
+    alloc: Global,
+    broken: &Groundwork<'_>,
+    alternatives: &Index,
+) -> Result<(), Fail> {
+    let found = Groundwork::new(alloc, alternatives)?;
+    expect_both_in_one(rt, alloc, broken, &found)
+}
+
+fn on_one_groundwork(
     rt: &impl Abort,
     alloc: Global,
     two_missing: &Index,
     alternatives: &Index,
 ) -> Result<(), Fail> {
     let broken = Groundwork::new(alloc, two_missing)?;
-    let found = Groundwork::new(alloc, alternatives)?;
-    expect_both_in_one(rt, alloc, &broken, &found)
+    on_both_groundworks(rt, alloc, &broken, alternatives)
+}
+
+fn beside_alternatives(rt: &(impl Abort + AllocGlobal), two_missing: &Index) -> Result<(), Fail> {
+    let alternatives = read(rt.alloc(), ALTERNATIVES, true)?;
+    on_one_groundwork(rt, rt.alloc(), two_missing, &alternatives)
 }
 
 #[test]
 fn of_verdict_in(rt: HostRuntime) -> Result<(), Fail> {
     let two_missing = read(rt.alloc(), TWO_MISSING, true)?;
-    let alternatives = read(rt.alloc(), ALTERNATIVES, true)?;
-    on_their_groundworks(&rt, rt.alloc(), &two_missing, &alternatives)
+    beside_alternatives(&rt, &two_missing)
 }
 
 fn expect_groundwork(rt: &impl Abort, alloc: Global, index: &Index) -> Result<(), Fail> {
