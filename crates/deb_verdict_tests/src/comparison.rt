@@ -368,36 +368,30 @@ fn compare(rt: &impl Abort, alloc: Global, index: &Index, broken: &mut u32) -> R
     Ok(())
 }
 
-#[test]
-fn as_all_sets_say(rt: HostRuntime) -> Result<(), Fail> {
-    let mut broken = 0u32;
-    for seed in 0..60 {
-        let text = generated(rt.alloc(), seed)?;
-        let index = read(rt.alloc(), text.as_bytes(), true)?;
-        compare(&rt, rt.alloc(), &index, &mut broken)?;
-    }
-    assert!(rt; broken > 20 && broken < 180);
-    Ok(())
-}
-
-#[test]
-fn closures_as_all_places_say(rt: HostRuntime) -> Result<(), Fail> {
-    let mut members = 0usize;
-    for seed in 0..200 {
-        let text = generated(rt.alloc(), seed)?;
-        let index = read(rt.alloc(), text.as_bytes(), true)?;
-        compare_closures(&rt, rt.alloc(), &index, &mut members)?;
-    }
-    assert!(rt; members > 1000 && members < 3000);
-    Ok(())
-}
-
 /// What was counted over generated indexes.
 #[derive(Drop)]
 struct Counts {
     broken: u32,
     members: usize,
     refused: u32,
+}
+
+impl Counts {
+    fn new() -> Counts {
+        Counts {
+            broken: 0,
+            members: 0,
+            refused: 0,
+        }
+    }
+}
+
+/// What is compared of an index.
+#[derive(Clone, Copy)]
+enum Compared {
+    Verdicts,
+    Closures,
+    Both,
 }
 
 /// How many packages meet an atom, and would not as an alternative of a need.
@@ -438,27 +432,77 @@ fn compare_both(
     Ok(())
 }
 
-/// Compares all closures and verdicts of a generated index, and counts.
+fn compare_index(
+    rt: &impl Abort,
+    alloc: Global,
+    index: &Index,
+    compared: Compared,
+    counts: &mut Counts,
+) -> Result<(), Fail> {
+    match compared {
+        Compared::Verdicts => compare(rt, alloc, index, &mut counts.broken),
+        Compared::Closures => compare_closures(rt, alloc, index, &mut counts.members),
+        Compared::Both => compare_both(rt, alloc, index, counts),
+    }
+}
+
+fn compare_text(
+    rt: &impl Abort,
+    alloc: Global,
+    text: &[u8],
+    compared: Compared,
+    counts: &mut Counts,
+) -> Result<(), Fail> {
+    let index = read(alloc, text, true)?;
+    compare_index(rt, alloc, &index, compared, counts)
+}
+
 fn compare_generated(
+    rt: &impl Abort,
+    alloc: Global,
+    seed: u32,
+    compared: Compared,
+    counts: &mut Counts,
+) -> Result<(), Fail> {
+    let text = generated(alloc, seed)?;
+    compare_text(rt, alloc, text.as_bytes(), compared, counts)
+}
+
+fn compare_generated_with_any(
     rt: &impl Abort,
     alloc: Global,
     seed: u32,
     counts: &mut Counts,
 ) -> Result<(), Fail> {
     let text = generated_with_any(alloc, seed)?;
-    let index = read(alloc, text.as_bytes(), true)?;
-    compare_both(rt, alloc, &index, counts)
+    compare_text(rt, alloc, text.as_bytes(), Compared::Both, counts)
+}
+
+#[test]
+fn as_all_sets_say(rt: HostRuntime) -> Result<(), Fail> {
+    let mut counts = Counts::new();
+    for seed in 0..60 {
+        compare_generated(&rt, rt.alloc(), seed, Compared::Verdicts, &mut counts)?;
+    }
+    assert!(rt; counts.broken > 20 && counts.broken < 180);
+    Ok(())
+}
+
+#[test]
+fn closures_as_all_places_say(rt: HostRuntime) -> Result<(), Fail> {
+    let mut counts = Counts::new();
+    for seed in 0..200 {
+        compare_generated(&rt, rt.alloc(), seed, Compared::Closures, &mut counts)?;
+    }
+    assert!(rt; counts.members > 1000 && counts.members < 3000);
+    Ok(())
 }
 
 #[test]
 fn any_as_all_sets_say(rt: HostRuntime) -> Result<(), Fail> {
-    let mut counts = Counts {
-        broken: 0,
-        members: 0,
-        refused: 0,
-    };
+    let mut counts = Counts::new();
     for seed in 0..120 {
-        compare_generated(&rt, rt.alloc(), seed, &mut counts)?;
+        compare_generated_with_any(&rt, rt.alloc(), seed, &mut counts)?;
     }
     assert!(rt; counts.broken > 50 && counts.broken < 430);
     assert!(rt; counts.members > 500);

@@ -15,6 +15,14 @@ pub fn read(alloc: Global, text: &[u8], essential: bool) -> Result<Index, Fail> 
     Ok(index)
 }
 
+/// What is expected of the package at a place: its set, its core or its closure.
+#[derive(Clone, Copy)]
+pub enum Expected<'a> {
+    Set(u32, &'a [u32]),
+    Core(u32, &'a [Constraint]),
+    Closure(u32, &'a [u32]),
+}
+
 pub fn is_found(found: &Verdict, wanted: &[u32]) -> bool {
     match found {
         Verdict::Ok(places) => places.as_slice() == wanted,
@@ -29,7 +37,7 @@ pub fn is_broken(found: &Verdict, wanted: &[Constraint]) -> bool {
     }
 }
 
-pub fn expect_set(
+fn expect_set(
     rt: &impl Abort,
     alloc: Global,
     index: &Index,
@@ -42,7 +50,7 @@ pub fn expect_set(
     Ok(())
 }
 
-pub fn expect_core(
+fn expect_core(
     rt: &impl Abort,
     alloc: Global,
     index: &Index,
@@ -55,7 +63,7 @@ pub fn expect_core(
     Ok(())
 }
 
-pub fn expect_closure(
+fn expect_closure(
     rt: &impl Abort,
     alloc: Global,
     index: &Index,
@@ -66,4 +74,41 @@ pub fn expect_closure(
     let members = closure(alloc, index, p)?;
     assert!(rt; members.as_slice() == wanted);
     Ok(())
+}
+
+fn expect_one(
+    rt: &impl Abort,
+    alloc: Global,
+    index: &Index,
+    expected: &Expected<'_>,
+) -> Result<(), Fail> {
+    match *expected {
+        Expected::Set(p, wanted) => expect_set(rt, alloc, index, p, wanted),
+        Expected::Core(p, wanted) => expect_core(rt, alloc, index, p, wanted),
+        Expected::Closure(p, wanted) => expect_closure(rt, alloc, index, p, wanted),
+    }
+}
+
+fn expect_each(
+    rt: &impl Abort,
+    alloc: Global,
+    index: &Index,
+    expected: &[Expected<'_>],
+) -> Result<(), Fail> {
+    for one in expected {
+        expect_one(rt, alloc, index, one)?;
+    }
+    Ok(())
+}
+
+/// Compares what is found in the index of a text with what is expected of its packages.
+pub fn expect(
+    rt: &impl Abort,
+    alloc: Global,
+    text: &[u8],
+    essential: bool,
+    expected: &[Expected<'_>],
+) -> Result<(), Fail> {
+    let index = read(alloc, text, essential)?;
+    expect_each(rt, alloc, &index, expected)
 }

@@ -1,19 +1,9 @@
 //! Verdicts and closures of indexes with the qualifier `any`, compared with answers that were found by hand.
 
-use crate::expected::{expect_closure, expect_core, expect_set, read};
-use deb_index::{Constraint, Index};
+use crate::expected::{Expected, expect};
+use deb_index::Constraint;
 use std::alloc::{AllocError, Global};
-use std::process::Abort;
 use std::test::Fail;
-
-fn expect_unmarked(rt: &impl Abort, alloc: Global, index: &Index) -> Result<(), Fail> {
-    expect_core(rt, alloc, index, 0, &[Constraint::Need(0, 0)])?;
-    expect_core(rt, alloc, index, 1, &[Constraint::Need(1, 0)])?;
-    expect_set(rt, alloc, index, 2, &[2])?;
-    expect_set(rt, alloc, index, 3, &[3])?;
-    expect_closure(rt, alloc, index, 0, &[0])?;
-    expect_closure(rt, alloc, index, 1, &[1])
-}
 
 #[test]
 fn any_is_not_met_without_the_mark(rt: HostRuntime) -> Result<(), Fail> {
@@ -35,17 +25,20 @@ Package: n
 Version: 1
 Architecture: all
 ";
-    let index = read(rt.alloc(), text, true)?;
-    expect_unmarked(&rt, rt.alloc(), &index)
-}
-
-fn expect_marked(rt: &impl Abort, alloc: Global, index: &Index) -> Result<(), Fail> {
-    expect_set(rt, alloc, index, 0, &[0, 2])?;
-    expect_core(rt, alloc, index, 1, &[Constraint::Need(1, 0)])?;
-    expect_set(rt, alloc, index, 2, &[2])?;
-    expect_set(rt, alloc, index, 3, &[3])?;
-    expect_closure(rt, alloc, index, 0, &[0, 2])?;
-    expect_closure(rt, alloc, index, 1, &[1])
+    expect(
+        &rt,
+        rt.alloc(),
+        text,
+        true,
+        &[
+            Expected::Core(0, &[Constraint::Need(0, 0)]),
+            Expected::Core(1, &[Constraint::Need(1, 0)]),
+            Expected::Set(2, &[2]),
+            Expected::Set(3, &[3]),
+            Expected::Closure(0, &[0]),
+            Expected::Closure(1, &[1]),
+        ],
+    )
 }
 
 #[test]
@@ -69,23 +62,20 @@ Package: n
 Version: 1
 Architecture: all
 ";
-    let index = read(rt.alloc(), text, true)?;
-    expect_marked(&rt, rt.alloc(), &index)
-}
-
-fn expect_providers(rt: &impl Abort, alloc: Global, index: &Index) -> Result<(), Fail> {
-    expect_set(rt, alloc, index, 0, &[0, 1])?;
-    expect_set(rt, alloc, index, 1, &[1])?;
-    expect_set(rt, alloc, index, 2, &[2])?;
-    expect_core(
-        rt,
-        alloc,
-        index,
-        3,
-        &[Constraint::Need(3, 0), Constraint::Apart(3, 0)],
-    )?;
-    expect_closure(rt, alloc, index, 0, &[0, 1])?;
-    expect_closure(rt, alloc, index, 3, &[2, 3])
+    expect(
+        &rt,
+        rt.alloc(),
+        text,
+        true,
+        &[
+            Expected::Set(0, &[0, 2]),
+            Expected::Core(1, &[Constraint::Need(1, 0)]),
+            Expected::Set(2, &[2]),
+            Expected::Set(3, &[3]),
+            Expected::Closure(0, &[0, 2]),
+            Expected::Closure(1, &[1]),
+        ],
+    )
 }
 
 #[test]
@@ -113,28 +103,23 @@ Architecture: all
 Depends: p
 Conflicts: v:any
 ";
-    let index = read(rt.alloc(), text, true)?;
-    expect_providers(&rt, rt.alloc(), &index)
+    expect(
+        &rt,
+        rt.alloc(),
+        text,
+        true,
+        &[
+            Expected::Set(0, &[0, 1]),
+            Expected::Set(1, &[1]),
+            Expected::Set(2, &[2]),
+            Expected::Core(3, &[Constraint::Need(3, 0), Constraint::Apart(3, 0)]),
+            Expected::Closure(0, &[0, 1]),
+            Expected::Closure(3, &[2, 3]),
+        ],
+    )
 }
 
 /// Of the two that provide `v` the marked one alone answers `v:any`, and it keeps `b` out; without `any` the other one does.
-fn expect_marked_in_conflict(rt: &impl Abort, alloc: Global, index: &Index) -> Result<(), Fail> {
-    expect_core(
-        rt,
-        alloc,
-        index,
-        0,
-        &[
-            Constraint::Need(0, 0),
-            Constraint::Need(0, 1),
-            Constraint::Apart(1, 0),
-        ],
-    )?;
-    expect_closure(rt, alloc, index, 0, &[0, 1, 3])?;
-    expect_set(rt, alloc, index, 4, &[2, 3, 4])?;
-    expect_closure(rt, alloc, index, 4, &[1, 2, 3, 4])
-}
-
 #[test]
 fn marked_package_in_conflict(rt: HostRuntime) -> Result<(), Fail> {
     let text = b"Package: a
@@ -164,8 +149,25 @@ Version: 1
 Architecture: all
 Depends: v, b
 ";
-    let index = read(rt.alloc(), text, true)?;
-    expect_marked_in_conflict(&rt, rt.alloc(), &index)
+    expect(
+        &rt,
+        rt.alloc(),
+        text,
+        true,
+        &[
+            Expected::Core(
+                0,
+                &[
+                    Constraint::Need(0, 0),
+                    Constraint::Need(0, 1),
+                    Constraint::Apart(1, 0),
+                ],
+            ),
+            Expected::Closure(0, &[0, 1, 3]),
+            Expected::Set(4, &[2, 3, 4]),
+            Expected::Closure(4, &[1, 2, 3, 4]),
+        ],
+    )
 }
 
 /// The text of `a` and `c`, which need `v` with `any`, of 70 packages that provide it, every tenth of them marked, and of what these need.
@@ -199,31 +201,31 @@ Conflicts: y
 }
 
 /// `a` is at 0, `c` at 1, the marked packages at 11, 21 and so on, and `y`, which each of them needs, at 72.
-fn expect_many_providers(rt: &impl Abort, alloc: Global, index: &Index) -> Result<(), Fail> {
-    expect_set(rt, alloc, index, 0, &[0, 71, 72])?;
-    expect_closure(rt, alloc, index, 0, &[0, 11, 21, 31, 41, 51, 61, 71, 72])?;
-    expect_core(
-        rt,
-        alloc,
-        index,
-        1,
-        &[
-            Constraint::Need(1, 0),
-            Constraint::Apart(1, 0),
-            Constraint::Need(11, 0),
-            Constraint::Need(21, 0),
-            Constraint::Need(31, 0),
-            Constraint::Need(41, 0),
-            Constraint::Need(51, 0),
-            Constraint::Need(61, 0),
-            Constraint::Need(71, 0),
-        ],
-    )
-}
-
 #[test]
 fn any_of_more_than_64_providers(rt: HostRuntime) -> Result<(), Fail> {
     let text = many_providers(rt.alloc())?;
-    let index = read(rt.alloc(), text.as_bytes(), true)?;
-    expect_many_providers(&rt, rt.alloc(), &index)
+    expect(
+        &rt,
+        rt.alloc(),
+        text.as_bytes(),
+        true,
+        &[
+            Expected::Set(0, &[0, 71, 72]),
+            Expected::Closure(0, &[0, 11, 21, 31, 41, 51, 61, 71, 72]),
+            Expected::Core(
+                1,
+                &[
+                    Constraint::Need(1, 0),
+                    Constraint::Apart(1, 0),
+                    Constraint::Need(11, 0),
+                    Constraint::Need(21, 0),
+                    Constraint::Need(31, 0),
+                    Constraint::Need(41, 0),
+                    Constraint::Need(51, 0),
+                    Constraint::Need(61, 0),
+                    Constraint::Need(71, 0),
+                ],
+            ),
+        ],
+    )
 }

@@ -1,18 +1,8 @@
 //! Verdicts and closures of small indexes, compared with answers that were found by hand.
 
-use crate::expected::{expect_closure, expect_core, expect_set, read};
-use deb_index::{Constraint, Index};
-use std::alloc::Global;
-use std::process::Abort;
+use crate::expected::{Expected, expect};
+use deb_index::Constraint;
 use std::test::Fail;
-
-fn expect_alternatives(rt: &impl Abort, alloc: Global, index: &Index) -> Result<(), Fail> {
-    expect_set(rt, alloc, index, 0, &[0, 2])?;
-    expect_set(rt, alloc, index, 1, &[1])?;
-    expect_set(rt, alloc, index, 2, &[2])?;
-    expect_closure(rt, alloc, index, 0, &[0, 1, 2])?;
-    expect_closure(rt, alloc, index, 2, &[2])
-}
 
 #[test]
 fn alternatives(rt: HostRuntime) -> Result<(), Fail> {
@@ -29,8 +19,19 @@ Package: c
 Version: 1
 Architecture: all
 ";
-    let index = read(rt.alloc(), text, true)?;
-    expect_alternatives(&rt, rt.alloc(), &index)
+    expect(
+        &rt,
+        rt.alloc(),
+        text,
+        true,
+        &[
+            Expected::Set(0, &[0, 2]),
+            Expected::Set(1, &[1]),
+            Expected::Set(2, &[2]),
+            Expected::Closure(0, &[0, 1, 2]),
+            Expected::Closure(2, &[2]),
+        ],
+    )
 }
 
 #[test]
@@ -40,21 +41,13 @@ Version: 1
 Architecture: all
 Depends: x, y
 ";
-    let index = read(rt.alloc(), text, true)?;
-    expect_core(&rt, rt.alloc(), &index, 0, &[Constraint::Need(0, 1)])
-}
-
-fn expect_missing_further_down(rt: &impl Abort, alloc: Global, index: &Index) -> Result<(), Fail> {
-    expect_core(
-        rt,
-        alloc,
-        index,
-        0,
-        &[Constraint::Need(0, 0), Constraint::Need(1, 0)],
-    )?;
-    expect_core(rt, alloc, index, 1, &[Constraint::Need(1, 0)])?;
-    expect_set(rt, alloc, index, 2, &[2])?;
-    expect_closure(rt, alloc, index, 0, &[0, 1])
+    expect(
+        &rt,
+        rt.alloc(),
+        text,
+        true,
+        &[Expected::Core(0, &[Constraint::Need(0, 1)])],
+    )
 }
 
 #[test]
@@ -73,22 +66,16 @@ Package: c
 Version: 1
 Architecture: all
 ";
-    let index = read(rt.alloc(), text, true)?;
-    expect_missing_further_down(&rt, rt.alloc(), &index)
-}
-
-fn expect_mail_agents(rt: &impl Abort, alloc: Global, index: &Index) -> Result<(), Fail> {
-    expect_set(rt, alloc, index, 0, &[0])?;
-    expect_set(rt, alloc, index, 1, &[1])?;
-    expect_core(
-        rt,
-        alloc,
-        index,
-        2,
+    expect(
+        &rt,
+        rt.alloc(),
+        text,
+        true,
         &[
-            Constraint::Apart(1, 0),
-            Constraint::Need(2, 0),
-            Constraint::Need(2, 1),
+            Expected::Core(0, &[Constraint::Need(0, 0), Constraint::Need(1, 0)]),
+            Expected::Core(1, &[Constraint::Need(1, 0)]),
+            Expected::Set(2, &[2]),
+            Expected::Closure(0, &[0, 1]),
         ],
     )
 }
@@ -112,28 +99,24 @@ Version: 1
 Architecture: all
 Depends: m1, m2
 ";
-    let index = read(rt.alloc(), text, true)?;
-    expect_mail_agents(&rt, rt.alloc(), &index)
-}
-
-fn expect_conflict_between_dependencies(
-    rt: &impl Abort,
-    alloc: Global,
-    index: &Index,
-) -> Result<(), Fail> {
-    expect_core(
-        rt,
-        alloc,
-        index,
-        0,
+    expect(
+        &rt,
+        rt.alloc(),
+        text,
+        true,
         &[
-            Constraint::Need(0, 0),
-            Constraint::Need(0, 1),
-            Constraint::Apart(1, 0),
+            Expected::Set(0, &[0]),
+            Expected::Set(1, &[1]),
+            Expected::Core(
+                2,
+                &[
+                    Constraint::Apart(1, 0),
+                    Constraint::Need(2, 0),
+                    Constraint::Need(2, 1),
+                ],
+            ),
         ],
-    )?;
-    expect_set(rt, alloc, index, 1, &[1])?;
-    expect_set(rt, alloc, index, 2, &[2])
+    )
 }
 
 #[test]
@@ -152,14 +135,24 @@ Package: c
 Version: 1
 Architecture: all
 ";
-    let index = read(rt.alloc(), text, true)?;
-    expect_conflict_between_dependencies(&rt, rt.alloc(), &index)
-}
-
-fn expect_versioned_provides(rt: &impl Abort, alloc: Global, index: &Index) -> Result<(), Fail> {
-    expect_set(rt, alloc, index, 0, &[0, 2])?;
-    expect_set(rt, alloc, index, 1, &[1])?;
-    expect_set(rt, alloc, index, 2, &[2])
+    expect(
+        &rt,
+        rt.alloc(),
+        text,
+        true,
+        &[
+            Expected::Core(
+                0,
+                &[
+                    Constraint::Need(0, 0),
+                    Constraint::Need(0, 1),
+                    Constraint::Apart(1, 0),
+                ],
+            ),
+            Expected::Set(1, &[1]),
+            Expected::Set(2, &[2]),
+        ],
+    )
 }
 
 #[test]
@@ -178,14 +171,17 @@ Version: 1
 Architecture: all
 Provides: bar (= 1.0)
 ";
-    let index = read(rt.alloc(), text, true)?;
-    expect_versioned_provides(&rt, rt.alloc(), &index)
-}
-
-fn expect_unversioned_provides(rt: &impl Abort, alloc: Global, index: &Index) -> Result<(), Fail> {
-    expect_core(rt, alloc, index, 0, &[Constraint::Need(0, 0)])?;
-    expect_set(rt, alloc, index, 1, &[1])?;
-    expect_set(rt, alloc, index, 2, &[2])
+    expect(
+        &rt,
+        rt.alloc(),
+        text,
+        true,
+        &[
+            Expected::Set(0, &[0, 2]),
+            Expected::Set(1, &[1]),
+            Expected::Set(2, &[2]),
+        ],
+    )
 }
 
 #[test]
@@ -204,26 +200,17 @@ Version: 1
 Architecture: all
 Provides: bar
 ";
-    let index = read(rt.alloc(), text, true)?;
-    expect_unversioned_provides(&rt, rt.alloc(), &index)
-}
-
-fn expect_two_versions(rt: &impl Abort, alloc: Global, index: &Index) -> Result<(), Fail> {
-    expect_set(rt, alloc, index, 0, &[0])?;
-    expect_set(rt, alloc, index, 1, &[1])?;
-    expect_core(
-        rt,
-        alloc,
-        index,
-        2,
+    expect(
+        &rt,
+        rt.alloc(),
+        text,
+        true,
         &[
-            Constraint::Need(2, 0),
-            Constraint::Need(2, 1),
-            Constraint::Need(3, 0),
-            Constraint::Only(0),
+            Expected::Core(0, &[Constraint::Need(0, 0)]),
+            Expected::Set(1, &[1]),
+            Expected::Set(2, &[2]),
         ],
-    )?;
-    expect_set(rt, alloc, index, 3, &[1, 3])
+    )
 }
 
 #[test]
@@ -246,25 +233,26 @@ Version: 1
 Architecture: all
 Depends: n (= 2)
 ";
-    let index = read(rt.alloc(), text, true)?;
-    expect_two_versions(&rt, rt.alloc(), &index)
-}
-
-fn expect_essential_conflict(rt: &impl Abort, alloc: Global, index: &Index) -> Result<(), Fail> {
-    expect_set(rt, alloc, index, 0, &[0])?;
-    expect_core(
-        rt,
-        alloc,
-        index,
-        1,
-        &[Constraint::Essential(0), Constraint::Apart(1, 0)],
-    )?;
-    expect_closure(rt, alloc, index, 1, &[0, 1])
-}
-
-fn expect_no_essential_conflict(rt: &impl Abort, alloc: Global, index: &Index) -> Result<(), Fail> {
-    expect_set(rt, alloc, index, 1, &[1])?;
-    expect_closure(rt, alloc, index, 1, &[1])
+    expect(
+        &rt,
+        rt.alloc(),
+        text,
+        true,
+        &[
+            Expected::Set(0, &[0]),
+            Expected::Set(1, &[1]),
+            Expected::Core(
+                2,
+                &[
+                    Constraint::Need(2, 0),
+                    Constraint::Need(2, 1),
+                    Constraint::Need(3, 0),
+                    Constraint::Only(0),
+                ],
+            ),
+            Expected::Set(3, &[1, 3]),
+        ],
+    )
 }
 
 #[test]
@@ -279,41 +267,23 @@ Version: 1
 Architecture: all
 Conflicts: base
 ";
-    let index = read(rt.alloc(), text, true)?;
-    expect_essential_conflict(&rt, rt.alloc(), &index)?;
-    let without = read(rt.alloc(), text, false)?;
-    expect_no_essential_conflict(&rt, rt.alloc(), &without)
-}
-
-fn expect_essential_packages_in_conflict(
-    rt: &impl Abort,
-    alloc: Global,
-    index: &Index,
-) -> Result<(), Fail> {
-    expect_core(
-        rt,
-        alloc,
-        index,
-        0,
-        &[Constraint::Essential(1), Constraint::Apart(0, 0)],
-    )?;
-    expect_core(
-        rt,
-        alloc,
-        index,
-        1,
-        &[Constraint::Essential(0), Constraint::Apart(0, 0)],
-    )?;
-    expect_core(
-        rt,
-        alloc,
-        index,
-        2,
+    expect(
+        &rt,
+        rt.alloc(),
+        text,
+        true,
         &[
-            Constraint::Essential(0),
-            Constraint::Essential(1),
-            Constraint::Apart(0, 0),
+            Expected::Set(0, &[0]),
+            Expected::Core(1, &[Constraint::Essential(0), Constraint::Apart(1, 0)]),
+            Expected::Closure(1, &[0, 1]),
         ],
+    )?;
+    expect(
+        &rt,
+        rt.alloc(),
+        text,
+        false,
+        &[Expected::Set(1, &[1]), Expected::Closure(1, &[1])],
     )
 }
 
@@ -334,8 +304,24 @@ Package: z
 Version: 1
 Architecture: all
 ";
-    let index = read(rt.alloc(), text, true)?;
-    expect_essential_packages_in_conflict(&rt, rt.alloc(), &index)
+    expect(
+        &rt,
+        rt.alloc(),
+        text,
+        true,
+        &[
+            Expected::Core(0, &[Constraint::Essential(1), Constraint::Apart(0, 0)]),
+            Expected::Core(1, &[Constraint::Essential(0), Constraint::Apart(0, 0)]),
+            Expected::Core(
+                2,
+                &[
+                    Constraint::Essential(0),
+                    Constraint::Essential(1),
+                    Constraint::Apart(0, 0),
+                ],
+            ),
+        ],
+    )
 }
 
 #[test]
@@ -346,28 +332,7 @@ Architecture: all
 Depends: s, v
 Provides: v
 ";
-    let index = read(rt.alloc(), text, true)?;
-    expect_set(&rt, rt.alloc(), &index, 0, &[0])
-}
-
-fn expect_pre_depends_and_breaks(
-    rt: &impl Abort,
-    alloc: Global,
-    index: &Index,
-) -> Result<(), Fail> {
-    expect_core(
-        rt,
-        alloc,
-        index,
-        0,
-        &[
-            Constraint::Need(0, 0),
-            Constraint::Need(0, 1),
-            Constraint::Apart(2, 0),
-        ],
-    )?;
-    expect_set(rt, alloc, index, 2, &[2])?;
-    expect_closure(rt, alloc, index, 0, &[0, 1, 2])
+    expect(&rt, rt.alloc(), text, true, &[Expected::Set(0, &[0])])
 }
 
 #[test]
@@ -387,6 +352,22 @@ Version: 1
 Architecture: all
 Breaks: b (<< 2)
 ";
-    let index = read(rt.alloc(), text, true)?;
-    expect_pre_depends_and_breaks(&rt, rt.alloc(), &index)
+    expect(
+        &rt,
+        rt.alloc(),
+        text,
+        true,
+        &[
+            Expected::Core(
+                0,
+                &[
+                    Constraint::Need(0, 0),
+                    Constraint::Need(0, 1),
+                    Constraint::Apart(2, 0),
+                ],
+            ),
+            Expected::Set(2, &[2]),
+            Expected::Closure(0, &[0, 1, 2]),
+        ],
+    )
 }

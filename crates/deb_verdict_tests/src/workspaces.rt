@@ -77,14 +77,24 @@ fn expect_by_turns(
 fn expect_all_by_turns(
     rt: &impl Abort,
     alloc: Global,
+    workspace: &mut Workspace,
+    agents: &Grounded<'_>,
+    versions: &Grounded<'_>,
+) -> Result<(), Fail> {
+    expect_same(rt, alloc, workspace, agents)?;
+    expect_same(rt, alloc, workspace, versions)?;
+    expect_same(rt, alloc, workspace, agents)?;
+    expect_by_turns(rt, alloc, workspace, agents, versions)
+}
+
+fn in_one_workspace(
+    rt: &impl Abort,
+    alloc: Global,
     agents: &Grounded<'_>,
     versions: &Grounded<'_>,
 ) -> Result<(), Fail> {
     let mut workspace = Workspace::new(alloc)?;
-    expect_same(rt, alloc, &mut workspace, agents)?;
-    expect_same(rt, alloc, &mut workspace, versions)?;
-    expect_same(rt, alloc, &mut workspace, agents)?;
-    expect_by_turns(rt, alloc, &mut workspace, agents, versions)
+    expect_all_by_turns(rt, alloc, &mut workspace, agents, versions)
 }
 
 fn on_their_groundworks(
@@ -95,7 +105,34 @@ fn on_their_groundworks(
 ) -> Result<(), Fail> {
     let agents = Grounded::new(alloc, agents)?;
     let versions = Grounded::new(alloc, versions)?;
-    expect_all_by_turns(rt, alloc, &agents, &versions)
+    in_one_workspace(rt, alloc, &agents, &versions)
+}
+
+/// Beside the agents an index with two versions of a package.
+fn with_versions(rt: &impl Abort, alloc: Global, agents: &Index) -> Result<(), Fail> {
+    let versions = read(
+        alloc,
+        b"Package: n
+Version: 1
+Architecture: all
+
+Package: n
+Version: 2
+Architecture: all
+
+Package: a
+Version: 1
+Architecture: all
+Depends: n (= 1), b
+
+Package: b
+Version: 1
+Architecture: all
+Depends: n (= 2)
+",
+        true,
+    )?;
+    on_their_groundworks(rt, alloc, agents, &versions)
 }
 
 #[test]
@@ -131,27 +168,5 @@ Architecture: all
 ",
         true,
     )?;
-    let versions = read(
-        rt.alloc(),
-        b"Package: n
-Version: 1
-Architecture: all
-
-Package: n
-Version: 2
-Architecture: all
-
-Package: a
-Version: 1
-Architecture: all
-Depends: n (= 1), b
-
-Package: b
-Version: 1
-Architecture: all
-Depends: n (= 2)
-",
-        true,
-    )?;
-    on_their_groundworks(&rt, rt.alloc(), &agents, &versions)
+    with_versions(&rt, rt.alloc(), &agents)
 }
