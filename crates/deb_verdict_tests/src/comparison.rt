@@ -346,24 +346,60 @@ fn compare_closures(
     Ok(())
 }
 
+fn expect_first_set(
+    rt: &impl Abort,
+    alloc: Global,
+    found: &Verdict,
+    set: &[bool],
+) -> Result<(), Fail> {
+    assert!(rt; set.len() < 1000);
+    let places = listed(alloc, set)?;
+    assert!(rt; is_found(found, &places));
+    Ok(())
+}
+
+fn expect_first_core(
+    rt: &impl Abort,
+    alloc: Global,
+    index: &Index,
+    p: u32,
+    constraints: &[Constraint],
+    found: &Verdict,
+) -> Result<(), Fail> {
+    let core = first_core(alloc, index, p, constraints)?;
+    assert!(rt; is_broken(found, &core));
+    Ok(())
+}
+
+/// Compares the verdict of a package, and counts it if it is broken.
+fn compare_verdict(
+    rt: &impl Abort,
+    alloc: Global,
+    index: &Index,
+    p: u32,
+    constraints: &[Constraint],
+    all: &[bool],
+    broken: &mut u32,
+) -> Result<(), Fail>
+    requires { p < length index.now.packages }
+{
+    let found = verdict(alloc, index, p)?;
+    match first_set(alloc, index, p, constraints, all)? {
+        Some(set) => expect_first_set(rt, alloc, &found, &set),
+        None => {
+            expect_first_core(rt, alloc, index, p, constraints, &found)?;
+            *broken = broken.saturating_add(1);
+            Ok(())
+        }
+    }
+}
+
 /// Compares all verdicts of an index, and counts those that are broken.
 fn compare(rt: &impl Abort, alloc: Global, index: &Index, broken: &mut u32) -> Result<(), Fail> {
     let constraints = index.constraints(alloc)?;
     let all = vec![in alloc; true; constraints.len()]?;
     for p in 0..index.len() {
-        let found = verdict(alloc, index, p)?;
-        match first_set(alloc, index, p, &constraints, &all)? {
-            Some(set) => {
-                assert!(rt; set.len() < 1000);
-                let places = listed(alloc, &set)?;
-                assert!(rt; is_found(&found, &places));
-            }
-            None => {
-                let core = first_core(alloc, index, p, &constraints)?;
-                assert!(rt; is_broken(&found, &core));
-                *broken = broken.saturating_add(1);
-            }
-        }
+        compare_verdict(rt, alloc, index, p, &constraints, &all, broken)?;
     }
     Ok(())
 }

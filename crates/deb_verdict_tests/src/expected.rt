@@ -9,7 +9,7 @@ use std::test::Fail;
 /// The index of a text for amd64.
 pub fn read(alloc: Global, text: &[u8], essential: bool) -> Result<Index, Fail> {
     if text.len() > 100_000 {
-        Err::<(), &str>("the text is long")?;
+        return Err(Fail::new("the text is long"));
     }
     let index = Index::read(alloc, text, "amd64", essential)?;
     Ok(index)

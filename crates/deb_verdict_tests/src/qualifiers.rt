@@ -25,20 +25,15 @@ Package: n
 Version: 1
 Architecture: all
 ";
-    expect(
-        &rt,
-        rt.alloc(),
-        text,
-        true,
-        &[
-            Expected::Core(0, &[Constraint::Need(0, 0)]),
-            Expected::Core(1, &[Constraint::Need(1, 0)]),
-            Expected::Set(2, &[2]),
-            Expected::Set(3, &[3]),
-            Expected::Closure(0, &[0]),
-            Expected::Closure(1, &[1]),
-        ],
-    )
+    let expected = [
+        Expected::Core(0, &[Constraint::Need(0, 0)]),
+        Expected::Core(1, &[Constraint::Need(1, 0)]),
+        Expected::Set(2, &[2]),
+        Expected::Set(3, &[3]),
+        Expected::Closure(0, &[0]),
+        Expected::Closure(1, &[1]),
+    ];
+    expect(&rt, rt.alloc(), text, true, &expected)
 }
 
 #[test]
@@ -62,20 +57,15 @@ Package: n
 Version: 1
 Architecture: all
 ";
-    expect(
-        &rt,
-        rt.alloc(),
-        text,
-        true,
-        &[
-            Expected::Set(0, &[0, 2]),
-            Expected::Core(1, &[Constraint::Need(1, 0)]),
-            Expected::Set(2, &[2]),
-            Expected::Set(3, &[3]),
-            Expected::Closure(0, &[0, 2]),
-            Expected::Closure(1, &[1]),
-        ],
-    )
+    let expected = [
+        Expected::Set(0, &[0, 2]),
+        Expected::Core(1, &[Constraint::Need(1, 0)]),
+        Expected::Set(2, &[2]),
+        Expected::Set(3, &[3]),
+        Expected::Closure(0, &[0, 2]),
+        Expected::Closure(1, &[1]),
+    ];
+    expect(&rt, rt.alloc(), text, true, &expected)
 }
 
 #[test]
@@ -103,26 +93,18 @@ Architecture: all
 Depends: p
 Conflicts: v:any
 ";
-    expect(
-        &rt,
-        rt.alloc(),
-        text,
-        true,
-        &[
-            Expected::Set(0, &[0, 1]),
-            Expected::Set(1, &[1]),
-            Expected::Set(2, &[2]),
-            Expected::Core(3, &[Constraint::Need(3, 0), Constraint::Apart(3, 0)]),
-            Expected::Closure(0, &[0, 1]),
-            Expected::Closure(3, &[2, 3]),
-        ],
-    )
+    let expected = [
+        Expected::Set(0, &[0, 1]),
+        Expected::Set(1, &[1]),
+        Expected::Set(2, &[2]),
+        Expected::Core(3, &[Constraint::Need(3, 0), Constraint::Apart(3, 0)]),
+        Expected::Closure(0, &[0, 1]),
+        Expected::Closure(3, &[2, 3]),
+    ];
+    expect(&rt, rt.alloc(), text, true, &expected)
 }
 
-/// Of the two that provide `v` the marked one alone answers `v:any`, and it keeps `b` out; without `any` the other one does.
-#[test]
-fn marked_package_in_conflict(rt: HostRuntime) -> Result<(), Fail> {
-    let text = b"Package: a
+const MARKED_IN_CONFLICT: &[u8] = b"Package: a
 Version: 1
 Architecture: all
 Depends: v:any, b
@@ -149,25 +131,24 @@ Version: 1
 Architecture: all
 Depends: v, b
 ";
-    expect(
-        &rt,
-        rt.alloc(),
-        text,
-        true,
-        &[
-            Expected::Core(
-                0,
-                &[
-                    Constraint::Need(0, 0),
-                    Constraint::Need(0, 1),
-                    Constraint::Apart(1, 0),
-                ],
-            ),
-            Expected::Closure(0, &[0, 1, 3]),
-            Expected::Set(4, &[2, 3, 4]),
-            Expected::Closure(4, &[1, 2, 3, 4]),
-        ],
-    )
+
+/// Of the two that provide `v` the marked one alone answers `v:any`, and it keeps `b` out; without `any` the other one does.
+#[test]
+fn marked_package_in_conflict(rt: HostRuntime) -> Result<(), Fail> {
+    let expected = [
+        Expected::Core(
+            0,
+            &[
+                Constraint::Need(0, 0),
+                Constraint::Need(0, 1),
+                Constraint::Apart(1, 0),
+            ],
+        ),
+        Expected::Closure(0, &[0, 1, 3]),
+        Expected::Set(4, &[2, 3, 4]),
+        Expected::Closure(4, &[1, 2, 3, 4]),
+    ];
+    expect(&rt, rt.alloc(), MARKED_IN_CONFLICT, true, &expected)
 }
 
 /// The text of `a` and `c`, which need `v` with `any`, of 70 packages that provide it, every tenth of them marked, and of what these need.
@@ -204,28 +185,23 @@ Conflicts: y
 #[test]
 fn any_of_more_than_64_providers(rt: HostRuntime) -> Result<(), Fail> {
     let text = many_providers(rt.alloc())?;
-    expect(
-        &rt,
-        rt.alloc(),
-        text.as_bytes(),
-        true,
-        &[
-            Expected::Set(0, &[0, 71, 72]),
-            Expected::Closure(0, &[0, 11, 21, 31, 41, 51, 61, 71, 72]),
-            Expected::Core(
-                1,
-                &[
-                    Constraint::Need(1, 0),
-                    Constraint::Apart(1, 0),
-                    Constraint::Need(11, 0),
-                    Constraint::Need(21, 0),
-                    Constraint::Need(31, 0),
-                    Constraint::Need(41, 0),
-                    Constraint::Need(51, 0),
-                    Constraint::Need(61, 0),
-                    Constraint::Need(71, 0),
-                ],
-            ),
-        ],
-    )
+    let expected = [
+        Expected::Set(0, &[0, 71, 72]),
+        Expected::Closure(0, &[0, 11, 21, 31, 41, 51, 61, 71, 72]),
+        Expected::Core(
+            1,
+            &[
+                Constraint::Need(1, 0),
+                Constraint::Apart(1, 0),
+                Constraint::Need(11, 0),
+                Constraint::Need(21, 0),
+                Constraint::Need(31, 0),
+                Constraint::Need(41, 0),
+                Constraint::Need(51, 0),
+                Constraint::Need(61, 0),
+                Constraint::Need(71, 0),
+            ],
+        ),
+    ];
+    expect(&rt, rt.alloc(), text.as_bytes(), true, &expected)
 }

@@ -19,19 +19,14 @@ Package: c
 Version: 1
 Architecture: all
 ";
-    expect(
-        &rt,
-        rt.alloc(),
-        text,
-        true,
-        &[
-            Expected::Set(0, &[0, 2]),
-            Expected::Set(1, &[1]),
-            Expected::Set(2, &[2]),
-            Expected::Closure(0, &[0, 1, 2]),
-            Expected::Closure(2, &[2]),
-        ],
-    )
+    let expected = [
+        Expected::Set(0, &[0, 2]),
+        Expected::Set(1, &[1]),
+        Expected::Set(2, &[2]),
+        Expected::Closure(0, &[0, 1, 2]),
+        Expected::Closure(2, &[2]),
+    ];
+    expect(&rt, rt.alloc(), text, true, &expected)
 }
 
 #[test]
@@ -41,13 +36,8 @@ Version: 1
 Architecture: all
 Depends: x, y
 ";
-    expect(
-        &rt,
-        rt.alloc(),
-        text,
-        true,
-        &[Expected::Core(0, &[Constraint::Need(0, 1)])],
-    )
+    let expected = [Expected::Core(0, &[Constraint::Need(0, 1)])];
+    expect(&rt, rt.alloc(), text, true, &expected)
 }
 
 #[test]
@@ -66,18 +56,13 @@ Package: c
 Version: 1
 Architecture: all
 ";
-    expect(
-        &rt,
-        rt.alloc(),
-        text,
-        true,
-        &[
-            Expected::Core(0, &[Constraint::Need(0, 0), Constraint::Need(1, 0)]),
-            Expected::Core(1, &[Constraint::Need(1, 0)]),
-            Expected::Set(2, &[2]),
-            Expected::Closure(0, &[0, 1]),
-        ],
-    )
+    let expected = [
+        Expected::Core(0, &[Constraint::Need(0, 0), Constraint::Need(1, 0)]),
+        Expected::Core(1, &[Constraint::Need(1, 0)]),
+        Expected::Set(2, &[2]),
+        Expected::Closure(0, &[0, 1]),
+    ];
+    expect(&rt, rt.alloc(), text, true, &expected)
 }
 
 #[test]
@@ -99,24 +84,19 @@ Version: 1
 Architecture: all
 Depends: m1, m2
 ";
-    expect(
-        &rt,
-        rt.alloc(),
-        text,
-        true,
-        &[
-            Expected::Set(0, &[0]),
-            Expected::Set(1, &[1]),
-            Expected::Core(
-                2,
-                &[
-                    Constraint::Apart(1, 0),
-                    Constraint::Need(2, 0),
-                    Constraint::Need(2, 1),
-                ],
-            ),
-        ],
-    )
+    let expected = [
+        Expected::Set(0, &[0]),
+        Expected::Set(1, &[1]),
+        Expected::Core(
+            2,
+            &[
+                Constraint::Apart(1, 0),
+                Constraint::Need(2, 0),
+                Constraint::Need(2, 1),
+            ],
+        ),
+    ];
+    expect(&rt, rt.alloc(), text, true, &expected)
 }
 
 #[test]
@@ -135,24 +115,19 @@ Package: c
 Version: 1
 Architecture: all
 ";
-    expect(
-        &rt,
-        rt.alloc(),
-        text,
-        true,
-        &[
-            Expected::Core(
-                0,
-                &[
-                    Constraint::Need(0, 0),
-                    Constraint::Need(0, 1),
-                    Constraint::Apart(1, 0),
-                ],
-            ),
-            Expected::Set(1, &[1]),
-            Expected::Set(2, &[2]),
-        ],
-    )
+    let expected = [
+        Expected::Core(
+            0,
+            &[
+                Constraint::Need(0, 0),
+                Constraint::Need(0, 1),
+                Constraint::Apart(1, 0),
+            ],
+        ),
+        Expected::Set(1, &[1]),
+        Expected::Set(2, &[2]),
+    ];
+    expect(&rt, rt.alloc(), text, true, &expected)
 }
 
 #[test]
@@ -171,17 +146,12 @@ Version: 1
 Architecture: all
 Provides: bar (= 1.0)
 ";
-    expect(
-        &rt,
-        rt.alloc(),
-        text,
-        true,
-        &[
-            Expected::Set(0, &[0, 2]),
-            Expected::Set(1, &[1]),
-            Expected::Set(2, &[2]),
-        ],
-    )
+    let expected = [
+        Expected::Set(0, &[0, 2]),
+        Expected::Set(1, &[1]),
+        Expected::Set(2, &[2]),
+    ];
+    expect(&rt, rt.alloc(), text, true, &expected)
 }
 
 #[test]
@@ -200,17 +170,12 @@ Version: 1
 Architecture: all
 Provides: bar
 ";
-    expect(
-        &rt,
-        rt.alloc(),
-        text,
-        true,
-        &[
-            Expected::Core(0, &[Constraint::Need(0, 0)]),
-            Expected::Set(1, &[1]),
-            Expected::Set(2, &[2]),
-        ],
-    )
+    let expected = [
+        Expected::Core(0, &[Constraint::Need(0, 0)]),
+        Expected::Set(1, &[1]),
+        Expected::Set(2, &[2]),
+    ];
+    expect(&rt, rt.alloc(), text, true, &expected)
 }
 
 #[test]
@@ -233,26 +198,21 @@ Version: 1
 Architecture: all
 Depends: n (= 2)
 ";
-    expect(
-        &rt,
-        rt.alloc(),
-        text,
-        true,
-        &[
-            Expected::Set(0, &[0]),
-            Expected::Set(1, &[1]),
-            Expected::Core(
-                2,
-                &[
-                    Constraint::Need(2, 0),
-                    Constraint::Need(2, 1),
-                    Constraint::Need(3, 0),
-                    Constraint::Only(0),
-                ],
-            ),
-            Expected::Set(3, &[1, 3]),
-        ],
-    )
+    let expected = [
+        Expected::Set(0, &[0]),
+        Expected::Set(1, &[1]),
+        Expected::Core(
+            2,
+            &[
+                Constraint::Need(2, 0),
+                Constraint::Need(2, 1),
+                Constraint::Need(3, 0),
+                Constraint::Only(0),
+            ],
+        ),
+        Expected::Set(3, &[1, 3]),
+    ];
+    expect(&rt, rt.alloc(), text, true, &expected)
 }
 
 #[test]
@@ -267,24 +227,14 @@ Version: 1
 Architecture: all
 Conflicts: base
 ";
-    expect(
-        &rt,
-        rt.alloc(),
-        text,
-        true,
-        &[
-            Expected::Set(0, &[0]),
-            Expected::Core(1, &[Constraint::Essential(0), Constraint::Apart(1, 0)]),
-            Expected::Closure(1, &[0, 1]),
-        ],
-    )?;
-    expect(
-        &rt,
-        rt.alloc(),
-        text,
-        false,
-        &[Expected::Set(1, &[1]), Expected::Closure(1, &[1])],
-    )
+    let expected = [
+        Expected::Set(0, &[0]),
+        Expected::Core(1, &[Constraint::Essential(0), Constraint::Apart(1, 0)]),
+        Expected::Closure(1, &[0, 1]),
+    ];
+    expect(&rt, rt.alloc(), text, true, &expected)?;
+    let without = [Expected::Set(1, &[1]), Expected::Closure(1, &[1])];
+    expect(&rt, rt.alloc(), text, false, &without)
 }
 
 #[test]
@@ -304,24 +254,19 @@ Package: z
 Version: 1
 Architecture: all
 ";
-    expect(
-        &rt,
-        rt.alloc(),
-        text,
-        true,
-        &[
-            Expected::Core(0, &[Constraint::Essential(1), Constraint::Apart(0, 0)]),
-            Expected::Core(1, &[Constraint::Essential(0), Constraint::Apart(0, 0)]),
-            Expected::Core(
-                2,
-                &[
-                    Constraint::Essential(0),
-                    Constraint::Essential(1),
-                    Constraint::Apart(0, 0),
-                ],
-            ),
-        ],
-    )
+    let expected = [
+        Expected::Core(0, &[Constraint::Essential(1), Constraint::Apart(0, 0)]),
+        Expected::Core(1, &[Constraint::Essential(0), Constraint::Apart(0, 0)]),
+        Expected::Core(
+            2,
+            &[
+                Constraint::Essential(0),
+                Constraint::Essential(1),
+                Constraint::Apart(0, 0),
+            ],
+        ),
+    ];
+    expect(&rt, rt.alloc(), text, true, &expected)
 }
 
 #[test]
@@ -352,22 +297,17 @@ Version: 1
 Architecture: all
 Breaks: b (<< 2)
 ";
-    expect(
-        &rt,
-        rt.alloc(),
-        text,
-        true,
-        &[
-            Expected::Core(
-                0,
-                &[
-                    Constraint::Need(0, 0),
-                    Constraint::Need(0, 1),
-                    Constraint::Apart(2, 0),
-                ],
-            ),
-            Expected::Set(2, &[2]),
-            Expected::Closure(0, &[0, 1, 2]),
-        ],
-    )
+    let expected = [
+        Expected::Core(
+            0,
+            &[
+                Constraint::Need(0, 0),
+                Constraint::Need(0, 1),
+                Constraint::Apart(2, 0),
+            ],
+        ),
+        Expected::Set(2, &[2]),
+        Expected::Closure(0, &[0, 1, 2]),
+    ];
+    expect(&rt, rt.alloc(), text, true, &expected)
 }
