@@ -11,8 +11,7 @@ pub fn read(alloc: Global, text: &[u8], essential: bool) -> Result<Index, Fail> 
     if text.len() > 100_000 {
         return Err(Fail::new("the text is long"));
     }
-    let index = Index::read(alloc, text, "amd64", essential)?;
-    Ok(index)
+    Ok(Index::read(alloc, text, "amd64", essential)?)
 }
 
 /// What is expected of the package at a place: its set, its core or its closure.
