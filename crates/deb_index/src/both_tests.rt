@@ -58,7 +58,10 @@ pub fn read_both(
     background: &[u8],
     essential: bool,
 ) -> Result<Index, BothError> {
-    if text.len() > TEXT_LIMIT || background.len() > TEXT_LIMIT {
+    if text.len() > TEXT_LIMIT {
+        return Err(BothError::Memory);
+    }
+    if background.len() > TEXT_LIMIT {
         return Err(BothError::Memory);
     }
     Index::read_both(alloc, text, background, "amd64", essential)
@@ -92,6 +95,7 @@ pub fn expect_used(rt: &impl Abort, index: &Index) {
 fn a_background_that_is_used(rt: HostRuntime) -> Result<(), Fail> {
     let index = read_both(rt.alloc(), NEEDING.as_bytes(), NEEDED.as_bytes(), true)?;
     expect_used(&rt, &index);
+    drop(index);
     Ok(())
 }
 
@@ -109,6 +113,7 @@ fn expect_first_kept(rt: &impl Abort, index: &Index) {
 fn a_duplicate_in_the_background(rt: HostRuntime) -> Result<(), Fail> {
     let index = read_both(rt.alloc(), ONE.as_bytes(), AGAIN.as_bytes(), true)?;
     expect_first_kept(&rt, &index);
+    drop(index);
     Ok(())
 }
 
@@ -125,6 +130,7 @@ fn counts_of_both(rt: HostRuntime) -> Result<(), Fail> {
     ] {
         let index = read_both(rt.alloc(), text.as_bytes(), background.as_bytes(), true)?;
         expect_counted(&rt, &index, counts);
+        drop(index);
     }
     Ok(())
 }
@@ -147,9 +153,13 @@ fn an_essential_name_of_the_background(rt: HostRuntime) -> Result<(), Fail> {
     let (text, background) = (CONFLICTING.as_bytes(), BASE.as_bytes());
     let index = read_both(rt.alloc(), text, background, true)?;
     let all = [Essential(1), Apart(0, 0), Only(0), Only(1)];
-    expect_essential(&rt, &index, &[1], &all)?;
+    let outcome = expect_essential(&rt, &index, &[1], &all);
+    drop(index);
+    outcome?;
     let index = read_both(rt.alloc(), text, background, false)?;
-    expect_essential(&rt, &index, &[], &[Apart(0, 0), Only(0), Only(1)])
+    let outcome = expect_essential(&rt, &index, &[], &[Apart(0, 0), Only(0), Only(1)]);
+    drop(index);
+    outcome
 }
 
 // A package of one text asks for a name that those of the other provide.
@@ -165,8 +175,10 @@ fn expect_providers(rt: &impl Abort, index: &Index, place: u32, number: u32, pla
 fn providers_of_the_other_text(rt: HostRuntime) -> Result<(), Fail> {
     let index = read_both(rt.alloc(), TWICE.as_bytes(), LAST.as_bytes(), true)?;
     expect_providers(&rt, &index, 3, 2, &[0, 1, 2]);
+    drop(index);
     let index = read_both(rt.alloc(), LAST.as_bytes(), TWICE.as_bytes(), true)?;
     expect_providers(&rt, &index, 0, 0, &[1, 2, 3]);
+    drop(index);
     Ok(())
 }
 
@@ -196,11 +208,14 @@ fn expect_cut(
     background: &[u8],
     whole: &Index,
 ) -> Result<(), Fail> {
-    let index = read_both(rt.alloc(), text, background, true)?;
-    expect_same(rt, &index, whole)?;
     let fore = read(rt.alloc(), text, true)?;
-    assert_eq!(rt; index.foreground(), fore.len());
-    Ok(())
+    let foreground = fore.len();
+    drop(fore);
+    let index = read_both(rt.alloc(), text, background, true)?;
+    let outcome = expect_same(rt, &index, whole);
+    assert_eq!(rt; index.foreground(), foreground);
+    drop(index);
+    outcome
 }
 
 // Wherever a text is cut between two stanzas, its parts have the index of the whole.
@@ -266,5 +281,6 @@ fn as_many_stanzas_as_may_be_in_both(rt: HostRuntime) -> Result<(), Fail> {
     let text = copies(rt.alloc(), 4_194_303)?;
     let index = read_both(rt.alloc(), &text, NEXT, true)?;
     expect_counted(&rt, &index, [2, 1, 4_194_304, 0, 4_194_302]);
+    drop(index);
     Ok(())
 }

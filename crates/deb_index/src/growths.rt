@@ -31,6 +31,7 @@ fn of_read(rt: HostRuntime) -> Result<(), Fail> {
     match read(rt.alloc(), VERSIONED.as_bytes(), true) {
         Ok(index) => {
             expect_versioned(&rt, &index);
+            drop(index);
             Ok(())
         }
         Err(fault) => {
@@ -45,6 +46,7 @@ fn of_read_both(rt: HostRuntime) -> Result<(), Fail> {
     match read_both(rt.alloc(), NEEDING.as_bytes(), NEEDED.as_bytes(), true) {
         Ok(index) => {
             expect_used(&rt, &index);
+            drop(index);
             Ok(())
         }
         Err(fault) => {
@@ -87,7 +89,9 @@ fn expect_bounded(rt: &(impl Abort + AllocGlobal), index: &Index) -> Result<(), 
 #[test]
 fn of_satisfiers(rt: HostRuntime) -> Result<(), Fail> {
     let index = read(rt.alloc(), VERSIONED.as_bytes(), true)?;
-    expect_bounded(&rt, &index)
+    let outcome = expect_bounded(&rt, &index);
+    drop(index);
+    outcome
 }
 
 fn expect_needed(rt: &(impl Abort + AllocGlobal), index: &Index) -> Result<(), Fail> {
@@ -109,7 +113,9 @@ fn expect_needed(rt: &(impl Abort + AllocGlobal), index: &Index) -> Result<(), F
 #[test]
 fn of_need_satisfiers(rt: HostRuntime) -> Result<(), Fail> {
     let index = read(rt.alloc(), MARKED.as_bytes(), true)?;
-    expect_needed(&rt, &index)
+    let outcome = expect_needed(&rt, &index);
+    drop(index);
+    outcome
 }
 
 fn expect_constraints(rt: &(impl Abort + AllocGlobal), index: &Index) -> Result<(), Fail> {
@@ -132,5 +138,7 @@ fn expect_constraints(rt: &(impl Abort + AllocGlobal), index: &Index) -> Result<
 fn of_constraints(rt: HostRuntime) -> Result<(), Fail> {
     let lacking = b"Package: a\nVersion: 1\nArchitecture: all\nDepends: x, y\n";
     let index = read(rt.alloc(), lacking, true)?;
-    expect_constraints(&rt, &index)
+    let outcome = expect_constraints(&rt, &index);
+    drop(index);
+    outcome
 }

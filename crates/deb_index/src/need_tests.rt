@@ -128,7 +128,9 @@ fn expect_interpreter(
 fn an_interpreter_of_any_architecture(rt: HostRuntime) -> Result<(), Fail> {
     for (text, marked) in [(UNMARKED, false), (MARKED, true)] {
         let index = read(rt.alloc(), text.as_bytes(), true)?;
-        expect_interpreter(&rt, &index, marked)?;
+        let outcome = expect_interpreter(&rt, &index, marked);
+        drop(index);
+        outcome?;
     }
     Ok(())
 }
@@ -156,7 +158,9 @@ fn expect_providers(rt: &(impl Abort + AllocGlobal), index: &Index) -> Result<()
 #[test]
 fn providers_with_and_without_the_mark(rt: HostRuntime) -> Result<(), Fail> {
     let index = read(rt.alloc(), PROVIDED.as_bytes(), true)?;
-    expect_providers(&rt, &index)
+    let outcome = expect_providers(&rt, &index);
+    drop(index);
+    outcome
 }
 
 fn expect_mark(rt: &impl Abort, index: &Index, allowed: bool) {
@@ -184,6 +188,7 @@ fn values_of_the_mark(rt: HostRuntime) -> Result<(), Fail> {
         text.extend_from_slice(b"\nPackage: v\nVersion: 1\nArchitecture: all\n")?;
         let index = read(rt.alloc(), &text, true)?;
         expect_mark(&rt, &index, allowed);
+        drop(index);
     }
     Ok(())
 }

@@ -96,7 +96,9 @@ fn expect_listed(rt: &(impl Abort + AllocGlobal), index: &Index) -> Result<(), F
 #[test]
 fn each_constraint_at_its_position(rt: HostRuntime) -> Result<(), Fail> {
     let index = read(rt.alloc(), SEVERAL.as_bytes(), true)?;
-    expect_listed(&rt, &index)
+    let outcome = expect_listed(&rt, &index);
+    drop(index);
+    outcome
 }
 
 fn expect_names(rt: &impl Abort, index: &Index) {
@@ -112,5 +114,6 @@ fn expect_names(rt: &impl Abort, index: &Index) {
 fn names_of_places(rt: HostRuntime) -> Result<(), Fail> {
     let index = read(rt.alloc(), SEVERAL.as_bytes(), true)?;
     expect_names(&rt, &index);
+    drop(index);
     Ok(())
 }

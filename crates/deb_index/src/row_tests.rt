@@ -76,7 +76,9 @@ fn expect_rows_of_groups(rt: &(impl Abort + AllocGlobal), index: &Index) -> Resu
 #[test]
 fn rows_of_groups(rt: HostRuntime) -> Result<(), Fail> {
     let index = read(rt.alloc(), MIXED.as_bytes(), true)?;
-    expect_rows_of_groups(&rt, &index)
+    let outcome = expect_rows_of_groups(&rt, &index);
+    drop(index);
+    outcome
 }
 
 fn expect_rows_of_entries(rt: &(impl Abort + AllocGlobal), index: &Index) -> Result<(), Fail> {
@@ -96,7 +98,9 @@ fn expect_rows_of_entries(rt: &(impl Abort + AllocGlobal), index: &Index) -> Res
 #[test]
 fn rows_of_entries(rt: HostRuntime) -> Result<(), Fail> {
     let index = read(rt.alloc(), MIXED.as_bytes(), true)?;
-    expect_rows_of_entries(&rt, &index)
+    let outcome = expect_rows_of_entries(&rt, &index);
+    drop(index);
+    outcome
 }
 
 fn expect_names_by_place(rt: &impl Abort, index: &Index) {
@@ -115,6 +119,7 @@ fn expect_names_by_place(rt: &impl Abort, index: &Index) {
 fn names_by_place(rt: HostRuntime) -> Result<(), Fail> {
     let index = read(rt.alloc(), MIXED.as_bytes(), true)?;
     expect_names_by_place(&rt, &index);
+    drop(index);
     Ok(())
 }
 
@@ -156,6 +161,7 @@ fn long_rows(rt: HostRuntime) -> Result<(), Fail> {
         let text = providers(rt.alloc(), count)?;
         let index = read(rt.alloc(), &text, true)?;
         expect_long_rows(&rt, &index, count + 1, alone, beside);
+        drop(index);
     }
     Ok(())
 }

@@ -167,7 +167,9 @@ fn expect_satisfiers_in(
     cases: &[(&[u8], &[u32])],
 ) -> Result<(), Fail> {
     let index = read(rt.alloc(), text.as_bytes(), true)?;
-    expect_satisfiers(rt, &index, cases)
+    let outcome = expect_satisfiers(rt, &index, cases);
+    drop(index);
+    outcome
 }
 
 #[test]
@@ -214,7 +216,9 @@ fn expect_several_provides(rt: &(impl Abort + AllocGlobal), index: &Index) -> Re
 #[test]
 fn several_provides(rt: HostRuntime) -> Result<(), Fail> {
     let index = read(rt.alloc(), TWICE.as_bytes(), true)?;
-    expect_several_provides(&rt, &index)
+    let outcome = expect_several_provides(&rt, &index);
+    drop(index);
+    outcome
 }
 
 fn expect_provided_twice(rt: &(impl Abort + AllocGlobal), index: &Index) -> Result<(), Fail> {
@@ -236,7 +240,9 @@ fn expect_provided_twice(rt: &(impl Abort + AllocGlobal), index: &Index) -> Resu
 #[test]
 fn provided_twice(rt: HostRuntime) -> Result<(), Fail> {
     let index = read(rt.alloc(), PROVIDED.as_bytes(), true)?;
-    expect_provided_twice(&rt, &index)
+    let outcome = expect_provided_twice(&rt, &index);
+    drop(index);
+    outcome
 }
 
 fn expect_mail_agents(rt: &(impl Abort + AllocGlobal), index: &Index) -> Result<(), Fail> {
@@ -252,7 +258,9 @@ fn expect_mail_agents(rt: &(impl Abort + AllocGlobal), index: &Index) -> Result<
 #[test]
 fn mail_agents(rt: HostRuntime) -> Result<(), Fail> {
     let index = read(rt.alloc(), MAIL_AGENTS.as_bytes(), true)?;
-    expect_mail_agents(&rt, &index)
+    let outcome = expect_mail_agents(&rt, &index);
+    drop(index);
+    outcome
 }
 
 fn expect_spelled(rt: &impl Abort, index: &Index) {
@@ -273,6 +281,7 @@ fn expect_spelled(rt: &impl Abort, index: &Index) {
 fn duplicates_and_skipped(rt: HostRuntime) -> Result<(), Fail> {
     let index = read(rt.alloc(), SPELLED.as_bytes(), true)?;
     expect_spelled(&rt, &index);
+    drop(index);
     Ok(())
 }
 
@@ -286,6 +295,7 @@ fn essential_names(rt: HostRuntime) -> Result<(), Fail> {
     for (essential, names) in [(true, [1].as_slice()), (false, &[])] {
         let index = read(rt.alloc(), ESSENTIALS.as_bytes(), essential)?;
         expect_essential(&rt, &index, names);
+        drop(index);
     }
     Ok(())
 }
@@ -298,7 +308,9 @@ fn expect_constraints(
     wanted: &[Constraint],
 ) -> Result<(), Fail> {
     let index = read(rt.alloc(), text, essential)?;
-    expect_constraints_of(rt, &index, wanted)
+    let outcome = expect_constraints_of(rt, &index, wanted);
+    drop(index);
+    outcome
 }
 
 fn expect_constraints_of(
@@ -359,6 +371,7 @@ fn expect_mixed(rt: &impl Abort, index: &Index) {
 fn fields_in_order(rt: HostRuntime) -> Result<(), Fail> {
     let index = read(rt.alloc(), MIXED.as_bytes(), true)?;
     expect_mixed(&rt, &index);
+    drop(index);
     Ok(())
 }
 
@@ -440,6 +453,7 @@ fn as_many_stanzas_as_may_be(rt: HostRuntime) -> Result<(), Fail> {
     let text = copies(rt.alloc(), STANZA_LIMIT)?;
     let index = read(rt.alloc(), &text, true)?;
     expect_one_package(&rt, &index);
+    drop(index);
     Ok(())
 }
 
