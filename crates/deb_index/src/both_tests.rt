@@ -69,12 +69,14 @@ pub fn read_both(
 
 // What is counted: packages, those of the foreground, stanzas, skipped ones and duplicates.
 pub fn expect_counted(rt: &impl Abort, index: &Index, counts: [u32; 5]) {
-    let [packages, foreground, stanzas, skipped, duplicates] = counts;
-    assert_eq!(rt; index.len(), packages);
-    assert_eq!(rt; index.foreground(), foreground);
-    assert_eq!(rt; index.stanzas(), stanzas);
-    assert_eq!(rt; index.skipped(), skipped);
-    assert_eq!(rt; index.duplicates(), duplicates);
+    let counted = [
+        index.len(),
+        index.foreground(),
+        index.stanzas(),
+        index.skipped(),
+        index.duplicates(),
+    ];
+    assert_eq!(rt; counted, counts);
 }
 
 // The foreground's package and, behind it, those of the background that it may use.
