@@ -4,52 +4,61 @@ ghost use Rattle.std.specs.Prelude.{◌≡◌, ◌<◌, ◌≤◌, IfOk, false};
 
 use crate::fault::{RunFault, fault_line, status};
 use crate::input::read_all;
-use crate::line::{LineFault, line_status, read_line};
+use crate::line::{line_status, read_line};
 use crate::output::write_fault;
-use crate::phases::run;
 use crate::tests::line::{is_plain, words_of};
-use crate::tests::{EMPTY, Held, sink_of, source_of};
+use crate::tests::{EMPTY, Held, run_alone, sink_of, source_of};
 use deb_report::{Config, Summary};
 use std::alloc::{AllocError, Global};
 use std::process::Abort;
 use std::test::Fail;
-use work_draw::OpenGate;
 
 /// Three bytes where three are allowed, one more, and a reader that fails.
 #[test]
 fn of_read_all(rt: HostRuntime) -> Result<(), Fail> {
-    expect_read(&rt, b"abc", false, "abc")?;
-    expect_read(&rt, b"abcd", false, "too long")?;
-    expect_read(&rt, b"abc", true, "failed")
+    for (text, fails, wanted, reads) in READS {
+        expect_read(&rt, text, fails, wanted, reads)?;
+    }
+    Ok(())
 }
+
+// A text, whether its reader fails, what reading it comes to, and in how many reads.
+const READS: [(&str, bool, &str, u32); 3] = [
+    ("abc", false, "abc", 4),
+    ("abcd", false, "too long", 4),
+    ("abc", true, "failed", 1),
+];
 
 // What reading to the end with a limit of three bytes comes to.
 fn expect_read(
     rt: &(impl Abort + AllocGlobal),
-    text: &[u8],
+    text: &str,
     fails: bool,
     wanted: &str,
+    reads: u32,
 ) -> Result<(), Fail> {
-    let mut reader = source_of(text, 1);
+    let mut reader = source_of(text.as_bytes(), 1);
     reader.fails = fails;
     let outcome = read_all(rt.alloc(), &mut reader, 3);
-    match &outcome {
-        Ok(bytes) => assert_eq!(rt; bytes.as_slice(), wanted.as_bytes()),
-        Err(RunFault::TooLong) => {
-            assert!(rt; wanted == "too long");
-            assert_eq!(rt; reader.reads, 4);
-        }
-        Err(RunFault::Read) => {
-            assert!(rt; wanted == "failed");
-            assert_eq!(rt; reader.reads, 1);
-        }
-        Err(RunFault::Memory) => {
-            assert!(rt; !reader.failed);
-            return Err(Fail::new("out of memory"));
-        }
-        Err(_) => assert!(rt; false, "no fault of reading"),
+    let told = told_by(&outcome);
+    if told == b"no memory".as_slice() {
+        assert!(rt; !reader.failed);
+        return Err(Fail::new("out of memory"));
     }
+    assert_eq!(rt; told, wanted.as_bytes());
+    assert_eq!(rt; reader.reads, reads);
     Ok(())
+}
+
+// The bytes that were read, or words for the fault.
+fn told_by(outcome: &Result<Vec<u8>, RunFault>) -> &[u8] {
+    match outcome {
+        Ok(bytes) => bytes.as_slice(),
+        Err(RunFault::TooLong) => b"too long",
+        Err(RunFault::Read) => b"failed",
+        Err(RunFault::Memory) => b"no memory",
+        Err(_) => b"no fault of reading",
+    }
 }
 
 // The usual settings, with a number of workers that take six packages at once.
@@ -106,15 +115,7 @@ fn of_run(rt: HostRuntime) -> Result<(), Fail> {
     let config = config_with(rt.alloc(), 2)?;
     let mut output = sink_with_room(rt.alloc(), 1, 0)?;
     let mut nothing = source_of(b"", 1);
-    let outcome = run(
-        &rt,
-        rt.alloc(),
-        &config,
-        &mut nothing,
-        &mut source_of(b"", 1),
-        &mut output,
-        &OpenGate,
-    );
+    let outcome = run_alone(&rt, &config, &mut nothing, &mut output);
     expect_report(&rt, &output, &outcome, EMPTY, 0)
 }
 
@@ -124,15 +125,7 @@ fn of_run_with_a_failing_writer(rt: HostRuntime) -> Result<(), Fail> {
     let config = config_with(rt.alloc(), 2)?;
     let mut output = sink_with_room(rt.alloc(), 1, 5)?;
     let mut nothing = source_of(b"", 1);
-    let outcome = run(
-        &rt,
-        rt.alloc(),
-        &config,
-        &mut nothing,
-        &mut source_of(b"", 1),
-        &mut output,
-        &OpenGate,
-    );
+    let outcome = run_alone(&rt, &config, &mut nothing, &mut output);
     if !matches!(&outcome, Err(RunFault::Write)) {
         return expect_report(&rt, &output, &outcome, b"no report", 68);
     }
@@ -182,36 +175,40 @@ fn expect_line(
             assert!(rt; taken, "{line:?}");
             assert!(rt; config.explain == explains);
             config.explain = false;
-            assert!(rt; is_plain(&config));
-            assert!(rt; config.arch.as_str() == "amd64");
-            Ok(())
+            expect_plain(rt, &config);
         }
-        Err(fault) => match &fault {
-            LineFault::Memory => {
-                assert_eq!(rt; line_status(&fault), 69);
-                Err(Fail::new("out of memory"))
+        Err(fault) => {
+            let code = line_status(&fault);
+            if code == 69 {
+                return Err(Fail::new("out of memory"));
             }
-            LineFault::Refused { .. } => {
-                assert!(rt; !taken, "{line:?}");
-                assert_eq!(rt; line_status(&fault), 64);
-                Ok(())
-            }
-            LineFault::Help { .. } => {
-                assert!(rt; false, "no help was asked for");
-                Ok(())
-            }
-        },
+            assert!(rt; !taken, "{line:?}");
+            assert_eq!(rt; code, 64);
+        }
     }
+    Ok(())
 }
+
+fn expect_plain(rt: &impl Abort, config: &Config) {
+    assert!(rt; is_plain(config));
+    assert!(rt; config.arch.as_str() == "amd64");
+}
+
+// A line, whether it is taken, and whether it asks for explanations.
+const LINES: [(&[&str], bool, bool); 6] = [
+    (&["--arch", "amd64"], true, false),
+    (&[], true, true),
+    (&["--workers", "2"], false, false),
+    (&["--arch", "all"], false, false),
+    (&["--arch", "amd64", "--workers", "65"], false, false),
+    (&["--arch", "amd64", "--checkonly", "a,,b"], false, false),
+];
 
 /// An architecture alone, no words, and four lines that are refused.
 #[test]
 fn of_read_line(rt: HostRuntime) -> Result<(), Fail> {
-    expect_line(&rt, &["--arch", "amd64"], true, false)?;
-    expect_line(&rt, &[], true, true)?;
-    expect_line(&rt, &["--workers", "2"], false, false)?;
-    expect_line(&rt, &["--arch", "all"], false, false)?;
-    expect_line(&rt, &["--arch", "amd64", "--workers", "65"], false, false)?;
-    let list = ["--arch", "amd64", "--checkonly", "a,,b"];
-    expect_line(&rt, &list, false, false)
+    for (line, taken, explains) in LINES {
+        expect_line(&rt, line, taken, explains)?;
+    }
+    Ok(())
 }

@@ -1,6 +1,6 @@
 //! Worked examples, and devices that fail.
 
-ghost use Rattle.std.specs.Prelude.{◌≡◌, IfOk, None, false};
+ghost use Rattle.std.specs.Prelude.{◌≡◌, ◌<◌, ◌≤◌, IfOk, None, false};
 
 pub(crate) mod line;
 
@@ -14,6 +14,7 @@ use deb_report::{Config, Show, Summary};
 use std::alloc::{AllocError, Global};
 use std::process::Abort;
 use std::test::Fail;
+use std::thread::Threads;
 use work_draw::OpenGate;
 
 /// Gives some bytes at each read, or fails at each.
@@ -221,6 +222,38 @@ fn faults_of_a_run_have_their_lines(rt: HostRuntime) -> Result<(), Fail> {
     Ok(())
 }
 
+// What a run comes to that has no background.
+pub(crate) fn run_alone(
+    rt: &(impl Threads + Sync + AllocGlobal),
+    config: &Config,
+    reader: &mut Feed<'_>,
+    output: &mut Held,
+) -> Result<Summary, RunFault>
+    requires workers { (0 < config.now.workers) × (config.now.workers ≤ 64) }
+    requires chunk { 0 < config.now.chunk }
+    requires reader { reader.old.failed ≡ false }
+    requires output { output.old.failed ≡ false }
+{
+    let mut nothing = source_of(b"", 1);
+    run(
+        rt,
+        rt.alloc(),
+        config,
+        reader,
+        &mut nothing,
+        output,
+        &OpenGate,
+    )
+}
+
+// The run came to a report with these numbers.
+fn expect_numbers(rt: &impl Abort, outcome: &Result<Summary, RunFault>, wanted: Summary) {
+    match outcome {
+        Ok(summary) => assert_eq!(rt; *summary, wanted),
+        Err(_) => assert!(rt; false, "a report"),
+    }
+}
+
 fn numbers(stanzas: u32, asked: u32, broken: u32) -> Summary {
     Summary {
         stanzas,
@@ -256,28 +289,18 @@ pub(crate) const EMPTY: &[u8] =
 fn an_empty_text_has_a_report_of_seven_lines(rt: HostRuntime) -> Result<(), Fail> {
     let config = by_two(rt.alloc())?;
     let mut output = sink_of(rt.alloc(), 1, 0, false);
-    let outcome = run(
-        &rt,
-        rt.alloc(),
-        &config,
-        &mut source_of(b"", 1),
-        &mut source_of(b"", 1),
-        &mut output,
-        &OpenGate,
-    );
+    let outcome = run_alone(&rt, &config, &mut source_of(b"", 1), &mut output);
     assert_eq!(rt; output.bytes.as_slice(), EMPTY);
     assert!(rt; output.flushed);
-    assert_eq!(rt; outcome?, numbers(0, 0, 0));
+    expect_numbers(&rt, &outcome, numbers(0, 0, 0));
+    Ok(())
+}
+
+#[test]
+fn a_failing_writer_has_the_front_of_a_report(rt: HostRuntime) -> Result<(), Fail> {
+    let config = by_two(rt.alloc())?;
     let mut fifth = sink_of(rt.alloc(), 1, 5, false);
-    let refused = run(
-        &rt,
-        rt.alloc(),
-        &config,
-        &mut source_of(b"", 1),
-        &mut source_of(b"", 1),
-        &mut fifth,
-        &OpenGate,
-    );
+    let refused = run_alone(&rt, &config, &mut source_of(b"", 1), &mut fifth);
     assert_eq!(rt; fifth.bytes.as_slice(), b"arch".as_slice());
     assert_eq!(rt; status(&refused), 68);
     Ok(())
@@ -293,17 +316,9 @@ const ALTERNATIVES_REPORT: &[u8] =
 fn alternatives(rt: HostRuntime) -> Result<(), Fail> {
     let config = by_two(rt.alloc())?;
     let mut output = sink_of(rt.alloc(), 50, 0, false);
-    let outcome = run(
-        &rt,
-        rt.alloc(),
-        &config,
-        &mut source_of(ALTERNATIVES, 11),
-        &mut source_of(b"", 1),
-        &mut output,
-        &OpenGate,
-    );
+    let outcome = run_alone(&rt, &config, &mut source_of(ALTERNATIVES, 11), &mut output);
     assert_eq!(rt; output.bytes.as_slice(), ALTERNATIVES_REPORT);
-    assert_eq!(rt; outcome?, numbers(3, 3, 0));
+    expect_numbers(&rt, &outcome, numbers(3, 3, 0));
     Ok(())
 }
 
@@ -318,15 +333,7 @@ fn failures_alone_with_their_reasons(rt: HostRuntime) -> Result<(), Fail> {
     let mut config = by_two(rt.alloc())?;
     config.show = Show::Failures;
     let mut output = sink_of(rt.alloc(), 50, 0, false);
-    let outcome = run(
-        &rt,
-        rt.alloc(),
-        &config,
-        &mut source_of(CHAIN, 1000),
-        &mut source_of(b"", 1),
-        &mut output,
-        &OpenGate,
-    );
+    let outcome = run_alone(&rt, &config, &mut source_of(CHAIN, 1000), &mut output);
     assert_eq!(rt; output.bytes.as_slice(), CHAIN_FAILURES);
     assert_eq!(rt; status(&outcome), 1);
     Ok(())
@@ -350,33 +357,29 @@ fn named_packages_in_the_order_of_the_index(rt: HostRuntime) -> Result<(), Fail>
     config.explain = false;
     config.only = Some(named(rt.alloc(), &[b"c", b"a", b"c"])?);
     let mut output = sink_of(rt.alloc(), 50, 0, false);
-    let outcome = run(
-        &rt,
-        rt.alloc(),
-        &config,
-        &mut source_of(CHAIN, 1000),
-        &mut source_of(b"", 1),
-        &mut output,
-        &OpenGate,
-    );
+    let outcome = run_alone(&rt, &config, &mut source_of(CHAIN, 1000), &mut output);
     assert_eq!(rt; output.bytes.as_slice(), TWO_SHOWN);
-    assert_eq!(rt; outcome?, numbers(3, 2, 1));
+    expect_numbers(&rt, &outcome, numbers(3, 2, 1));
+    Ok(())
+}
+
+// The name that no package has; nothing where the run came to something else.
+fn unknown_name(outcome: &Result<Summary, RunFault>) -> &[u8] {
+    match outcome {
+        Err(RunFault::UnknownAsked { name }) => name.as_slice(),
+        _ => b"",
+    }
+}
+
+#[test]
+fn the_first_unknown_name_is_told(rt: HostRuntime) -> Result<(), Fail> {
+    let mut config = by_two(rt.alloc())?;
+    config.explain = false;
     config.only = Some(named(rt.alloc(), &[b"a", b"zz", b"yy"])?);
     let mut nothing = sink_of(rt.alloc(), 50, 0, false);
-    let refused = run(
-        &rt,
-        rt.alloc(),
-        &config,
-        &mut source_of(CHAIN, 1000),
-        &mut source_of(b"", 1),
-        &mut nothing,
-        &OpenGate,
-    );
+    let refused = run_alone(&rt, &config, &mut source_of(CHAIN, 1000), &mut nothing);
     assert!(rt; nothing.bytes.is_empty());
-    match refused {
-        Err(RunFault::UnknownAsked { name }) => assert_eq!(rt; name.as_slice(), b"zz".as_slice()),
-        _ => assert!(rt; false, "the second name is unknown"),
-    }
+    assert_eq!(rt; unknown_name(&refused), b"zz".as_slice());
     Ok(())
 }
 
@@ -384,15 +387,7 @@ fn named_packages_in_the_order_of_the_index(rt: HostRuntime) -> Result<(), Fail>
 fn faults_of_the_text_and_the_reader(rt: HostRuntime) -> Result<(), Fail> {
     let config = by_two(rt.alloc())?;
     let mut output = sink_of(rt.alloc(), 50, 0, false);
-    let refused = run(
-        &rt,
-        rt.alloc(),
-        &config,
-        &mut source_of(b" x", 1),
-        &mut source_of(b"", 1),
-        &mut output,
-        &OpenGate,
-    );
+    let refused = run_alone(&rt, &config, &mut source_of(b" x", 1), &mut output);
     assert!(rt;
         matches!(
             &refused,
@@ -402,15 +397,7 @@ fn faults_of_the_text_and_the_reader(rt: HostRuntime) -> Result<(), Fail> {
     let mut nothing = sink_of(rt.alloc(), 50, 0, false);
     let mut broken = source_of(b" x", 1);
     broken.fails = true;
-    let unread = run(
-        &rt,
-        rt.alloc(),
-        &config,
-        &mut broken,
-        &mut source_of(b"", 1),
-        &mut nothing,
-        &OpenGate,
-    );
+    let unread = run_alone(&rt, &config, &mut broken, &mut nothing);
     assert_eq!(rt; status(&unread), 67);
     assert!(rt; output.bytes.is_empty());
     assert!(rt; nothing.bytes.is_empty());

@@ -19,24 +19,39 @@ fn config_of(alloc: Global, line: &[&str]) -> Result<Config, Fail> {
     Ok(read_line(alloc, words_of(alloc, line)?)?)
 }
 
+// Why the line gives no configuration.
+fn fault_of(rt: &(impl Abort + AllocGlobal), line: &[&str]) -> Result<LineFault, Fail> {
+    match read_line(rt.alloc(), words_of(rt.alloc(), line)?) {
+        Err(fault) => Ok(fault),
+        Ok(_) => {
+            assert!(rt; false, "{line:?} is accepted");
+            Err(Fail::new("the line is accepted"))
+        }
+    }
+}
+
 // The line is refused, and the text tells these parts of it.
 fn refuses(rt: &(impl Abort + AllocGlobal), line: &[&str], parts: &[&str]) -> Result<(), Fail> {
-    match read_line(rt.alloc(), words_of(rt.alloc(), line)?) {
-        Err(fault) => {
-            assert_eq!(rt; line_status(&fault), 64);
-            match &fault {
-                LineFault::Refused { text } => {
-                    for part in parts {
-                        assert!(rt; text.as_str().contains(*part), "{part} in: {text}");
-                    }
-                    assert!(rt; text.as_str().ends_with('\n'));
-                }
-                _ => assert!(rt; false, "a refusal"),
-            }
-        }
-        Ok(_) => assert!(rt; false, "{line:?} is accepted"),
-    }
+    let fault = fault_of(rt, line)?;
+    assert_eq!(rt; line_status(&fault), 64);
+    expect_parts(rt, refusal_of(&fault), parts);
     Ok(())
+}
+
+// The text of a refusal; nothing for another fault.
+fn refusal_of(fault: &LineFault) -> &str {
+    match fault {
+        LineFault::Refused { text } => text.as_str(),
+        _ => "",
+    }
+}
+
+// The text is a line or more, and has these parts.
+fn expect_parts(rt: &(impl Abort + AllocGlobal), text: &str, parts: &[&str]) {
+    for part in parts {
+        assert!(rt; text.contains(*part), "{part} in: {text}");
+    }
+    assert!(rt; text.ends_with('\n'));
 }
 
 // The settings beside the architecture are those where nothing more is said.
@@ -94,6 +109,12 @@ fn a_line_of_all_options(rt: HostRuntime) -> Result<(), Fail> {
         "--causes",
     ];
     let config = config_of(rt.alloc(), &line)?;
+    expect_all_options(&rt, &config);
+    expect_names(&rt, &config, &[b"b", b"a+1.x_y", b"b"]);
+    Ok(())
+}
+
+fn expect_all_options(rt: &impl Abort, config: &Config) {
     assert!(rt; config.arch.as_str() == "i386");
     assert!(rt; config.quiet);
     assert!(rt; config.causes);
@@ -104,82 +125,118 @@ fn a_line_of_all_options(rt: HostRuntime) -> Result<(), Fail> {
     assert!(rt; config.explain);
     assert!(rt; config.show == Show::Failures);
     assert!(rt; !config.essential);
-    let names = config.only.ok_or("names")?;
-    assert_eq!(rt; names.len(), 3);
-    for (name, want) in names.iter().zip([b"b".as_slice(), b"a+1.x_y", b"b"]) {
-        assert_eq!(rt; name.as_slice(), want);
+}
+
+// These names are asked, in this order.
+fn expect_names(rt: &impl Abort, config: &Config, wanted: &[&[u8]]) {
+    match &config.only {
+        Some(names) => {
+            assert_eq!(rt; names.len(), wanted.len());
+            for (place, name) in names.iter().enumerate() {
+                assert_eq!(rt; name.as_slice(), wanted.get(place).copied().unwrap_or(b""));
+            }
+        }
+        None => assert!(rt; false, "names"),
     }
+}
+
+// The line asks for what the option says, and else for what is usual.
+fn sets(rt: &(impl Abort + AllocGlobal), line: &[&str], option: &str) -> Result<(), Fail> {
+    let config = config_of(rt.alloc(), line)?;
+    assert!(rt; config.arch.as_str() == "amd64");
+    assert!(rt; has_numbers_and_names(&config, option), "{line:?}");
+    assert!(rt; has_choices(&config, option), "{line:?}");
     Ok(())
+}
+
+// Names are asked, or a background, by the option alone; the workers and the chunk are the usual ones.
+fn has_numbers_and_names(config: &Config, option: &str) -> bool {
+    let bg = if option == "--bg" { Some("f") } else { None };
+    config.workers == 4
+        && config.chunk == 64
+        && config.only.is_some() == (option == "--checkonly")
+        && config.bg.as_deref() == bg
+}
+
+// What is on or off, and the kinds of packages and of reports, are as usual but for the option.
+fn has_choices(config: &Config, option: &str) -> bool {
+    config.explain == (option == "--explain")
+        && config.essential == (option != "--ignore-essential")
+        && config.causes == (option == "--causes")
+        && config.quiet == (option == "--quiet")
+        && config.show == shown_by(option)
+        && (config.format == Format::Json) == (option == "--format")
+}
+
+fn shown_by(option: &str) -> Show {
+    if option == "--failures" {
+        return Show::Failures;
+    }
+    if option == "--successes" {
+        return Show::Successes;
+    }
+    Show::All
 }
 
 #[test]
 fn each_option_by_itself(rt: HostRuntime) -> Result<(), Fail> {
-    let mut config = config_of(rt.alloc(), &["--arch", "amd64", "--explain"])?;
-    assert!(rt; config.explain);
-    config.explain = false;
-    assert!(rt; is_plain(&config));
-    let mut config = config_of(rt.alloc(), &["--arch", "amd64", "--ignore-essential"])?;
-    assert!(rt; !config.essential);
-    config.essential = true;
-    assert!(rt; is_plain(&config));
-    let mut config = config_of(rt.alloc(), &["--arch", "amd64", "--failures"])?;
-    assert!(rt; config.show == Show::Failures);
-    config.show = Show::All;
-    assert!(rt; is_plain(&config));
-    let mut config = config_of(rt.alloc(), &["--arch", "amd64", "--successes"])?;
-    assert!(rt; config.show == Show::Successes);
-    config.show = Show::All;
-    assert!(rt; is_plain(&config));
-    let both = config_of(
-        rt.alloc(),
-        &["--successes", "--arch", "amd64", "--failures"],
-    )?;
-    assert!(rt; is_plain(&both));
-    let mut config = config_of(rt.alloc(), &["--arch", "amd64", "--checkonly", "zz"])?;
-    assert!(rt; config.only.is_some());
-    config.only = None;
-    assert!(rt; is_plain(&config));
-    Ok(())
+    for option in [
+        "--explain",
+        "--ignore-essential",
+        "--failures",
+        "--successes",
+    ] {
+        sets(&rt, &["--arch", "amd64", option], option)?;
+    }
+    let both = ["--successes", "--arch", "amd64", "--failures"];
+    sets(&rt, &both, "none")?;
+    sets(
+        &rt,
+        &["--arch", "amd64", "--checkonly", "zz"],
+        "--checkonly",
+    )
 }
 
 #[test]
 fn each_later_option_by_itself(rt: HostRuntime) -> Result<(), Fail> {
-    let mut config = config_of(rt.alloc(), &["--arch", "amd64", "--bg", "f"])?;
-    assert!(rt; config.bg.as_deref() == Some("f"));
-    config.bg = None;
-    assert!(rt; is_plain(&config));
-    let mut config = config_of(rt.alloc(), &["--arch", "amd64", "--causes"])?;
-    assert!(rt; config.causes);
-    config.causes = false;
-    assert!(rt; is_plain(&config));
-    let mut config = config_of(rt.alloc(), &["--arch", "amd64", "--format", "json"])?;
-    assert!(rt; config.format == Format::Json);
-    config.format = Format::Text;
-    assert!(rt; is_plain(&config));
-    let mut config = config_of(rt.alloc(), &["--arch", "amd64", "--quiet"])?;
-    assert!(rt; config.quiet);
-    config.quiet = false;
-    assert!(rt; is_plain(&config));
-    let text = config_of(rt.alloc(), &["--arch", "amd64", "--format=text"])?;
-    assert!(rt; is_plain(&text));
+    for option in ["--causes", "--quiet"] {
+        sets(&rt, &["--arch", "amd64", option], option)?;
+    }
+    sets(&rt, &["--arch", "amd64", "--bg", "f"], "--bg")?;
+    sets(&rt, &["--arch", "amd64", "--format", "json"], "--format")?;
+    sets(&rt, &["--arch", "amd64", "--format=text"], "none")
+}
+
+fn names_background(
+    rt: &(impl Abort + AllocGlobal),
+    line: &[&str],
+    name: &str,
+) -> Result<(), Fail> {
+    let config = config_of(rt.alloc(), line)?;
+    assert!(rt; config.bg.as_deref() == Some(name));
     Ok(())
 }
+
+// Lines with no background or a wrong one, and parts of what is said of them.
+const NO_BACKGROUNDS: [(&[&str], &[&str]); 6] = [
+    (&["--arch", "amd64", "--bg"], &["--bg"]),
+    (&["--arch", "amd64", "--bg", ""], &["--bg", "--help"]),
+    (&["--arch", "amd64", "--bg="], &["--bg", "--help"]),
+    (&["--bg", "--arch", "amd64"], &["--bg"]),
+    (&["--bg", "f"], &["--arch"]),
+    (&["--bg", "f", "--arch", "amd64", "--bg", "g"], &["--bg"]),
+];
 
 #[test]
 fn a_background_is_named_once(rt: HostRuntime) -> Result<(), Fail> {
     for name in ["f", "-", "main/Packages", "a b", "ä", "."] {
-        let config = config_of(rt.alloc(), &["--bg", name, "--arch", "amd64"])?;
-        assert!(rt; config.bg.as_deref() == Some(name));
+        names_background(&rt, &["--bg", name, "--arch", "amd64"], name)?;
     }
-    let attached = config_of(rt.alloc(), &["--arch", "amd64", "--bg=-x=y"])?;
-    assert!(rt; attached.bg.as_deref() == Some("-x=y"));
-    refuses(&rt, &["--arch", "amd64", "--bg"], &["--bg"])?;
-    refuses(&rt, &["--arch", "amd64", "--bg", ""], &["--bg", "--help"])?;
-    refuses(&rt, &["--arch", "amd64", "--bg="], &["--bg", "--help"])?;
-    refuses(&rt, &["--bg", "--arch", "amd64"], &["--bg"])?;
-    refuses(&rt, &["--bg", "f"], &["--arch"])?;
-    let twice = ["--bg", "f", "--arch", "amd64", "--bg", "g"];
-    refuses(&rt, &twice, &["--bg"])
+    names_background(&rt, &["--arch", "amd64", "--bg=-x=y"], "-x=y")?;
+    for (line, parts) in NO_BACKGROUNDS {
+        refuses(&rt, line, parts)?;
+    }
+    Ok(())
 }
 
 #[test]
@@ -211,15 +268,21 @@ fn an_option_without_a_value_comes_once(rt: HostRuntime) -> Result<(), Fail> {
     Ok(())
 }
 
+// The numbers of workers and of packages that a worker takes at once.
+fn counts_of(alloc: Global, line: &[&str]) -> Result<(u32, u32), Fail> {
+    let config = config_of(alloc, line)?;
+    Ok((config.workers, config.chunk))
+}
+
 #[test]
 fn numbers_within_their_ranges(rt: HostRuntime) -> Result<(), Fail> {
     for (word, count) in [("1", 1), ("64", 64), ("007", 7)] {
-        let config = config_of(rt.alloc(), &["--arch", "amd64", "--workers", word])?;
-        assert_eq!(rt; config.workers, count);
+        let (workers, _) = counts_of(rt.alloc(), &["--arch", "amd64", "--workers", word])?;
+        assert_eq!(rt; workers, count);
     }
     for (word, count) in [("1", 1), ("1000000", 1_000_000), ("00064", 64)] {
-        let config = config_of(rt.alloc(), &["--arch", "amd64", "--chunk", word])?;
-        assert_eq!(rt; config.chunk, count);
+        let (_, chunk) = counts_of(rt.alloc(), &["--arch", "amd64", "--chunk", word])?;
+        assert_eq!(rt; chunk, count);
     }
     Ok(())
 }
@@ -257,6 +320,17 @@ fn other_numbers_are_refused(rt: HostRuntime) -> Result<(), Fail> {
     refuses(&rt, &["--arch", "amd64", "--workers", "-1"], &["-1"])
 }
 
+fn names_architecture(
+    rt: &(impl Abort + AllocGlobal),
+    line: &[&str],
+    name: &str,
+) -> Result<(), Fail> {
+    let config = config_of(rt.alloc(), line)?;
+    assert!(rt; config.arch.as_str() == name);
+    assert!(rt; !config.explain);
+    Ok(())
+}
+
 #[test]
 fn an_architecture_has_its_form(rt: HostRuntime) -> Result<(), Fail> {
     for word in [
@@ -269,8 +343,7 @@ fn an_architecture_has_its_form(rt: HostRuntime) -> Result<(), Fail> {
         "anything",
         "0",
     ] {
-        let config = config_of(rt.alloc(), &["--arch", word])?;
-        assert!(rt; config.arch.as_str() == word);
+        names_architecture(&rt, &["--arch", word], word)?;
     }
     for word in [
         "all",
@@ -297,11 +370,8 @@ fn an_architecture_has_its_form(rt: HostRuntime) -> Result<(), Fail> {
 
 #[test]
 fn a_value_after_a_hyphen_is_attached(rt: HostRuntime) -> Result<(), Fail> {
-    let config = config_of(rt.alloc(), &["--arch=-x"])?;
-    assert!(rt; config.arch.as_str() == "-x");
-    let config = config_of(rt.alloc(), &["--arch=--explain"])?;
-    assert!(rt; config.arch.as_str() == "--explain");
-    assert!(rt; !config.explain);
+    names_architecture(&rt, &["--arch=-x"], "-x")?;
+    names_architecture(&rt, &["--arch=--explain"], "--explain")?;
     refuses(&rt, &["--arch", "-x"], &["-x"])?;
     refuses(&rt, &["--arch", "--explain"], &["--arch"])?;
     Ok(())
@@ -326,71 +396,77 @@ fn listed_names_are_names_of_packages(rt: HostRuntime) -> Result<(), Fail> {
     Ok(())
 }
 
+// Lines with a wrong word, and a part of what is said of them.
+const OTHER_WORDS: [(&[&str], &str); 18] = [
+    (&["--arch", "amd64", "--frobnicate"], "--frobnicate"),
+    (&["--arch", "amd64", "--explai"], "--explai"),
+    (&["--arch", "amd64", "-h"], "-h"),
+    (&["-h"], "-h"),
+    (&["-e", "--arch", "amd64"], "-e"),
+    (&["--arch", "amd64", "Packages"], "Packages"),
+    (&["--arch", "amd64", "--", "--explain"], "--explain"),
+    (&["--arch", "amd64", "-V"], "-V"),
+    (&["--arch", "amd64", "--explain=yes"], "--explain"),
+    (&["help"], "help"),
+    (&[""], "--help"),
+    (&["--arch"], "--arch"),
+    (&["--workers"], "--workers"),
+    (&["--chunk"], "--chunk"),
+    (&["--checkonly"], "--checkonly"),
+    (&["--bg"], "--bg"),
+    (&["--format"], "--format"),
+    (&["--arch", "amd64", "--workers"], "--workers"),
+];
+
 #[test]
 fn other_words_are_refused(rt: HostRuntime) -> Result<(), Fail> {
-    refuses(&rt, &["--arch", "amd64", "--frobnicate"], &["--frobnicate"])?;
-    refuses(&rt, &["--arch", "amd64", "--explai"], &["--explai"])?;
-    refuses(&rt, &["--arch", "amd64", "-h"], &["-h"])?;
-    refuses(&rt, &["-h"], &["-h"])?;
-    refuses(&rt, &["-e", "--arch", "amd64"], &["-e"])?;
-    refuses(&rt, &["--arch", "amd64", "Packages"], &["Packages"])?;
-    refuses(&rt, &["--arch", "amd64", "--", "--explain"], &["--explain"])?;
-    refuses(&rt, &["--arch", "amd64", "-V"], &["-V"])?;
-    refuses(&rt, &["--arch", "amd64", "--explain=yes"], &["--explain"])?;
-    refuses(&rt, &["help"], &["help"])?;
-    refuses(&rt, &[""], &["--help"])?;
-    for word in [
-        "--arch",
-        "--workers",
-        "--chunk",
-        "--checkonly",
-        "--bg",
-        "--format",
-    ] {
-        refuses(&rt, &[word], &[word])?;
+    for (line, part) in OTHER_WORDS {
+        refuses(&rt, line, &[part])?;
     }
-    refuses(&rt, &["--arch", "amd64", "--workers"], &["--workers"])?;
     Ok(())
+}
+
+const OPTIONS: [&str; 14] = [
+    "--arch",
+    "--workers",
+    "--chunk",
+    "--explain",
+    "--failures",
+    "--successes",
+    "--ignore-essential",
+    "--checkonly",
+    "--bg",
+    "--causes",
+    "--format",
+    "--quiet",
+    "--help",
+    "--version",
+];
+
+// The text of help or of the version; nothing for another fault.
+fn help_of(fault: &LineFault) -> &str {
+    match fault {
+        LineFault::Help { text } => text.as_str(),
+        _ => "",
+    }
+}
+
+// This is written to the output for the fault, and nothing to the errors.
+fn expect_output(rt: &(impl Abort + AllocGlobal), fault: &LineFault, wanted: &str) {
+    let mut output = sink_of(rt.alloc(), 7, 0, false);
+    let mut errors = sink_of(rt.alloc(), 7, 0, false);
+    assert!(rt; write_line_fault(&mut output, &mut errors, fault).is_ok());
+    assert!(rt; errors.bytes.is_empty());
+    assert!(rt; output.flushed);
+    assert_eq!(rt; output.bytes.as_slice(), wanted.as_bytes());
 }
 
 #[test]
 fn help_names_each_option(rt: HostRuntime) -> Result<(), Fail> {
-    let options = [
-        "--arch",
-        "--workers",
-        "--chunk",
-        "--explain",
-        "--failures",
-        "--successes",
-        "--ignore-essential",
-        "--checkonly",
-        "--bg",
-        "--causes",
-        "--format",
-        "--quiet",
-        "--help",
-        "--version",
-    ];
-    match read_line(rt.alloc(), words_of(rt.alloc(), &["--help"])?) {
-        Err(fault) => {
-            assert_eq!(rt; line_status(&fault), 0);
-            let mut output = sink_of(rt.alloc(), 7, 0, false);
-            let mut errors = sink_of(rt.alloc(), 7, 0, false);
-            assert!(rt; write_line_fault(&mut output, &mut errors, &fault).is_ok());
-            assert!(rt; errors.bytes.is_empty());
-            assert!(rt; output.flushed);
-            match &fault {
-                LineFault::Help { text } => {
-                    assert_eq!(rt; output.bytes.as_slice(), text.as_str().as_bytes());
-                    for option in options {
-                        assert!(rt; text.as_str().contains(option), "{option} in: {text}");
-                    }
-                }
-                _ => assert!(rt; false, "help"),
-            }
-        }
-        Ok(_) => assert!(rt; false, "help is no configuration"),
-    }
+    let fault = fault_of(&rt, &["--help"])?;
+    assert_eq!(rt; line_status(&fault), 0);
+    expect_output(&rt, &fault, help_of(&fault));
+    expect_parts(&rt, help_of(&fault), &OPTIONS);
     Ok(())
 }
 
@@ -402,17 +478,9 @@ fn the_version_is_one_line(rt: HostRuntime) -> Result<(), Fail> {
         &["--version", "--help"],
     ];
     for line in lines {
-        match read_line(rt.alloc(), words_of(rt.alloc(), line)?) {
-            Err(fault) => {
-                assert_eq!(rt; line_status(&fault), 0);
-                let mut output = sink_of(rt.alloc(), 7, 0, false);
-                let mut errors = sink_of(rt.alloc(), 7, 0, false);
-                assert!(rt; write_line_fault(&mut output, &mut errors, &fault).is_ok());
-                assert!(rt; errors.bytes.is_empty());
-                assert_eq!(rt; output.bytes.as_slice(), b"debcheck 1.0.0\n".as_slice());
-            }
-            Ok(_) => assert!(rt; false, "the version is no configuration"),
-        }
+        let fault = fault_of(&rt, line)?;
+        assert_eq!(rt; line_status(&fault), 0);
+        expect_output(&rt, &fault, "debcheck 1.0.0\n");
     }
     refuses(&rt, &["--versio"], &["--versio"])?;
     refuses(&rt, &["--version=1"], &["--version"])
