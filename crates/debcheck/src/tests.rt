@@ -115,41 +115,53 @@ impl Sink for Held {
     }
 }
 
-#[test]
-fn reads_within_a_limit(rt: HostRuntime) -> Result<(), Fail> {
-    for step in [1, 2, 1000] {
-        let mut three = source_of(b"abc", step);
-        let bytes = read_all(rt.alloc(), &mut three, 3)?;
-        assert_eq!(rt; bytes.as_slice(), b"abc".as_slice());
-        assert!(rt; three.reads <= 4);
-        let mut four = source_of(b"abcd", step);
-        assert!(rt; matches!(&read_all(rt.alloc(), &mut four, 3), Err(RunFault::TooLong)));
+// The bytes that were read, or words for the fault.
+pub(crate) fn told_by(outcome: &Result<Vec<u8>, RunFault>) -> &[u8] {
+    match outcome {
+        Ok(bytes) => bytes.as_slice(),
+        Err(RunFault::TooLong) => b"too long",
+        Err(RunFault::Read) => b"failed",
+        Err(RunFault::Memory) => b"no memory",
+        Err(_) => b"no fault of reading",
     }
-    let mut empty = source_of(b"", 1);
-    assert!(rt; read_all(rt.alloc(), &mut empty, 0)?.is_empty());
-    let mut broken = source_of(b"abc", 1);
-    broken.fails = true;
-    assert!(rt; matches!(&read_all(rt.alloc(), &mut broken, 3), Err(RunFault::Read)));
-    assert_eq!(rt; broken.reads, 1);
-    Ok(())
+}
+
+// What reading to the end with this limit comes to.
+fn expect_read(rt: &(impl Abort + AllocGlobal), reader: &mut Feed<'_>, limit: u8, wanted: &str) {
+    let outcome = read_all(rt.alloc(), reader, usize::from(limit));
+    assert_eq!(rt; told_by(&outcome), wanted.as_bytes());
 }
 
 #[test]
-fn writes_a_whole_text_or_says_so(rt: HostRuntime) -> Result<(), Fail> {
-    let text = b"architecture: amd64\n";
-    let mut slow = sink_of(rt.alloc(), 1, 0, false);
-    assert!(rt; write_all(&mut slow, text).is_ok());
-    assert_eq!(rt; slow.bytes.as_slice(), text.as_slice());
-    assert!(rt; slow.flushed);
-    let mut fifth = sink_of(rt.alloc(), 1, 5, false);
-    assert!(rt; write_all(&mut fifth, text).is_err());
-    assert_eq!(rt; fifth.bytes.as_slice(), b"arch".as_slice());
-    let mut stuck = sink_of(rt.alloc(), 0, 0, false);
-    assert!(rt; write_all(&mut stuck, text).is_err());
-    let mut unflushed = sink_of(rt.alloc(), 9, 0, true);
-    assert!(rt; write_all(&mut unflushed, text).is_err());
-    assert_eq!(rt; unflushed.bytes.as_slice(), text.as_slice());
-    Ok(())
+fn reads_within_a_limit(rt: HostRuntime) {
+    for step in [1, 2, 1000] {
+        let mut three = source_of(b"abc", step);
+        expect_read(&rt, &mut three, 3, "abc");
+        assert!(rt; three.reads <= 4);
+        expect_read(&rt, &mut source_of(b"abcd", step), 3, "too long");
+    }
+    expect_read(&rt, &mut source_of(b"", 1), 0, "");
+    let mut broken = source_of(b"abc", 1);
+    broken.fails = true;
+    expect_read(&rt, &mut broken, 3, "failed");
+    assert_eq!(rt; broken.reads, 1);
+}
+
+// A line is written to the sink, and flushed, or the sink fails with this front of the line in it.
+fn expect_written(rt: &impl Abort, mut sink: Held, fine: bool, wanted: &str) {
+    let written = write_all(&mut sink, b"architecture: amd64\n");
+    assert!(rt; written.is_ok() == fine);
+    assert!(rt; sink.flushed == fine);
+    assert_eq!(rt; sink.bytes.as_slice(), wanted.as_bytes());
+}
+
+#[test]
+fn writes_a_whole_text_or_says_so(rt: HostRuntime) {
+    let line = "architecture: amd64\n";
+    expect_written(&rt, sink_of(rt.alloc(), 1, 0, false), true, line);
+    expect_written(&rt, sink_of(rt.alloc(), 1, 5, false), false, "arch");
+    expect_written(&rt, sink_of(rt.alloc(), 0, 0, false), false, "");
+    expect_written(&rt, sink_of(rt.alloc(), 9, 0, true), false, line);
 }
 
 // Compares the line of a fault, also as a device holds it, and its status.
@@ -159,13 +171,18 @@ fn says(
     code: u8,
     what: &str,
 ) -> Result<(), Fail> {
+    expect_line(rt, &fault, what)?;
+    assert_eq!(rt; status(&Err(fault)), code);
+    Ok(())
+}
+
+fn expect_line(rt: &(impl Abort + AllocGlobal), fault: &RunFault, what: &str) -> Result<(), Fail> {
     let line = format!(in rt.alloc(); "debcheck: {what}\n")?;
-    let made = fault_line(rt.alloc(), &fault)?;
+    let made = fault_line(rt.alloc(), fault)?;
     assert_eq!(rt; made.as_slice(), line.as_bytes());
     let mut errors = sink_of(rt.alloc(), 7, 0, false);
-    assert!(rt; write_fault(rt.alloc(), &mut errors, &fault).is_ok());
+    assert!(rt; write_fault(rt.alloc(), &mut errors, fault).is_ok());
     assert_eq!(rt; errors.bytes.as_slice(), line.as_bytes());
-    assert_eq!(rt; status(&Err(fault)), code);
     Ok(())
 }
 
@@ -383,20 +400,30 @@ fn the_first_unknown_name_is_told(rt: HostRuntime) -> Result<(), Fail> {
     Ok(())
 }
 
+// The stanza with a bad line; none where the run came to something else.
+fn bad_line(outcome: &Result<Summary, RunFault>) -> Option<u64> {
+    match outcome {
+        Err(RunFault::Index(fault)) => stanza_of(fault),
+        _ => None,
+    }
+}
+
+fn stanza_of(fault: &IndexError) -> Option<u64> {
+    match fault {
+        IndexError::BadLine { stanza } => Some(*stanza),
+        _ => None,
+    }
+}
+
 #[test]
 fn faults_of_the_text_and_the_reader(rt: HostRuntime) -> Result<(), Fail> {
     let config = by_two(rt.alloc())?;
     let mut output = sink_of(rt.alloc(), 50, 0, false);
     let refused = run_alone(&rt, &config, &mut source_of(b" x", 1), &mut output);
-    assert!(rt;
-        matches!(
-            &refused,
-            Err(RunFault::Index(IndexError::BadLine { stanza: 1 }))
-        )
-    );
-    let mut nothing = sink_of(rt.alloc(), 50, 0, false);
+    assert_eq!(rt; bad_line(&refused), Some(1));
     let mut broken = source_of(b" x", 1);
     broken.fails = true;
+    let mut nothing = sink_of(rt.alloc(), 50, 0, false);
     let unread = run_alone(&rt, &config, &mut broken, &mut nothing);
     assert_eq!(rt; status(&unread), 67);
     assert!(rt; output.bytes.is_empty());

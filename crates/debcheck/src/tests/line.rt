@@ -119,7 +119,7 @@ fn expect_all_options(rt: &impl Abort, config: &Config) {
     assert!(rt; config.quiet);
     assert!(rt; config.causes);
     assert!(rt; config.format == Format::Json);
-    assert!(rt; config.bg.as_deref() == Some("main/Packages"));
+    assert!(rt; background_of(config) == "main/Packages");
     assert_eq!(rt; config.workers, 64);
     assert_eq!(rt; config.chunk, 1_000_000);
     assert!(rt; config.explain);
@@ -140,6 +140,14 @@ fn expect_names(rt: &impl Abort, config: &Config, wanted: &[&[u8]]) {
     }
 }
 
+// The file of the background; nothing where there is none.
+fn background_of(config: &Config) -> &str {
+    match &config.bg {
+        Some(file) => file.as_str(),
+        None => "",
+    }
+}
+
 // The line asks for what the option says, and else for what is usual.
 fn sets(rt: &(impl Abort + AllocGlobal), line: &[&str], option: &str) -> Result<(), Fail> {
     let config = config_of(rt.alloc(), line)?;
@@ -151,11 +159,12 @@ fn sets(rt: &(impl Abort + AllocGlobal), line: &[&str], option: &str) -> Result<
 
 // Names are asked, or a background, by the option alone; the workers and the chunk are the usual ones.
 fn has_numbers_and_names(config: &Config, option: &str) -> bool {
-    let bg = if option == "--bg" { Some("f") } else { None };
+    let bg = if option == "--bg" { "f" } else { "" };
     config.workers == 4
         && config.chunk == 64
         && config.only.is_some() == (option == "--checkonly")
-        && config.bg.as_deref() == bg
+        && config.bg.is_some() == (option == "--bg")
+        && background_of(config) == bg
 }
 
 // What is on or off, and the kinds of packages and of reports, are as usual but for the option.
@@ -213,7 +222,8 @@ fn names_background(
     name: &str,
 ) -> Result<(), Fail> {
     let config = config_of(rt.alloc(), line)?;
-    assert!(rt; config.bg.as_deref() == Some(name));
+    assert!(rt; config.bg.is_some());
+    assert!(rt; background_of(&config) == name);
     Ok(())
 }
 
@@ -486,22 +496,25 @@ fn the_version_is_one_line(rt: HostRuntime) -> Result<(), Fail> {
     refuses(&rt, &["--version=1"], &["--version"])
 }
 
-#[test]
-fn a_refusal_goes_to_the_errors(rt: HostRuntime) -> Result<(), Fail> {
+// This is written to the errors for the fault, and nothing to the output.
+fn expect_errors(rt: &(impl Abort + AllocGlobal), fault: &LineFault, wanted: &str) {
     let mut output = sink_of(rt.alloc(), 7, 0, false);
     let mut errors = sink_of(rt.alloc(), 7, 0, false);
-    let text = String::from_str(rt.alloc(), "error: no\n")?;
-    assert!(rt; write_line_fault(&mut output, &mut errors, &LineFault::Refused { text }).is_ok());
-    assert_eq!(rt; errors.bytes.as_slice(), b"error: no\n".as_slice());
-    let mut errors = sink_of(rt.alloc(), 7, 0, false);
-    assert!(rt; write_line_fault(&mut output, &mut errors, &LineFault::Memory).is_ok());
-    assert_eq!(rt;
-        errors.bytes.as_slice(),
-        b"debcheck: out of memory\n".as_slice()
-    );
-    assert_eq!(rt; line_status(&LineFault::Memory), 69);
+    assert!(rt; write_line_fault(&mut output, &mut errors, fault).is_ok());
+    assert_eq!(rt; errors.bytes.as_slice(), wanted.as_bytes());
     assert!(rt; output.bytes.is_empty());
+}
+
+#[test]
+fn a_refusal_goes_to_the_errors(rt: HostRuntime) -> Result<(), Fail> {
+    let text = String::from_str(rt.alloc(), "error: no\n")?;
+    expect_errors(&rt, &LineFault::Refused { text }, "error: no\n");
+    let memory = LineFault::Memory;
+    expect_errors(&rt, &memory, "debcheck: out of memory\n");
+    assert_eq!(rt; line_status(&memory), 69);
+    let mut output = sink_of(rt.alloc(), 7, 0, false);
     let mut fifth = sink_of(rt.alloc(), 1, 5, false);
-    assert!(rt; write_line_fault(&mut output, &mut fifth, &LineFault::Memory).is_err());
+    assert!(rt; write_line_fault(&mut output, &mut fifth, &memory).is_err());
+    assert!(rt; output.bytes.is_empty());
     Ok(())
 }
