@@ -197,10 +197,19 @@ const CHAIN_CAUSES: &str = "causes:
 #[test]
 fn of_report_with_causes(rt: HostRuntime) -> Result<(), Fail> {
     let index = Index::read(rt.alloc(), CHAIN, "amd64", true)?;
+    let outcome = expect_successes_with_causes(&rt, &index);
+    drop(index);
+    outcome
+}
+
+fn expect_successes_with_causes(
+    rt: &(impl Abort + AllocGlobal),
+    index: &Index,
+) -> Result<(), Fail> {
     let mut config = Config::usual(rt.alloc())?;
     config.show = Show::Successes;
     config.causes = true;
-    expect_causes(&rt, &index, &config)
+    expect_causes(rt, index, &config)
 }
 
 fn expect_causes(
@@ -225,9 +234,15 @@ fn expect_causes(
 #[test]
 fn of_report(rt: HostRuntime) -> Result<(), Fail> {
     let index = Index::read(rt.alloc(), CHAIN, "amd64", true)?;
-    expect_shown(&rt, &index, Show::Failures, CHAIN_BROKEN, "")?;
-    expect_shown(&rt, &index, Show::Successes, "", CHAIN_OK)?;
-    expect_shown(&rt, &index, Show::All, CHAIN_BROKEN, CHAIN_OK)
+    let outcome = expect_each_shown(&rt, &index);
+    drop(index);
+    outcome
+}
+
+fn expect_each_shown(rt: &(impl Abort + AllocGlobal), index: &Index) -> Result<(), Fail> {
+    expect_shown(rt, index, Show::Failures, CHAIN_BROKEN, "")?;
+    expect_shown(rt, index, Show::Successes, "", CHAIN_OK)?;
+    expect_shown(rt, index, Show::All, CHAIN_BROKEN, CHAIN_OK)
 }
 
 const CHAIN_DOCUMENT: &str = r#"{"architecture":"amd64","report":[
@@ -241,5 +256,7 @@ const CHAIN_DOCUMENT: &str = r#"{"architecture":"amd64","report":[
 #[test]
 fn of_json_report(rt: HostRuntime) -> Result<(), Fail> {
     let index = Index::read(rt.alloc(), CHAIN, "amd64", true)?;
-    expect_text(&rt, &index, Show::All, Format::Json, CHAIN_DOCUMENT)
+    let outcome = expect_text(&rt, &index, Show::All, Format::Json, CHAIN_DOCUMENT);
+    drop(index);
+    outcome
 }

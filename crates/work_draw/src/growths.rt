@@ -67,8 +67,17 @@ fn expect_sets(
 #[test]
 fn of_check_all(rt: HostRuntime) -> Result<(), Fail> {
     let index = Index::read(rt.alloc(), ONE_PACKAGE, "amd64", true)?;
-    expect_sets(&rt, &index, &[0, 0], &[&[0], &[0]])?;
-    expect_sets(&rt, &index, &[], &[])
+    let outcome = expect_sets_of_one(&rt, &index);
+    drop(index);
+    outcome
+}
+
+fn expect_sets_of_one(
+    rt: &(impl Abort + Threads + Sync + AllocGlobal),
+    index: &Index,
+) -> Result<(), Fail> {
+    expect_sets(rt, index, &[0, 0], &[&[0], &[0]])?;
+    expect_sets(rt, index, &[], &[])
 }
 
 fn expect_chunks_in_order(
@@ -94,7 +103,9 @@ fn expect_chunks_in_order(
 #[test]
 fn of_check_all_with_a_gate(rt: HostRuntime) -> Result<(), Fail> {
     let index = three_packages(rt.alloc())?;
-    expect_chunks_in_order(&rt, &index)
+    let outcome = expect_chunks_in_order(&rt, &index);
+    drop(index);
+    outcome
 }
 
 /// The pieces of a worker on a board of two numbers, of which so many were drawn before.
@@ -155,8 +166,14 @@ fn expect_pieces_of_a_worker(
 #[test]
 fn of_draw_pieces(rt: HostRuntime) -> Result<(), Fail> {
     let index = three_packages(rt.alloc())?;
-    expect_pieces_of_a_worker(&rt, &index, 0)?;
-    expect_pieces_of_a_worker(&rt, &index, 1)
+    let outcome = expect_pieces_from_each(&rt, &index);
+    drop(index);
+    outcome
+}
+
+fn expect_pieces_from_each(rt: &(impl Abort + AllocGlobal), index: &Index) -> Result<(), Fail> {
+    expect_pieces_of_a_worker(rt, index, 0)?;
+    expect_pieces_of_a_worker(rt, index, 1)
 }
 
 /// The drawer that two workers leave holds two of the 64 parts, and closes the board.
@@ -191,5 +208,7 @@ fn expect_pieces_of_two_workers(
 #[test]
 fn of_crew(rt: HostRuntime) -> Result<(), Fail> {
     let index = three_packages(rt.alloc())?;
-    expect_pieces_of_two_workers(&rt, &index)
+    let outcome = expect_pieces_of_two_workers(&rt, &index);
+    drop(index);
+    outcome
 }

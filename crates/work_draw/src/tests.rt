@@ -208,8 +208,7 @@ Architecture: all
 ";
 
 pub fn three_packages(alloc: Global) -> Result<Index, Fail> {
-    let index = Index::read(alloc, THREE_PACKAGES, "amd64", true)?;
-    Ok(index)
+    Ok(Index::read(alloc, THREE_PACKAGES, "amd64", true)?)
 }
 
 /// Refuses places that the index does not have.
@@ -415,7 +414,9 @@ fn expect_two_workers_to_meet(
 #[test]
 fn two_workers_meet(rt: HostRuntime) -> Result<(), Fail> {
     let index = three_packages(rt.alloc())?;
-    expect_two_workers_to_meet(&rt, &index)
+    let outcome = expect_two_workers_to_meet(&rt, &index);
+    drop(index);
+    outcome
 }
 
 /// Lets one chunk through only after the two others were ended.
@@ -473,5 +474,7 @@ fn expect_all_with_each_held_back(
 #[test]
 fn one_worker_takes_what_another_leaves(rt: HostRuntime) -> Result<(), Fail> {
     let index = three_packages(rt.alloc())?;
-    expect_all_with_each_held_back(&rt, &index)
+    let outcome = expect_all_with_each_held_back(&rt, &index);
+    drop(index);
+    outcome
 }
