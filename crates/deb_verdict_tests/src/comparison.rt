@@ -2,7 +2,8 @@
 
 ghost use Rattle.std.specs.Prelude.{◌<◌, ◌^◌, length};
 
-use crate::expected::{is_broken, is_found, read};
+use crate::expected::{is_broken, is_found};
+use crate::reading::read;
 use deb_index::{Constraint, Index};
 use deb_relation::Atom;
 use deb_verdict::{Verdict, closure, verdict};

@@ -1,18 +1,11 @@
-//! An index of a text, and what is expected of its packages.
+//! What is expected of the packages of an index, and whether it is found.
 
+use crate::reading::read;
 use deb_index::{Constraint, Index};
 use deb_verdict::{Verdict, closure, verdict};
 use std::alloc::Global;
 use std::process::Abort;
 use std::test::Fail;
-
-/// The index of a text for amd64.
-pub fn read(alloc: Global, text: &[u8], essential: bool) -> Result<Index, Fail> {
-    if text.len() > 100_000 {
-        return Err(Fail::new("the text is long"));
-    }
-    Ok(Index::read(alloc, text, "amd64", essential)?)
-}
 
 /// What is expected of the package at a place: its set, its core or its closure.
 #[derive(Clone, Copy)]

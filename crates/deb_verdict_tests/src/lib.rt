@@ -1,7 +1,8 @@
 //! Verdicts of small indexes, compared with answers that were found by hand or by trying all sets.
 //!
-//! `expected` says what is expected; `verdicts` and `qualifiers` have worked examples, `workspaces` asks for verdicts by turns in one
-//! workspace, `comparison` tries all sets of places and of constraints on generated indexes.
+//! `reading` makes an index of a text, `expected` says what is expected of its packages; `verdicts` and `qualifiers` have worked
+//! examples, `workspaces` asks for verdicts by turns in one workspace, `comparison` tries all sets of places and of constraints on
+//! generated indexes.
 #![tactic(auto)]
 
 #[cfg(test)]
@@ -10,6 +11,7 @@ mod comparison;
 mod expected;
 #[cfg(test)]
 mod qualifiers;
+pub mod reading;
 #[cfg(test)]
 mod verdicts;
 #[cfg(test)]

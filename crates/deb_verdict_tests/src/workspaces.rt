@@ -2,7 +2,8 @@
 
 ghost use Rattle.std.specs.Prelude.{◌≡◌};
 
-use crate::expected::{is_broken, is_found, read};
+use crate::expected::{is_broken, is_found};
+use crate::reading::read;
 use deb_index::{Constraint, Index};
 use deb_verdict::{Groundwork, Verdict, Workspace, verdict, verdict_in};
 use std::alloc::{AllocError, Global};
