@@ -40,13 +40,14 @@ all could be tried."""
 
 CALLS = {
     "deb_control": ["next_stanza", "stanzas"],
-    "deb_relation": ["parse", "parse_groups", "parse_list", "append_to"],
-    "deb_index": ["read", "read_both", "satisfiers", "need_satisfiers", "constraints"],
+    "deb_relation_tests": ["parse", "parse_groups", "parse_list", "append_to"],
+    "deb_index_tests": ["read", "read_both", "satisfiers", "need_satisfiers", "constraints"],
     "sat_solve": ["new", "add", "add_to_others", "add_after_restart", "exclude", "solve", "solve_in", "solve_marked"],
     "deb_verdict": ["closure", "verdict", "verdict_in", "groundwork", "workspace"],
-    "work_draw": ["new_board", "gather", "check_all", "check_all_with_a_gate", "draw_pieces", "crew"],
-    "deb_report": ["usual", "asked_places", "report", "report_with_causes", "json_report"],
-    "debcheck": ["read_line", "read_all", "run", "run_with_a_failing_writer", "fault_line", "write_fault"],
+    "work_draw_tests": ["new_board", "gather", "check_all", "check_all_with_a_gate", "draw_pieces", "crew"],
+    "deb_report_tests": ["usual", "asked_places", "report", "report_with_causes", "json_report"],
+    "run_tests": ["read_all", "run", "run_with_a_failing_writer", "fault_line", "write_fault"],
+    "command_line_tests": ["read_line"],
     "debcheck_tests": ["run_with_one_worker", "run_with_two_workers", "run_with_a_background"],
 }
 PROGRAM = "debcheck_program"
@@ -287,7 +288,7 @@ def spans(numbers):
     return ", ".join("%d" % first if first == last else "%d-%d" % (first, last) for first, last in told)
 
 
-ROW = "%-17s %-34s %8s %9s %7s %6s %8s"
+ROW = "%-18s %-34s %8s %9s %7s %6s %8s"
 
 
 def sweep(refuser, pool, trial):

@@ -114,7 +114,7 @@ SHAPES = [
     Shape("many-groups", "a package with n groups of two alternatives", 20000, many_groups, lambda n: 2 * n + 1),
     Shape("chain", "a chain of n dependencies, its head asked alone", 50000, chain, lambda n: 1, only="c0"),
     Shape("versions", "n versions of one name", 10000, versions, lambda n: n),
-    Shape("needed-rivals", "a package, asked alone, that needs the name of n rivals", 2000, needed_rivals, lambda n: 1, only="p"),
+    Shape("needed-rivals", "a package, asked alone, that needs the name of n rivals", 10000, needed_rivals, lambda n: 1, only="p"),
     Shape("needed-versions", "a package, asked alone, that needs a name with n versions", 10000, needed_versions, lambda n: 1, only="p"),
     Shape("cut-chain", "a chain of n dependencies whose end is missing: n reasons", 1000, cut_chain, lambda n: 1, broken=lambda n: 1, only="c0"),
     Shape("one-cause", "n packages that need one that is broken, with their cause", 30000, one_cause, lambda n: n + 1, lambda n: n + 1, causes=lambda n: 1),

@@ -7,3 +7,4 @@ pub mod Walk
 pub mod Roles
 pub mod Rows
 pub mod Links
+pub mod Memo

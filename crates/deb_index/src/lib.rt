@@ -6,7 +6,7 @@
 //! - `package`: one stanza, read as a package; `meets`: what it asks for, and which atoms it meets.
 //! - `table`: lists of items by name; `listing`: the packages by place, with such tables; `tables`: these, filled stanza by stanza.
 //! - `walk`: all places that meet an atom, found by the tables.
-//! - `rows`: lists of places, one behind the other; `links`: the row of each group and of each entry, made once.
+//! - `rows`: lists of places, one behind the other; `memo`: rows that come many times; `links`: the row of each group and of each entry, made once.
 //! - `index`: the index of a text, or of a text and a background, and all that is read from it; `constraint`: its constraints.
 //! - `laws`: what a background adds.
 #![tactic(auto)]
@@ -19,6 +19,7 @@ mod limits;
 mod links;
 mod listing;
 mod meets;
+mod memo;
 mod package;
 mod rows;
 mod table;
@@ -30,16 +31,3 @@ pub use error::{BothError, IndexError, RelField};
 pub use index::Index;
 pub use limits::{STANZA_LIMIT, TEXT_LIMIT};
 pub use package::Package;
-
-#[cfg(test)]
-mod both_tests;
-#[cfg(test)]
-mod growths;
-#[cfg(test)]
-mod need_tests;
-#[cfg(test)]
-mod position_tests;
-#[cfg(test)]
-mod row_tests;
-#[cfg(test)]
-mod tests;

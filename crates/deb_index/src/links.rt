@@ -6,6 +6,7 @@ ghost use Rattle.deb_index.specs.Reading.{stanza_limit};
 ghost use Rattle.deb_index.specs.Tables.{asked_count, asked_limit};
 
 use crate::meets::Role;
+use crate::memo::Memo;
 use crate::package::Package;
 use crate::rows::Rows;
 use crate::tables::Tables;
@@ -41,10 +42,10 @@ impl Links {
     pub(crate) fn of(alloc: Global, tables: &Tables) -> Result<Links, AllocError>
         ensures { IfOk result (λ l. IsLinked tables.now tables.now.packages l) }
     {
-        let mut finder = Finder::new(alloc);
+        let mut finder = Finder::new(alloc, tables)?;
         let mut links = Links::new(alloc)?;
         for place in 0..tables.len() {
-            links.add(tables, place, &mut finder)?;
+            links.add(place, &mut finder)?;
         }
         Ok(links)
     }
@@ -63,18 +64,20 @@ impl Links {
     }
 
     // Adds the package at the next place.
-    fn add(&mut self, tables: &Tables, place: u32, finder: &mut Finder) -> Result<(), AllocError>
-        requires within { place < length tables.now.packages }
-        requires few { length tables.now.packages ≤ stanza_limit }
-        requires few_asked { sum_by asked_count tables.now.packages ≤ asked_limit }
-        requires linked { IsLinked tables.now (take place tables.now.packages) self.old }
-        ensures { OnOk result (IsLinked tables.now (take (place + 1) tables.now.packages) self.new) }
+    fn add(&mut self, place: u32, finder: &mut Finder) -> Result<(), AllocError>
+        requires within { place < length finder.old.memo.packages }
+        requires few { length finder.old.memo.packages ≤ stanza_limit }
+        requires few_asked { sum_by asked_count finder.old.memo.packages ≤ asked_limit }
+        requires linked { IsLinked finder.old.memo (take place finder.old.memo.packages) self.old }
+        ensures index { finder.new.memo ≡ finder.old.memo }
+        ensures linked { OnOk result (IsLinked finder.old.memo (take (place + 1) finder.old.memo.packages) self.new) }
     {
+        let tables = finder.memo.tables();
         let asking = tables.package(place);
         self.numbers
             .push(tables.name_number(asking.name.as_slice()).unwrap_or(0))?;
-        finder.add_groups(tables, asking, &mut self.groups)?;
-        finder.add_entries(tables, asking, &mut self.entries)?;
+        finder.add_groups(asking, &mut self.groups)?;
+        finder.add_entries(asking, &mut self.entries)?;
         self.starts.push(Start {
             group: self.groups.len() as u32,
             entry: self.entries.len() as u32,
@@ -83,104 +86,106 @@ impl Links {
     }
 }
 
-// Makes rows, in lists that are used again for each.
+// Makes rows, in lists that are used again for each. Contracts see its index as that of the memo.
 #[derive(Drop)]
-struct Finder {
+struct Finder<'t> {
+    memo: Memo<'t>,
     found: Vec<u32>,
     more: Vec<u32>,
     merged: Vec<u32>,
 }
 
-impl Finder {
+impl<'t> Finder<'t> {
     ghost use Rattle.deb_index.specs.Roles.{row_as};
     ghost use Rattle.deb_index.specs.Rows.{answer_row, hit_row};
 
-    fn new(alloc: Global) -> Finder {
-        Finder {
+    fn new(alloc: Global, tables: &'t Tables) -> Result<Finder<'t>, AllocError>
+        ensures { IfOk result (λ f. f.memo ≡ tables.now) }
+    {
+        Ok(Finder {
+            memo: Memo::new(alloc, tables)?,
             found: Vec::new(alloc),
             more: Vec::new(alloc),
             merged: Vec::new(alloc),
-        }
+        })
     }
 
     // Adds the rows of a package's groups.
-    fn add_groups(
-        &mut self,
-        tables: &Tables,
-        asking: &Package,
-        rows: &mut Rows,
-    ) -> Result<(), AllocError>
-        requires few { length tables.now.packages ≤ stanza_limit }
+    fn add_groups(&mut self, asking: &'t Package, rows: &mut Rows) -> Result<(), AllocError>
+        requires few { length self.old.memo.packages ≤ stanza_limit }
         requires few_asked { asked_count (package_view asking.now) ≤ asked_limit }
-        ensures { OnOk result (rows.new ≡ rows.old ++ map (answer_row tables.now) (needs (package_view asking.now))) }
+        ensures index { self.new.memo ≡ self.old.memo }
+        ensures rows { OnOk result (rows.new ≡ rows.old ++ map (answer_row self.old.memo) (needs (package_view asking.now))) }
     {
         for number in 0..asking.need_count() {
-            self.add_group(tables, asking.need(number), rows)?;
+            self.add_group(asking.need(number), rows)?;
         }
         Ok(())
     }
 
     // Adds the rows of a package's entries.
-    fn add_entries(
-        &mut self,
-        tables: &Tables,
-        asking: &Package,
-        rows: &mut Rows,
-    ) -> Result<(), AllocError>
-        requires few { length tables.now.packages ≤ stanza_limit }
+    fn add_entries(&mut self, asking: &'t Package, rows: &mut Rows) -> Result<(), AllocError>
+        requires few { length self.old.memo.packages ≤ stanza_limit }
         requires few_asked { asked_count (package_view asking.now) ≤ asked_limit }
-        ensures { OnOk result (rows.new ≡ rows.old ++ map (hit_row tables.now) (aparts (package_view asking.now))) }
+        ensures index { self.new.memo ≡ self.old.memo }
+        ensures rows { OnOk result (rows.new ≡ rows.old ++ map (hit_row self.old.memo) (aparts (package_view asking.now))) }
     {
         for number in 0..asking.apart_count() {
-            self.add_entry(tables, asking.apart(number), rows)?;
+            self.add_entry(asking.apart(number), rows)?;
         }
         Ok(())
     }
 
     // Adds the row of an atom that stands alone in its role.
-    fn add_atom(
-        &mut self,
-        role: Role,
-        tables: &Tables,
-        atom: &Atom,
-        rows: &mut Rows,
-    ) -> Result<(), AllocError>
-        requires { length tables.now.packages ≤ stanza_limit }
-        ensures { OnOk result (rows.new ≡ rows.old ++ row_as role tables.now (atom_view atom.now) ∷ []) }
+    fn add_atom(&mut self, role: Role, atom: &'t Atom, rows: &mut Rows) -> Result<(), AllocError>
+        requires { length self.old.memo.packages ≤ stanza_limit }
+        ensures index { self.new.memo ≡ self.old.memo }
+        ensures row { OnOk result (rows.new ≡ rows.old ++ row_as role self.old.memo (atom_view atom.now) ∷ []) }
     {
+        match self.memo.get(role, atom) {
+            Some(place) => rows.push(&[place]),
+            None => self.find_atom(role, atom, rows),
+        }
+    }
+
+    // Adds the row of an atom that is not remembered, and remembers it where one package alone meets it.
+    fn find_atom(&mut self, role: Role, atom: &'t Atom, rows: &mut Rows) -> Result<(), AllocError>
+        requires { length self.old.memo.packages ≤ stanza_limit }
+        ensures index { self.new.memo ≡ self.old.memo }
+        ensures row { OnOk result (rows.new ≡ rows.old ++ row_as role self.old.memo (atom_view atom.now) ∷ []) }
+    {
+        let tables = self.memo.tables();
         let name = atom.name.as_slice();
         let (named, provided) = (tables.places_of(name), tables.provides_of(name));
         if named.len() + provided.len() > ROW_LIMIT {
             return rows.leave_out();
         }
         tables.find(role, atom, named, provided, &mut self.found)?;
+        if let [place] = self.found.as_slice() {
+            let place = *place;
+            self.memo.put(role, atom, place);
+            return rows.push(&[place]);
+        }
         rows.push(&self.found)
     }
 
-    fn add_entry(
-        &mut self,
-        tables: &Tables,
-        entry: &Atom,
-        rows: &mut Rows,
-    ) -> Result<(), AllocError>
-        requires { length tables.now.packages ≤ stanza_limit }
-        ensures { OnOk result (rows.new ≡ rows.old ++ hit_row tables.now (atom_view entry.now) ∷ []) }
+    fn add_entry(&mut self, entry: &'t Atom, rows: &mut Rows) -> Result<(), AllocError>
+        requires { length self.old.memo.packages ≤ stanza_limit }
+        ensures index { self.new.memo ≡ self.old.memo }
+        ensures row { OnOk result (rows.new ≡ rows.old ++ hit_row self.old.memo (atom_view entry.now) ∷ []) }
     {
-        self.add_atom(Role::Entry, tables, entry, rows)
+        self.add_atom(Role::Entry, entry, rows)
     }
 
-    fn add_group(
-        &mut self,
-        tables: &Tables,
-        group: &[Atom],
-        rows: &mut Rows,
-    ) -> Result<(), AllocError>
-        requires { length tables.now.packages ≤ stanza_limit }
-        ensures { OnOk result (rows.new ≡ rows.old ++ answer_row tables.now (map atom_view group.now) ∷ []) }
+    fn add_group(&mut self, group: &'t [Atom], rows: &mut Rows) -> Result<(), AllocError>
+        requires { length self.old.memo.packages ≤ stanza_limit }
+        ensures index { self.new.memo ≡ self.old.memo }
+        ensures row { OnOk result (rows.new ≡ rows.old ++ answer_row self.old.memo (map atom_view group.now) ∷ []) }
     {
         if let [atom] = group {
-            return self.add_atom(Role::Alternative, tables, atom, rows);
+            return self.add_atom(Role::Alternative, atom, rows);
         }
+        let tables = self.memo.tables();
         let mut count = 0;
         self.found.clear();
         'alternatives: for (number, atom) in group.iter().enumerate() {

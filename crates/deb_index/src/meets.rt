@@ -11,7 +11,7 @@ use crate::package::Package;
 use deb_relation::{Atom, Version, bound_holds};
 
 /// In which role an atom stands. Where it has the qualifier `any`, fewer packages meet it as an alternative.
-#[derive(Clone, Copy)]
+#[derive(Clone, Copy, PartialEq, Eq)]
 pub(crate) enum Role {
     /// An alternative of a need (Debian Policy 7.2).
     Alternative,

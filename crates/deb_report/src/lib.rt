@@ -15,8 +15,6 @@ mod cause_lines;
 mod causes;
 mod config;
 mod gathered;
-#[cfg(test)]
-mod growths;
 mod json;
 mod json_causes;
 mod json_parts;
@@ -25,8 +23,6 @@ mod layout;
 mod near;
 mod reasons;
 mod summary;
-#[cfg(test)]
-mod tests;
 
 pub use asked::{AskedFault, asked_places};
 pub use config::{CHUNK_LIMIT, Config, Format, Show};

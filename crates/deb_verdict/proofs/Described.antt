@@ -1,22 +1,26 @@
 -- Clauses that are added for one number after the other, and what they say together.
-use Rattle.std.proofs.Common.{◌≡◌, ℕ, ◌+◌, ◌<◌, ◌≤◌, true, List, [], ◌∷◌, ◌++◌, length, get_or, take, All, ◌↔◌, sym, subst, ◌∙◌, ap, inl, inr, arith}
-use Rattle.std.proofs.lemmas.Bool.{cases_lt}
+use Rattle.std.proofs.Common.{◌≡◌, ℕ, ◌+◌, ◌<◌, ◌≤◌, true, false, List, [], ◌∷◌, ◌++◌, length, get_or, take, All, ◌↔◌, sym, subst, ◌∙◌, ap, inl, inr, arith}
+use Rattle.std.proofs.lemmas.Bool.{cases_Bool, cases_lt, or_cases, or_left, or_right}
 use Rattle.std.proofs.lemmas.List.{take_more}
+use Rattle.std.proofs.lemmas.List.Elements.{All-head, All-push, All-weaker, All-contains}
 use Rattle.deb_index.specs.declared.constraint.Constraint.{Constraint}
 use Rattle.deb_index.specs.declared.constraint.Constraint.TheVariants.{Essential, Need, Apart, Only}
-use Rattle.deb_index.specs.Packages.{IndexView, name_at, places_of, essential_names, needs_at, aparts_at}
+use Rattle.deb_index.specs.Packages.{IndexView, essential_names, aparts_at}
 use Rattle.deb_index.specs.Constraints.{Holds}
 use Rattle.sat_solve.specs.Sets.{NumberSet, members_of}
 use Rattle.sat_solve.specs.Clauses.{Clause, Clauses}
 use Rattle.deb_verdict.specs.Adding.{Adds, AllHold}
+use Rattle.deb_verdict.specs.declared.unmet.UnmetNeed.{UnmetNeed}
+use Rattle.deb_verdict.specs.Encoding.{places_in_play, positions_of}
 use Rattle.deb_verdict.specs.Health.{IsHealthy}
 use Rattle.deb_verdict.specs.Play.{placed, AddsPlaces}
-use Rattle.deb_verdict.specs.Standings.{HasNoEarlier, MeetsNeeds, MeetsConflicts, MeetsPlace}
-use Rattle.deb_verdict.proofs.AddLemmas.{adds_both, adds_as, in_push, front_in, last_in}
+use Rattle.deb_verdict.specs.Standings.{has_row, HasOneVersion, MeetsNeeds, MeetsEntries, MeetsNarrow, MeetsPlace}
+use Rattle.deb_verdict.specs.Unmet.{IsUnmet, AreUnmet}
+use Rattle.deb_verdict.proofs.AddLemmas.{All-front, All-back, adds_both, adds_as, in_push, front_in, last_in}
 use Rattle.deb_verdict.proofs.AddSteps.{take_whole}
 use Rattle.deb_verdict.proofs.Encoded.{members_of_at}
 use Rattle.deb_verdict.proofs.Told.{placed_in_play}
-use Rattle.deb_verdict.proofs.Healthy.{only_says, healthy_parts, healthy_from_parts}
+use Rattle.deb_verdict.proofs.Healthy.{healthy_parts, healthy_from_parts}
 
 module _ (group : ℕ) (Means : ℕ → NumberSet → Type 0) where
   -- each number of a list was told
@@ -68,104 +72,172 @@ module _ (group : ℕ) (Means : ℕ → NumberSet → Type 0) where
       ))
       (adds_both group Old (Means i) before between after so_far one)
 
+module _ {A : Type 0} (group : ℕ) (Means : A → NumberSet → Type 0) where
+  -- each element of a list was told
+  abbrev pub AddsAll : List A → Clauses → Clauses → Type 0
+  AddsAll xs before after = Adds group (λ vars. All (λ x. Means x vars) xs) before after
+
+  pub all_more : (xs : List A) (i : ℕ) (d : A) (before between after : Clauses) → i < length xs → AddsAll (take i xs) before between → Adds group (Means (get_or xs i d)) between after
+      → AddsAll (take (i + 1) xs) before after
+  all_more xs i d before between after inside so_far one =
+      let x : A = get_or xs i d in
+      let Old : NumberSet → Type 0 = λ vars. All (λ y. Means y vars) (take i xs) in
+      let New : NumberSet → Type 0 = λ vars. All (λ y. Means y vars) (take i xs ++ x ∷ []) in
+      let For : List A → Type 0 = λ list. AddsAll list before after in
+      subst For (sym (take_more xs i d inside))
+      (adds_as group (λ vars. Old vars × Means x vars) New before after
+      (λ vars. (
+        λ both. All-push (λ y. Means y vars) (take i xs) x both.0 both.1,
+        λ all. (All-front (λ y. Means y vars) (take i xs) (x ∷ []) all, All-head (λ y. Means y vars) x [] (All-back (λ y. Means y vars) (take i xs) (x ∷ []) all)),
+      ))
+      (adds_both group Old (Means x) before between after so_far one))
+
+  pub all_whole : (xs : List A) (i : ℕ) (before after : Clauses) → length xs ≤ i → AddsAll (take i xs) before after → AddsAll xs before after
+  all_whole xs i before after past so_far =
+      let For : List A → Type 0 = λ list. AddsAll list before after in
+      subst For (take_whole xs i past) so_far
+
 module _ (index : IndexView) (ins members : List ℕ) where
   -- a constraint, told of the places
-  abbrev pub meaning_of_need : ℕ → ℕ → NumberSet → Type 0
-  meaning_of_need place j vars = Holds index (placed ins members vars) (Need place j)
-
-  abbrev pub meaning_of_apart : ℕ → ℕ → NumberSet → Type 0
-  meaning_of_apart place j vars = Holds index (placed ins members vars) (Apart place j)
-
   abbrev pub meaning_of_essential : ℕ → NumberSet → Type 0
   meaning_of_essential number vars = Holds index (placed ins members vars) (Essential number)
 
-  abbrev pub meaning_of_needs : ℕ → NumberSet → Type 0
-  meaning_of_needs place vars = MeetsNeeds index (placed ins members vars) place
+  abbrev pub meaning_of_narrow : ℕ → NumberSet → Type 0
+  meaning_of_narrow place vars = MeetsNarrow index (placed ins members vars) place
 
-  abbrev pub meaning_of_conflicts : ℕ → NumberSet → Type 0
-  meaning_of_conflicts place vars = MeetsConflicts index (placed ins members vars) place
+  abbrev pub meaning_of_row : ℕ → ℕ → NumberSet → Type 0
+  meaning_of_row place j vars = has_row index place j ≡ true → Holds index (placed ins members vars) (Apart place j)
 
-  abbrev pub meaning_of_place : ℕ → NumberSet → Type 0
-  meaning_of_place place vars = MeetsPlace index (placed ins members vars) place
+  abbrev pub meaning_of_only : ℕ → NumberSet → Type 0
+  meaning_of_only number vars = Holds index (placed ins members vars) (Only number)
 
-  abbrev pub meaning_of_versions : ℕ → NumberSet → Type 0
-  meaning_of_versions place vars = HasNoEarlier index (placed ins members vars) place
+  -- what a package keeps out
+  pub narrow_added : (group place aparts : ℕ) (before after : Clauses) → aparts ≡ length (aparts_at index place) → AddsBelow group (meaning_of_row place) aparts before after
+      → Adds group (meaning_of_narrow place) before after
+  narrow_added group place aparts before after aparts_are adds =
+      let For : ℕ → Type 0 = λ count. AddsBelow group (meaning_of_row place) count before after in
+      subst For aparts_are adds
 
-  -- what a package depends on
-  pub needs_added : (group place needs : ℕ) (before after : Clauses) → needs ≡ length (needs_at index place) → AddsBelow group (meaning_of_need place) needs before after
-      → Adds group (meaning_of_needs place) before after
-  needs_added group place needs before after needs_are adds =
-      let For : ℕ → Type 0 = λ count. AddsBelow group (meaning_of_need place) count before after in
-      subst For needs_are adds
+  -- the needs of a list
+  abbrev pub meaning_of_unmet : UnmetNeed → NumberSet → Type 0
+  meaning_of_unmet need vars = Holds index (placed ins members vars) (Need need.place need.number)
 
-  -- what it keeps out
-  pub conflicts_added : (group place aparts : ℕ) (before between after : Clauses) → aparts ≡ length (aparts_at index place)
-      → AddsBelow group (meaning_of_apart place) aparts before between → Adds group (meaning_of_versions place) between after
-      → Adds group (meaning_of_conflicts place) before after
-  conflicts_added group place aparts before between after aparts_are first second =
-      let Aparts : NumberSet → Type 0 = λ vars. (j : ℕ) → j < aparts → meaning_of_apart place j vars in
-      let Versions : NumberSet → Type 0 = λ vars. meaning_of_versions place vars in
-      adds_as group (λ vars. Aparts vars × Versions vars) (meaning_of_conflicts place) before after
-      (λ vars. (
-        λ both. record {
-          aparts = λ j less. both.0 j (omega (arith, aparts_are));
-          earlier = both.1;
-        },
-        λ all. (λ j less. all.aparts j (omega (arith, aparts_are)), all.earlier),
-      ))
-      (adds_both group Aparts Versions before between after first second)
+  -- what is told of all places in play
+  abbrev Essentials : NumberSet → Type 0
+  Essentials vars = (number : ℕ) → members_of (essential_names index) number ≡ true → meaning_of_essential number vars
 
-  -- all that it asks for
-  pub place_added : (group place : ℕ) (before between after : Clauses) → Adds group (meaning_of_needs place) before between → Adds group (meaning_of_conflicts place) between after
-      → Adds group (meaning_of_place place) before after
-  place_added group place before between after first second =
-      adds_as group (λ vars. meaning_of_needs place vars × meaning_of_conflicts place vars) (meaning_of_place place) before after
-      (λ vars. (λ both. record { needs = both.0; conflicts = both.1 }, λ all. (all.needs, all.conflicts)))
-      (adds_both group (meaning_of_needs place) (meaning_of_conflicts place) before between after first second)
+  abbrev Needs : List UnmetNeed → NumberSet → Type 0
+  Needs unmet vars = All (λ need. meaning_of_unmet need vars) unmet
 
-  -- at most one package of a name
-  pub only_added : (group number : ℕ) (row : List ℕ) (before after : Clauses) → row ≡ places_of index (name_at index number) → AddsEach group meaning_of_versions row before after
-      → AddsPlaces group ins members (λ set. Holds index set (Only number)) before after
-  only_added group number row before after same adds =
-      let For : List ℕ → Type 0 = λ list. AddsEach group meaning_of_versions list before after in
-      adds_as group (λ vars. (q : ℕ) → members_of (places_of index (name_at index number)) q ≡ true → meaning_of_versions q vars) (λ vars. Holds index (placed ins members vars) (Only number)) before after
-      (λ vars. only_says index (placed ins members vars) number) (subst For same adds)
+  abbrev Entries : List ℕ → NumberSet → Type 0
+  Entries list vars = (q : ℕ) → members_of list q ≡ true → MeetsEntries index (placed ins members vars) q
 
-  -- the essential names, the places that are in and the members: their constraints are all that matter
-  healthy_in_play : (vars : NumberSet) → All (λ q. q < length index.packages) ins → All (λ q. q < length index.packages) members
-      → ((((number : ℕ) → members_of (essential_names index) number ≡ true → meaning_of_essential number vars) × ((q : ℕ) → members_of ins q ≡ true → meaning_of_place q vars))
-      × ((q : ℕ) → members_of members q ≡ true → meaning_of_place q vars))
-      ↔ IsHealthy index (placed ins members vars)
-  healthy_in_play vars ins_within members_within = (
-    λ all.
-        healthy_from_parts index (placed ins members vars) all.0.0
-        (λ q there.
-        elim (placed_in_play ins members vars q there) [
-          | inl is_in ↦ all.0.1 q is_in
-          | inr member ↦ all.1 q member
-        ]),
-    λ healthy.
-        let parts = healthy_parts index (placed ins members vars) healthy in
-        let listed : (xs : List ℕ) (q : ℕ) → All (λ p. p < length index.packages) xs → members_of xs q ≡ true → q < length index.packages =
-        λ xs q within is_in. (let at = members_of_at xs q is_in in omega (arith, within at.0 0 at.1, at.2)) in
-        ((parts.0, λ q is_in. parts.1 q (listed ins q ins_within is_in)), λ q is_in. parts.1 q (listed members q members_within is_in)),
-  )
+  abbrev Narrow : List ℕ → NumberSet → Type 0
+  Narrow list vars = (q : ℕ) → members_of list q ≡ true → meaning_of_narrow q vars
 
-  module _ (ins_within : All (λ q. q < length index.packages) ins) (members_within : All (λ q. q < length index.packages) members) (names_row ins_row members_row : List ℕ)
-      (names_are : names_row ≡ essential_names index) (ins_are : ins_row ≡ ins) (members_are : members_row ≡ members) where
-    pub healthy_added : (group : ℕ) (before first second after : Clauses) → AddsEach group meaning_of_essential names_row before first → AddsEach group meaning_of_place ins_row first second
-        → AddsEach group meaning_of_place members_row second after → AddsPlaces group ins members (IsHealthy index) before after
-    healthy_added group before first second after one two three =
+  abbrev pub Wide : NumberSet → Type 0
+  Wide vars = (q : ℕ) → places_in_play (members_of ins) members q ≡ true → (j : ℕ) → j < length (aparts_at index q) → has_row index q j ≡ false → Holds index (placed ins members vars) (Apart q j)
+
+  -- an entry is one that few packages may meet, or one that very many may
+  entries_say : (vars : NumberSet) → ((Narrow ins vars × Narrow members vars) × Wide vars) ↔ (Entries ins vars × Entries members vars)
+  entries_say vars =
+      let each : (q : ℕ) → places_in_play (members_of ins) members q ≡ true → meaning_of_narrow q vars → Wide vars → MeetsEntries index (placed ins members vars) q =
+      λ q in_play narrow wide j less. elim (cases_Bool (has_row index q j)) [
+        | inl short ↦ narrow j less short
+        | inr long ↦ wide q in_play j less long
+      ] in (
+        λ all. (
+          λ q is_in. each q (or_left (members_of ins q) (members_of members q) is_in) (all.0.0 q is_in) all.1,
+          λ q member. each q (or_right (members_of ins q) (members_of members q) member) (all.0.1 q member) all.1,
+        ),
+        λ both. (
+          (λ q is_in j less short. both.0 q is_in j less, λ q member j less short. both.1 q member j less),
+          λ q in_play j less long.
+              elim (or_cases (members_of ins q) (members_of members q) in_play) [
+                | inl is_in ↦ both.0 q is_in j less
+                | inr member ↦ both.1 q member j less
+              ],
+        ),
+      )
+
+  abbrev pub Versions : NumberSet → Type 0
+  Versions vars = (q : ℕ) → places_in_play (members_of ins) members q ≡ true → HasOneVersion index (placed ins members vars) q
+
+  module _ (unmet : List UnmetNeed) (are : AreUnmet index (members_of ins) (places_in_play (members_of ins) members) unmet) (vars : NumberSet) where
+    -- where the unmet needs of the places in play are met, all their needs are
+    needs_met : Needs unmet vars → (q : ℕ) → places_in_play (members_of ins) members q ≡ true → MeetsNeeds index (placed ins members vars) q
+    needs_met all q in_play j less =
+        elim (are.all q j in_play less) [
+          | inl found ↦ λ has. (found.0, or_left (members_of ins found.0) (positions_of members vars found.0) found.1, found.2)
+          | inr listed ↦ All-contains (λ need. meaning_of_unmet need vars) unmet (record { place = q; number = j }) all listed
+        ]
+
+    unmet_met : ((p : ℕ) → p < length index.packages → MeetsPlace index (placed ins members vars) p) → Needs unmet vars
+    unmet_met each =
+        All-weaker (IsUnmet index (members_of ins)) (λ need. meaning_of_unmet need vars)
+        (λ need is_unmet. (each need.place is_unmet.is_place).needs need.number is_unmet.is_need) unmet are.only
+
+    -- the essential names, the unmet needs, and what the places that are in and the members keep out: these constraints are all that matter
+    healthy_in_play : All (λ q. q < length index.packages) ins → All (λ q. q < length index.packages) members
+        → (((Essentials vars × Needs unmet vars) × (Entries ins vars × Entries members vars)) × Versions vars) ↔ IsHealthy index (placed ins members vars)
+    healthy_in_play ins_within members_within = (
+      λ all.
+          healthy_from_parts index (placed ins members vars) all.0.0.0
+          (λ q there.
+          elim (placed_in_play ins members vars q there) [
+            | inl is_in ↦
+                let in_play : places_in_play (members_of ins) members q ≡ true = or_left (members_of ins q) (members_of members q) is_in in
+                record { needs = needs_met all.0.0.1 q in_play; conflicts = record { entries = all.0.1.0 q is_in; once = all.1 q in_play } }
+            | inr member ↦
+                let in_play : places_in_play (members_of ins) members q ≡ true = or_right (members_of ins q) (members_of members q) member in
+                record { needs = needs_met all.0.0.1 q in_play; conflicts = record { entries = all.0.1.1 q member; once = all.1 q in_play } }
+          ]),
+      λ healthy.
+          let parts = healthy_parts index (placed ins members vars) healthy in
+          let listed : (xs : List ℕ) (q : ℕ) → All (λ p. p < length index.packages) xs → members_of xs q ≡ true → q < length index.packages =
+          λ xs q within is_in. (let at = members_of_at xs q is_in in omega (arith, within at.0 0 at.1, at.2)) in (
+            (
+              (parts.0, unmet_met parts.1),
+              (λ q is_in. (parts.1 q (listed ins q ins_within is_in)).conflicts.entries, λ q member. (parts.1 q (listed members q members_within member)).conflicts.entries),
+            ),
+            λ q in_play.
+                elim (or_cases (members_of ins q) (members_of members q) in_play) [
+                  | inl is_in ↦ (parts.1 q (listed ins q ins_within is_in)).conflicts.once
+                  | inr member ↦ (parts.1 q (listed members q members_within member)).conflicts.once
+                ],
+          ),
+    )
+
+  module _ (ins_within : All (λ q. q < length index.packages) ins) (members_within : All (λ q. q < length index.packages) members) (unmet : List UnmetNeed)
+      (are : AreUnmet index (members_of ins) (places_in_play (members_of ins) members) unmet) (names_row ins_row members_row : List ℕ)
+      (names_are : names_row ≡ essential_names index) (ins_are : ins_row ≡ ins) (members_are : members_row ≡ members) (group : ℕ) where
+    needs_of_all : (before first after : Clauses) → AddsEach group meaning_of_essential names_row before first → AddsAll group meaning_of_unmet unmet first after
+        → Adds group (λ vars. Essentials vars × Needs unmet vars) before after
+    needs_of_all before first after one two =
         let First : List ℕ → Type 0 = λ list. AddsEach group meaning_of_essential list before first in
-        let Second : List ℕ → Type 0 = λ list. AddsEach group meaning_of_place list first second in
-        let Third : List ℕ → Type 0 = λ list. AddsEach group meaning_of_place list second after in
-        let Names : NumberSet → Type 0 = λ vars. (number : ℕ) → members_of (essential_names index) number ≡ true → meaning_of_essential number vars in
-        let Among : List ℕ → NumberSet → Type 0 = λ list vars. (q : ℕ) → members_of list q ≡ true → meaning_of_place q vars in
-        adds_as group (λ vars. (Names vars × Among ins vars) × Among members vars) (λ vars. IsHealthy index (placed ins members vars)) before after
-        (λ vars. healthy_in_play vars ins_within members_within)
-        (adds_both group (λ vars. Names vars × Among ins vars) (Among members) before second after
-        (adds_both group Names (Among ins) before first second (subst First names_are one) (subst Second ins_are two))
-        (subst Third members_are three))
+        adds_both group Essentials (Needs unmet) before first after (subst First names_are one) two
+
+    entries_of_all : (before first second after : Clauses) → AddsEach group meaning_of_narrow ins_row before first → AddsEach group meaning_of_narrow members_row first second → Adds group Wide second after
+        → Adds group (λ vars. Entries ins vars × Entries members vars) before after
+    entries_of_all before first second after one two three =
+        let First : List ℕ → Type 0 = λ list. AddsEach group meaning_of_narrow list before first in
+        let Second : List ℕ → Type 0 = λ list. AddsEach group meaning_of_narrow list first second in
+        adds_as group (λ vars. (Narrow ins vars × Narrow members vars) × Wide vars) (λ vars. Entries ins vars × Entries members vars) before after entries_say
+        (adds_both group (λ vars. Narrow ins vars × Narrow members vars) Wide before second after
+        (adds_both group (Narrow ins) (Narrow members) before first second (subst First ins_are one) (subst Second members_are two))
+        three)
+
+    pub healthy_added : (before first second third fourth fifth after : Clauses) → AddsEach group meaning_of_essential names_row before first → AddsAll group meaning_of_unmet unmet first second
+        → AddsEach group meaning_of_narrow ins_row second third → AddsEach group meaning_of_narrow members_row third fourth → Adds group Wide fourth fifth → Adds group Versions fifth after
+        → AddsPlaces group ins members (IsHealthy index) before after
+    healthy_added before first second third fourth fifth after one two three four five six =
+        let AllNeeds : NumberSet → Type 0 = λ vars. Essentials vars × Needs unmet vars in
+        let AllEntries : NumberSet → Type 0 = λ vars. Entries ins vars × Entries members vars in
+        adds_as group (λ vars. (AllNeeds vars × AllEntries vars) × Versions vars) (λ vars. IsHealthy index (placed ins members vars)) before after
+        (λ vars. healthy_in_play unmet are vars ins_within members_within)
+        (adds_both group (λ vars. AllNeeds vars × AllEntries vars) Versions before fifth after
+        (adds_both group AllNeeds AllEntries before second fifth (needs_of_all before first second one two) (entries_of_all second third fourth fifth three four five))
+        six)
 
 -- in another scene of the same places
 pub healthy_moved : (group : ℕ) (a b : IndexView) (ins ins_too members members_too : List ℕ) (before after : Clauses) → a ≡ b → ins ≡ ins_too → members ≡ members_too

@@ -1,7 +1,7 @@
 -- What is found of an index once for all verdicts.
-use Rattle.std.proofs.Common.{◌≡◌, ℕ, ◌+◌, ◌<◌, ◌≤◌, Bool, true, false, not, ltb, eqb, List, [], ◌∷◌, ◌++◌, length, get_or, Some, refl, sym, subst, ◌∙◌, ap, inl, inr, arith}
+use Rattle.std.proofs.Common.{◌≡◌, ℕ, ◌+◌, ◌<◌, ◌≤◌, Bool, true, eqb, List, [], ◌∷◌, ◌++◌, length, get_or, Some, refl, sym, subst, ◌∙◌, ap, inl, inr, arith}
 use Rattle.std.specs.List.{list_any, list_all}
-use Rattle.std.proofs.lemmas.Bool.{cases_lt, false≢true, both_ways, not-true, or_cases, and_parts, lt-ltb, eqb-true}
+use Rattle.std.proofs.lemmas.Bool.{cases_lt, false≢true, eqb-true}
 use Rattle.std.proofs.lemmas.List.{get_or_append_left, get_or_push, length_push}
 use Rattle.std.proofs.lemmas.Option.{slice_get_within, get_or_from_slice_get, slice_get-get_or}
 use Rattle.deb_index.specs.Packages.{IndexView, package_at, places_of, aparts_at, need_at, apart_at}
@@ -13,7 +13,7 @@ use Rattle.deb_verdict.specs.Growing.{ArePlaces, KeepsForced}
 use Rattle.deb_verdict.proofs.Forcing.{member_answers}
 use Rattle.deb_verdict.proofs.IndexFacts.{member_satisfiers}
 use Rattle.deb_verdict.proofs.Placing.{places_empty}
-use Rattle.deb_verdict.proofs.Members.{any_member, member_any}
+use Rattle.deb_verdict.proofs.Members.{any_member, member_any, all_member}
 
 -- ---- needs that are answered by what is in
 
@@ -37,32 +37,18 @@ met_from_answers index ins place has j inside = answered_by_row index ins place 
 
 -- ---- entries that hit no other place, and names that no earlier place has
 
-all_member : (test : NumberSet) (xs : List ℕ) (q : ℕ) → list_all test xs ≡ true → members_of xs q ≡ true → test q ≡ true
-all_member test [] q holds is_in = absurd (false≢true is_in)
-all_member test (x ∷ xs) q holds is_in =
-    let parts = and_parts (test x) (list_all test xs) holds in
-    elim (or_cases (eqb x q) (members_of xs q) is_in) [
-      | inl here ↦ ap test (sym (eqb-true x q here)) ∙ parts.0
-      | inr later ↦ all_member test xs q parts.1 later
-    ]
-
 -- where the row of an entry has one place only, the entry hits no other one
 pub hits_only : (index : IndexView) (place j : ℕ) (row : List ℕ) → row ≡ satisfiers index (apart_at index place j) → list_all (λ other. eqb other place) row ≡ true
     → (q : ℕ) → hits index place j q ≡ true → q ≡ place
 hits_only index place j row row_is holds q hit =
     eqb-true q place (all_member (λ other. eqb other place) row q holds (ap (λ list. members_of list q) row_is ∙ (member_satisfiers index (apart_at index place j) q ∙ hit)))
 
-none_earlier : (index : IndexView) (place : ℕ) (row : List ℕ) → row ≡ places_of index (package_at index place).name → list_any (λ other. ltb other place) row ≡ false
-    → (q : ℕ) → q < place → members_of (places_of index (package_at index place).name) q ≡ true → ⊥
-none_earlier index place row row_is none q less is_in =
-    both_ways (list_any (λ other. ltb other place) row) none (member_any (λ other. ltb other place) row q (lt-ltb q place less) (ap (λ list. members_of list q) row_is ∙ is_in))
-
-pub stands_alone : (index : IndexView) (place count : ℕ) (row : List ℕ) (has : Bool) → length (aparts_at index place) ≤ count
+pub stands_alone : (index : IndexView) (place count : ℕ) (row : List ℕ) (only : Bool) → length (aparts_at index place) ≤ count
     → ((j : ℕ) → j < count → (q : ℕ) → hits index place j q ≡ true → q ≡ place)
-    → row ≡ places_of index (package_at index place).name → has ≡ list_any (λ other. ltb other place) row → not has ≡ true → IsAlone index place
-stands_alone index place count row has past none row_is has_is lacks = record {
+    → row ≡ places_of index (package_at index place).name → only ≡ list_all (λ other. eqb other place) row → only ≡ true → IsAlone index place
+stands_alone index place count row only past none row_is only_is is_only = record {
   hits_none = λ j inside. none j (omega (arith, inside, past));
-  earliest = none_earlier index place row row_is (sym has_is ∙ not-true has lacks);
+  only = λ q named. eqb-true q place (all_member (λ other. eqb other place) row q (sym only_is ∙ is_only) (ap (λ list. members_of list q) row_is ∙ named));
 }
 
 -- ---- marks

@@ -17,7 +17,7 @@ use Rattle.deb_index.proofs.FirstLemmas.{same-name, name-itself, names-turned, a
 use Rattle.deb_index.proofs.MemberLemmas.{member-places_where}
 use Rattle.sat_solve.specs.Sets.{NumberSet, members_of}
 use Rattle.deb_verdict.specs.Health.{IsHealthy}
-use Rattle.deb_verdict.specs.Standings.{HasNoEarlier, MeetsPlace}
+use Rattle.deb_verdict.specs.Standings.{HasNoEarlier, HasOneOf, HasOneVersion, MeetsPlace}
 use Rattle.deb_verdict.proofs.IndexFacts.{member_named, named_is_place}
 use Rattle.deb_verdict.proofs.Encoded.{members_of_at, at_members_of}
 use Rattle.deb_verdict.proofs.AddLemmas.{All-front, All-back}
@@ -106,6 +106,16 @@ module _ (index : IndexView) where
       member-places_where (is_named (package_at index p).name) index.packages p
       ∙ (ap (λ there. option_map_or (is_named (package_at index p).name) there false) (slice_get-get_or index.packages p no_package inside) ∙ name-itself (package_at index p).name)
 
+  -- at most one of the places of a name is in where no two of its packages are
+  only_says_once : (number : ℕ) (set : NumberSet) → Holds index set (Only number) → HasOneOf (places_of index (name_at index number)) set
+  only_says_once number set holds q r named also is_there is_too = holds q r is_there is_too (sym (member_named index number q) ∙ named) (sym (member_named index number r) ∙ also)
+
+  pub once_says_only : (number : ℕ) (set : NumberSet) → (HasOneOf (places_of index (name_at index number)) set ↔ Holds index set (Only number))
+  once_says_only number set = (
+    λ once q r is_there is_too named also. once q r (member_named index number q ∙ named) (member_named index number r ∙ also) is_there is_too,
+    λ holds. only_says_once number set holds,
+  )
+
   module _ (set : NumberSet) where
     no_two : (number q r : ℕ) → has_name index q number ≡ true → has_name index r number ≡ true → set q ≡ true → set r ≡ true → HasNoEarlier index set r → q < r → ⊥
     no_two number q r named also there is_too alone less = alone is_too q less (has_version number r q (name_is r number also) ∙ named) there
@@ -128,13 +138,16 @@ module _ (index : IndexView) where
           omega arith,
     )
 
-    earlier_from_only : ((number : ℕ) → number < length (names index) → Holds index set (Only number)) → (p : ℕ) → p < length index.packages → HasNoEarlier index set p
-    earlier_from_only all p inside =
+    once_from_only : ((number : ℕ) → number < length (names index) → Holds index set (Only number)) → (p : ℕ) → p < length index.packages → HasOneVersion index set p
+    once_from_only all p inside =
         let at = numbered p inside in
-        (only_says at.0).1 (all at.0 at.1) p (ap (λ name. members_of (places_of index name) p) at.2 ∙ itself_version p inside)
+        let Once : List ℕ → Type 0 = λ name. HasOneOf (places_of index name) set in
+        subst Once at.2 (only_says_once at.0 set (all at.0 at.1))
 
-    only_from_earlier : (number : ℕ) → ((q : ℕ) → set q ≡ true → MeetsPlace index set q) → Holds index set (Only number)
-    only_from_earlier number each = (only_says number).0 (λ q is_place there. (each q there).conflicts.earlier there)
+    only_from_once : (number : ℕ) → ((q : ℕ) → set q ≡ true → MeetsPlace index set q) → Holds index set (Only number)
+    only_from_once number each q r is_there is_too named also =
+        let name : name_at index number ≡ (package_at index q).name = name_is q number named in
+        (each q is_there).conflicts.once q r (has_version number q q name ∙ named) (has_version number q r name ∙ also) is_there is_too
 
     -- ---- the whole list
 
@@ -170,8 +183,8 @@ module _ (index : IndexView) where
               record {
                 needs = below_all (Holds index set) (λ j. Need p j) (length (needs_at index p)) (All-front (Holds index set) needs aparts at);
                 conflicts = record {
-                  aparts = below_all (Holds index set) (λ j. Apart p j) (length (aparts_at index p)) (All-back (Holds index set) needs aparts at);
-                  earlier = earlier_from_only only p inside;
+                  entries = below_all (Holds index set) (λ j. Apart p j) (length (aparts_at index p)) (All-back (Holds index set) needs aparts at);
+                  once = once_from_only only p inside;
                 };
               },
         )
@@ -181,7 +194,7 @@ module _ (index : IndexView) where
     healthy_at each p =
         All-append (Holds index set) (map (λ j. Need p j) (below (length (needs_at index p)))) (map (λ j. Apart p j) (below (length (aparts_at index p))))
         (All-below (Holds index set) (λ j. Need p j) (length (needs_at index p)) (λ j less has. (each p has).needs j less has))
-        (All-below (Holds index set) (λ j. Apart p j) (length (aparts_at index p)) (λ j less has. (each p has).conflicts.aparts j less has))
+        (All-below (Holds index set) (λ j. Apart p j) (length (aparts_at index p)) (λ j less has. (each p has).conflicts.entries j less has))
 
     pub healthy_from_parts : ((number : ℕ) → members_of (essential_names index) number ≡ true → Holds index set (Essential number)) → ((q : ℕ) → set q ≡ true → MeetsPlace index set q) → IsHealthy index set
     unfolding constraints_of
@@ -193,4 +206,4 @@ module _ (index : IndexView) where
         (All-append (Holds index set) first places
         (All-map (Holds index set) (λ n. Essential n) (essential_names index) (λ k d inside. essential (get_or (essential_names index) k d) (ap (members_of (essential_names index)) (get_or_default (essential_names index) k d 0 inside) ∙ at_members_of (essential_names index) k inside)))
         (All-lists (Holds index set) (constraints_at index) (below (length index.packages)) (healthy_at each)))
-        (All-below (Holds index set) (λ n. Only n) (length (names index)) (λ number less. only_from_earlier number each))
+        (All-below (Holds index set) (λ n. Only n) (length (names index)) (λ number less. only_from_once number each))

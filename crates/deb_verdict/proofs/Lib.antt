@@ -9,12 +9,15 @@ pub mod Cutting
 pub mod Derived
 pub mod Described
 pub mod Encoded
+pub mod Entries
+pub mod Excluding
 pub mod Extending
 pub mod FirstSet
 pub mod Forcing
 pub mod Gathered
 pub mod GroundworkLemmas
 pub mod Healthy
+pub mod HopelessLemmas
 pub mod IndexFacts
 pub mod Inserted
 pub mod JoinLemmas
@@ -24,6 +27,7 @@ pub mod Members
 pub mod Names
 pub mod NextOf
 pub mod OneVerdict
+pub mod OneVersion
 pub mod PlaceSetLemmas
 pub mod Placing
 pub mod PositionsOf
@@ -38,6 +42,7 @@ pub mod Skipped
 pub mod Standing
 pub mod Told
 pub mod Units
+pub mod UnmetNeeds
 pub mod Whole
 pub mod Widening
 pub mod WitnessLemmas

@@ -1,7 +1,7 @@
 -- Members of lists of numbers.
-use Rattle.std.proofs.Common.{◌≡◌, ℕ, true, eqb, List, [], ◌∷◌, refl, ◌∙◌, ap, inl, inr}
-use Rattle.std.specs.List.{list_any}
-use Rattle.std.proofs.lemmas.Bool.{false≢true, or_cases, or_left, or_right, eqb-true, eq-eqb}
+use Rattle.std.proofs.Common.{◌≡◌, ℕ, true, eqb, List, [], ◌∷◌, refl, sym, ◌∙◌, ap, inl, inr}
+use Rattle.std.specs.List.{list_any, list_all}
+use Rattle.std.proofs.lemmas.Bool.{false≢true, and_parts, or_cases, or_left, or_right, eqb-true, eq-eqb}
 use Rattle.sat_solve.specs.Sets.{NumberSet, members_of}
 
 -- a member of the list that passes
@@ -19,4 +19,14 @@ member_any test (x ∷ xs) q holds is_in =
     elim (or_cases (eqb x q) (members_of xs q) is_in) [
       | inl here ↦ or_left (test x) (list_any test xs) (ap test (eqb-true x q here) ∙ holds)
       | inr later ↦ or_right (test x) (list_any test xs) (member_any test xs q holds later)
+    ]
+
+-- what a test says of all of a list it says of a member
+pub all_member : (test : NumberSet) (xs : List ℕ) (q : ℕ) → list_all test xs ≡ true → members_of xs q ≡ true → test q ≡ true
+all_member test [] q holds is_in = absurd (false≢true is_in)
+all_member test (x ∷ xs) q holds is_in =
+    let parts = and_parts (test x) (list_all test xs) holds in
+    elim (or_cases (eqb x q) (members_of xs q) is_in) [
+      | inl here ↦ ap test (sym (eqb-true x q here)) ∙ parts.0
+      | inr later ↦ all_member test xs q parts.1 later
     ]

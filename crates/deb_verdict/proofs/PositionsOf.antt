@@ -34,7 +34,7 @@ group_at positions groups k is_in =
     let parts = and_parts (groups at.0) (eqb (get_or positions at.0 0) k) at.2 in
     (at.0, omega (arith, at.1), parts.0, eqb-true (get_or positions at.0 0) k parts.1)
 
-one_group : (positions : List ℕ) → IsStrictlyIncreasing positions → (i j : ℕ) → i < length positions → j < length positions → get_or positions i 0 ≡ get_or positions j 0 → i ≡ j
+pub one_group : (positions : List ℕ) → IsStrictlyIncreasing positions → (i j : ℕ) → i < length positions → j < length positions → get_or positions i 0 ≡ get_or positions j 0 → i ≡ j
 one_group positions rising i j one other same =
     elim (cases_order i j) [
       | inl e ↦ e

@@ -1,5 +1,5 @@
 -- Whether a rising list has a number, as a binary search for it tells.
-use Rattle.std.proofs.Common.{◌≡◌, ℕ, ◌<◌, ◌≤◌, true, false, ◌||◌, leb, List, Result, Ok, Err, is_ok, length, get_or, MatchResult, sym, ◌∙◌, ap, refl, inl, inr, arith}
+use Rattle.std.proofs.Common.{◌≡◌, ℕ, ◌<◌, ◌≤◌, true, false, ◌||◌, List, Result, Ok, Err, is_ok, length, get_or, MatchResult, sym, ◌∙◌, ap, refl, inl, inr, arith}
 use Rattle.std.specs.List.Sorted.{IsStrictlyIncreasing, IsBinarySearchResult}
 use Rattle.std.specs.Ordering.{nat_cmp}
 use Rattle.std.proofs.lemmas.Bool.{cases_lt, lt-leb, false_from_ne_true}

@@ -1,23 +1,19 @@
--- What the clauses that are added say of a constraint, or of a place and the earlier ones of its name.
-use Rattle.std.proofs.Common.{◌≡◌, ◌⊎◌, ℕ, ◌<◌, Bool, true, false, ◌||◌, ◌&&◌, not, eqb, ltb, List, length, ◌↔◌, sym, subst, ◌∙◌, ap, inl, inr, arith}
+-- What the clauses that are added say of a constraint.
+use Rattle.std.proofs.Common.{◌≡◌, ◌⊎◌, ℕ, Bool, true, ◌||◌, ◌&&◌, not, eqb, List, ◌↔◌, sym, subst, ◌∙◌, ap, inl, inr}
 use Rattle.std.specs.List.{list_any}
-use Rattle.std.specs.Option.{option_map_or}
-use Rattle.std.specs.Str.{bytes_eq}
-use Rattle.std.proofs.lemmas.Bool.{cases_Bool, both_ways, or_cases, not-true, not_from_false, and_parts, and_from, eqb-true, eq-eqb, ltb-true, lt-ltb}
-use Rattle.std.proofs.lemmas.Option.{slice_get-get_or}
+use Rattle.std.proofs.lemmas.Bool.{cases_Bool, both_ways, or_cases, not-true, not_from_false, and_parts, and_from, eqb-true, eq-eqb}
 use Rattle.deb_relation.specs.Relationship.{AtomText}
 use Rattle.deb_index.specs.declared.constraint.Constraint.{Constraint}
 use Rattle.deb_index.specs.declared.constraint.Constraint.TheVariants.{Essential, Need, Apart}
-use Rattle.deb_index.specs.Packages.{IndexView, no_package, package_at, is_named, name_at, places_of, need_at, apart_at}
+use Rattle.deb_index.specs.Packages.{IndexView, name_at, places_of, need_at, apart_at}
 use Rattle.deb_index.specs.Meets.{meets_at, satisfiers, group_satisfiers}
 use Rattle.deb_index.specs.Constraints.{Holds}
-use Rattle.deb_index.proofs.MemberLemmas.{member-places_where}
 use Rattle.sat_solve.specs.Sets.{NumberSet, members_of}
 use Rattle.sat_solve.specs.Clauses.{Clauses}
 use Rattle.deb_verdict.specs.Encoding.{positions_of}
 use Rattle.deb_verdict.specs.Adding.{Adds}
 use Rattle.deb_verdict.specs.Play.{placed, AddsPlaces}
-use Rattle.deb_verdict.specs.Standings.{IsClear, HasNoEarlier}
+use Rattle.deb_verdict.specs.Standings.{IsClear}
 use Rattle.deb_verdict.proofs.IndexFacts.{member_satisfiers}
 use Rattle.deb_verdict.proofs.AddLemmas.{adds_none, adds_both, adds_as}
 use Rattle.deb_verdict.proofs.Encoded.{at_members_of}
@@ -32,12 +28,6 @@ placed_in_play ins members vars q is_there =
       | inl is_in ↦ inl is_in
       | inr of_variable ↦ let at = group_at members vars q of_variable in inr (ap (members_of members) (sym at.3) ∙ at_members_of members at.0 at.1)
     ]
-
--- in the order of the packages' places, those of a package's name
-pub member_version : (index : IndexView) (p q : ℕ) → q < length index.packages → members_of (places_of index (package_at index p).name) q ≡ bytes_eq (package_at index p).name (package_at index q).name
-member_version index p q inside =
-    member-places_where (is_named (package_at index p).name) index.packages q
-    ∙ ap (λ there. option_map_or (is_named (package_at index p).name) there false) (slice_get-get_or index.packages q no_package inside)
 
 module _ (index : IndexView) (ins members : List ℕ) (group : ℕ) (before after : Clauses) where
   abbrev pub AddsHolds : Constraint → Type 0
@@ -78,15 +68,6 @@ module _ (index : IndexView) (ins members : List ℕ) (group : ℕ) (before afte
           both_ways (eqb q p) (not-true (eqb q p) parts.0) (eq-eqb q p (holds (stands vars ∙ has_it) q also parts.1)),
     )
 
-    -- and the places that it must not have with p are the earlier ones of the name
-    earlier_says : (told : NumberSet) → ((q : ℕ) → told q ≡ true → (q < p) × (members_of (places_of index (package_at index p).name) q ≡ true))
-        → ((q : ℕ) → q < p → members_of (places_of index (package_at index p).name) q ≡ true → told q ≡ true)
-        → (vars : NumberSet) → (IsClear (has vars) told (placed ins members vars) ↔ HasNoEarlier index (placed ins members vars) p)
-    earlier_says told to from vars = (
-      λ clear is_there q less named also. clear (sym (stands vars) ∙ is_there) q (from q less named) also,
-      λ alone has_it q is_told also. (let parts = to q is_told in alone (stands vars ∙ has_it) q parts.0 parts.1 also),
-    )
-
     pub apart_row : (j : ℕ) (row : List ℕ) → row ≡ satisfiers index (apart_at index p j) → AddsClear group has (placed ins members) (λ q. not (eqb q p)) row before after → AddsHolds (Apart p j)
     apart_row j row same adds =
         let atom : AtomText = apart_at index p j in
@@ -95,16 +76,6 @@ module _ (index : IndexView) (ins members : List ℕ) (group : ℕ) (before afte
         (apart_says j (λ q. members_of row q && not (eqb q p))
         (λ q told. let parts = and_parts (members_of row q) (not (eqb q p)) told in (parts.1, sym (met q) ∙ parts.0))
         (λ q other hit. and_from (members_of row q) (not (eqb q p)) (met q ∙ hit) other))
-        adds
-
-    pub earlier_row : (row : List ℕ) → row ≡ places_of index (package_at index p).name → AddsClear group has (placed ins members) (λ q. ltb q p) row before after
-        → AddsPlaces group ins members (λ set. HasNoEarlier index set p) before after
-    earlier_row row same adds =
-        let met : (q : ℕ) → members_of row q ≡ members_of (places_of index (package_at index p).name) q = λ q. ap (λ list. members_of list q) same in
-        adds_as group (λ vars. IsClear (has vars) (λ q. members_of row q && ltb q p) (placed ins members vars)) (λ vars. HasNoEarlier index (placed ins members vars) p) before after
-        (earlier_says (λ q. members_of row q && ltb q p)
-        (λ q told. let parts = and_parts (members_of row q) (ltb q p) told in (ltb-true q p parts.1, sym (met q) ∙ parts.0))
-        (λ q less named. and_from (members_of row q) (ltb q p) (met q ∙ named) (lt-ltb q p less)))
         adds
 
     -- one walk over what is in and one over the members look at all places that may be in
@@ -137,23 +108,4 @@ module _ (index : IndexView) (ins members : List ℕ) (group : ℕ) (before afte
         (apart_says j test
         (λ q told. let parts = and_parts (not (eqb q p)) (meets_at index q atom) told in (parts.0, sym (ap (meets_at index q) same) ∙ parts.1))
         (λ q other hit. and_from (not (eqb q p)) (meets_at index q atom) other (ap (meets_at index q) same ∙ hit)))
-        (clear_in_play test one others between is_ins is_members first second)
-
-    pub earlier_in_play : (one others : List ℕ) (between : Clauses) → p < length index.packages → one ≡ ins → others ≡ members
-        → AddsClear group has (placed ins members) (λ q. ltb q p && bytes_eq (package_at index p).name (package_at index q).name) one before between
-        → AddsClear group has (placed ins members) (λ q. ltb q p && bytes_eq (package_at index p).name (package_at index q).name) others between after
-        → AddsPlaces group ins members (λ set. HasNoEarlier index set p) before after
-    earlier_in_play one others between inside is_ins is_members first second =
-        let named : ℕ → Bool = λ q. bytes_eq (package_at index p).name (package_at index q).name in
-        let test : NumberSet = λ q. ltb q p && named q in
-        adds_as group (λ vars. IsClear (has vars) test (placed ins members vars)) (λ vars. HasNoEarlier index (placed ins members vars) p) before after
-        (earlier_says test
-        (λ q told.
-        let parts = and_parts (ltb q p) (named q) told in
-        let less : q < p = ltb-true q p parts.0 in
-        let there : q < length index.packages = omega arith in
-        (less, member_version index p q there ∙ parts.1))
-        (λ q less is_version.
-        let there : q < length index.packages = omega arith in
-        and_from (ltb q p) (named q) (lt-ltb q p less) (sym (member_version index p q there) ∙ is_version)))
         (clear_in_play test one others between is_ins is_members first second)

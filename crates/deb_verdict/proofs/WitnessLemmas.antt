@@ -1,16 +1,13 @@
 -- Sets that are seen to meet a part of the constraints.
 use Rattle.std.proofs.Common.{◌≡◌, ℕ, ◌<◌, ◌≤◌, Bool, true, false, not, ◌&&◌, ltb, eqb, List, length, get_or, Some, slice_get, sym, subst, ◌∙◌, ap, inl, inr, arith}
 use Rattle.std.specs.List.{list_any}
-use Rattle.std.specs.Str.{bytes_eq}
 use Rattle.std.proofs.lemmas.Bool.{cases_Bool, false≢true, and_from, both_ways, lt-ltb, eqb-true}
-use Rattle.std.proofs.lemmas.Option.{same_Some}
 use Rattle.deb_index.specs.declared.constraint.Constraint.{Constraint}
 use Rattle.deb_index.specs.declared.constraint.Constraint.TheVariants.{Essential, Need, Apart, Only}
 use Rattle.deb_index.specs.Packages.{IndexView, package_at, names, name_at, places_of, essential_names, apart_at}
 use Rattle.deb_index.specs.Meets.{satisfiers}
-use Rattle.deb_index.specs.Constraints.{Holds, IsOfIndex, constraints_of, has_name}
+use Rattle.deb_index.specs.Constraints.{Holds, IsOfIndex, constraints_of}
 use Rattle.deb_index.proofs.ConstraintLemmas.{constraints-within}
-use Rattle.deb_index.proofs.FirstLemmas.{name-itself}
 use Rattle.deb_index.proofs.PositionLemmas.{one_position, essential_position}
 use Rattle.sat_solve.specs.Sets.{NumberSet, members_of}
 use Rattle.deb_verdict.specs.Health.{MeetsAt}
@@ -18,7 +15,7 @@ use Rattle.deb_verdict.specs.Standings.{HasNoEarlier}
 use Rattle.deb_verdict.specs.Witnesses.{IsAsked, MeetsAsked, MeetsAskedOf, StandsOnce}
 use Rattle.deb_verdict.proofs.Encoded.{members_of_at}
 use Rattle.deb_verdict.proofs.Healthy.{only_says, name_is}
-use Rattle.deb_verdict.proofs.IndexFacts.{All-at, IsRight, all_right, member_named, member_satisfiers, named_is_place}
+use Rattle.deb_verdict.proofs.IndexFacts.{All-at, IsRight, all_right, member_named, member_satisfiers}
 use Rattle.deb_verdict.proofs.Members.{any_member, member_any}
 use Rattle.deb_verdict.proofs.Names.{one_number}
 use Rattle.deb_verdict.proofs.SameMembers.{contains_member}

@@ -19,10 +19,10 @@ IsMet index ins place = (j : ℕ) → j < length (needs_at index place) → (q :
 abbrev pub HasAnswers : IndexView → NumberSet → ℕ → Type 0
 HasAnswers index ins place = (j : ℕ) → j < length (needs_at index place) → list_any ins (group_satisfiers index (need_at index place j)) ≡ true
 
--- no entry of the place hits another one, and none of its name is before it
+-- no entry of the place hits another one, and no other one has its name
 pub record IsAlone (index : IndexView) (place : ℕ) : Type 0 where
   pub hits_none : (j : ℕ) → j < length (aparts_at index place) → (q : ℕ) → hits index place j q ≡ true → q ≡ place
-  pub earliest : (q : ℕ) → q < place → members_of (places_of index (package_at index place).name) q ≡ true → ⊥
+  pub only : (q : ℕ) → members_of (places_of index (package_at index place).name) q ≡ true → q ≡ place
 
 -- what is marked, by place, has the property
 abbrev pub MarksOnly : (ℕ → Type 0) → List Bool → Type 0

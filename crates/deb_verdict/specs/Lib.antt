@@ -2,10 +2,12 @@ pub mod Adding
 pub mod Closure
 pub mod Deriving
 pub mod Encoding
+pub mod Exclusions
 pub mod Gathering
 pub mod Groundwork
 pub mod Growing
 pub mod Having
+pub mod Hopeless
 pub mod Health
 pub mod Listing
 pub mod PlaceSets
@@ -13,5 +15,6 @@ pub mod Play
 pub mod Reach
 pub mod Reduction
 pub mod Standings
+pub mod Unmet
 pub mod Verdicts
 pub mod Witnesses

@@ -1,7 +1,8 @@
 -- How places stand in the sets that are looked for, and what such sets say of a place and others.
-use Rattle.std.specs.Prelude.{◌≡◌, ℕ, ◌<◌, Bool, true, false, ◌||◌, List, All, length}
+use Rattle.std.specs.Prelude.{◌≡◌, ℕ, ◌<◌, Bool, true, false, ◌||◌, nat_le, List, All, length}
 use Rattle.deb_index.specs.declared.constraint.Constraint.TheVariants.{Need, Apart}
-use Rattle.deb_index.specs.Packages.{IndexView, package_at, places_of, needs_at, aparts_at}
+use Rattle.deb_index.specs.Packages.{IndexView, package_at, places_of, needs_at, aparts_at, apart_at}
+use Rattle.deb_index.specs.Rows.{candidate_count, row_limit}
 use Rattle.deb_index.specs.Constraints.{Holds}
 use Rattle.sat_solve.specs.declared.clause.Lit.{Lit}
 use Rattle.sat_solve.specs.Sets.{NumberSet, members_of}
@@ -38,12 +39,36 @@ HasNoEarlier index set place = set place ≡ true → (q : ℕ) → q < place �
 abbrev pub MeetsNeeds : IndexView → NumberSet → ℕ → Type 0
 MeetsNeeds index set place = (j : ℕ) → j < length (needs_at index place) → Holds index set (Need place j)
 
--- the set has nothing that an entry of the package at a place hits, and no earlier place of its name with it
-pub record MeetsConflicts (index : IndexView) (set : NumberSet) (place : ℕ) : Type 0 where
-  pub aparts : (j : ℕ) → j < length (aparts_at index place) → Holds index set (Apart place j)
-  pub earlier : HasNoEarlier index set place
+-- few packages may meet an entry of the package at a place
+abbrev pub has_row : IndexView → ℕ → ℕ → Bool
+has_row index place j = nat_le (candidate_count index (apart_at index place j)) row_limit
 
--- the set meets all that the package at a place asks for, and has no earlier place of its name with it
+-- none of the owners is in the set together with another one of these places
+abbrev pub AreApart : List ℕ → List ℕ → NumberSet → Type 0
+AreApart owners places set = (q r : ℕ) → members_of owners q ≡ true → members_of places r ≡ true → set q ≡ true → set r ≡ true → q ≡ r
+
+-- at most one of these places is in the set
+abbrev pub HasOneOf : List ℕ → NumberSet → Type 0
+HasOneOf places = AreApart places places
+
+-- at most one package of the name of the package at a place is in the set
+abbrev pub HasOneVersion : IndexView → NumberSet → ℕ → Type 0
+HasOneVersion index set place = HasOneOf (places_of index (package_at index place).name) set
+
+-- the set has nothing that an entry of the package at a place hits
+abbrev pub MeetsEntries : IndexView → NumberSet → ℕ → Type 0
+MeetsEntries index set place = (j : ℕ) → j < length (aparts_at index place) → Holds index set (Apart place j)
+
+-- the same of those of its entries that few packages may meet, so that the index has a row of them
+abbrev pub MeetsNarrow : IndexView → NumberSet → ℕ → Type 0
+MeetsNarrow index set place = (j : ℕ) → j < length (aparts_at index place) → has_row index place j ≡ true → Holds index set (Apart place j)
+
+-- the set has nothing that an entry of the package at a place hits, and one package of its name at most
+pub record MeetsConflicts (index : IndexView) (set : NumberSet) (place : ℕ) : Type 0 where
+  pub entries : MeetsEntries index set place
+  pub once : HasOneVersion index set place
+
+-- the set meets all that the package at a place asks for, and has one package of its name at most
 pub record MeetsPlace (index : IndexView) (set : NumberSet) (place : ℕ) : Type 0 where
   pub needs : MeetsNeeds index set place
   pub conflicts : MeetsConflicts index set place

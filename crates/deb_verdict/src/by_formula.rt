@@ -83,6 +83,7 @@ fn describe_part(
         &workspace.members,
         &workspace.constraints,
         &mut workspace.clause,
+        &mut workspace.versions,
         &mut workspace.formula,
     )?;
     Ok(())

@@ -5,6 +5,7 @@ ghost use Rattle.std.specs.Prelude.{◌<◌, IfOk, length};
 ghost use Rattle.std.specs.List.Sorted.{IsStrictlyIncreasing};
 ghost use Rattle.sat_solve.specs.Sets.{members_of};
 ghost use Rattle.deb_verdict.specs.Closure.{IsClosure};
+ghost use Rattle.deb_verdict.specs.Hopeless.{IsHopeless};
 ghost use Rattle.deb_verdict.specs.Verdicts.{IsVerdict, SpeaksOf, verdict_view};
 
 use crate::answer::Verdict;
@@ -47,6 +48,22 @@ pub fn verdict(alloc: Global, index: &Index, p: u32) -> Result<Verdict, AllocErr
     verdict_in(alloc, &mut workspace, &groundwork, p)
 }
 
+/// The verdict of a package that no healthy set has.
+fn broken(
+    alloc: Global,
+    workspace: &mut Workspace,
+    index: &Index,
+    p: u32,
+) -> Result<Verdict, AllocError>
+    requires place { p < length index.now.packages }
+    requires hopeless { IsHopeless index.now p }
+    ensures verdict { IfOk result (λ found. IsVerdict index.now p (verdict_view found)) }
+    ensures within { IfOk result (λ found. SpeaksOf index.now (verdict_view found)) }
+{
+    let core = first_core(alloc, workspace, index, p)?;
+    Ok(Verdict::Broken(core))
+}
+
 /// What `verdict` gives for the index of a groundwork, found in the buffers of an earlier verdict, of whatever package and index.
 ///
 /// The answer does not depend on what the workspace was used for. `p` is a place of that index, counted from 0 and below its `len()`. The
@@ -61,11 +78,11 @@ pub fn verdict_in(
     ensures verdict { IfOk result (λ found. IsVerdict groundwork.now.index.now p (verdict_view found)) }
     ensures within { IfOk result (λ found. SpeaksOf groundwork.now.index.now (verdict_view found)) }
 {
+    if groundwork.is_hopeless(p) {
+        return broken(alloc, workspace, groundwork.index, p);
+    }
     match first_set(alloc, workspace, groundwork, p)? {
         Some(places) => Ok(Verdict::Ok(places)),
-        None => {
-            let core = first_core(alloc, workspace, groundwork.index, p)?;
-            Ok(Verdict::Broken(core))
-        }
+        None => broken(alloc, workspace, groundwork.index, p),
     }
 }

@@ -56,6 +56,7 @@ pub(crate) fn first_set(
         p,
         &mut workspace.ins,
         &mut workspace.members,
+        &mut workspace.unmet,
     )?;
     workspace.members.sort();
     let count = count_of(groundwork.index, workspace.members.as_slice());
@@ -65,7 +66,10 @@ pub(crate) fn first_set(
         groundwork,
         &workspace.ins,
         &workspace.members,
+        &workspace.unmet,
         &mut workspace.clause,
+        &mut workspace.rivals,
+        &mut workspace.versions,
         &mut workspace.formula,
     )?;
     let must = workspace.members.number_of(p).unwrap();

@@ -19,12 +19,28 @@ fn take_only(row: &[u32], ins: &mut PlaceSet) -> Result<(), AllocError>
     Ok(())
 }
 
-/// Puts in what alone answers a need of the place, which is in.
-fn force_needs(index: &Index, place: u32, ins: &mut PlaceSet) -> Result<(), AllocError>
+/// Whether a place has its mark. `false` where there are no marks.
+fn is_marked(marks: &[bool], place: u32) -> bool {
+    match marks.get(place as usize) {
+        Some(mark) => *mark,
+        None => false,
+    }
+}
+
+/// Puts in what alone answers a need of the place, which is in. Nothing, where the place is marked.
+fn force_needs(
+    index: &Index,
+    met: &[bool],
+    place: u32,
+    ins: &mut PlaceSet,
+) -> Result<(), AllocError>
     requires place { place < length index.now.packages }
     requires known { members_of ins.old place ≡ true }
     ensures { OnOk result (KeepsForced index.now ins.old ins.new) }
 {
+    if is_marked(met, place) {
+        return Ok(());
+    }
     for number in 0..index.need_count(place) {
         if let Some(row) = index.answer_row(place, number) {
             take_only(row, ins)?;
@@ -43,15 +59,22 @@ pub(crate) fn force_essential(index: &Index, ins: &mut PlaceSet) -> Result<(), A
     Ok(())
 }
 
-/// Puts in what alone answers a need of a place that is in, as long as places come. The first places of the list are not asked again.
-pub(crate) fn force_from(index: &Index, start: usize, ins: &mut PlaceSet) -> Result<(), AllocError>
+/// Puts in what alone answers a need of a place that is in, as long as places come.
+///
+/// The first places of the list are not asked again, and those not at all whose mark says that what is in answers their needs anyway.
+pub(crate) fn force_from(
+    index: &Index,
+    met: &[bool],
+    start: usize,
+    ins: &mut PlaceSet,
+) -> Result<(), AllocError>
     requires { ArePlaces (length index.now.packages) ins.old }
     ensures { OnOk result (KeepsForced index.now ins.old ins.new) }
 {
     let mut visited = start;
     while visited < ins.as_slice().len() {
         let place = ins.as_slice()[visited];
-        force_needs(index, place, ins)?;
+        force_needs(index, met, place, ins)?;
         visited += 1;
     }
     Ok(())

@@ -9,10 +9,12 @@ ghost use Rattle.deb_verdict.specs.Closure.{IsWithin};
 ghost use Rattle.deb_verdict.specs.Encoding.{places_in_play};
 ghost use Rattle.deb_verdict.specs.Gathering.{Follows, IsEnough, none_of, all_of};
 ghost use Rattle.deb_verdict.specs.Growing.{ArePlaces, AreForced, Brings, BringsEssential, Visits};
+ghost use Rattle.deb_verdict.specs.Unmet.{LeavesUnmet, ListsUnmet, AreUnmet};
 
 use crate::forced::force_from;
 use crate::groundwork::Groundwork;
 use crate::place_set::PlaceSet;
+use crate::unmet::UnmetNeed;
 use deb_index::Index;
 use std::alloc::{AllocError, Global};
 
@@ -27,7 +29,7 @@ fn gather_ins(groundwork: &Groundwork<'_>, p: u32, ins: &mut PlaceSet) -> Result
     ins.extend(groundwork.forced.as_slice())?;
     let start = ins.as_slice().len();
     ins.insert(p)?;
-    force_from(groundwork.index, start, ins)?;
+    force_from(groundwork.index, &groundwork.met, start, ins)?;
     Ok(())
 }
 
@@ -38,15 +40,16 @@ pub(crate) fn has_any(ins: &PlaceSet, row: &[u32]) -> bool
     row.iter().any(|place| ins.contains(*place))
 }
 
-/// Brings all places of the row into play, where none of them is in.
-fn bring(ins: &PlaceSet, row: &[u32], free: &mut PlaceSet) -> Result<(), AllocError>
-    ensures { OnOk result ((count : ℕ) → All (λ place. place < count) row.now → Brings count (members_of ins.now) (members_of row.now) free.old free.new) }
+/// Brings all places of the row into play, where none of them is in; tells whether none is.
+fn bring(ins: &PlaceSet, row: &[u32], free: &mut PlaceSet) -> Result<bool, AllocError>
+    ensures brings { OnOk result ((count : ℕ) → All (λ place. place < count) row.now → Brings count (members_of ins.now) (members_of row.now) free.old free.new) }
+    ensures unmet { IfOk result (LeavesUnmet (members_of ins.now) (members_of row.now)) }
 {
     if has_any(ins, row) {
-        return Ok(());
+        return Ok(false);
     }
     free.extend(row)?;
-    Ok(())
+    Ok(true)
 }
 
 /// The places that answer a need, perhaps several times.
@@ -63,7 +66,30 @@ fn answers_of(alloc: Global, index: &Index, place: u32, number: u32) -> Result<V
     Ok(found)
 }
 
-/// Brings all places that answer a need into play, where none of them is in.
+/// Brings all places that answer a need into play, where none of them is in; tells whether none is.
+fn bring_answers(
+    alloc: Global,
+    index: &Index,
+    ins: &PlaceSet,
+    place: u32,
+    number: u32,
+    free: &mut PlaceSet,
+) -> Result<bool, AllocError>
+    requires place { place < length index.now.packages }
+    requires number { number < length (needs_at index.now place) }
+    ensures brings { OnOk result (Brings (length index.now.packages) (members_of ins.now) (answers index.now place number) free.old free.new) }
+    ensures unmet { IfOk result (LeavesUnmet (members_of ins.now) (answers index.now place number)) }
+{
+    match index.answer_row(place, number) {
+        Some(row) => Ok(bring(ins, row, free)?),
+        None => {
+            let row = answers_of(alloc, index, place, number)?;
+            Ok(bring(ins, &row, free)?)
+        }
+    }
+}
+
+/// Brings all places that answer a need into play, and lists the need, where none of them is in.
 fn bring_need(
     alloc: Global,
     index: &Index,
@@ -71,39 +97,40 @@ fn bring_need(
     place: u32,
     number: u32,
     free: &mut PlaceSet,
+    unmet: &mut Vec<UnmetNeed>,
 ) -> Result<(), AllocError>
     requires place { place < length index.now.packages }
     requires number { number < length (needs_at index.now place) }
-    ensures { OnOk result (Brings (length index.now.packages) (members_of ins.now) (answers index.now place number) free.old free.new) }
+    ensures brings { OnOk result (Brings (length index.now.packages) (members_of ins.now) (answers index.now place number) free.old free.new) }
+    ensures lists { OnOk result (ListsUnmet index.now (members_of ins.now) (λ q j. (place ≡ q) × (number ≡ j)) unmet.old.items unmet.new.items) }
 {
-    match index.answer_row(place, number) {
-        Some(row) => bring(ins, row, free)?,
-        None => {
-            let row = answers_of(alloc, index, place, number)?;
-            bring(ins, &row, free)?;
-        }
+    if !bring_answers(alloc, index, ins, place, number, free)? {
+        return Ok(());
     }
+    unmet.push(UnmetNeed { place, number })?;
     Ok(())
 }
 
-/// Brings into play what may answer the needs of a place.
+/// Brings into play what may answer the needs of a place, and lists those that nothing that is in answers.
 fn visit(
     alloc: Global,
     groundwork: &Groundwork<'_>,
     ins: &PlaceSet,
     place: u32,
     free: &mut PlaceSet,
+    unmet: &mut Vec<UnmetNeed>,
 ) -> Result<(), AllocError>
     requires place { place < length groundwork.now.index.now.packages }
     requires ground { IsWithin (members_of groundwork.now.forced) (members_of ins.now) }
-    ensures { OnOk result (Visits groundwork.now.index.now (members_of ins.now) (λ q. place == q) free.old free.new) }
+    ensures visits { OnOk result (Visits groundwork.now.index.now (members_of ins.now) (λ q. place == q) free.old free.new) }
+    ensures lists { OnOk result (ListsUnmet groundwork.now.index.now (members_of ins.now) (λ q j. place ≡ q) unmet.old.items unmet.new.items) }
 {
     if groundwork.is_met(place) {
         return Ok(());
     }
     let index = groundwork.index;
     for number in 0..index.need_count(place) {
-        bring_need(alloc, index, ins, place, number, free)?;
+        bring_need(alloc, index, ins, place, number, free, unmet)?;
     }
     Ok(())
 }
@@ -124,13 +151,15 @@ fn visit_ins(
     groundwork: &Groundwork<'_>,
     ins: &PlaceSet,
     free: &mut PlaceSet,
+    unmet: &mut Vec<UnmetNeed>,
 ) -> Result<(), AllocError>
     requires places { All (λ place. place < length groundwork.now.index.now.packages) ins.now }
     requires ground { IsWithin (members_of groundwork.now.forced) (members_of ins.now) }
-    ensures { OnOk result (Visits groundwork.now.index.now (members_of ins.now) (members_of ins.now) free.old free.new) }
+    ensures visits { OnOk result (Visits groundwork.now.index.now (members_of ins.now) (members_of ins.now) free.old free.new) }
+    ensures lists { OnOk result (ListsUnmet groundwork.now.index.now (members_of ins.now) (λ q j. members_of ins.now q ≡ true) unmet.old.items unmet.new.items) }
 {
     for place in ins.as_slice() {
-        visit(alloc, groundwork, ins, *place, free)?;
+        visit(alloc, groundwork, ins, *place, free, unmet)?;
     }
     Ok(())
 }
@@ -141,27 +170,30 @@ fn visit_free(
     groundwork: &Groundwork<'_>,
     ins: &PlaceSet,
     free: &mut PlaceSet,
+    unmet: &mut Vec<UnmetNeed>,
 ) -> Result<(), AllocError>
     requires places { ArePlaces (length groundwork.now.index.now.packages) free.old }
     requires ground { IsWithin (members_of groundwork.now.forced) (members_of ins.now) }
-    ensures { OnOk result (Visits groundwork.now.index.now (members_of ins.now) (members_of free.new) free.old free.new) }
+    ensures visits { OnOk result (Visits groundwork.now.index.now (members_of ins.now) (members_of free.new) free.old free.new) }
+    ensures lists { OnOk result (ListsUnmet groundwork.now.index.now (members_of ins.now) (λ q j. members_of free.new q ≡ true) unmet.old.items unmet.new.items) }
 {
     let mut visited = 0;
     while visited < free.as_slice().len() {
         let place = free.as_slice()[visited];
-        visit(alloc, groundwork, ins, place, free)?;
+        visit(alloc, groundwork, ins, place, free, unmet)?;
         visited += 1;
     }
     Ok(())
 }
 
-/// Finds places that are enough to look at beside those that are in.
+/// Finds places that are enough to look at beside those that are in, and lists the needs of all of them that nothing that is in answers.
 fn gather_free(
     alloc: Global,
     groundwork: &Groundwork<'_>,
     p: u32,
     ins: &PlaceSet,
     free: &mut PlaceSet,
+    unmet: &mut Vec<UnmetNeed>,
 ) -> Result<(), AllocError>
     requires p { p < length groundwork.now.index.now.packages }
     requires ground { IsWithin (members_of groundwork.now.forced) (members_of ins.now) }
@@ -169,23 +201,27 @@ fn gather_free(
     ensures enough { OnOk result (IsEnough groundwork.now.index.now (members_of ins.now) none_of (places_in_play (members_of ins.now) free.new)) }
     ensures start { OnOk result (members_of free.new p ≡ true) }
     ensures within { OnOk result (All (λ q. q < length groundwork.now.index.now.packages) free.new) }
+    ensures unmet { OnOk result (AreUnmet groundwork.now.index.now (members_of ins.now) (places_in_play (members_of ins.now) free.new) unmet.new.items) }
 {
     free.clear();
+    unmet.clear();
     free.insert(p)?;
     bring_essential(groundwork.index, ins, free)?;
-    visit_ins(alloc, groundwork, ins, free)?;
-    visit_free(alloc, groundwork, ins, free)?;
+    visit_ins(alloc, groundwork, ins, free, unmet)?;
+    visit_free(alloc, groundwork, ins, free, unmet)?;
     Ok(())
 }
 
 /// Finds the places that are in every healthy set with the package at a place, by dependencies that one package alone meets (`ins`), and
 /// the places that are reached through the other dependencies, where none of `ins` meets them (`free`). The package itself is in both.
+/// Lists the dependencies of all these places that none of `ins` meets (`unmet`).
 pub(crate) fn gather(
     alloc: Global,
     groundwork: &Groundwork<'_>,
     p: u32,
     ins: &mut PlaceSet,
     free: &mut PlaceSet,
+    unmet: &mut Vec<UnmetNeed>,
 ) -> Result<(), AllocError>
     requires { p < length groundwork.now.index.now.packages }
     ensures follows { OnOk result (Follows groundwork.now.index.now p all_of (members_of ins.new) none_of) }
@@ -194,8 +230,9 @@ pub(crate) fn gather(
     ensures ground { OnOk result (IsWithin (members_of groundwork.now.forced) (members_of ins.new)) }
     ensures ins_within { OnOk result (All (λ q. q < length groundwork.now.index.now.packages) ins.new) }
     ensures free_within { OnOk result (All (λ q. q < length groundwork.now.index.now.packages) free.new) }
+    ensures unmet { OnOk result (AreUnmet groundwork.now.index.now (members_of ins.new) (places_in_play (members_of ins.new) free.new) unmet.new.items) }
 {
     gather_ins(groundwork, p, ins)?;
-    gather_free(alloc, groundwork, p, ins, free)?;
+    gather_free(alloc, groundwork, p, ins, free, unmet)?;
     Ok(())
 }

@@ -21,7 +21,8 @@ fn expect_gathered(
     let groundwork = Groundwork::new(alloc, index)?;
     let mut ins = PlaceSet::new(alloc);
     let mut free = PlaceSet::new(alloc);
-    gather(alloc, &groundwork, p, &mut ins, &mut free)?;
+    let mut unmet = Vec::new(alloc);
+    gather(alloc, &groundwork, p, &mut ins, &mut free, &mut unmet)?;
     assert!(rt; ins.as_slice() == wanted_ins);
     assert!(rt; free.as_slice() == wanted_free);
     Ok(())
@@ -162,7 +163,7 @@ Depends: d
 fn expect_known(rt: &impl Abort, groundwork: &Groundwork<'_>) -> Result<(), Fail> {
     assert!(rt; groundwork.forced.as_slice() == [0, 1].as_slice());
     let met = [true, true, false, true, false, true];
-    let alone = [true, true, true, false, true, false];
+    let alone = [true, true, false, false, true, false];
     for place in 0..6 {
         assert!(rt; groundwork.is_met(place) == met[place as usize]);
         assert!(rt; groundwork.is_alone(place) == alone[place as usize]);

@@ -8,27 +8,32 @@ ghost use Rattle.deb_index.specs.Constraints.{answers, hits};
 ghost use Rattle.sat_solve.specs.Sets.{members_of};
 ghost use Rattle.deb_verdict.specs.Growing.{ArePlaces};
 ghost use Rattle.deb_verdict.specs.Groundwork.{IsInAll, IsMet, HasAnswers, IsAlone, MarksOnly};
+ghost use Rattle.deb_verdict.specs.Hopeless.{IsHopeless, AreHopeless};
 
-use crate::clauses::has_earlier;
 use crate::forced::{force_essential, force_from};
 use crate::gather::has_any;
+use crate::hopeless::find_hopeless;
 use crate::place_set::PlaceSet;
 use deb_index::Index;
 use std::alloc::{AllocError, Global};
 
-/// What the verdicts of an index have in common, found once for all of them: which packages its essential ones ask for, and which packages
-/// have constraints that hold anyway (Debian Policy 7.2, 7.4 and 3.8 on essential packages).
+/// What the verdicts of an index have in common, found once for all of them: which packages its essential ones ask for, which packages
+/// can't be installed since what they need is missing, and which have constraints that hold anyway (Debian Policy 7.2, 7.4 and 3.8 on
+/// essential packages).
 #[derive(Drop)]
 pub struct Groundwork<'a> {
     pub(crate) index: &'a Index,
     /// Places that are in every healthy set.
     pub(crate) forced: PlaceSet,
+    /// Places that no healthy set has.
+    hopeless: PlaceSet,
     /// By place: what is in every healthy set answers each need.
-    met: Vec<bool>,
-    /// By place: no other package is hit by an entry, and none of the name is before it.
+    pub(crate) met: Vec<bool>,
+    /// By place: no other package is hit by an entry, and none has the name.
     alone: Vec<bool>,
     ghost places: { ArePlaces (length index.now.packages) forced } by { Prim.hlevel props },
     ghost in_all: { IsInAll index.now (members_of forced) },
+    ghost in_none: { AreHopeless index.now (members_of hopeless) },
     ghost marks_met: { MarksOnly (HasAnswers index.now (members_of forced)) met.items },
     ghost marks_alone: { MarksOnly (IsAlone index.now) alone.items },
 }
@@ -77,7 +82,7 @@ fn hits_none(index: &Index, place: u32, number: u32) -> bool
     }
 }
 
-/// Whether no entry of a place hits another one, and none of its name is before it.
+/// Whether no entry of a place hits another one, and no other one has its name.
 fn is_alone(index: &Index, place: u32) -> bool
     requires { place < length index.now.packages }
     ensures { result ≡ true → IsAlone index.now place }
@@ -87,7 +92,7 @@ fn is_alone(index: &Index, place: u32) -> bool
             return false;
         }
     }
-    !has_earlier(index.versions_of(place), place)
+    has_only(index.versions_of(place), place)
 }
 
 /// Marks the places whose needs are answered by places that are in.
@@ -101,7 +106,7 @@ fn mark_met(alloc: Global, index: &Index, ins: &PlaceSet) -> Result<Vec<bool>, A
     Ok(marks)
 }
 
-/// Marks the places whose entries hit no other one, and that have none of their name before them.
+/// Marks the places whose entries hit no other one, and that no other one has the name of.
 fn mark_alone(alloc: Global, index: &Index) -> Result<Vec<bool>, AllocError>
     ensures { IfOk result (λ marks. MarksOnly (IsAlone index.now) marks.items) }
 {
@@ -119,8 +124,17 @@ fn force(alloc: Global, index: &Index) -> Result<PlaceSet, AllocError>
 {
     let mut forced = PlaceSet::new(alloc);
     force_essential(index, &mut forced)?;
-    force_from(index, 0, &mut forced)?;
+    force_from(index, &[], 0, &mut forced)?;
     Ok(forced)
+}
+
+/// Finds places that no healthy set has.
+fn find_hopeless_places(alloc: Global, index: &Index) -> Result<PlaceSet, AllocError>
+    ensures { IfOk result (λ hopeless. AreHopeless index.now (members_of hopeless)) }
+{
+    let mut hopeless = PlaceSet::new(alloc);
+    find_hopeless(index, &mut hopeless)?;
+    Ok(hopeless)
 }
 
 impl<'a> Groundwork<'a> {
@@ -128,15 +142,24 @@ impl<'a> Groundwork<'a> {
     pub fn new(alloc: Global, index: &'a Index) -> Result<Groundwork<'a>, AllocError>
         ensures { IfOk result (λ groundwork. groundwork.index.now ≡ index.now) }
     {
+        let hopeless = find_hopeless_places(alloc, index)?;
         let forced = force(alloc, index)?;
         let met = mark_met(alloc, index, &forced)?;
         let alone = mark_alone(alloc, index)?;
         Ok(Groundwork {
             index,
             forced,
+            hopeless,
             met,
             alone,
         })
+    }
+
+    /// Whether no healthy set is known to have a place.
+    pub(crate) fn is_hopeless(&self, place: u32) -> bool
+        ensures { result ≡ true → IsHopeless self.now.index.now place }
+    {
+        self.hopeless.contains(place)
     }
 
     /// Whether what is in every healthy set is known to answer each need of a place.
@@ -149,7 +172,7 @@ impl<'a> Groundwork<'a> {
         }
     }
 
-    /// Whether a place is known to keep out no other one, and to have none of its name before it.
+    /// Whether a place is known to keep out no other one, and to be the only one of its name.
     pub(crate) fn is_alone(&self, place: u32) -> bool
         ensures { result ≡ true → IsAlone self.now.index.now place }
     {

@@ -5,9 +5,12 @@
 //! - `answer` has what is found of a package, `decision` the public calls, `laws` what holds of the definitions alone.
 //! - `place_set` is the set of places that all work is done on, `workspace` the buffers that one verdict leaves to the next.
 //! - `reach` finds the closure.
-//! - `groundwork` knows what all verdicts of an index have in common; `forced` finds the places that are in every healthy set.
-//! - `first_set` finds the first healthy set: `gather` says which places are in anyway and which are in play, `scene` how each
-//!   place stands, `clauses` makes clauses of one constraint, `describe` of all of them, and the solver finds their first true set.
+//! - `groundwork` knows what all verdicts of an index have in common; `forced` finds the places that are in every healthy set,
+//!   `hopeless` those that are in none.
+//! - `first_set` finds the first healthy set: `gather` says which places are in anyway and which are in play, `unmet` has the needs that the
+//!   first do not answer, `scene` how each place stands, and the solver finds the first true set of the clauses that `describe` makes of all
+//!   constraints: `clauses` has those of essential names and needs, `conflicts` what an entry hits, `rivals` the entries that very many
+//!   packages may meet, `versions` that of each name one package at most is in, by `exclusion`.
 //! - `first_core` finds the first set of constraints that no set meets: `reduction` takes out those that no refutation needs, and asks
 //!   `question` whether a `part` of them, by their positions, admits none. Three modules answer, the next where one cannot tell:
 //!   - `propagation` refutes a part by what the package asks for with no choice; `derivation` has the steps of such a refutation, and
@@ -20,14 +23,17 @@
 mod answer;
 mod by_formula;
 mod clauses;
+mod conflicts;
 mod decision;
 mod derivation;
 mod describe;
+mod exclusion;
 mod first_core;
 mod first_set;
 mod forced;
 mod gather;
 mod groundwork;
+mod hopeless;
 mod kept_positions;
 pub mod laws;
 mod part;
@@ -36,7 +42,10 @@ mod propagation;
 mod question;
 mod reach;
 mod reduction;
+mod rivals;
 mod scene;
+mod unmet;
+mod versions;
 mod witness;
 mod workspace;
 
@@ -51,6 +60,8 @@ mod counting;
 mod gather_tests;
 #[cfg(test)]
 mod growths;
+#[cfg(test)]
+mod hopeless_tests;
 #[cfg(test)]
 mod tests;
 #[cfg(test)]

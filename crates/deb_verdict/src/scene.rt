@@ -1,8 +1,8 @@
 //! The places in play, and how each place stands in the sets that are looked for.
 
-ghost use Rattle.std.specs.Prelude.{◌≡◌, ℕ, ◌<◌, ◌^◌, ◌||◌, not, All, IfOk, length};
+ghost use Rattle.std.specs.Prelude.{◌≡◌, ℕ, ◌<◌, ◌^◌, ◌||◌, not, false, Some, All, IfOk, IfSome, IfNone, length, slice_get};
 ghost use Rattle.std.specs.List.Sorted.{IsStrictlyIncreasing};
-ghost use Rattle.sat_solve.specs.Sets.{NumberSet};
+ghost use Rattle.sat_solve.specs.Sets.{NumberSet, members_of};
 ghost use Rattle.deb_verdict.specs.Play.{placed};
 ghost use Rattle.deb_verdict.specs.Standings.{is_in, IsBelow, Widens};
 
@@ -101,6 +101,15 @@ impl<'a> Scene<'a> {
             Some(number) => Standing::Variable(number as u32),
             None => Standing::Out,
         }
+    }
+
+    /// The variable of a place, if it has one.
+    pub(crate) fn variable(&self, place: u32) -> Option<u32>
+        ensures some { IfSome result (λ var. slice_get self.now.members.now var ≡ Some place) }
+        ensures none { IfNone result (members_of self.now.members.now place ≡ false) }
+    {
+        let number = self.members.number_of(place)?;
+        Some(number as u32)
     }
 
     /// Whether a row of places is no longer than the list of the places in play.

@@ -2,6 +2,9 @@
 
 use crate::place_set::PlaceSet;
 use crate::propagation::Propagation;
+use crate::rivals::Rivals;
+use crate::unmet::UnmetNeed;
+use crate::versions::Versions;
 use deb_index::Constraint;
 use sat_solve::{Formula, Lit};
 use std::alloc::{AllocError, Global};
@@ -13,8 +16,12 @@ use std::alloc::{AllocError, Global};
 pub struct Workspace {
     pub(crate) ins: PlaceSet,
     pub(crate) members: PlaceSet,
+    /// The needs of these that no place of `ins` answers.
+    pub(crate) unmet: Vec<UnmetNeed>,
     pub(crate) formula: Formula,
     pub(crate) clause: Vec<Lit>,
+    pub(crate) rivals: Rivals,
+    pub(crate) versions: Versions,
     pub(crate) solver: sat_solve::Workspace,
     pub(crate) propagation: Propagation,
     /// The constraints that a formula has a group each for, and where they stand.
@@ -33,8 +40,11 @@ impl Workspace {
         Ok(Workspace {
             ins: PlaceSet::new(alloc),
             members: PlaceSet::new(alloc),
+            unmet: Vec::new(alloc),
             formula: Formula::new(alloc, 0, 0)?,
             clause: Vec::new(alloc),
+            rivals: Rivals::new(alloc),
+            versions: Versions::new(alloc),
             solver: sat_solve::Workspace::new(alloc),
             propagation: Propagation::new(alloc),
             positions: Vec::new(alloc),

@@ -12,8 +12,6 @@
 mod asked;
 mod device;
 mod fault;
-#[cfg(test)]
-mod growths;
 mod input;
 pub mod laws;
 mod line;
@@ -21,8 +19,6 @@ mod options;
 mod output;
 mod phases;
 mod std_device;
-#[cfg(test)]
-mod tests;
 mod values;
 
 pub use asked::asked_places;

@@ -27,8 +27,3 @@ pub use gate::{Gate, OpenGate};
 pub use ordered::gather;
 pub use piece::{Drawn, Piece};
 pub use workers::{crew, draw_pieces};
-
-#[cfg(test)]
-mod growths;
-#[cfg(test)]
-mod tests;

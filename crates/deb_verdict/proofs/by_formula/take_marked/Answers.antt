@@ -1,4 +1,4 @@
-use Rattle.std.proofs.Common.{◌≡◌, ◌<◌, ℕ, List, length, sym, subst, arith}
+use Rattle.std.proofs.Common.{◌<◌, ℕ, List, length, sym, subst, arith}
 use Rattle.deb_verdict.proofs.Answered.{TakenTo, marked_at, unmarked_at, taken_none, taken_more, taken_else, taken_all}
 use Rattle.deb_verdict.proofs.by_formula.take_marked.Goals as goal
 use Rattle.deb_verdict.proofs.by_formula.take_marked.Goals.{then-marks-group+in_ok-push, else-marks-group}

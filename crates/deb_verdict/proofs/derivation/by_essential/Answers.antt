@@ -1,4 +1,4 @@
-use Rattle.std.proofs.Common.{◌≡◌, ◌∙◌, sym, ap, refl, List, ℕ, Some, length, slice_get}
+use Rattle.std.proofs.Common.{◌∙◌, sym, ap, refl, List, ℕ, length, slice_get}
 use Rattle.std.proofs.lemmas.Option.{slice_get_read}
 use Rattle.deb_verdict.proofs.Derived.{essential_gives, essential_at}
 use Rattle.deb_verdict.proofs.derivation.by_essential.Goals as goal

@@ -1,4 +1,4 @@
-use Rattle.std.proofs.Common.{◌≡◌, ◌<◌, ◌∙◌, length, ap, sym, arith}
+use Rattle.std.proofs.Common.{◌≡◌, ◌<◌, ◌∙◌, length, ap, arith}
 use Rattle.deb_index.specs.Packages.{name_at}
 use Rattle.sat_solve.specs.Sets.{members_of}
 use Rattle.deb_verdict.proofs.Derived.{only_gives}

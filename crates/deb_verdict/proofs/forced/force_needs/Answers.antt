@@ -1,9 +1,12 @@
 use Rattle.std.proofs.Common.{◌<◌, length, arith}
 use Rattle.deb_index.specs.Packages.{needs_at}
 use Rattle.deb_verdict.proofs.Placing.{grows_keeps}
-use Rattle.deb_verdict.proofs.Forcing.{forced_both, forced_by_need, forced_moved}
+use Rattle.deb_verdict.proofs.Forcing.{forced_both, forced_by_need, forced_moved, forced_none}
 use Rattle.deb_verdict.proofs.forced.force_needs.Goals as goal
 use Rattle.deb_verdict.proofs.forced.force_needs.Goals.{in-Some+in_ok-take_only, in_default}
+
+pub returns-then-is_marked : goal.returns-then-is_marked
+returns-then-is_marked c = forced_none c.args.index.now c.args.ins.now
 
 pub loop-number-preserved : goal.loop-number-preserved
 loop-number-preserved c =

@@ -17,7 +17,7 @@ loop-name-preserved c =
     let name : ℕ = get_or c.essential_names-name-items.result.now c.loop-name.name-index 0 in
     essential_more c.args.index.now (members_of c.args.ins.now) c.essential_names-name-items.result.now c.loop-name.name-index name c.places_named.result.now c.args.free.now c.loop-name.free c.bring.new.free
     refl c.places_named.ensures c.loop-name.invariant
-    (c.in_ok-bring.ensures count
+    (c.in_ok-bring.ensures.brings count
     (All-same (λ place. place < count) c.places_named.result.now (places_of c.args.index.now (name_at c.args.index.now name)) c.places_named.ensures (named_below c.args.index.now (name_at c.args.index.now name))))
 
 pub returns : goal.returns

@@ -1,4 +1,4 @@
-use Rattle.std.proofs.Common.{◌≡◌, List, ℕ, map, take, slice_get, Some, subst}
+use Rattle.std.proofs.Common.{◌≡◌, List, ℕ, map, slice_get, Some, subst}
 use Rattle.deb_index.specs.Constraints.{constraints_of}
 use Rattle.deb_verdict.proofs.AddSteps.{take_whole}
 use Rattle.deb_verdict.proofs.Whole.{named_more}

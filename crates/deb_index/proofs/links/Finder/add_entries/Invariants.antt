@@ -4,4 +4,4 @@ use Rattle.deb_index.specs.Rows.{hit_row}
 use Rattle.deb_index.proofs.links.Finder.add_entries.Given as goal
 
 abbrev pub invariant-loop-number : goal.invariant-loop-number
-invariant-loop-number l = l.rows ≡ l.initial.rows ++ map (hit_row l.tables) (take l.number (aparts (package_view l.asking)))
+invariant-loop-number l = (l.self.memo ≡ l.initial.self.memo) × (l.rows ≡ l.initial.rows ++ map (hit_row l.initial.self.memo) (take l.number (aparts (package_view l.asking))))

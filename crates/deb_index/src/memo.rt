@@ -1,0 +1,141 @@
+//! Rows of one place, remembered by their atoms: most atoms come many times, and most are met by one package alone.
+ghost use Rattle.std.specs.Prelude.{◌≡◌, ◌<◌, ◌∷◌, [], Some, IfOk, IfSome, IsTrue};
+ghost use Rattle.std.specs.Option.{option_map};
+ghost use Rattle.deb_relation.specs.AtomView.{atom_view};
+ghost use Rattle.deb_index.specs.Memo.{slot_count};
+ghost use Rattle.deb_index.specs.Roles.{row_as};
+
+use crate::meets::Role;
+use crate::tables::Tables;
+use deb_relation::{Atom, Op, Version};
+use std::alloc::{AllocError, Global};
+use std::marker::Model;
+
+// How many atoms are remembered at most.
+const SLOT_COUNT: usize = 2048;
+
+/// An atom in its role, and the place of the one package that meets it.
+#[derive(Clone, Copy)]
+pub(crate) struct Met<'t> {
+    role: Role,
+    atom: &'t Atom,
+    place: u32,
+}
+
+/// What was found of some atoms, each in the slot that it is given by its bytes. Contracts see the index that it was found in.
+#[derive(Drop)]
+pub(crate) struct Memo<'t> {
+    tables: &'t Tables,
+    slots: Vec<Option<Met<'t>>>,
+}
+
+impl<'t> Model for Memo<'t> {
+    ghost use Rattle.std.specs.Prelude.{◌≡◌, length};
+    ghost use Rattle.std.specs.List.{AllByRecursion};
+    ghost use Rattle.deb_index.specs.Packages.{IndexView};
+    ghost use Rattle.deb_index.specs.Memo.{IsMet, slot_count};
+
+    ghost Value = { IndexView };
+
+    ghost view = { λ m. m.tables.now };
+
+    ghost invariant = { λ m. (length m.slots.items ≡ slot_count) × AllByRecursion (IsMet m.tables.now) m.slots.items };
+}
+
+// Whether both are qualifiers of one text, or neither is there.
+fn is_same_qualifier(qualifier: &Option<Vec<u8>>, other: &Option<Vec<u8>>) -> bool
+    ensures { IsTrue result → option_map (λ v. v.items) qualifier.now ≡ option_map (λ v. v.items) other.now }
+{
+    match (qualifier, other) {
+        (None, None) => true,
+        (Some(qualifier), Some(other)) => qualifier.as_slice() == other.as_slice(),
+        _ => false,
+    }
+}
+
+// Whether both are bounds of one operator and one text, or neither is there.
+fn is_same_bound(bound: &Option<(Op, Version)>, other: &Option<(Op, Version)>) -> bool
+    ensures { IsTrue result → bound.now ≡ other.now }
+{
+    match (bound, other) {
+        (None, None) => true,
+        (Some((op, version)), Some((other_op, other_version))) => {
+            version.text() == other_version.text() && *op == *other_op
+        }
+        _ => false,
+    }
+}
+
+// Whether two atoms are written alike.
+fn is_same_atom(atom: &Atom, other: &Atom) -> bool
+    ensures { IsTrue result → atom_view atom.now ≡ atom_view other.now }
+{
+    atom.name.as_slice() == other.name.as_slice()
+        && is_same_bound(&atom.bound, &other.bound)
+        && is_same_qualifier(&atom.qualifier, &other.qualifier)
+}
+
+// A number that tells most texts apart, by their length and some of their bytes.
+fn mix(text: &[u8]) -> usize {
+    match text {
+        [first, .., before, last] => text
+            .len()
+            .wrapping_mul(31)
+            .wrapping_add(usize::from(text[text.len() / 2]).wrapping_mul(5))
+            .wrapping_add(usize::from(*first).wrapping_mul(3))
+            .wrapping_add(usize::from(*before).wrapping_mul(13))
+            .wrapping_add(usize::from(*last).wrapping_mul(7)),
+        _ => text.len(),
+    }
+}
+
+// The slot of an atom.
+fn slot_of(atom: &Atom) -> usize
+    ensures { result < slot_count }
+{
+    let name = mix(atom.name.as_slice());
+    let version = match &atom.bound {
+        Some((_, version)) => mix(version.text()),
+        None => 0,
+    };
+    name.wrapping_add(version.wrapping_mul(17)) % SLOT_COUNT
+}
+
+impl<'t> Memo<'t> {
+    pub(crate) fn new(alloc: Global, tables: &'t Tables) -> Result<Memo<'t>, AllocError>
+        ensures { IfOk result (λ m. m ≡ tables.now) }
+    {
+        let mut slots = Vec::with_capacity(alloc, SLOT_COUNT)?;
+        for _ in 0..SLOT_COUNT {
+            slots.push(None)?;
+        }
+        Ok(Memo { tables, slots })
+    }
+
+    /// The tables that it was found in.
+    pub(crate) fn tables(&self) -> &'t Tables
+        ensures { result.now ≡ self.now }
+    {
+        self.tables
+    }
+
+    /// The place of the one package that meets an atom in its role, if that is remembered.
+    pub(crate) fn get(&self, role: Role, atom: &Atom) -> Option<u32>
+        ensures { IfSome result (λ place. row_as role self.now (atom_view atom.now) ≡ Some (place ∷ [])) }
+    {
+        let met = self.slots[slot_of(atom)]?;
+        if met.role == role && is_same_atom(met.atom, atom) {
+            Some(met.place)
+        } else {
+            None
+        }
+    }
+
+    /// Remembers the place of the one package that meets an atom in its role.
+    pub(crate) fn put(&mut self, role: Role, atom: &'t Atom, place: u32)
+        requires { row_as role self.old (atom_view atom.now) ≡ Some (place ∷ []) }
+        ensures { self.new ≡ self.old }
+    {
+        self.slots[slot_of(atom)] = Some(Met { role, atom, place });
+    }
+}

@@ -1,0 +1,28 @@
+//! Tests of the public calls of `deb_index`.
+//!
+//! `reading` makes an index of a text, or of a text and a background; `texts` has texts that several tests read. `examples` has worked
+//! examples, `satisfiers`, `needs` and `rows` have what meets an atom, `positions` the places of constraints in their list, `backgrounds` indexes of two
+//! texts, `faults` and `limits` what is refused, `growths` a test for each call that can want memory.
+#![tactic(auto)]
+
+#[cfg(test)]
+mod backgrounds;
+#[cfg(test)]
+mod examples;
+#[cfg(test)]
+mod faults;
+#[cfg(test)]
+mod growths;
+#[cfg(test)]
+mod limits;
+#[cfg(test)]
+mod needs;
+#[cfg(test)]
+mod positions;
+pub mod reading;
+#[cfg(test)]
+mod rows;
+#[cfg(test)]
+mod satisfiers;
+#[cfg(test)]
+mod texts;

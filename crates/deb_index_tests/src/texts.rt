@@ -1,0 +1,62 @@
+//! Texts that several tests read.
+
+use std::alloc::{AllocError, Global};
+
+pub const VERSIONED: &str = "Package: foo
+Version: 1
+Architecture: all
+Depends: bar (>= 1.0)
+
+Package: bar
+Version: 0.9
+Architecture: all
+
+Package: bar-plus
+Version: 1
+Architecture: all
+Provides: bar (= 1.0)
+";
+
+pub const SPELLED: &str = "Package: a
+Version: 1.0
+Architecture: amd64
+
+Package: a
+Version: 1.0
+Architecture: all
+
+Package: a
+Version: 1.0
+Architecture: i386
+Depends: b (
+
+Package: a
+Version: 1.00
+Architecture: amd64
+";
+
+pub const TWICE: &str = "Package: v
+Version: 1
+Architecture: all
+Provides: v (= 2), v
+
+Package: w
+Version: 1
+Architecture: all
+Provides: x, v:amd64, v:any (= 5), v:all, v:i386 (= 6)
+
+Package: v
+Version: 3
+Architecture: amd64
+";
+
+pub const COPY: &[u8] = b"Package: a\nVersion: 1\nArchitecture: all\n\n";
+
+/// Copies of one stanza, with an empty line behind each.
+pub fn copies(alloc: Global, count: u32) -> Result<Vec<u8>, AllocError> {
+    let mut text = Vec::new(alloc);
+    for _ in 0..count {
+        text.extend_from_slice(COPY)?;
+    }
+    Ok(text)
+}

@@ -1,0 +1,15 @@
+//! Tests of the public calls of `deb_relation`.
+//!
+//! `printing` prints groups of atoms. `versions` has versions and bounds, `relations` names, relationship fields and qualifiers, `texts` texts of any length,
+//! `growths` a test for each call that can want memory.
+#![tactic(auto)]
+
+#[cfg(test)]
+mod growths;
+pub mod printing;
+#[cfg(test)]
+mod relations;
+#[cfg(test)]
+mod texts;
+#[cfg(test)]
+mod versions;

@@ -1,0 +1,13 @@
+//! Tests of the public calls of `deb_report`.
+//!
+//! `reporting` makes the report on what is asked of an index. `parts` has the asked places and the report, each by itself, `causes` the block of
+//! causes, `growths` a test for each call that can want memory.
+#![tactic(auto)]
+
+#[cfg(test)]
+mod causes;
+#[cfg(test)]
+mod growths;
+#[cfg(test)]
+mod parts;
+pub mod reporting;

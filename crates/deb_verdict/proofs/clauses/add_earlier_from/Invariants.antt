@@ -1,9 +1,0 @@
-use Rattle.std.proofs.Common.{take, ltb}
-use Rattle.deb_verdict.specs.Play.{placed}
-use Rattle.deb_verdict.specs.Standings.{is_in}
-use Rattle.deb_verdict.proofs.Clearing.{AddsClear}
-use Rattle.deb_verdict.proofs.clauses.add_earlier_from.Given as goal
-
-abbrev pub invariant-loop-other : goal.invariant-loop-other
-invariant-loop-other l =
-    AddsClear l.group (is_in l.owner.standing) (placed l.scene.ins.now l.scene.members.now) (λ q. ltb q l.owner.place) (take l.other-index l.row) l.initial.formula l.formula

@@ -1,0 +1,133 @@
+//! Places that no healthy set has, since something that they need without a choice has a need that nothing meets.
+
+ghost use Rattle.std.specs.Prelude.{◌≡◌, ◌<◌, ℕ, true, OnOk, length};
+ghost use Rattle.std.specs.List.{list_all};
+ghost use Rattle.deb_index.specs.Packages.{needs_at};
+ghost use Rattle.sat_solve.specs.Sets.{members_of};
+ghost use Rattle.deb_verdict.specs.Hopeless.{IsHopeless, AreHopeless, IsUnanswered, HasUnanswered};
+
+use crate::place_set::PlaceSet;
+use deb_index::Index;
+use std::alloc::AllocError;
+
+/// How often at most all places are gone through, in rising order and then in falling order.
+const ROUNDS: u32 = 16;
+
+/// Whether all places of a row are in the set.
+fn has_all(places: &PlaceSet, row: &[u32]) -> bool
+    ensures { result ≡ list_all (members_of places.now) row.now }
+{
+    row.iter().all(|place| places.contains(*place))
+}
+
+/// Whether hopeless places alone answer a need, or none. `false` where the answers are too many for a row.
+fn is_unanswered(index: &Index, hopeless: &PlaceSet, place: u32, number: u32) -> bool
+    requires place { place < length index.now.packages }
+    requires number { number < length (needs_at index.now place) }
+    ensures { result ≡ true → IsUnanswered index.now (members_of hopeless.now) place number }
+{
+    match index.answer_row(place, number) {
+        Some(row) => has_all(hopeless, row),
+        None => false,
+    }
+}
+
+/// Whether hopeless places alone answer some need of a place, or none.
+fn has_unanswered(index: &Index, hopeless: &PlaceSet, place: u32) -> bool
+    requires { place < length index.now.packages }
+    ensures { result ≡ true → HasUnanswered index.now (members_of hopeless.now) place }
+{
+    for number in 0..index.need_count(place) {
+        if is_unanswered(index, hopeless, place, number) {
+            return true;
+        }
+    }
+    false
+}
+
+/// Puts in a place that is seen to be hopeless.
+fn visit(index: &Index, place: u32, hopeless: &mut PlaceSet) -> Result<(), AllocError>
+    requires place { place < length index.now.packages }
+    requires hopeless { AreHopeless index.now (members_of hopeless.old) }
+    ensures { OnOk result (AreHopeless index.now (members_of hopeless.new)) }
+{
+    if has_unanswered(index, hopeless, place) {
+        hopeless.insert(place)?;
+    }
+    Ok(())
+}
+
+/// Visits all places in rising order.
+fn visit_rising(index: &Index, hopeless: &mut PlaceSet) -> Result<(), AllocError>
+    requires { AreHopeless index.now (members_of hopeless.old) }
+    ensures { OnOk result (AreHopeless index.now (members_of hopeless.new)) }
+{
+    for place in 0..index.len() {
+        visit(index, place, hopeless)?;
+    }
+    Ok(())
+}
+
+/// Visits all places in falling order.
+fn visit_falling(index: &Index, hopeless: &mut PlaceSet) -> Result<(), AllocError>
+    requires { AreHopeless index.now (members_of hopeless.old) }
+    ensures { OnOk result (AreHopeless index.now (members_of hopeless.new)) }
+{
+    let count = index.len();
+    for behind in 0..count {
+        visit(index, count - 1 - behind, hopeless)?;
+    }
+    Ok(())
+}
+
+/// Puts in places that are hopeless, round by round, until none comes. After the last round some may be left out.
+fn spread(index: &Index, hopeless: &mut PlaceSet) -> Result<(), AllocError>
+    requires { AreHopeless index.now (members_of hopeless.old) }
+    ensures { OnOk result (AreHopeless index.now (members_of hopeless.new)) }
+{
+    for _ in 0..ROUNDS {
+        let known = hopeless.as_slice().len();
+        visit_rising(index, hopeless)?;
+        visit_falling(index, hopeless)?;
+        if hopeless.as_slice().len() == known {
+            return Ok(());
+        }
+    }
+    Ok(())
+}
+
+/// Whether all packages of some essential name are hopeless.
+fn lacks_essential(index: &Index, hopeless: &PlaceSet) -> bool
+    requires { AreHopeless index.now (members_of hopeless.now) }
+    ensures { result ≡ true → (place : ℕ) → IsHopeless index.now place }
+{
+    for name in index.essential_names() {
+        if has_all(hopeless, index.places_named(*name)) {
+            return true;
+        }
+    }
+    false
+}
+
+/// Puts in all places, where each of them is hopeless.
+fn insert_all(index: &Index, hopeless: &mut PlaceSet) -> Result<(), AllocError>
+    requires { (place : ℕ) → IsHopeless index.now place }
+    ensures { OnOk result (AreHopeless index.now (members_of hopeless.new)) }
+{
+    for place in 0..index.len() {
+        hopeless.insert(place)?;
+    }
+    Ok(())
+}
+
+/// Finds places that no healthy set has. Where all packages of an essential name are hopeless, all places are.
+pub(crate) fn find_hopeless(index: &Index, hopeless: &mut PlaceSet) -> Result<(), AllocError>
+    requires { AreHopeless index.now (members_of hopeless.old) }
+    ensures { OnOk result (AreHopeless index.now (members_of hopeless.new)) }
+{
+    spread(index, hopeless)?;
+    if lacks_essential(index, hopeless) {
+        insert_all(index, hopeless)?;
+    }
+    Ok(())
+}

@@ -1,0 +1,106 @@
+//! A reader and a writer over memory, which fail where they are told to.
+
+ghost use Rattle.std.specs.Prelude.{◌≡◌, None, false};
+
+use debcheck::{DeviceFault, Sink, Source};
+use std::alloc::Global;
+
+/// Gives some bytes at each read, or fails at each.
+#[derive(Drop)]
+pub struct Feed<'a> {
+    pub rest: &'a [u8],
+    pub step: usize,
+    pub fails: bool,
+    pub failed: bool,
+    pub reads: u32,
+}
+
+/// Reads a text, so many bytes a call; no call has failed.
+pub fn source_of(text: &[u8], step: usize) -> Feed<'_>
+    ensures { result.failed ≡ false }
+{
+    Feed {
+        rest: text,
+        step,
+        fails: false,
+        failed: false,
+        reads: 0,
+    }
+}
+
+impl Source for Feed<'_> {
+    ghost remaining = { λ _. None };
+
+    ghost failed = { λ f. f.failed };
+
+    fn read_some(&mut self, buf: &mut [u8]) -> Result<usize, DeviceFault> {
+        self.reads = self.reads.saturating_add(1);
+        if self.fails {
+            self.failed = true;
+            return Err(DeviceFault);
+        }
+        let count = self.step.min(self.rest.len()).min(buf.len());
+        let (now, later) = self.rest.split_at(count);
+        buf[..count].copy_from_slice(now);
+        self.rest = later;
+        Ok(count)
+    }
+}
+
+/// Takes some bytes at each write, and may fail at one of them or at the flush.
+#[derive(Drop)]
+pub struct Held {
+    pub bytes: Vec<u8>,
+    pub step: usize,
+    pub fails_at: u32,
+    pub flush_fails: bool,
+    pub calls: u32,
+    pub failed: bool,
+    pub flushed: bool,
+}
+
+/// Takes so many bytes a call, and fails at this write, which count from 1, or at each flush; no call has failed.
+pub fn sink_of(alloc: Global, step: usize, fails_at: u32, flush_fails: bool) -> Held
+    ensures { result.failed ≡ false }
+{
+    Held {
+        bytes: Vec::new(alloc),
+        step,
+        fails_at,
+        flush_fails,
+        calls: 0,
+        failed: false,
+        flushed: false,
+    }
+}
+
+impl Sink for Held {
+    ghost contents = { λ _. None };
+
+    ghost failed = { λ h. h.failed };
+
+    ghost flushed = { λ h. h.flushed };
+
+    fn write_some(&mut self, bytes: &[u8]) -> Result<usize, DeviceFault> {
+        self.flushed = false;
+        self.calls = self.calls.saturating_add(1);
+        let count = self.step.min(bytes.len());
+        if self.calls == self.fails_at || self.bytes.extend_from_slice(&bytes[..count]).is_err() {
+            self.failed = true;
+            return Err(DeviceFault);
+        }
+        if count == 0 && !bytes.is_empty() {
+            self.failed = true;
+        }
+        Ok(count)
+    }
+
+    fn flush_all(&mut self) -> Result<(), DeviceFault> {
+        if self.flush_fails {
+            self.failed = true;
+            return Err(DeviceFault);
+        }
+        self.flushed = true;
+        Ok(())
+    }
+}

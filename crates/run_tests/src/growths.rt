@@ -1,0 +1,158 @@
+//! One test for each call that can want memory; bench/growths runs them with each growth refused in turn.
+
+ghost use Rattle.std.specs.Prelude.{◌≡◌, ◌<◌, ◌≤◌, IfOk, false};
+
+use crate::devices::{Held, sink_of, source_of};
+use crate::runs::{EMPTY, run_alone};
+use crate::whole_texts::told_by;
+use debcheck::{Config, RunFault, Summary, fault_line, read_all, status, write_fault};
+use std::alloc::{AllocError, Global};
+use std::process::Abort;
+use std::test::Fail;
+
+/// Three bytes where three are allowed, one more, and a reader that fails.
+#[test]
+fn of_read_all(rt: HostRuntime) -> Result<(), Fail> {
+    for (text, fails, wanted, reads) in READS {
+        expect_read(&rt, text, fails, wanted, reads)?;
+    }
+    Ok(())
+}
+
+/// A text, whether its reader fails, what reading it comes to, and in how many reads.
+const READS: [(&str, bool, &str, u32); 3] = [
+    ("abc", false, "abc", 4),
+    ("abcd", false, "too long", 4),
+    ("abc", true, "failed", 1),
+];
+
+/// What reading to the end with a limit of three bytes comes to.
+fn expect_read(
+    rt: &(impl Abort + AllocGlobal),
+    text: &str,
+    fails: bool,
+    wanted: &str,
+    reads: u32,
+) -> Result<(), Fail> {
+    let mut reader = source_of(text.as_bytes(), 1);
+    reader.fails = fails;
+    let outcome = read_all(rt.alloc(), &mut reader, 3);
+    let told = told_by(&outcome);
+    if told == b"no memory".as_slice() {
+        assert!(rt; !reader.failed);
+        return Err(Fail::new("out of memory"));
+    }
+    assert_eq!(rt; told, wanted.as_bytes());
+    assert_eq!(rt; reader.reads, reads);
+    Ok(())
+}
+
+/// The usual settings, with a number of workers that take six packages at once.
+fn config_with(alloc: Global, workers: u32) -> Result<Config, AllocError>
+    ensures workers { IfOk result (λ config. config.workers ≡ workers) }
+    ensures chunk { IfOk result (λ config. config.chunk ≡ 6) }
+{
+    let mut config = Config::usual(alloc)?;
+    config.workers = workers;
+    config.chunk = 6;
+    Ok(config)
+}
+
+/// A sink that needs no more memory for what is written to it here.
+fn sink_with_room(alloc: Global, step: usize, fails_at: u32) -> Result<Held, AllocError>
+    ensures { IfOk result (λ sink. sink.failed ≡ false) }
+{
+    let mut sink = sink_of(alloc, step, fails_at, false);
+    sink.bytes.reserve(10_000)?;
+    Ok(sink)
+}
+
+/// The whole report was written, or nothing at all.
+fn expect_report(
+    rt: &impl Abort,
+    output: &Held,
+    outcome: &Result<Summary, RunFault>,
+    wanted: &[u8],
+    code: u8,
+) -> Result<(), Fail> {
+    match outcome {
+        Ok(_) => {
+            assert_eq!(rt; output.bytes.as_slice(), wanted);
+            assert!(rt; output.flushed);
+            assert_eq!(rt; status(outcome), code);
+            Ok(())
+        }
+        Err(RunFault::Memory) => {
+            assert_eq!(rt; output.calls, 0);
+            assert!(rt; output.bytes.is_empty());
+            assert_eq!(rt; status(outcome), 69);
+            Err(Fail::new("out of memory"))
+        }
+        Err(_) => {
+            assert!(rt; false, "no device failed");
+            Ok(())
+        }
+    }
+}
+
+/// No text, with a writer that takes one byte a call.
+#[test]
+fn of_run(rt: HostRuntime) -> Result<(), Fail> {
+    let config = config_with(rt.alloc(), 2)?;
+    let mut output = sink_with_room(rt.alloc(), 1, 0)?;
+    let mut nothing = source_of(b"", 1);
+    let outcome = run_alone(&rt, &config, &mut nothing, &mut output);
+    expect_report(&rt, &output, &outcome, EMPTY, 0)
+}
+
+/// The same, and the writer fails at its fifth call.
+#[test]
+fn of_run_with_a_failing_writer(rt: HostRuntime) -> Result<(), Fail> {
+    let config = config_with(rt.alloc(), 2)?;
+    let mut output = sink_with_room(rt.alloc(), 1, 5)?;
+    let mut nothing = source_of(b"", 1);
+    let outcome = run_alone(&rt, &config, &mut nothing, &mut output);
+    expect_front(&rt, &output, &outcome)
+}
+
+/// The writer failed behind four bytes, or nothing was written.
+fn expect_front(
+    rt: &impl Abort,
+    output: &Held,
+    outcome: &Result<Summary, RunFault>,
+) -> Result<(), Fail> {
+    if status(outcome) != 68 {
+        return expect_report(rt, output, outcome, b"no report", 68);
+    }
+    assert_eq!(rt; output.bytes.as_slice(), b"arch".as_slice());
+    Ok(())
+}
+
+#[test]
+fn of_fault_line(rt: HostRuntime) -> Result<(), Fail> {
+    let name = Vec::from_slice(rt.alloc(), b"zz")?;
+    match fault_line(rt.alloc(), &RunFault::UnknownAsked { name }) {
+        Ok(line) => {
+            let wanted = b"debcheck: unknown package zz\n";
+            assert_eq!(rt; line.as_slice(), wanted.as_slice());
+            Ok(())
+        }
+        Err(AllocError) => Err(Fail::new("out of memory")),
+    }
+}
+
+/// A fault whose line finds no memory is told as want of memory.
+#[test]
+fn of_write_fault(rt: HostRuntime) -> Result<(), Fail> {
+    let name = Vec::from_slice(rt.alloc(), b"zz")?;
+    let mut errors = sink_with_room(rt.alloc(), 7, 0)?;
+    let told = write_fault(rt.alloc(), &mut errors, &RunFault::UnknownAsked { name });
+    assert!(rt; told.is_ok());
+    assert!(rt; errors.flushed);
+    if errors.bytes.as_slice() == b"debcheck: unknown package zz\n".as_slice() {
+        return Ok(());
+    }
+    let wanted = b"debcheck: out of memory\n";
+    assert_eq!(rt; errors.bytes.as_slice(), wanted.as_slice());
+    Err(Fail::new("out of memory"))
+}

@@ -1,0 +1,15 @@
+//! Tests of the public calls that a run is made of, on devices that fail.
+//!
+//! `devices` has a reader and a writer over memory, and is proved. `whole_texts` reads and writes whole texts, `fault_lines` has the lines and statuses of
+//! faults, `runs` small runs, `growths` a test for each call that can want memory.
+#![tactic(auto)]
+
+pub mod devices;
+#[cfg(test)]
+mod fault_lines;
+#[cfg(test)]
+mod growths;
+#[cfg(test)]
+mod runs;
+#[cfg(test)]
+mod whole_texts;

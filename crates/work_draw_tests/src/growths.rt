@@ -1,0 +1,216 @@
+//! One test for each call that can want memory; bench/growths runs them with each growth refused in turn.
+ghost use Rattle.std.specs.Prelude.{◌≡◌, ◌<◌, ◌≤◌, ◌^◌, length};
+
+use crate::boards::{expect_each_number_once, expect_no_number, expect_three_numbers};
+use crate::examples::{check_places, three_packages};
+use crate::gates::Tally;
+use crate::pieces::{are_sets, expect_both_pieces, expect_piece, piece_of};
+use deb_index::Index;
+use std::process::Abort;
+use std::test::Fail;
+use std::thread::Threads;
+use work_draw::{
+    Board, Drawer, Drawn, OpenGate, Piece, check_all, crew, draw_pieces, gather, new_board,
+};
+
+#[test]
+fn of_new_board(rt: HostRuntime) -> Result<(), Fail> {
+    match new_board(rt.alloc(), 3) {
+        Ok((board, drawer)) => expect_three_numbers(&rt, board, drawer),
+        Err(_) => return Err(Fail::new("out of memory")),
+    }
+    match new_board(rt.alloc(), 0) {
+        Ok((board, drawer)) => expect_no_number(&rt, board, drawer),
+        Err(_) => return Err(Fail::new("out of memory")),
+    }
+    match new_board(rt.alloc(), 1000) {
+        Ok((board, drawer)) => expect_each_number_once(&rt, board, drawer),
+        Err(_) => Err(Fail::new("out of memory")),
+    }
+}
+
+/// The pieces came in the other order.
+#[test]
+fn of_gather(rt: HostRuntime) -> Result<(), Fail> {
+    let alloc = rt.alloc();
+    let mut pieces = Vec::new(alloc);
+    pieces.push(piece_of(alloc, 1, &[1])?)?;
+    pieces.push(piece_of(alloc, 0, &[0])?)?;
+    match gather(alloc, 2, pieces) {
+        Ok(found) => assert!(rt; are_sets(&found, &[&[0], &[1]])),
+        Err(_) => return Err(Fail::new("out of memory")),
+    }
+    Ok(())
+}
+
+/// One package, with no line feed at the end.
+const ONE_PACKAGE: &[u8] = b"Package: a
+Version: 1
+Architecture: amd64";
+
+/// The sets that two workers find, with one place to a chunk.
+fn expect_sets(
+    rt: &(impl Abort + Threads + Sync + AllocGlobal),
+    index: &Index,
+    asked: &[u32],
+    wanted: &[&[u32]],
+) -> Result<(), Fail>
+    requires { length asked.now < 2 ^ 32 }
+{
+    check_places(index, asked)?;
+    match check_all(rt, rt.alloc(), index, asked, 2, 1, &OpenGate) {
+        Ok(found) => assert!(rt; are_sets(&found, wanted)),
+        Err(_) => return Err(Fail::new("out of memory")),
+    }
+    Ok(())
+}
+
+/// A place has a verdict as often as it is asked, and no place has none.
+#[test]
+fn of_check_all(rt: HostRuntime) -> Result<(), Fail> {
+    let index = Index::read(rt.alloc(), ONE_PACKAGE, "amd64", true)?;
+    let outcome = expect_sets_of_one(&rt, &index);
+    drop(index);
+    outcome
+}
+
+fn expect_sets_of_one(
+    rt: &(impl Abort + Threads + Sync + AllocGlobal),
+    index: &Index,
+) -> Result<(), Fail> {
+    expect_sets(rt, index, &[0, 0], &[&[0], &[0]])?;
+    expect_sets(rt, index, &[], &[])
+}
+
+fn expect_chunks_in_order(
+    rt: &(impl Abort + Threads + Sync + AllocGlobal),
+    index: &Index,
+) -> Result<(), Fail> {
+    let asked = [0u32, 1, 2];
+    check_places(index, &asked)?;
+    let gate = Tally::new();
+    let answer = check_all(rt, rt.alloc(), index, &asked, 2, 1, &gate);
+    assert!(rt; gate.is_in_order());
+    match answer {
+        Ok(found) => {
+            assert!(rt; are_sets(&found, &[&[0, 2], &[1], &[2]]));
+            assert!(rt; gate.is_complete());
+            Ok(())
+        }
+        Err(_) => Err(Fail::new("out of memory")),
+    }
+}
+
+/// Whatever the answer, no chunk is begun twice, and none is ended that was not begun.
+#[test]
+fn of_check_all_with_a_gate(rt: HostRuntime) -> Result<(), Fail> {
+    let index = three_packages(rt.alloc())?;
+    let outcome = expect_chunks_in_order(&rt, &index);
+    drop(index);
+    outcome
+}
+
+/// The pieces of a worker on a board of two numbers, of which so many were drawn before.
+fn expect_pieces_from(rt: &impl Abort, pieces: &[Piece], first: u32) -> Result<(), Fail>
+    requires { first ≤ 1 }
+{
+    let wanted: [&[&[u32]]; 2] = [&[&[0, 2], &[1]], &[&[2]]];
+    assert!(rt; pieces.len() + first as usize <= 2);
+    for (at, piece) in pieces.iter().enumerate() {
+        let number = first as usize + at;
+        expect_piece(rt, piece, number as u32, wanted[number])?;
+    }
+    Ok(())
+}
+
+/// A worker that was refused memory lacks at most the piece of its last number; one that wasn't has all and is done.
+fn expect_drawn(rt: &impl Abort, board: Board, drawn: Drawn, first: u32) -> Result<(), Fail>
+    requires board { drawn.drawer.board ≡ board }
+    requires first { first ≤ 1 }
+{
+    let Drawn {
+        mut drawer,
+        pieces,
+        refused,
+    } = drawn;
+    assert_eq!(rt; drawer.spare(), 63);
+    assert_eq!(rt; drawer.held(), 1);
+    expect_pieces_from(rt, &pieces, first)?;
+    if refused {
+        let next = board.draw(&mut drawer).unwrap_or(2);
+        assert!(rt; next as usize <= first as usize + pieces.len() + 1);
+        return Err(Fail::new("out of memory"));
+    }
+    assert_eq!(rt; pieces.len() + first as usize, 2);
+    assert!(rt; drawer.is_done());
+    assert!(rt; board.close(drawer));
+    Ok(())
+}
+
+fn expect_pieces_of_a_worker(
+    rt: &(impl Abort + AllocGlobal),
+    index: &Index,
+    first: u32,
+) -> Result<(), Fail>
+    requires { first ≤ 1 }
+{
+    let asked = [0u32, 1, 2];
+    check_places(index, &asked)?;
+    let (board, mut drawer) = new_board(rt.alloc(), 2)?;
+    if first > 0 {
+        assert_eq!(rt; board.draw(&mut drawer), Some(0));
+    }
+    let drawn = draw_pieces(rt.alloc(), index, &asked, 2, &board, drawer, &OpenGate);
+    expect_drawn(rt, board, drawn, first)
+}
+
+/// A worker makes a piece of each number that it draws, and none of one that its drawer had before.
+#[test]
+fn of_draw_pieces(rt: HostRuntime) -> Result<(), Fail> {
+    let index = three_packages(rt.alloc())?;
+    let outcome = expect_pieces_from_each(&rt, &index);
+    drop(index);
+    outcome
+}
+
+fn expect_pieces_from_each(rt: &(impl Abort + AllocGlobal), index: &Index) -> Result<(), Fail> {
+    expect_pieces_of_a_worker(rt, index, 0)?;
+    expect_pieces_of_a_worker(rt, index, 1)
+}
+
+/// The drawer that two workers leave holds two of the 64 parts, and closes the board.
+fn expect_all_drawn_by_two(rt: &impl Abort, board: Board, drawer: Drawer)
+    requires { drawer.board ≡ board }
+{
+    assert_eq!(rt; drawer.spare(), 62);
+    assert_eq!(rt; drawer.held(), 2);
+    assert!(rt; drawer.is_done());
+    assert!(rt; board.close(drawer));
+}
+
+fn expect_pieces_of_two_workers(
+    rt: &(impl Abort + Threads + Sync + AllocGlobal),
+    index: &Index,
+) -> Result<(), Fail> {
+    let alloc = rt.alloc();
+    let asked = [0u32, 1, 2];
+    check_places(index, &asked)?;
+    let (board, drawer) = new_board(alloc, 2)?;
+    match crew(rt, alloc, index, &asked, 2, &board, drawer, 2, &OpenGate) {
+        Ok((drawer, mut pieces)) => {
+            expect_all_drawn_by_two(rt, board, drawer);
+            pieces.sort_unstable_by_key(|piece| piece.number);
+            expect_both_pieces(rt, &pieces)
+        }
+        Err(_) => Err(Fail::new("out of memory")),
+    }
+}
+
+/// Two workers make the same pieces, in either order.
+#[test]
+fn of_crew(rt: HostRuntime) -> Result<(), Fail> {
+    let index = three_packages(rt.alloc())?;
+    let outcome = expect_pieces_of_two_workers(&rt, &index);
+    drop(index);
+    outcome
+}

@@ -1,0 +1,15 @@
+//! Tests of the public calls of `work_draw`.
+//!
+//! `examples` has an index and its places. `boards` draws from boards, `pieces` gathers what is made of the numbers, `gates` holds workers back at gates,
+//! `growths` has a test for each call that can want memory.
+#![tactic(auto)]
+
+#[cfg(test)]
+mod boards;
+pub mod examples;
+#[cfg(test)]
+mod gates;
+#[cfg(test)]
+mod growths;
+#[cfg(test)]
+mod pieces;
