@@ -12,10 +12,14 @@ use std::test::Fail;
 fn expect_hopeless(
     rt: &impl Abort,
     groundwork: &Groundwork<'_>,
-    wanted: &[bool],
+    hopeless: &[u32],
+    others: &[u32],
 ) -> Result<(), Fail> {
-    for (place, is_wanted) in wanted.iter().enumerate() {
-        assert!(rt; groundwork.is_hopeless(place as u32) == *is_wanted);
+    for place in hopeless {
+        assert!(rt; groundwork.is_hopeless(*place));
+    }
+    for place in others {
+        assert!(rt; !groundwork.is_hopeless(*place));
     }
     Ok(())
 }
@@ -50,7 +54,7 @@ fn expect_found(
 
 fn expect_chain(rt: &impl Abort, alloc: Global, index: &Index) -> Result<(), Fail> {
     let groundwork = Groundwork::new(alloc, index)?;
-    expect_hopeless(rt, &groundwork, &[true, true, true, true, false, false])?;
+    expect_hopeless(rt, &groundwork, &[0, 1, 2, 3], &[4, 5])?;
     let core = [
         Constraint::Need(0, 0),
         Constraint::Need(2, 0),
@@ -97,7 +101,7 @@ Depends: e | a
 
 fn expect_good_answer(rt: &impl Abort, alloc: Global, index: &Index) -> Result<(), Fail> {
     let groundwork = Groundwork::new(alloc, index)?;
-    expect_hopeless(rt, &groundwork, &[false, true, true, false])?;
+    expect_hopeless(rt, &groundwork, &[1, 2], &[0, 3])?;
     expect_found(rt, alloc, &groundwork, 0, &[0, 3])
 }
 
@@ -128,7 +132,7 @@ Architecture: all
 
 fn expect_all_hopeless(rt: &impl Abort, alloc: Global, index: &Index) -> Result<(), Fail> {
     let groundwork = Groundwork::new(alloc, index)?;
-    expect_hopeless(rt, &groundwork, &[true, true, true])?;
+    expect_hopeless(rt, &groundwork, &[0, 1, 2], &[])?;
     let core = [Constraint::Essential(1), Constraint::Need(1, 0)];
     expect_broken(rt, alloc, &groundwork, 0, &core)
 }
