@@ -10,3 +10,4 @@ mod PlainIndex
 mod PlainTexts
 mod PlaceLemmas
 mod ReportLemmas
+pub mod Unshown

@@ -8,7 +8,7 @@ use Rattle.deb_report.specs.declared.config.Config.{Config}
 use Rattle.deb_report.specs.declared.config.Format.{Format}
 use Rattle.deb_report.specs.declared.config.Format.TheVariants.{Text}
 use Rattle.deb_report.specs.declared.config.Show.{Show}
-use Rattle.deb_report.specs.declared.config.Show.TheVariants.{All}
+use Rattle.deb_report.specs.declared.config.Show.TheVariants.{All, Failures, Successes}
 
 -- what a report depends on: the architecture, what is shown, whether names may be essential, the names that are asked, whether a background is read, whether causes are told, and the report's form;
 -- not how the work is dealt out, which file the background is, or whether a run tells how far it has come
@@ -22,6 +22,12 @@ pub record Settings : Type 0 where
   pub causes : Bool
   pub format : Format
 
+-- whether packages that can be installed have a block
+abbrev pub shows_installable : Show → Bool
+shows_installable All = true
+shows_installable Failures = false
+shows_installable Successes = true
+
 -- the settings that a report depends on
 abbrev pub settings_of : Config → Settings
 settings_of config = record {
@@ -34,6 +40,10 @@ settings_of config = record {
   causes = config.causes;
   format = config.format;
 }
+
+-- whether some set that was found may be told: blocks explain, and packages that can be installed have one
+abbrev pub shows_sets : Settings → Bool
+shows_sets settings = settings.explain && shows_installable settings.show
 
 -- the settings where nothing is said
 abbrev pub usual_settings : Settings

@@ -1,7 +1,7 @@
 //! What is asked of a run.
 
 ghost use Rattle.std.specs.Prelude.{◌≡◌, IfOk, false};
-ghost use Rattle.deb_report.specs.Settings.{settings_of, usual_settings};
+ghost use Rattle.deb_report.specs.Settings.{settings_of, shows_sets, usual_settings};
 
 use std::alloc::{AllocError, Global};
 
@@ -75,5 +75,12 @@ impl Config {
             format: Format::Text,
             quiet: false,
         })
+    }
+
+    /// Whether the report may tell a set that was found: blocks explain, and packages that can be installed have one.
+    pub fn shows_sets(&self) -> bool
+        ensures { result ≡ shows_sets (settings_of self.now) }
+    {
+        self.explain && self.show != Show::Failures
     }
 }

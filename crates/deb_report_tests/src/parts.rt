@@ -142,3 +142,21 @@ fn a_report_without_explanations(rt: HostRuntime) -> Result<(), Fail> {
     assert_eq!(rt; found.as_slice(), SHORT_REPORT.as_bytes());
     Ok(())
 }
+
+#[test]
+fn sets_are_told_where_blocks_explain(rt: HostRuntime) -> Result<(), Fail> {
+    let mut config = Config::usual(rt.alloc())?;
+    for (explain, show, wanted) in [
+        (true, Show::All, true),
+        (true, Show::Failures, false),
+        (true, Show::Successes, true),
+        (false, Show::All, false),
+        (false, Show::Failures, false),
+        (false, Show::Successes, false),
+    ] {
+        config.explain = explain;
+        config.show = show;
+        assert_eq!(rt; config.shows_sets(), wanted);
+    }
+    Ok(())
+}

@@ -12,6 +12,7 @@ pub mod Encoded
 pub mod Entries
 pub mod Excluding
 pub mod Extending
+pub mod FirstExists
 pub mod FirstSet
 pub mod Forcing
 pub mod Gathered
@@ -19,6 +20,7 @@ pub mod GroundworkLemmas
 pub mod Healthy
 pub mod HopelessLemmas
 pub mod IndexFacts
+pub mod InstallableLemmas
 pub mod Inserted
 pub mod JoinLemmas
 pub mod Kept

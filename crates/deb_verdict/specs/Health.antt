@@ -15,6 +15,10 @@ IsHealthy index set = All (Holds index set) (constraints_of index)
 abbrev pub IsInstallation : IndexView → ℕ → NumberSet → Type 0
 IsInstallation index p set = IsHealthy index set × (set p ≡ true)
 
+-- some healthy set contains p
+abbrev pub IsInstallable : IndexView → ℕ → Type 0
+IsInstallable index p = (set : NumberSet) × IsInstallation index p set
+
 -- the set meets the constraints at these positions of the list
 abbrev pub MeetsAt : IndexView → NumberSet → NumberSet → Type 0
 MeetsAt index set positions =

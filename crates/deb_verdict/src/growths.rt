@@ -205,6 +205,23 @@ fn of_groundwork(rt: HostRuntime) -> Result<(), Fail> {
     expect_groundwork(&rt, rt.alloc(), &index)
 }
 
+fn expect_installable(rt: &impl Abort, alloc: Global, index: &Index) -> Result<(), Fail> {
+    assert!(rt; index.len() == 3);
+    match find_installable(alloc, index, &[0, 1, 2]) {
+        Ok(marks) => {
+            assert!(rt; marks.as_slice() == [true, true, true].as_slice());
+            Ok(())
+        }
+        Err(_) => Err(Fail::new("out of memory")),
+    }
+}
+
+#[test]
+fn of_find_installable(rt: HostRuntime) -> Result<(), Fail> {
+    let index = read(rt.alloc(), ALTERNATIVES, true)?;
+    expect_installable(&rt, rt.alloc(), &index)
+}
+
 #[test]
 fn of_workspace(rt: HostRuntime) -> Result<(), Fail> {
     match Workspace::new(rt.alloc()) {

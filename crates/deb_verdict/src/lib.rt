@@ -18,6 +18,7 @@
 //!   - `witness` sees, without a search, that some set meets a part.
 //!   - `by_formula` knows of each part: `kept_positions` lists its constraints that speak of the closure, each is a group of clauses,
 //!     and the solver says which groups it used.
+//! - `installable` finds many places that some healthy set has, for which no set need be shown: an `installation` grows without a search.
 #![tactic(auto)]
 
 mod answer;
@@ -34,6 +35,8 @@ mod forced;
 mod gather;
 mod groundwork;
 mod hopeless;
+mod installable;
+mod installation;
 mod kept_positions;
 pub mod laws;
 mod part;
@@ -52,6 +55,7 @@ mod workspace;
 pub use answer::Verdict;
 pub use decision::{closure, verdict, verdict_in};
 pub use groundwork::Groundwork;
+pub use installable::find_installable;
 pub use workspace::Workspace;
 
 #[cfg(test)]
@@ -62,6 +66,8 @@ mod gather_tests;
 mod growths;
 #[cfg(test)]
 mod hopeless_tests;
+#[cfg(test)]
+mod installable_tests;
 #[cfg(test)]
 mod tests;
 #[cfg(test)]

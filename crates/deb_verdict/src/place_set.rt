@@ -1,6 +1,6 @@
 //! A set of places, in the order in which they came: a sparse set (Briggs and Torczon, 1993), of which the list alone need be emptied.
 
-ghost use Rattle.std.specs.Prelude.{◌≡◌, ◌⊎◌, ℕ, ◌<◌, ◌≤◌, ◌^◌, List, [], true, false, All, length, slice_get, Some, IfSome, IfNone, OnOk};
+ghost use Rattle.std.specs.Prelude.{◌≡◌, ◌⊎◌, ℕ, ◌<◌, ◌≤◌, ◌^◌, List, [], true, false, All, length, slice_get, take, Some, IfSome, IfNone, OnOk};
 ghost use Rattle.std.specs.List.Sorted.{IsStrictlyIncreasing};
 ghost use Rattle.sat_solve.specs.Sets.{members_of};
 ghost use Rattle.deb_verdict.specs.Closure.{IsWithin};
@@ -71,6 +71,13 @@ impl PlaceSet {
         ensures { self.new ≡ [] }
     {
         self.places.clear();
+    }
+
+    /// Takes out all places but the first ones, as many as `count`.
+    pub(crate) fn truncate(&mut self, count: usize)
+        ensures { self.new ≡ take count self.old }
+    {
+        self.places.truncate(count);
     }
 
     /// The places, in the order in which they came.

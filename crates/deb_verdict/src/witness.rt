@@ -73,7 +73,7 @@ fn meets_needs(index: &Index, part: &Part<'_>, set: &PlaceSet, place: u32) -> bo
 }
 
 /// Whether the set has another place of a row.
-fn has_other(set: &PlaceSet, row: &[u32], place: u32) -> bool
+pub(crate) fn has_other(set: &PlaceSet, row: &[u32], place: u32) -> bool
     ensures { result ≡ list_any (λ other. not (other == place) && members_of set.now other) row.now }
 {
     row.iter()
@@ -163,7 +163,7 @@ fn meets_place(index: &Index, part: &Part<'_>, set: &PlaceSet, place: u32) -> bo
 }
 
 /// Whether the set is seen to meet the part. `false` where it isn't, or where there is too much to look at.
-fn meets_part(index: &Index, part: &Part<'_>, set: &PlaceSet) -> bool
+pub(crate) fn meets_part(index: &Index, part: &Part<'_>, set: &PlaceSet) -> bool
     requires { All (λ q. q < length index.now.packages) set.now }
     ensures { result ≡ true → MeetsAt index.now (members_of set.now) (left (members_of part.now.kept.now) part.now.rest) }
 {

@@ -7,3 +7,4 @@ mod LineLemmas
 mod OneReport
 mod PhaseLemmas
 mod RunLemmas
+mod StandingLemmas

@@ -4,7 +4,7 @@
 //!
 //! - `line`: what the words of a command line ask for, by the `options` that `clap` reads and the `values` that they take.
 //! - `device`: what a run reads from and writes to; `std_device`: such devices over std's. `input` reads to the end, `output` writes whole texts.
-//! - `phases`: a run, from bytes to bytes; `asked`: the places that are asked in it.
+//! - `phases`: a run, from bytes to bytes; `asked`: the places that are asked in it; `verdicts`: what is found of them for the report.
 //! - `fault`: why a run fails, and the line and the status of that.
 //! - `laws`: what holds of runs and of reports.
 #![tactic(auto)]
@@ -20,6 +20,7 @@ mod output;
 mod phases;
 mod std_device;
 mod values;
+mod verdicts;
 
 pub use asked::asked_places;
 pub use deb_report::{CHUNK_LIMIT, Config, Format, Show, Summary, report};

@@ -10,11 +10,12 @@ use crate::device::{Sink, Source};
 use crate::fault::RunFault;
 use crate::input::read_all;
 use crate::output::write_all;
+use crate::verdicts::find_verdicts;
 use deb_index::{BothError, Index, TEXT_LIMIT};
 use deb_report::{Config, Summary, report, summary_of};
 use std::alloc::Global;
 use std::thread::Threads;
-use work_draw::{Gate, check_all};
+use work_draw::Gate;
 
 // Reads what stands behind the index: the background, where one is asked for, else no bytes.
 fn read_behind<B: Source>(
@@ -90,8 +91,7 @@ fn check_and_report<G: Gate + Sync, R: Threads + Sync>(
 {
     let asked = asked_places(alloc, index, config)?;
     let asked = asked.as_slice();
-    let (workers, chunk) = (config.workers, config.chunk);
-    let verdicts = check_all(rt, alloc, index, asked, workers, chunk, gate)?;
+    let verdicts = find_verdicts(rt, alloc, config, index, asked, gate)?;
     let output = report(alloc, index, asked, verdicts.as_slice(), config)?;
     Ok((output, summary_of(index, asked, verdicts.as_slice())))
 }

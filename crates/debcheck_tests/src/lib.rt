@@ -2,7 +2,7 @@
 //!
 //! `devices` has readers and a writer over memory, and is proved. The rest is tests: `example` says what an example is and runs it, `reports` goes over those of
 //! `relations`, `meanings`, `qualifiers`, `settings` and `refusals`; `backgrounds` has those with a second text, `json_reports` documents in JSON, which it reads back;
-//! `cut_texts`, `failing_devices`, `large`, `workers` and `growths` have inputs of their own.
+//! `cut_texts`, `failing_devices`, `large`, `without_sets`, `workers` and `growths` have inputs of their own.
 #![tactic(auto)]
 
 #[cfg(test)]
@@ -34,5 +34,7 @@ mod reports;
 mod sample;
 #[cfg(test)]
 mod settings;
+#[cfg(test)]
+mod without_sets;
 #[cfg(test)]
 mod workers;

@@ -1,0 +1,163 @@
+//! Places that some healthy set is seen to have: a few large sets are found without a search, and each is looked up to be healthy.
+
+ghost use Rattle.std.specs.Prelude.{◌≡◌, ◌<◌, true, All, IfOk, OnOk, length};
+ghost use Rattle.sat_solve.specs.Sets.{members_of};
+ghost use Rattle.deb_verdict.specs.Groundwork.{MarksOnly};
+ghost use Rattle.deb_verdict.specs.Health.{IsHealthy, IsInstallable};
+
+use crate::groundwork::Groundwork;
+use crate::installation::{Installation, weight};
+use crate::part::Part;
+use crate::place_set::PlaceSet;
+use crate::witness::meets_part;
+use deb_index::Index;
+use std::alloc::{AllocError, Global};
+
+/// How many sets are found at most.
+const SETS: u32 = 64;
+
+/// How often at most, in all, as much as the whole index comes to them, or is taken out again.
+const TIMES: u64 = 8;
+
+/// Whether a set is seen to be healthy. `false` where it isn't, or where there is too much to look at.
+fn is_healthy(index: &Index, set: &PlaceSet) -> bool
+    requires { All (λ q. q < length index.now.packages) set.now }
+    ensures { result ≡ true → IsHealthy index.now (members_of set.now) }
+{
+    let all = Part { kept: &[], rest: 0 };
+    meets_part(index, &all, set)
+}
+
+/// Makes a set of a package, of essential ones, and of those asked ones that are not marked and fit. `false` where the package doesn't fit by itself.
+fn grow(
+    groundwork: &Groundwork<'_>,
+    asked: &[u32],
+    marks: &[bool],
+    start: u32,
+    installation: &mut Installation,
+) -> Result<bool, AllocError>
+    requires asked { All (λ place. place < length groundwork.now.index.now.packages) asked.now }
+    requires start { start < length groundwork.now.index.now.packages }
+    requires marks { length marks.now ≡ length groundwork.now.index.now.packages }
+    ensures { OnOk result (All (λ member. member < length groundwork.now.index.now.packages) installation.new.members) }
+{
+    installation.clear();
+    if !installation.add(groundwork, start)? {
+        return Ok(false);
+    }
+    if !installation.add_essentials(groundwork)? {
+        return Ok(true);
+    }
+    for place in asked {
+        if !marks[*place as usize] {
+            installation.add(groundwork, *place)?;
+        }
+    }
+    Ok(true)
+}
+
+/// Marks the places of a healthy set.
+fn mark(index: &Index, set: &[u32], marks: &mut [bool])
+    requires places { All (λ place. place < length marks.old) set.now }
+    requires healthy { IsHealthy index.now (members_of set.now) }
+    requires marks { MarksOnly (IsInstallable index.now) marks.old }
+    ensures count { length marks.new ≡ length marks.old }
+    ensures marks { MarksOnly (IsInstallable index.now) marks.new }
+{
+    // Nothing is looked up in the index: it says what the marks mean.
+    let _index = index;
+    for place in set {
+        marks[*place as usize] = true;
+    }
+}
+
+/// Makes a set with a package, and marks its places where it is seen to be healthy. `false` where the package doesn't fit by itself.
+fn mark_set(
+    groundwork: &Groundwork<'_>,
+    asked: &[u32],
+    start: u32,
+    installation: &mut Installation,
+    marks: &mut [bool],
+) -> Result<bool, AllocError>
+    requires asked { All (λ place. place < length groundwork.now.index.now.packages) asked.now }
+    requires start { start < length groundwork.now.index.now.packages }
+    requires count { length marks.old ≡ length groundwork.now.index.now.packages }
+    requires marks { MarksOnly (IsInstallable groundwork.now.index.now) marks.old }
+    ensures count { OnOk result (length marks.new ≡ length groundwork.now.index.now.packages) }
+    ensures marks { OnOk result (MarksOnly (IsInstallable groundwork.now.index.now) marks.new) }
+{
+    if !grow(groundwork, asked, marks, start, installation)? {
+        return Ok(false);
+    }
+    if is_healthy(groundwork.index, &installation.members) {
+        mark(groundwork.index, installation.members.as_slice(), marks);
+    }
+    Ok(true)
+}
+
+/// Marks for all places, none of them set.
+fn no_marks(alloc: Global, index: &Index) -> Result<Vec<bool>, AllocError>
+    ensures count { IfOk result (λ marks. length marks.items ≡ length index.now.packages) }
+    ensures marks { IfOk result (λ marks. MarksOnly (IsInstallable index.now) marks.items) }
+{
+    let mut marks = Vec::with_capacity(alloc, index.len() as usize)?;
+    for _ in 0..index.len() {
+        marks.push(false)?;
+    }
+    Ok(marks)
+}
+
+/// How much all packages ask for.
+fn weight_of_all(index: &Index) -> u64 {
+    let mut sum: u64 = 0;
+    for place in 0..index.len() {
+        sum = sum.saturating_add(weight(index, place));
+    }
+    sum
+}
+
+/// Marks places that are seen to be installable.
+fn mark_installable(
+    alloc: Global,
+    groundwork: &Groundwork<'_>,
+    asked: &[u32],
+    marks: &mut [bool],
+) -> Result<(), AllocError>
+    requires asked { All (λ place. place < length groundwork.now.index.now.packages) asked.now }
+    requires count { length marks.old ≡ length groundwork.now.index.now.packages }
+    requires marks { MarksOnly (IsInstallable groundwork.now.index.now) marks.old }
+    ensures count { OnOk result (length marks.new ≡ length groundwork.now.index.now.packages) }
+    ensures marks { OnOk result (MarksOnly (IsInstallable groundwork.now.index.now) marks.new) }
+{
+    let spare = weight_of_all(groundwork.index).saturating_mul(TIMES);
+    let mut installation = Installation::new(alloc, spare);
+    let mut sets = 0;
+    for place in asked {
+        if sets < SETS
+            && !marks[*place as usize]
+            && mark_set(groundwork, asked, *place, &mut installation, marks)?
+        {
+            sets += 1;
+        }
+    }
+    Ok(())
+}
+
+/// Marks, by place, packages that some healthy set is seen to have, of those that are asked and of what they need; others may be installable, too.
+/// It finds a few large sets, each without a search, and looks up that they are healthy (dose-debcheck(1) calls such a package installable).
+///
+/// The one error is want of memory.
+pub fn find_installable(
+    alloc: Global,
+    index: &Index,
+    asked: &[u32],
+) -> Result<Vec<bool>, AllocError>
+    requires { All (λ place. place < length index.now.packages) asked.now }
+    ensures marks { IfOk result (λ marks. MarksOnly (IsInstallable index.now) marks.items) }
+    ensures count { IfOk result (λ marks. length marks.items ≡ length index.now.packages) }
+{
+    let groundwork = Groundwork::new(alloc, index)?;
+    let mut marks = no_marks(alloc, index)?;
+    mark_installable(alloc, &groundwork, asked, &mut marks)?;
+    Ok(marks)
+}

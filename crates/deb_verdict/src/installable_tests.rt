@@ -1,0 +1,168 @@
+//! What is seen to be installable in small indexes.
+
+ghost use Rattle.std.specs.Prelude.{◌<◌, All, IfOk, length};
+
+use crate::installable::find_installable;
+use crate::tests::read;
+use deb_index::Index;
+use std::alloc::Global;
+use std::process::Abort;
+use std::test::Fail;
+
+/// The asked places, of which each is one of the index.
+fn places(rt: &impl Abort, alloc: Global, index: &Index, asked: &[u32]) -> Result<Vec<u32>, Fail>
+    ensures { IfOk result (λ places. All (λ place. place < length index.now.packages) places.items) }
+{
+    let mut places = Vec::new(alloc);
+    for place in asked {
+        assert!(rt; *place < index.len());
+        places.push(*place)?;
+    }
+    Ok(places)
+}
+
+fn expect_marks(
+    rt: &impl Abort,
+    alloc: Global,
+    index: &Index,
+    asked: &[u32],
+    wanted: &[bool],
+) -> Result<(), Fail> {
+    let places = places(rt, alloc, index, asked)?;
+    let marks = find_installable(alloc, index, &places)?;
+    assert!(rt; marks.as_slice() == wanted);
+    Ok(())
+}
+
+#[test]
+fn packages_apart_in_two_sets(rt: HostRuntime) -> Result<(), Fail> {
+    let text = b"Package: a
+Version: 1
+Architecture: all
+Conflicts: b
+
+Package: b
+Version: 1
+Architecture: all
+
+Package: c
+Version: 1
+Architecture: all
+Depends: a, b
+
+Package: d
+Version: 1
+Architecture: all
+Depends: b
+";
+    let index = read(rt.alloc(), text, true)?;
+    let asked = [0, 1, 2, 3];
+    expect_marks(&rt, rt.alloc(), &index, &asked, &[true, true, false, true])
+}
+
+#[test]
+fn versions_of_one_name_in_two_sets(rt: HostRuntime) -> Result<(), Fail> {
+    let text = b"Package: a
+Version: 1
+Architecture: all
+
+Package: a
+Version: 2
+Architecture: all
+
+Package: b
+Version: 1
+Architecture: all
+Depends: a (>= 2)
+
+Package: c
+Version: 1
+Architecture: all
+Depends: b, a (<< 2)
+";
+    let index = read(rt.alloc(), text, true)?;
+    let asked = [0, 1, 2, 3];
+    expect_marks(&rt, rt.alloc(), &index, &asked, &[true, true, true, false])
+}
+
+#[test]
+fn those_that_are_asked_and_what_they_need(rt: HostRuntime) -> Result<(), Fail> {
+    let text = b"Package: a
+Version: 1
+Architecture: all
+Depends: absent | c
+
+Package: b
+Version: 1
+Architecture: all
+
+Package: c
+Version: 1
+Architecture: all
+";
+    let index = read(rt.alloc(), text, true)?;
+    expect_marks(&rt, rt.alloc(), &index, &[0], &[true, false, true])?;
+    expect_marks(&rt, rt.alloc(), &index, &[], &[false, false, false])
+}
+
+#[test]
+fn second_answer_where_the_first_leads_nowhere(rt: HostRuntime) -> Result<(), Fail> {
+    let text = b"Package: a
+Version: 1
+Architecture: all
+Depends: b | d
+
+Package: b
+Version: 1
+Architecture: all
+Depends: c
+
+Package: c
+Version: 1
+Architecture: all
+Breaks: a
+
+Package: d
+Version: 1
+Architecture: all
+";
+    let index = read(rt.alloc(), text, true)?;
+    let asked = [0, 1, 2, 3];
+    expect_marks(&rt, rt.alloc(), &index, &asked, &[true, true, true, true])
+}
+
+#[test]
+fn essential_package_is_in_each_set(rt: HostRuntime) -> Result<(), Fail> {
+    let text = b"Package: a
+Version: 1
+Architecture: all
+Conflicts: e
+
+Package: e
+Version: 1
+Architecture: all
+Essential: yes
+
+Package: f
+Version: 1
+Architecture: all
+";
+    let index = read(rt.alloc(), text, true)?;
+    expect_marks(&rt, rt.alloc(), &index, &[0, 2], &[false, true, true])
+}
+
+#[test]
+fn no_set_without_an_essential_package(rt: HostRuntime) -> Result<(), Fail> {
+    let text = b"Package: a
+Version: 1
+Architecture: all
+
+Package: e
+Version: 1
+Architecture: all
+Essential: yes
+Depends: absent
+";
+    let index = read(rt.alloc(), text, true)?;
+    expect_marks(&rt, rt.alloc(), &index, &[0, 1], &[false, false])
+}

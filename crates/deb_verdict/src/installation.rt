@@ -1,0 +1,324 @@
+//! A set of packages that grows: each need takes what is in, or else its first answer that fits. No claim rests on how it grew.
+
+ghost use Rattle.std.specs.Prelude.{◌≡◌, [], ◌<◌, All, OnOk, length, take};
+ghost use Rattle.deb_index.specs.Packages.{aparts_at};
+
+use crate::gather::has_any;
+use crate::groundwork::Groundwork;
+use crate::place_set::PlaceSet;
+use crate::witness::has_other;
+use deb_index::Index;
+use std::alloc::{AllocError, Global};
+
+/// Where a name has more packages, none of them is put in.
+const VERSIONS: usize = 64;
+
+/// How often at most a package is tried in one set.
+const TRIES: u32 = 8;
+
+/// Members that stand apart from no other one and have names of their own, and what was seen on the way to them.
+#[derive(Drop)]
+pub(crate) struct Installation {
+    pub(crate) members: PlaceSet,
+    // What entries of members hit.
+    barred: PlaceSet,
+    // What was seen not to fit, though it may fit by now.
+    unfit: PlaceSet,
+    // Of so many members the needs with one answer alone were gone through, and of so many all needs.
+    forced: usize,
+    answered: usize,
+    // How much may still come, by the weights of packages.
+    spare: u64,
+}
+
+/// How much a package asks for: itself, its needs and its entries.
+pub(crate) fn weight(index: &Index, place: u32) -> u64
+    requires { place < length index.now.packages }
+{
+    1 + u64::from(index.need_count(place)) + u64::from(index.apart_count(place))
+}
+
+/// Whether an entry of a package hits a member. `true` where what it hits is too much for a row.
+fn hits_member(index: &Index, members: &PlaceSet, place: u32, number: u32) -> bool
+    requires place { place < length index.now.packages }
+    requires number { number < length (aparts_at index.now place) }
+{
+    match index.hit_row(place, number) {
+        Some(row) => has_other(members, row, place),
+        None => true,
+    }
+}
+
+/// Whether no entry of a package hits a member.
+fn hits_none(index: &Index, members: &PlaceSet, place: u32) -> bool
+    requires { place < length index.now.packages }
+{
+    for number in 0..index.apart_count(place) {
+        if hits_member(index, members, place, number) {
+            return false;
+        }
+    }
+    true
+}
+
+/// Whether no member has the name of a package. `false` where very many packages have it.
+fn has_free_name(index: &Index, members: &PlaceSet, place: u32) -> bool
+    requires { place < length index.now.packages }
+{
+    let versions = index.versions_of(place);
+    versions.len() <= VERSIONS && !has_any(members, versions)
+}
+
+impl Installation {
+    /// Without members. So much may come in all, by the weights of packages, those that are taken out again among them.
+    pub(crate) fn new(alloc: Global, spare: u64) -> Installation
+        ensures { result.members ≡ [] }
+    {
+        Installation {
+            members: PlaceSet::new(alloc),
+            barred: PlaceSet::new(alloc),
+            unfit: PlaceSet::new(alloc),
+            forced: 0,
+            answered: 0,
+            spare,
+        }
+    }
+
+    /// Begins anew.
+    pub(crate) fn clear(&mut self)
+        ensures { self.new.members ≡ [] }
+    {
+        self.members.clear();
+        self.barred.clear();
+        self.unfit.clear();
+        self.forced = 0;
+        self.answered = 0;
+    }
+
+    /// Whether a package may come to the members.
+    fn fits(&mut self, groundwork: &Groundwork<'_>, place: u32) -> Result<bool, AllocError>
+        requires { place < length groundwork.now.index.now.packages }
+        ensures { OnOk result (self.new.members ≡ self.old.members) }
+    {
+        if self.barred.contains(place)
+            || self.unfit.contains(place)
+            || groundwork.is_hopeless(place)
+        {
+            return Ok(false);
+        }
+        let index = groundwork.index;
+        if has_free_name(index, &self.members, place) && hits_none(index, &self.members, place) {
+            return Ok(true);
+        }
+        self.unfit.insert(place)?;
+        Ok(false)
+    }
+
+    /// Bars what an entry of a package hits.
+    fn bar(&mut self, index: &Index, place: u32, number: u32) -> Result<(), AllocError>
+        requires place { place < length index.now.packages }
+        requires number { number < length (aparts_at index.now place) }
+        ensures { OnOk result (self.new.members ≡ self.old.members) }
+    {
+        let Some(row) = index.hit_row(place, number) else {
+            return Ok(());
+        };
+        for other in row {
+            if *other != place {
+                self.barred.insert(*other)?;
+            }
+        }
+        Ok(())
+    }
+
+    /// Puts a package in.
+    fn insert(&mut self, index: &Index, place: u32) -> Result<(), AllocError>
+        requires place { place < length index.now.packages }
+        requires members { All (λ member. member < length index.now.packages) self.old.members }
+        ensures { OnOk result (All (λ member. member < length index.now.packages) self.new.members) }
+    {
+        self.spare = self.spare.saturating_sub(weight(index, place));
+        self.members.insert(place)?;
+        for number in 0..index.apart_count(place) {
+            self.bar(index, place, number)?;
+        }
+        Ok(())
+    }
+
+    /// Puts in the first place of a row that fits, where none is in. `false` where none fits.
+    fn take_one(&mut self, groundwork: &Groundwork<'_>, row: &[u32]) -> Result<bool, AllocError>
+        requires row { All (λ place. place < length groundwork.now.index.now.packages) row.now }
+        requires members { All (λ member. member < length groundwork.now.index.now.packages) self.old.members }
+        ensures { OnOk result (All (λ member. member < length groundwork.now.index.now.packages) self.new.members) }
+    {
+        if has_any(&self.members, row) {
+            return Ok(true);
+        }
+        for place in row {
+            if self.fits(groundwork, *place)? {
+                self.insert(groundwork.index, *place)?;
+                return Ok(true);
+            }
+        }
+        Ok(false)
+    }
+
+    /// Puts in an answer of each need of a package that has `most` answers at most. `false` where none fits, or there are too many for a row.
+    fn take_answers(
+        &mut self,
+        groundwork: &Groundwork<'_>,
+        place: u32,
+        most: usize,
+    ) -> Result<bool, AllocError>
+        requires place { place < length groundwork.now.index.now.packages }
+        requires members { All (λ member. member < length groundwork.now.index.now.packages) self.old.members }
+        ensures { OnOk result (All (λ member. member < length groundwork.now.index.now.packages) self.new.members) }
+    {
+        let index = groundwork.index;
+        for number in 0..index.need_count(place) {
+            let Some(row) = index.answer_row(place, number) else {
+                return Ok(false);
+            };
+            if row.len() <= most && !self.take_one(groundwork, row)? {
+                return Ok(false);
+            }
+        }
+        Ok(true)
+    }
+
+    /// Puts in an answer of each such need of a package, which doesn't fit where there is none.
+    fn answer(
+        &mut self,
+        groundwork: &Groundwork<'_>,
+        place: u32,
+        most: usize,
+    ) -> Result<bool, AllocError>
+        requires place { place < length groundwork.now.index.now.packages }
+        requires members { All (λ member. member < length groundwork.now.index.now.packages) self.old.members }
+        ensures { OnOk result (All (λ member. member < length groundwork.now.index.now.packages) self.new.members) }
+    {
+        let answered = self.take_answers(groundwork, place, most)?;
+        if !answered {
+            self.unfit.insert(place)?;
+        }
+        Ok(answered)
+    }
+
+    /// Goes through the needs of one member: first through those with one answer alone, of all members.
+    fn step(&mut self, groundwork: &Groundwork<'_>) -> Result<bool, AllocError>
+        requires members { All (λ member. member < length groundwork.now.index.now.packages) self.old.members }
+        ensures { OnOk result (All (λ member. member < length groundwork.now.index.now.packages) self.new.members) }
+    {
+        let members = self.members.as_slice();
+        if self.forced < members.len() {
+            let place = members[self.forced];
+            self.forced += 1;
+            return self.answer(groundwork, place, 1);
+        }
+        if self.answered < members.len() {
+            let place = members[self.answered];
+            self.answered += 1;
+            return self.answer(groundwork, place, usize::MAX);
+        }
+        Ok(true)
+    }
+
+    /// Goes through the needs of all members, as long as members come. `false` where one isn't answered.
+    fn complete(&mut self, groundwork: &Groundwork<'_>) -> Result<bool, AllocError>
+        requires members { All (λ member. member < length groundwork.now.index.now.packages) self.old.members }
+        ensures { OnOk result (All (λ member. member < length groundwork.now.index.now.packages) self.new.members) }
+    {
+        // Each member is gone through twice.
+        for _ in 0..u64::from(groundwork.index.len()) * 2 {
+            if !self.step(groundwork)? {
+                return Ok(false);
+            }
+            if self.answered == self.members.as_slice().len() {
+                return Ok(true);
+            }
+        }
+        Ok(false)
+    }
+
+    /// Takes out all members but the first ones.
+    fn take_back(&mut self, members: usize, barred: usize)
+        ensures { self.new.members ≡ take members self.old.members }
+    {
+        self.members.truncate(members);
+        self.barred.truncate(barred);
+        self.forced = members;
+        self.answered = members;
+    }
+
+    /// Puts a package in with what it needs, once. `false` where that isn't found: then the members are what they were.
+    fn try_once(&mut self, groundwork: &Groundwork<'_>, place: u32) -> Result<bool, AllocError>
+        requires place { place < length groundwork.now.index.now.packages }
+        requires members { All (λ member. member < length groundwork.now.index.now.packages) self.old.members }
+        ensures { OnOk result (All (λ member. member < length groundwork.now.index.now.packages) self.new.members) }
+    {
+        let members = self.members.as_slice().len();
+        let barred = self.barred.as_slice().len();
+        self.insert(groundwork.index, place)?;
+        if self.complete(groundwork)? {
+            return Ok(true);
+        }
+        self.take_back(members, barred);
+        Ok(false)
+    }
+
+    /// Puts a package in with what it needs. `false` where that isn't found: then the members are what they were.
+    ///
+    /// Each try that fails shows a package that doesn't fit, and the next one goes without it.
+    pub(crate) fn add(
+        &mut self,
+        groundwork: &Groundwork<'_>,
+        place: u32,
+    ) -> Result<bool, AllocError>
+        requires place { place < length groundwork.now.index.now.packages }
+        requires members { All (λ member. member < length groundwork.now.index.now.packages) self.old.members }
+        ensures { OnOk result (All (λ member. member < length groundwork.now.index.now.packages) self.new.members) }
+    {
+        if self.members.contains(place) {
+            return Ok(true);
+        }
+        for _ in 0..TRIES {
+            if self.spare == 0 || !self.fits(groundwork, place)? {
+                return Ok(false);
+            }
+            if self.try_once(groundwork, place)? {
+                return Ok(true);
+            }
+        }
+        self.unfit.insert(place)?;
+        Ok(false)
+    }
+
+    /// Puts in the first of these packages that can be, with what it needs.
+    fn add_one(&mut self, groundwork: &Groundwork<'_>, row: &[u32]) -> Result<bool, AllocError>
+        requires row { All (λ place. place < length groundwork.now.index.now.packages) row.now }
+        requires members { All (λ member. member < length groundwork.now.index.now.packages) self.old.members }
+        ensures { OnOk result (All (λ member. member < length groundwork.now.index.now.packages) self.new.members) }
+    {
+        for place in row {
+            if self.add(groundwork, *place)? {
+                return Ok(true);
+            }
+        }
+        Ok(false)
+    }
+
+    /// Puts in a package of each essential name, with what it needs. `false` where that isn't found.
+    pub(crate) fn add_essentials(&mut self, groundwork: &Groundwork<'_>) -> Result<bool, AllocError>
+        requires members { All (λ member. member < length groundwork.now.index.now.packages) self.old.members }
+        ensures { OnOk result (All (λ member. member < length groundwork.now.index.now.packages) self.new.members) }
+    {
+        let index = groundwork.index;
+        for name in index.essential_names() {
+            let row = index.places_named(*name);
+            if !has_any(&self.members, row) && !self.add_one(groundwork, row)? {
+                return Ok(false);
+            }
+        }
+        Ok(true)
+    }
+}

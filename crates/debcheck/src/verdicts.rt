@@ -1,0 +1,81 @@
+//! The verdicts that a report is made of: where it tells no set, none is looked for.
+
+ghost use Rattle.std.specs.Prelude.{◌≡◌, ◌^◌, ◌<◌, ◌≤◌, All, IfOk, filter, length, map};
+ghost use Rattle.deb_report.specs.Settings.{settings_of};
+ghost use Rattle.deb_verdict.specs.Verdicts.{SpeaksOf, verdict_view};
+ghost use Rattle.debcheck.specs.Standing.{StandFor, is_unmarked, told_of};
+
+use deb_index::Index;
+use deb_report::Config;
+use deb_verdict::{Verdict, find_installable};
+use std::alloc::{AllocError, Global};
+use std::thread::Threads;
+use work_draw::{Gate, check_all};
+
+// The places without a mark, in their order.
+fn unmarked(alloc: Global, places: &[u32], marks: &[bool]) -> Result<Vec<u32>, AllocError>
+    requires { All (λ place. place < length marks.now) places.now }
+    ensures { IfOk result (λ left. left.items ≡ filter (is_unmarked marks.now) places.now) }
+{
+    let mut left = Vec::new(alloc);
+    for place in places {
+        if !marks[*place as usize] {
+            left.push(*place)?;
+        }
+    }
+    Ok(left)
+}
+
+// For each asked place that is marked a verdict with an empty set, for each other one the next of those that were found.
+fn merged(
+    alloc: Global,
+    asked: &[u32],
+    marks: &[bool],
+    found: Vec<Verdict>,
+) -> Result<Vec<Verdict>, AllocError>
+    requires { All (λ place. place < length marks.now) asked.now }
+    ensures { IfOk result (λ told. map verdict_view told.items ≡ told_of marks.now asked.now (map verdict_view found.items)) }
+{
+    let mut told = Vec::with_capacity(alloc, asked.len())?;
+    let mut rest = found.into_iter();
+    for place in asked {
+        if marks[*place as usize] {
+            told.push(Verdict::Ok(Vec::new(alloc)))?;
+        } else if let Some(verdict) = rest.next() {
+            told.push(verdict)?;
+        }
+    }
+    Ok(told)
+}
+
+/// The verdicts that the report on the asked places is made of, in their order. Where it tells a set that was found, they are those of
+/// `check_all`. Else it is enough to know that a package can be installed: what `find_installable` marks has a verdict with an empty set, and
+/// only the other places are checked by workers. The chunks that the gate is told of are those of these places.
+pub(crate) fn find_verdicts<G: Gate + Sync, R: Threads + Sync>(
+    rt: &R,
+    alloc: Global,
+    config: &Config,
+    index: &Index,
+    asked: &[u32],
+    gate: &G,
+) -> Result<Vec<Verdict>, AllocError>
+    requires places { All (λ place. place < length index.now.packages) asked.now }
+    requires few { length asked.now < 2 ^ 32 }
+    requires workers { (0 < config.now.workers) × (config.now.workers ≤ 64) }
+    requires chunk { 0 < config.now.chunk }
+    ensures same { IfOk result (λ v. length v.items ≡ length asked.now) }
+    ensures within { IfOk result (λ v. All (SpeaksOf index.now) (map verdict_view v.items)) }
+    ensures stand { IfOk result (λ v. StandFor (settings_of config.now) index.now asked.now (map verdict_view v.items)) }
+{
+    let (workers, chunk) = (config.workers, config.chunk);
+    if config.shows_sets() {
+        let verdicts = check_all(rt, alloc, index, asked, workers, chunk, gate)?;
+        return Ok(verdicts);
+    }
+    let installable = find_installable(alloc, index, asked)?;
+    let marks = installable.as_slice();
+    let left = unmarked(alloc, asked, marks)?;
+    let found = check_all(rt, alloc, index, left.as_slice(), workers, chunk, gate)?;
+    let told = merged(alloc, asked, marks, found)?;
+    Ok(told)
+}
