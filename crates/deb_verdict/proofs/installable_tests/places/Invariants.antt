@@ -2,4 +2,4 @@ use Rattle.std.proofs.Common.{◌<◌, All, length}
 use Rattle.deb_verdict.proofs.installable_tests.places.Given as goal
 
 abbrev pub invariant-loop-place : goal.invariant-loop-place
-invariant-loop-place l = All (λ place. place < length l.index.packages) l.places.items
+invariant-loop-place g l = All (λ place. place < length l.index.packages) l.places.items

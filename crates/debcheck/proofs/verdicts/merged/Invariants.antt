@@ -7,6 +7,6 @@ use Rattle.debcheck.proofs.verdicts.merged.Given as goal
 abbrev pub invariant-loop-place : goal.invariant-loop-place
 invariant-loop-place l = record {
   tells : map verdict_view l.told.items ++ told_of l.marks (drop l.place-index l.asked) (map verdict_view (into_iter_items l.rest))
-    ≡ told_of l.marks l.asked (map verdict_view l.fn.found.items);
+      ≡ told_of l.marks l.asked (map verdict_view l.fn.found.items);
   counts : into_iter_len l.rest ≡ length (into_iter_items l.rest);
 }
