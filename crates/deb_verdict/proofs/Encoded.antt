@@ -27,7 +27,7 @@ members_of_at (x ∷ rest) number is_in =
 pub at_members_of : (numbers : List ℕ) (k : ℕ) → k < length numbers → members_of numbers (get_or numbers k 0) ≡ true
 at_members_of numbers k inside = list_any_at (λ member. eqb member (get_or numbers k 0)) numbers k 0 inside (eq-eqb (get_or numbers k 0) (get_or numbers k 0) refl)
 
-and_true : (a b : Bool) → b ≡ true → (a && b) ≡ a
+pub and_true : (a b : Bool) → b ≡ true → (a && b) ≡ a
 and_true true b yes_it = yes_it
 and_true false b yes_it = refl
 

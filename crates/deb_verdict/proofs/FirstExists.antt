@@ -14,6 +14,7 @@ use Rattle.deb_verdict.specs.Gathering.{none_of, IsEnough}
 use Rattle.deb_verdict.specs.Health.{IsInstallation, IsInstallable}
 use Rattle.deb_verdict.specs.Verdicts.{IsFirstInstallation}
 use Rattle.deb_verdict.proofs.Cutting.{cut_installation, respects_nothing}
+use Rattle.deb_verdict.proofs.Encoded.{and_true}
 use Rattle.deb_verdict.proofs.IndexFacts.{named_is_place, answers_is_place}
 
 -- ---- the first of the sets below a limit that pass a test
@@ -106,10 +107,6 @@ first_or_none (suc limit) test =
 
 abbrev cut_at : ℕ → NumberSet → NumberSet
 cut_at limit set = cut set (λ q. ltb q limit)
-
-and_true : (a b : Bool) → b ≡ true → (a && b) ≡ a
-and_true true b holds = holds
-and_true false b holds = refl
 
 cut_under : (limit : ℕ) (set : NumberSet) → IsUnder limit (cut_at limit set)
 cut_under limit set number past =

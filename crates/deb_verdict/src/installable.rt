@@ -56,21 +56,6 @@ fn grow(
     Ok(true)
 }
 
-/// Marks the places of a healthy set.
-fn mark(index: &Index, set: &[u32], marks: &mut [bool])
-    requires places { All (λ place. place < length marks.old) set.now }
-    requires healthy { IsHealthy index.now (members_of set.now) }
-    requires marks { MarksOnly (IsInstallable index.now) marks.old }
-    ensures count { length marks.new ≡ length marks.old }
-    ensures marks { MarksOnly (IsInstallable index.now) marks.new }
-{
-    // Nothing is looked up in the index: it says what the marks mean.
-    let _index = index;
-    for place in set {
-        marks[*place as usize] = true;
-    }
-}
-
 /// Makes a set with a package, and marks its places where it is seen to be healthy. `false` where the package doesn't fit by itself.
 fn mark_set(
     groundwork: &Groundwork<'_>,
@@ -90,7 +75,9 @@ fn mark_set(
         return Ok(false);
     }
     if is_healthy(groundwork.index, &installation.members) {
-        mark(groundwork.index, installation.members.as_slice(), marks);
+        for place in installation.members.as_slice() {
+            marks[*place as usize] = true;
+        }
     }
     Ok(true)
 }
@@ -144,7 +131,10 @@ fn mark_installable(
 }
 
 /// Marks, by place, packages that some healthy set is seen to have, of those that are asked and of what they need; others may be installable, too.
-/// It finds a few large sets, each without a search, and looks up that they are healthy (dose-debcheck(1) calls such a package installable).
+/// It finds a few large sets, each without a search, and looks up that they are healthy (Debian Policy 7.2 to 7.5; dose-debcheck(1) calls such a
+/// package installable). How many are marked is no promise.
+///
+/// `asked` has places of the index, counted from 0 and below `index.len()`, in any order.
 ///
 /// The one error is want of memory.
 pub fn find_installable(

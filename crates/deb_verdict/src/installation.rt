@@ -6,17 +6,14 @@ ghost use Rattle.deb_index.specs.Packages.{aparts_at};
 use crate::gather::has_any;
 use crate::groundwork::Groundwork;
 use crate::place_set::PlaceSet;
-use crate::witness::has_other;
+use crate::witness::{FEW, hits_no_other};
 use deb_index::Index;
 use std::alloc::{AllocError, Global};
-
-/// Where a name has more packages, none of them is put in.
-const VERSIONS: usize = 64;
 
 /// How often at most a package is tried in one set.
 const TRIES: u32 = 8;
 
-/// Members that stand apart from no other one and have names of their own, and what was seen on the way to them.
+/// Members with names of their own, of which no entry hits another one, and what was seen on the way to them.
 #[derive(Drop)]
 pub(crate) struct Installation {
     pub(crate) members: PlaceSet,
@@ -38,23 +35,12 @@ pub(crate) fn weight(index: &Index, place: u32) -> u64
     1 + u64::from(index.need_count(place)) + u64::from(index.apart_count(place))
 }
 
-/// Whether an entry of a package hits a member. `true` where what it hits is too much for a row.
-fn hits_member(index: &Index, members: &PlaceSet, place: u32, number: u32) -> bool
-    requires place { place < length index.now.packages }
-    requires number { number < length (aparts_at index.now place) }
-{
-    match index.hit_row(place, number) {
-        Some(row) => has_other(members, row, place),
-        None => true,
-    }
-}
-
-/// Whether no entry of a package hits a member.
-fn hits_none(index: &Index, members: &PlaceSet, place: u32) -> bool
+/// Whether no entry of a package hits a member. `false` where what one hits is too much for a row.
+fn stands_apart(index: &Index, members: &PlaceSet, place: u32) -> bool
     requires { place < length index.now.packages }
 {
     for number in 0..index.apart_count(place) {
-        if hits_member(index, members, place, number) {
+        if !hits_no_other(index, members, place, number) {
             return false;
         }
     }
@@ -66,7 +52,7 @@ fn has_free_name(index: &Index, members: &PlaceSet, place: u32) -> bool
     requires { place < length index.now.packages }
 {
     let versions = index.versions_of(place);
-    versions.len() <= VERSIONS && !has_any(members, versions)
+    versions.len() <= FEW as usize && !has_any(members, versions)
 }
 
 impl Installation {
@@ -107,7 +93,7 @@ impl Installation {
             return Ok(false);
         }
         let index = groundwork.index;
-        if has_free_name(index, &self.members, place) && hits_none(index, &self.members, place) {
+        if has_free_name(index, &self.members, place) && stands_apart(index, &self.members, place) {
             return Ok(true);
         }
         self.unfit.insert(place)?;
@@ -186,41 +172,27 @@ impl Installation {
         Ok(true)
     }
 
-    /// Puts in an answer of each such need of a package, which doesn't fit where there is none.
-    fn answer(
-        &mut self,
-        groundwork: &Groundwork<'_>,
-        place: u32,
-        most: usize,
-    ) -> Result<bool, AllocError>
-        requires place { place < length groundwork.now.index.now.packages }
-        requires members { All (λ member. member < length groundwork.now.index.now.packages) self.old.members }
-        ensures { OnOk result (All (λ member. member < length groundwork.now.index.now.packages) self.new.members) }
-    {
-        let answered = self.take_answers(groundwork, place, most)?;
-        if !answered {
-            self.unfit.insert(place)?;
-        }
-        Ok(answered)
-    }
-
-    /// Goes through the needs of one member: first through those with one answer alone, of all members.
+    /// Goes through the needs of one member: first through those with one answer alone, of all members. A member with a need that nothing
+    /// answers which fits doesn't fit itself.
     fn step(&mut self, groundwork: &Groundwork<'_>) -> Result<bool, AllocError>
         requires members { All (λ member. member < length groundwork.now.index.now.packages) self.old.members }
         ensures { OnOk result (All (λ member. member < length groundwork.now.index.now.packages) self.new.members) }
     {
         let members = self.members.as_slice();
-        if self.forced < members.len() {
-            let place = members[self.forced];
+        let (place, most) = if self.forced < members.len() {
             self.forced += 1;
-            return self.answer(groundwork, place, 1);
-        }
-        if self.answered < members.len() {
-            let place = members[self.answered];
+            (members[self.forced - 1], 1)
+        } else if self.answered < members.len() {
             self.answered += 1;
-            return self.answer(groundwork, place, usize::MAX);
+            (members[self.answered - 1], usize::MAX)
+        } else {
+            return Ok(true);
+        };
+        let answered = self.take_answers(groundwork, place, most)?;
+        if !answered {
+            self.unfit.insert(place)?;
         }
-        Ok(true)
+        Ok(answered)
     }
 
     /// Goes through the needs of all members, as long as members come. `false` where one isn't answered.

@@ -290,6 +290,35 @@ impl Propagation {
     }
 }
 
+/// Whether the steps that forcing took last, for whatever package and part, show that a part of the constraints admits no set with the package
+/// at a place. Where they do, `used` has, rising, the positions of constraints of the part that already admit none.
+pub(crate) fn refute_by_last_steps(
+    index: &Index,
+    part: Part<'_>,
+    p: u32,
+    buffers: &mut Propagation,
+    used: &mut Vec<u32>,
+) -> Result<bool, AllocError>
+    ensures refuted { IfOk result (λ refuted. refuted ≡ true → IsRefutation (AdmitsNone index.now p) (left (members_of part.entry.kept.now) part.entry.rest) (members_of used.new.items)) }
+    ensures rising { IfOk result (λ refuted. refuted ≡ true → IsStrictlyIncreasing used.new.items) }
+    ensures still { IfOk result (λ refuted. refuted ≡ false → used.new.items ≡ used.old.items) }
+{
+    let holds = is_refutation(
+        index,
+        part,
+        p,
+        &buffers.steps,
+        &mut buffers.ins,
+        &mut buffers.positions,
+    )?;
+    if !holds {
+        return Ok(false);
+    }
+    sort_once(&mut buffers.positions);
+    mem::swap(&mut buffers.positions, used);
+    Ok(true)
+}
+
 /// Whether a part of the constraints is seen to admit no set with the package at a place, by forcing alone. Where it is, `used` has, rising,
 /// the positions of constraints of the part that already admit none.
 pub(crate) fn refute_by_forcing(
@@ -308,17 +337,5 @@ pub(crate) fn refute_by_forcing(
         return Ok(false);
     };
     buffers.derive(conflict)?;
-    if !is_refutation(
-        index,
-        part,
-        p,
-        &buffers.steps,
-        &mut buffers.ins,
-        &mut buffers.positions,
-    )? {
-        return Ok(false);
-    }
-    sort_once(&mut buffers.positions);
-    mem::swap(&mut buffers.positions, used);
-    Ok(true)
+    refute_by_last_steps(index, part, p, buffers, used)
 }

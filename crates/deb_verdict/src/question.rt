@@ -7,7 +7,7 @@ ghost use Rattle.deb_verdict.specs.Reduction.{left, IsRefutation};
 
 use crate::by_formula::refute_by_formula;
 use crate::part::Part;
-use crate::propagation::refute_by_forcing;
+use crate::propagation::{refute_by_forcing, refute_by_last_steps};
 use crate::reduction::{Question, next_of};
 use crate::witness::is_seen_to_admit;
 use crate::workspace::Workspace;
@@ -28,18 +28,18 @@ fn refute_part(
     ensures admitted { IfOk result (λ refuted. refuted ≡ false → AdmitsNone index.now p (left (members_of part.entry.kept.now) part.entry.rest) → ⊥) }
     ensures still { IfOk result (λ refuted. refuted ≡ false → workspace.new.used.items ≡ workspace.old.used.items) }
 {
-    let refuted = refute_by_forcing(
-        index,
-        part,
-        p,
-        &mut workspace.propagation,
-        &mut workspace.used,
-    )?;
-    if refuted {
+    let propagation = &mut workspace.propagation;
+    let used = &mut workspace.used;
+    // What broke the last package often breaks this one.
+    if refute_by_last_steps(index, part, p, propagation, used)? {
         return Ok(true);
     }
-    if is_seen_to_admit(index, &part, p, &mut workspace.ins)? {
+    // Each package whose core is looked for is broken, so only without some constraints is there a set.
+    if part.rest > 0 && is_seen_to_admit(index, &part, p, &mut workspace.ins)? {
         return Ok(false);
+    }
+    if refute_by_forcing(index, part, p, propagation, used)? {
+        return Ok(true);
     }
     refute_by_formula(alloc, index, part, p, workspace)
 }

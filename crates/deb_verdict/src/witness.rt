@@ -20,7 +20,7 @@ use deb_index::{Constraint, Index};
 use std::alloc::AllocError;
 
 /// Of a package at most so many versions, needs and entries are looked at, where that is no more than a hint.
-const FEW: u32 = 64;
+pub(crate) const FEW: u32 = 64;
 
 /// Whether the set has some package of an essential name, where the part asks for it.
 fn meets_essential(index: &Index, part: &Part<'_>, set: &PlaceSet, position: u32, name: u32) -> bool
@@ -73,7 +73,7 @@ fn meets_needs(index: &Index, part: &Part<'_>, set: &PlaceSet, place: u32) -> bo
 }
 
 /// Whether the set has another place of a row.
-pub(crate) fn has_other(set: &PlaceSet, row: &[u32], place: u32) -> bool
+fn has_other(set: &PlaceSet, row: &[u32], place: u32) -> bool
     ensures { result ≡ list_any (λ other. not (other == place) && members_of set.now other) row.now }
 {
     row.iter()
@@ -81,7 +81,7 @@ pub(crate) fn has_other(set: &PlaceSet, row: &[u32], place: u32) -> bool
 }
 
 /// Whether an entry of a place hits no other one of the set. `false` where what it hits is too much for a row.
-fn hits_no_other(index: &Index, set: &PlaceSet, place: u32, number: u32) -> bool
+pub(crate) fn hits_no_other(index: &Index, set: &PlaceSet, place: u32, number: u32) -> bool
     requires place { place < length index.now.packages }
     requires number { number < length (aparts_at index.now place) }
     ensures { result ≡ true → Holds index.now (members_of set.now) (Constraint.Apart place number) }

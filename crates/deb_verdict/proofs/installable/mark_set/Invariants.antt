@@ -1,7 +1,7 @@
 use Rattle.std.proofs.Common.{◌≡◌, length}
 use Rattle.deb_verdict.specs.Groundwork.{MarksOnly}
 use Rattle.deb_verdict.specs.Health.{IsInstallable}
-use Rattle.deb_verdict.proofs.installable.mark.Given as goal
+use Rattle.deb_verdict.proofs.installable.mark_set.Given as goal
 
 abbrev pub invariant-loop-place : goal.invariant-loop-place
-invariant-loop-place l = (length l.marks ≡ length l.initial.marks) × MarksOnly (IsInstallable l.index) l.marks
+invariant-loop-place l = (length l.marks ≡ length l.groundwork.index.now.packages) × MarksOnly (IsInstallable l.groundwork.index.now) l.marks
