@@ -35,7 +35,7 @@ fn refute_part(
         return Ok(true);
     }
     // Each package whose core is looked for is broken, so only without some constraints is there a set.
-    if part.rest > 0 && is_seen_to_admit(index, &part, p, &mut workspace.ins)? {
+    if part.rest > 0 && is_seen_to_admit(index, &part, p, &mut workspace.witness)? {
         return Ok(false);
     }
     if refute_by_forcing(index, part, p, propagation, used)? {

@@ -5,6 +5,7 @@ use crate::propagation::Propagation;
 use crate::rivals::Rivals;
 use crate::unmet::UnmetNeed;
 use crate::versions::Versions;
+use crate::witness::Witness;
 use deb_index::Constraint;
 use sat_solve::{Formula, Lit};
 use std::alloc::{AllocError, Global};
@@ -24,6 +25,7 @@ pub struct Workspace {
     pub(crate) versions: Versions,
     pub(crate) solver: sat_solve::Workspace,
     pub(crate) propagation: Propagation,
+    pub(crate) witness: Witness,
     /// The constraints that a formula has a group each for, and where they stand.
     pub(crate) positions: Vec<u32>,
     pub(crate) constraints: Vec<Constraint>,
@@ -47,6 +49,7 @@ impl Workspace {
             versions: Versions::new(alloc),
             solver: sat_solve::Workspace::new(alloc),
             propagation: Propagation::new(alloc),
+            witness: Witness::new(alloc),
             positions: Vec::new(alloc),
             constraints: Vec::new(alloc),
             keep: Vec::new(alloc),

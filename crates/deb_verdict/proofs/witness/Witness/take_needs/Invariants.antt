@@ -1,11 +1,11 @@
 use Rattle.std.proofs.Common.{◌-◌, ◌≤◌, length}
 use Rattle.deb_verdict.specs.Growing.{Grows}
-use Rattle.deb_verdict.proofs.witness.take_needs.Given as goal
+use Rattle.deb_verdict.proofs.witness.Witness.take_needs.Given as goal
 
 abbrev pub invariant-loop-visited : goal.invariant-loop-visited
 invariant-loop-visited l = record {
-  reached : l.visited ≤ length l.set;
-  grows : Grows (length l.index.packages) l.initial.set l.set;
+  reached : l.visited ≤ length l.self.set;
+  grows : Grows (length l.index.packages) l.initial.self.set l.self.set;
 }
 
 abbrev pub decreases-loop-visited : goal.decreases-loop-visited

@@ -1,0 +1,6 @@
+use Rattle.std.proofs.Common.{length}
+use Rattle.deb_verdict.specs.Growing.{Grows}
+use Rattle.deb_verdict.proofs.witness.Witness.take_answers.Given as goal
+
+abbrev pub invariant-loop-number : goal.invariant-loop-number
+invariant-loop-number l = Grows (length l.index.packages) l.initial.self.set l.self.set

@@ -1,6 +1,0 @@
-use Rattle.std.proofs.Common.{length}
-use Rattle.deb_verdict.specs.Growing.{Grows}
-use Rattle.deb_verdict.proofs.witness.take_answers.Given as goal
-
-abbrev pub invariant-loop-number : goal.invariant-loop-number
-invariant-loop-number l = Grows (length l.index.packages) l.initial.set l.set

@@ -1,9 +1,0 @@
-use Rattle.std.proofs.Common.{List, ℕ, length, sym, subst}
-use Rattle.deb_verdict.specs.Growing.{Grows}
-use Rattle.deb_verdict.proofs.Placing.{grows_with}
-use Rattle.deb_verdict.proofs.witness.take_one.Goals as goal
-
-pub returns-in_ok-insert-in-Some : goal.returns-in_ok-insert-in-Some
-returns-in_ok-insert-in-Some c =
-    let To : List ℕ → Type 0 = λ list. Grows (length c.args.index.now.packages) c.args.set.now list in
-    subst To (sym c.in_ok-insert-in-Some.ensures) (grows_with (length c.args.index.now.packages) c.args.set.now c.in-Some.place c.in-Some.ensures)
