@@ -9,7 +9,7 @@ use Rattle.deb_index.proofs.MemberLemmas.{below-places_where}
 use Rattle.sat_solve.specs.Sets.{members_of}
 use Rattle.sat_solve.specs.Clauses.{Clauses}
 use Rattle.deb_verdict.specs.Play.{AddsPlaces, TellsPlaces}
-use Rattle.deb_verdict.proofs.Encoded.{at_members_of}
+use Rattle.core_extract.proofs.ListMembers.{at_members_of}
 use Rattle.deb_verdict.proofs.AddLemmas.{tells_more}
 
 -- ---- lists

@@ -8,12 +8,12 @@ use Rattle.deb_index.specs.Packages.{IndexView, name_at, places_of, essential_na
 use Rattle.deb_index.specs.Meets.{meets_need_at, group_satisfiers}
 use Rattle.deb_index.specs.Constraints.{has_name, answers}
 use Rattle.sat_solve.specs.Sets.{NumberSet, members_of}
-use Rattle.deb_verdict.specs.Closure.{IsWithin}
+use Rattle.core_extract.specs.Reduction.{IsWithin}
+use Rattle.core_extract.proofs.ListMembers.{members_of_at}
 use Rattle.deb_verdict.specs.Encoding.{places_in_play}
 use Rattle.deb_verdict.specs.Gathering.{IsEnough, none_of}
 use Rattle.deb_verdict.specs.Growing.{Grows, IsAnswered, Brings, IsVisited, BringsEssential, Visits}
 use Rattle.deb_verdict.proofs.AddSteps.{below_members}
-use Rattle.deb_verdict.proofs.Encoded.{members_of_at}
 use Rattle.deb_verdict.proofs.IndexFacts.{member_named, answers_is_place}
 use Rattle.deb_verdict.proofs.Members.{any_member}
 use Rattle.deb_verdict.proofs.Forcing.{member_answers}

@@ -9,10 +9,11 @@ use Rattle.deb_index.specs.declared.constraint.Constraint.TheVariants.{Essential
 use Rattle.deb_index.specs.Packages.{IndexView, places_of, name_at}
 use Rattle.deb_index.specs.Constraints.{Holds, constraints_of}
 use Rattle.sat_solve.specs.Sets.{NumberSet, IsFirst}
+use Rattle.core_extract.specs.Reduction.{all_of, IsWithin}
 use Rattle.sat_solve.proofs.SetLemmas.{first_within}
-use Rattle.deb_verdict.specs.Gathering.{none_of, all_of, Respects, IsEnough}
+use Rattle.deb_verdict.specs.Gathering.{none_of, Respects, IsEnough}
 use Rattle.deb_verdict.specs.Health.{IsHealthy, IsInstallation, MeetsAt, Admits, AdmitsNone}
-use Rattle.deb_verdict.specs.Closure.{IsWithin, cut, IsClosed, is_kept, is_kept_there, kept}
+use Rattle.deb_verdict.specs.Closure.{cut, IsClosed, is_kept, is_kept_there, kept}
 use Rattle.deb_verdict.proofs.IndexFacts.{All-at, IsRight, all_right, some_named}
 
 not_out : (outs set : NumberSet) (q : ℕ) → ((q : ℕ) → outs q ≡ true → set q ≡ false) → set q ≡ true → outs q ≡ false

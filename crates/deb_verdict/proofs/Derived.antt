@@ -14,12 +14,11 @@ use Rattle.sat_solve.specs.Sets.{NumberSet, members_of}
 use Rattle.sat_solve.proofs.MembersLemmas.{members_of_push}
 use Rattle.deb_verdict.specs.declared.derivation.Outcome.{Outcome}
 use Rattle.deb_verdict.specs.declared.derivation.Outcome.TheVariants.{Forced, Contradiction}
-use Rattle.deb_verdict.specs.Closure.{IsWithin}
 use Rattle.deb_verdict.specs.Deriving.{row_of, Comes, Gives}
 use Rattle.deb_verdict.specs.Gathering.{Follows, none_of}
 use Rattle.deb_verdict.specs.Health.{AdmitsNone, MeetsAt}
 use Rattle.deb_verdict.specs.PlaceSets.{with_place}
-use Rattle.deb_verdict.specs.Reduction.{IsRefutation}
+use Rattle.core_extract.specs.Reduction.{IsWithin, IsRefutation}
 use Rattle.deb_verdict.proofs.IndexFacts.{member_named}
 use Rattle.deb_verdict.proofs.Forcing.{member_answers}
 use Rattle.deb_verdict.proofs.Placing.{with_place_only}

@@ -16,9 +16,9 @@ use Rattle.deb_verdict.specs.Health.{IsHealthy}
 use Rattle.deb_verdict.specs.Play.{placed, AddsPlaces}
 use Rattle.deb_verdict.specs.Standings.{has_row, HasOneVersion, MeetsNeeds, MeetsEntries, MeetsNarrow, MeetsPlace}
 use Rattle.deb_verdict.specs.Unmet.{IsUnmet, AreUnmet}
+use Rattle.core_extract.proofs.ListMembers.{members_of_at}
 use Rattle.deb_verdict.proofs.AddLemmas.{All-front, All-back, adds_both, adds_as, in_push, front_in, last_in}
 use Rattle.deb_verdict.proofs.AddSteps.{take_whole}
-use Rattle.deb_verdict.proofs.Encoded.{members_of_at}
 use Rattle.deb_verdict.proofs.Told.{placed_in_play}
 use Rattle.deb_verdict.proofs.Healthy.{healthy_parts, healthy_from_parts}
 

@@ -1,31 +1,21 @@
 -- What the first true set of the clauses says of the constraints.
-use Rattle.std.proofs.Common.{◌≡◌, ℕ, zero, suc, ◌+◌, ◌<◌, Bool, true, false, ◌&&◌, ltb, eqb, List, [], ◌∷◌, length, get_or, Some, slice_get, refl, sym, ◌∙◌, ap, inl, inr, arith}
-use Rattle.std.proofs.lemmas.Bool.{false≢true, cases_lt, and_parts, and_from, or_cases, or_left, or_right, ltb-true, lt-ltb, eqb-true, eq-eqb}
-use Rattle.std.proofs.lemmas.List.Folds.{list_any_at}
+use Rattle.std.proofs.Common.{◌≡◌, ℕ, zero, suc, ◌+◌, ◌<◌, Bool, true, false, ◌&&◌, ltb, List, length, get_or, Some, slice_get, refl, sym, ◌∙◌, ap, inl, inr, arith}
+use Rattle.std.proofs.lemmas.Bool.{cases_lt, and_parts, and_from, or_left, or_right, ltb-true, lt-ltb}
 use Rattle.std.proofs.lemmas.Option.{slice_get-get_or}
 use Rattle.deb_index.specs.declared.constraint.Constraint.{Constraint}
 use Rattle.deb_index.specs.Packages.{IndexView}
 use Rattle.deb_index.specs.Constraints.{constraints_of}
 use Rattle.sat_solve.specs.Sets.{NumberSet, members_of}
 use Rattle.sat_solve.specs.Clauses.{Clause, MeetsKept, IsTrueSet}
+use Rattle.core_extract.specs.Reduction.{IsWithin}
 use Rattle.deb_index.specs.declared.constraint.Constraint.TheVariants.{Only}
 use Rattle.std.specs.List.Sorted.{IsStrictlyIncreasing}
 use Rattle.deb_verdict.specs.Health.{MeetsAt, AdmitsNone}
-use Rattle.deb_verdict.specs.Closure.{IsWithin, cut}
+use Rattle.deb_verdict.specs.Closure.{cut}
 use Rattle.deb_verdict.specs.Encoding.{places_in_play, Stands, Encodes, IsChosen}
 use Rattle.deb_verdict.specs.Gathering.{IsEnough, Follows}
+use Rattle.core_extract.proofs.ListMembers.{at_members_of}
 use Rattle.deb_verdict.proofs.Cutting.{cut_meets}
-
-pub members_of_at : (numbers : List ℕ) (number : ℕ) → members_of numbers number ≡ true → (k : ℕ) × (k < length numbers) × (get_or numbers k 0 ≡ number)
-members_of_at [] number is_in = absurd (false≢true is_in)
-members_of_at (x ∷ rest) number is_in =
-    elim (or_cases (eqb x number) (members_of rest number) is_in) [
-      | inl here ↦ (0, omega arith, eqb-true x number here)
-      | inr later ↦ let at = members_of_at rest number later in (suc at.0, omega (arith, at.1), at.2)
-    ]
-
-pub at_members_of : (numbers : List ℕ) (k : ℕ) → k < length numbers → members_of numbers (get_or numbers k 0) ≡ true
-at_members_of numbers k inside = list_any_at (λ member. eqb member (get_or numbers k 0)) numbers k 0 inside (eq-eqb (get_or numbers k 0) (get_or numbers k 0) refl)
 
 pub and_true : (a b : Bool) → b ≡ true → (a && b) ≡ a
 and_true true b yes_it = yes_it

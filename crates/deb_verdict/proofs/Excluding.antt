@@ -15,8 +15,8 @@ use Rattle.deb_verdict.specs.Encoding.{positions_of}
 use Rattle.deb_verdict.specs.Exclusions.{AreNumbersOf}
 use Rattle.deb_verdict.specs.Play.{placed, AddsPlaces}
 use Rattle.deb_verdict.specs.Standings.{AreApart, HasOneOf}
+use Rattle.core_extract.proofs.ListMembers.{members_of_at, at_members_of}
 use Rattle.deb_verdict.proofs.AddLemmas.{adds_none, adds_as, in_push, front_in, last_in}
-use Rattle.deb_verdict.proofs.Encoded.{members_of_at, at_members_of}
 use Rattle.deb_verdict.proofs.PositionsOf.{position_in, group_at, one_group}
 
 -- ---- what the clauses of an owner say

@@ -3,12 +3,12 @@ use Rattle.std.proofs.Common.{◌≡◌, ◌⊎◌, ℕ, ◌+◌, ◌<◌, ◌�
 use Rattle.std.proofs.lemmas.Bool.{false≢true, or_cases, eqb-true}
 use Rattle.std.proofs.lemmas.List.{take_more}
 use Rattle.sat_solve.specs.Sets.{members_of}
+use Rattle.core_extract.specs.Reduction.{IsWithin}
 use Rattle.sat_solve.proofs.MembersLemmas.{members_of_push}
-use Rattle.deb_verdict.specs.Closure.{IsWithin}
+use Rattle.core_extract.proofs.ListMembers.{at_members_of}
 use Rattle.deb_verdict.specs.PlaceSets.{with_place}
 use Rattle.deb_verdict.specs.Growing.{Grows}
 use Rattle.deb_verdict.proofs.AddSteps.{take_whole}
-use Rattle.deb_verdict.proofs.Encoded.{at_members_of}
 use Rattle.deb_verdict.proofs.Placing.{grows_both, grows_with, grows_keeps, with_place_has, with_place_only}
 
 pub grows_row : (row before between after : List ℕ) (i q : ℕ) → i < length row → get_or row i 0 ≡ q → after ≡ with_place between q

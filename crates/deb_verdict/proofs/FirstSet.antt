@@ -7,14 +7,16 @@ use Rattle.std.proofs.lemmas.Option.{slice_get_within, get_or_from_slice_get}
 use Rattle.deb_index.specs.Packages.{IndexView}
 use Rattle.sat_solve.specs.Sets.{NumberSet, members_of, IsFirst}
 use Rattle.sat_solve.specs.Clauses.{Clause, IsTrueSet}
+use Rattle.core_extract.specs.Reduction.{IsWithin, all_of}
 use Rattle.deb_verdict.specs.Health.{IsHealthy, IsInstallation}
-use Rattle.deb_verdict.specs.Closure.{IsWithin, cut}
+use Rattle.deb_verdict.specs.Closure.{cut}
 use Rattle.deb_verdict.specs.Encoding.{places_in_play, positions_of}
-use Rattle.deb_verdict.specs.Gathering.{IsEnough, Follows, none_of, all_of}
+use Rattle.deb_verdict.specs.Gathering.{IsEnough, Follows, none_of}
 use Rattle.deb_verdict.specs.Play.{placed, Describes}
 use Rattle.deb_verdict.specs.Verdicts.{IsFirstInstallation}
+use Rattle.core_extract.proofs.ListMembers.{members_of_at, at_members_of}
 use Rattle.deb_verdict.proofs.Cutting.{cut_installation, meets_from_healthy}
-use Rattle.deb_verdict.proofs.Encoded.{members_of_at, at_members_of, rising_lt}
+use Rattle.deb_verdict.proofs.Encoded.{rising_lt}
 use Rattle.deb_verdict.proofs.PositionsOf.{position_in, group_at, same_position}
 use Rattle.deb_verdict.proofs.Answered.{same_test}
 use Rattle.deb_verdict.proofs.AddSteps.{below_members}

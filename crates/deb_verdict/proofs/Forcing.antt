@@ -10,9 +10,9 @@ use Rattle.deb_index.specs.Meets.{meets_need, group_satisfiers}
 use Rattle.deb_index.specs.Constraints.{has_name, answers}
 use Rattle.deb_index.proofs.MemberLemmas.{member-places_where}
 use Rattle.sat_solve.specs.Sets.{members_of}
-use Rattle.deb_verdict.specs.Closure.{IsWithin}
+use Rattle.core_extract.specs.Reduction.{IsWithin, all_of}
 use Rattle.deb_verdict.specs.PlaceSets.{with_place}
-use Rattle.deb_verdict.specs.Gathering.{Follows, all_of, none_of}
+use Rattle.deb_verdict.specs.Gathering.{Follows, none_of}
 use Rattle.deb_verdict.specs.Growing.{KeepsForced, TakesOnly}
 use Rattle.deb_verdict.specs.Growing.TakesOnly.{Same, Took}
 use Rattle.deb_verdict.proofs.IndexFacts.{member_named, named_is_place, answers_is_place}

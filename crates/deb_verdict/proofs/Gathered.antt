@@ -3,9 +3,9 @@ use Rattle.std.proofs.Common.{◌≡◌, ◌⊎◌, ℕ, ◌+◌, ◌<◌, ◌�
 use Rattle.std.proofs.lemmas.Bool.{false≢true, cases_lt, eqb-true}
 use Rattle.deb_index.specs.Packages.{IndexView, needs_at}
 use Rattle.sat_solve.specs.Sets.{NumberSet, members_of}
-use Rattle.deb_verdict.specs.Closure.{IsWithin}
+use Rattle.core_extract.specs.Reduction.{IsWithin, all_of}
 use Rattle.deb_verdict.specs.PlaceSets.{with_place}
-use Rattle.deb_verdict.specs.Gathering.{Follows, all_of, none_of}
+use Rattle.deb_verdict.specs.Gathering.{Follows, none_of}
 use Rattle.deb_verdict.specs.Groundwork.{IsMet}
 use Rattle.deb_verdict.specs.Growing.{ArePlaces, AreForced, Grows, KeepsForced, IsVisited, Visits}
 use Rattle.deb_verdict.proofs.Placing.{grows_none, grows_with, grows_keeps, with_place_has, places_empty}

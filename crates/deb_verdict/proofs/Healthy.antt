@@ -18,8 +18,8 @@ use Rattle.deb_index.proofs.MemberLemmas.{member-places_where}
 use Rattle.sat_solve.specs.Sets.{NumberSet, members_of}
 use Rattle.deb_verdict.specs.Health.{IsHealthy}
 use Rattle.deb_verdict.specs.Standings.{HasNoEarlier, HasOneOf, HasOneVersion, MeetsPlace}
+use Rattle.core_extract.proofs.ListMembers.{members_of_at, at_members_of}
 use Rattle.deb_verdict.proofs.IndexFacts.{member_named, named_is_place}
-use Rattle.deb_verdict.proofs.Encoded.{members_of_at, at_members_of}
 use Rattle.deb_verdict.proofs.AddLemmas.{All-front, All-back}
 
 -- ---- lists

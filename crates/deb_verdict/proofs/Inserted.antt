@@ -7,7 +7,7 @@ use Rattle.sat_solve.specs.Sets.{members_of}
 use Rattle.deb_verdict.specs.Encoding.{positions_of}
 use Rattle.deb_verdict.specs.PlaceSets.{with_place}
 use Rattle.deb_verdict.specs.Play.{placed}
-use Rattle.deb_verdict.proofs.Encoded.{members_of_at, at_members_of}
+use Rattle.core_extract.proofs.ListMembers.{members_of_at, at_members_of}
 use Rattle.deb_verdict.proofs.PositionsOf.{position_in, group_at}
 use Rattle.deb_verdict.proofs.Answered.{same_test}
 use Rattle.deb_verdict.proofs.AddSteps.{below_members}

@@ -1,5 +1,5 @@
 -- Sets that are healthy, and marks of their members.
-use Rattle.std.proofs.Common.{◌≡◌, ◌≢◌, ℕ, ◌<◌, Bool, true, false, eqb, leb, if◌then◌else◌, List, [], ◌∷◌, ◌++◌, length, get_or, set, All, Some, slice_get, refl, sym, subst, ◌∙◌, ap, inl, inr, arith}
+use Rattle.std.proofs.Common.{◌≡◌, ◌≢◌, ℕ, ◌<◌, Bool, true, false, eqb, leb, if◌then◌else◌, List, [], ◌∷◌, ◌++◌, length, get_or, set, All, Some, refl, sym, subst, ◌∙◌, ap, inl, inr, arith}
 use Rattle.std.proofs.lemmas.Bool.{cases_Bool, or_right, le-leb, eqb-true, eq-eqb, both_ways}
 use Rattle.std.proofs.lemmas.List.{get_or-set_other, length-set}
 use Rattle.std.proofs.lemmas.List.Elements.{All-push}
@@ -10,7 +10,7 @@ use Rattle.sat_solve.specs.Sets.{members_of}
 use Rattle.deb_verdict.specs.Groundwork.{MarksOnly}
 use Rattle.deb_verdict.specs.Health.{IsHealthy, IsInstallable, MeetsAt}
 use Rattle.deb_verdict.specs.PlaceSets.{with_place}
-use Rattle.deb_verdict.specs.Reduction.{left}
+use Rattle.core_extract.specs.Reduction.{left}
 use Rattle.deb_verdict.proofs.Cutting.{healthy_from_meets}
 
 -- a set that meets all constraints from the first one on is healthy

@@ -4,7 +4,6 @@ pub mod Alternatives
 pub mod Answered
 pub mod Bringing
 pub mod Clearing
-pub mod Cores
 pub mod Cutting
 pub mod Derived
 pub mod Described
@@ -23,11 +22,9 @@ pub mod IndexFacts
 pub mod InstallableLemmas
 pub mod Inserted
 pub mod JoinLemmas
-pub mod Kept
 pub mod Listing
 pub mod Members
 pub mod Names
-pub mod NextOf
 pub mod OneVerdict
 pub mod OneVersion
 pub mod PlaceSetLemmas

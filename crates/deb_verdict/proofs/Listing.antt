@@ -10,12 +10,13 @@ use Rattle.deb_index.specs.Constraints.{constraints_of, IsOfIndex, has_name}
 use Rattle.deb_index.proofs.ConstraintLemmas.{constraints-within}
 use Rattle.deb_index.proofs.PositionLemmas.{one_position, essential_position}
 use Rattle.sat_solve.specs.Sets.{NumberSet, members_of}
+use Rattle.core_extract.specs.Reduction.{IsWithin}
 use Rattle.sat_solve.proofs.MembersLemmas.{members_of_push}
-use Rattle.deb_verdict.specs.Closure.{IsWithin, cut, kept, is_kept, is_kept_there}
+use Rattle.deb_verdict.specs.Closure.{cut, kept, is_kept, is_kept_there}
 use Rattle.deb_verdict.specs.Listing.{Lists, IsAnEssential, IsNeedOf, IsApartOf}
 use Rattle.deb_verdict.proofs.Healthy.{name_is}
 use Rattle.deb_verdict.proofs.IndexFacts.{All-at, IsRight, all_right, member_named}
-use Rattle.deb_verdict.proofs.Kept.{pushed_has}
+use Rattle.core_extract.proofs.Kept.{pushed_has}
 use Rattle.deb_verdict.proofs.Members.{any_member}
 use Rattle.deb_verdict.proofs.Names.{one_number}
 

@@ -17,10 +17,10 @@ use Rattle.deb_verdict.specs.Groundwork.{IsAlone}
 use Rattle.deb_verdict.specs.PlaceSets.{with_place}
 use Rattle.deb_verdict.specs.Play.{placed, AddsPlaces}
 use Rattle.deb_verdict.specs.Standings.{IsClear, HasOneOf, HasOneVersion}
+use Rattle.core_extract.proofs.ListMembers.{members_of_at}
 use Rattle.deb_verdict.proofs.AddLemmas.{adds_as, in_push, front_in, last_in}
 use Rattle.deb_verdict.proofs.AddSteps.{take_whole, below_members}
 use Rattle.deb_verdict.proofs.Described.{AddsEach, meaning_of_only}
-use Rattle.deb_verdict.proofs.Encoded.{members_of_at}
 use Rattle.deb_verdict.proofs.Healthy.{once_says_only}
 use Rattle.deb_verdict.proofs.IndexFacts.{named_is_place}
 use Rattle.deb_verdict.proofs.Placing.{with_place_has, with_place_only, grows_keeps, grows_with}

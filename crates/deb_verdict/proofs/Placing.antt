@@ -9,11 +9,11 @@ use Rattle.std.proofs.lemmas.List.Folds.{list_any-append}
 use Rattle.std.proofs.lemmas.Map.Keys.{IsDistinct-push}
 use Rattle.std.proofs.lemmas.Map.Steps.{length-le_from_distinct_below}
 use Rattle.sat_solve.specs.Sets.{members_of}
+use Rattle.core_extract.specs.Reduction.{IsWithin}
 use Rattle.sat_solve.proofs.MembersLemmas.{members_of_push}
-use Rattle.deb_verdict.specs.Closure.{IsWithin}
+use Rattle.core_extract.proofs.ListMembers.{members_of_at}
 use Rattle.deb_verdict.specs.PlaceSets.{with_place}
 use Rattle.deb_verdict.specs.Growing.{ArePlaces, Grows}
-use Rattle.deb_verdict.proofs.Encoded.{members_of_at}
 
 -- ---- one place more
 

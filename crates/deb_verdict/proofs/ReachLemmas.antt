@@ -15,8 +15,8 @@ use Rattle.deb_index.specs.Meets.{meets_need, meets_need_at, need_satisfiers, gr
 use Rattle.deb_index.specs.Constraints.{has_name, answers}
 use Rattle.deb_index.proofs.MemberLemmas.{below-places_where, member-places_where}
 use Rattle.sat_solve.specs.Sets.{NumberSet, members_of}
-use Rattle.deb_verdict.specs.Closure.{IsWithin, IsClosed, IsClosure}
-use Rattle.deb_verdict.specs.Reduction.{all_below}
+use Rattle.deb_verdict.specs.Closure.{IsClosed, IsClosure}
+use Rattle.core_extract.specs.Reduction.{IsWithin, all_below}
 use Rattle.deb_verdict.specs.Reach.{Joins, meeting, meeting_any, IsReaching}
 use Rattle.deb_verdict.proofs.AddSteps.{list_any-map, take_whole, below_members}
 use Rattle.deb_verdict.proofs.IndexFacts.{member_named, member_need_satisfiers, named_is_place, answers_is_place}

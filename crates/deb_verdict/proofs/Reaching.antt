@@ -3,7 +3,8 @@ use Rattle.std.proofs.Common.{◌≡◌, ◌⊎◌, ℕ, true, false, ap, sym, �
 use Rattle.deb_index.specs.Packages.{IndexView}
 use Rattle.deb_index.specs.Constraints.{answers}
 use Rattle.sat_solve.specs.Sets.{NumberSet}
-use Rattle.deb_verdict.specs.Closure.{IsWithin, IsClosure}
+use Rattle.core_extract.specs.Reduction.{IsWithin}
+use Rattle.deb_verdict.specs.Closure.{IsClosure}
 use Rattle.deb_verdict.specs.Reach.{IsReaching}
 
 -- a waiting place was visited: what answers it is marked, and what is new waits

@@ -6,8 +6,8 @@ use Rattle.std.proofs.lemmas.Option.{slice_get_within, get_or_from_slice_get}
 use Rattle.sat_solve.specs.Sets.{NumberSet, members_of}
 use Rattle.deb_verdict.specs.Encoding.{positions_of}
 use Rattle.deb_verdict.specs.Play.{placed}
+use Rattle.core_extract.proofs.ListMembers.{at_members_of}
 use Rattle.deb_verdict.proofs.PositionsOf.{group_at, same_position}
-use Rattle.deb_verdict.proofs.Encoded.{at_members_of}
 
 placed_free : (ins members : List ℕ) (vars : NumberSet) (place : ℕ) → members_of ins place ≡ false → placed ins members vars place ≡ positions_of members vars place
 placed_free ins members vars place out = ap (λ b. b || positions_of members vars place) out

@@ -18,10 +18,11 @@ use Rattle.deb_verdict.specs.Gathering.{none_of}
 use Rattle.deb_verdict.specs.Health.{AdmitsNone}
 use Rattle.deb_verdict.specs.Listing.{TellsPart}
 use Rattle.deb_verdict.specs.Play.{placed, TellsPlaces}
-use Rattle.deb_verdict.specs.Reduction.{IsRefutation}
+use Rattle.core_extract.specs.Reduction.{IsRefutation}
+use Rattle.core_extract.proofs.ListMembers.{members_of_at, at_members_of}
 use Rattle.deb_verdict.proofs.Answered.{same_test}
 use Rattle.deb_verdict.proofs.Cutting.{closed_enough, respects_nothing, fewer_meets, kept_admits}
-use Rattle.deb_verdict.proofs.Encoded.{members_of_at, at_members_of, none_true, true_meets}
+use Rattle.deb_verdict.proofs.Encoded.{none_true, true_meets}
 use Rattle.deb_verdict.proofs.PositionsOf.{position_in, group_at, same_position}
 
 -- the places that variables stand for are those that the definition names

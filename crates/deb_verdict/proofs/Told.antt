@@ -14,9 +14,9 @@ use Rattle.deb_verdict.specs.Encoding.{positions_of}
 use Rattle.deb_verdict.specs.Adding.{Adds}
 use Rattle.deb_verdict.specs.Play.{placed, AddsPlaces}
 use Rattle.deb_verdict.specs.Standings.{IsClear}
+use Rattle.core_extract.proofs.ListMembers.{at_members_of}
 use Rattle.deb_verdict.proofs.IndexFacts.{member_satisfiers}
 use Rattle.deb_verdict.proofs.AddLemmas.{adds_none, adds_both, adds_as}
-use Rattle.deb_verdict.proofs.Encoded.{at_members_of}
 use Rattle.deb_verdict.proofs.PositionsOf.{group_at}
 use Rattle.deb_verdict.proofs.Widening.{need_says, essential_says}
 use Rattle.deb_verdict.proofs.Clearing.{AddsClear}

@@ -7,12 +7,12 @@ use Rattle.deb_index.specs.Packages.{IndexView, needs_at, need_at}
 use Rattle.deb_index.specs.Meets.{group_satisfiers}
 use Rattle.deb_index.specs.Constraints.{answers}
 use Rattle.sat_solve.specs.Sets.{NumberSet, members_of}
+use Rattle.core_extract.specs.Reduction.{IsWithin}
 use Rattle.deb_verdict.specs.declared.unmet.UnmetNeed.{UnmetNeed}
-use Rattle.deb_verdict.specs.Closure.{IsWithin}
+use Rattle.core_extract.proofs.ListMembers.{members_of_at}
 use Rattle.deb_verdict.specs.Encoding.{places_in_play}
 use Rattle.deb_verdict.specs.Groundwork.{IsMet}
 use Rattle.deb_verdict.specs.Unmet.{LeavesUnmet, IsUnmet, ListsUnmet, AreUnmet}
-use Rattle.deb_verdict.proofs.Encoded.{members_of_at}
 use Rattle.deb_verdict.proofs.Forcing.{member_answers}
 use Rattle.deb_verdict.proofs.Members.{any_member, member_any}
 

@@ -13,7 +13,7 @@ use Rattle.sat_solve.specs.Sets.{NumberSet, members_of}
 use Rattle.deb_verdict.specs.Health.{MeetsAt}
 use Rattle.deb_verdict.specs.Standings.{HasNoEarlier}
 use Rattle.deb_verdict.specs.Witnesses.{IsAsked, MeetsAsked, MeetsAskedOf, StandsOnce}
-use Rattle.deb_verdict.proofs.Encoded.{members_of_at}
+use Rattle.core_extract.proofs.ListMembers.{members_of_at}
 use Rattle.deb_verdict.proofs.Healthy.{only_says, name_is}
 use Rattle.deb_verdict.proofs.IndexFacts.{All-at, IsRight, all_right, member_named, member_satisfiers}
 use Rattle.deb_verdict.proofs.Members.{any_member, member_any}

@@ -6,10 +6,7 @@ use Rattle.deb_index.specs.declared.constraint.Constraint.TheVariants.{Essential
 use Rattle.deb_index.specs.Packages.{IndexView, name_at, places_of, essential_names}
 use Rattle.deb_index.specs.Constraints.{constraints_of, has_name, answers}
 use Rattle.sat_solve.specs.Sets.{NumberSet}
-
--- each member of the one is a member of the other
-abbrev pub IsWithin : NumberSet → NumberSet → Type 0
-IsWithin a b = (number : ℕ) → a number ≡ true → b number ≡ true
+use Rattle.core_extract.specs.Reduction.{IsWithin}
 
 -- the members of the one that the other has too
 abbrev pub cut : NumberSet → NumberSet → NumberSet

@@ -4,9 +4,9 @@ use Rattle.deb_index.specs.declared.constraint.Constraint.{Constraint}
 use Rattle.deb_index.specs.Packages.{IndexView}
 use Rattle.deb_index.specs.Constraints.{Holds, constraints_of}
 use Rattle.sat_solve.specs.Sets.{NumberSet}
+use Rattle.core_extract.specs.Reduction.{IsWithin}
 use Rattle.deb_verdict.specs.declared.derivation.Outcome.{Outcome}
 use Rattle.deb_verdict.specs.declared.derivation.Outcome.TheVariants.{Forced, Contradiction}
-use Rattle.deb_verdict.specs.Closure.{IsWithin}
 
 -- the row of places of which a set has to have one, where this is what it gives
 abbrev pub row_of : Outcome → List ℕ

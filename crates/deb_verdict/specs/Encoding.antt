@@ -6,7 +6,7 @@ use Rattle.deb_index.specs.Packages.{IndexView}
 use Rattle.deb_index.specs.Constraints.{Holds, constraints_of}
 use Rattle.sat_solve.specs.Sets.{NumberSet, members_of}
 use Rattle.sat_solve.specs.Clauses.{Clause, clause_holds}
-use Rattle.deb_verdict.specs.Closure.{IsWithin}
+use Rattle.core_extract.specs.Reduction.{IsWithin}
 
 -- the places that are in anyway, and those that have a variable
 abbrev pub places_in_play : NumberSet → List ℕ → NumberSet

@@ -3,15 +3,12 @@ use Rattle.std.specs.Prelude.{◌≡◌, ◌⊎◌, ℕ, true, false, Contains}
 use Rattle.deb_index.specs.Packages.{IndexView, essential_names}
 use Rattle.deb_index.specs.Constraints.{has_name, answers}
 use Rattle.sat_solve.specs.Sets.{NumberSet}
+use Rattle.core_extract.specs.Reduction.{IsWithin}
 use Rattle.deb_verdict.specs.Health.{MeetsAt}
-use Rattle.deb_verdict.specs.Closure.{IsWithin}
 
--- no numbers, and all numbers
+-- no numbers
 abbrev pub none_of : NumberSet
 none_of number = false
-
-abbrev pub all_of : NumberSet
-all_of number = true
 
 -- the set holds all that is in, and nothing that is out
 pub record Respects (ins outs set : NumberSet) : Type 0 where

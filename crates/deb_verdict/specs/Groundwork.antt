@@ -5,7 +5,8 @@ use Rattle.deb_index.specs.Packages.{IndexView, package_at, places_of, needs_at,
 use Rattle.deb_index.specs.Meets.{group_satisfiers}
 use Rattle.deb_index.specs.Constraints.{answers, hits}
 use Rattle.sat_solve.specs.Sets.{NumberSet, members_of}
-use Rattle.deb_verdict.specs.Gathering.{Follows, all_of, none_of}
+use Rattle.core_extract.specs.Reduction.{all_of}
+use Rattle.deb_verdict.specs.Gathering.{Follows, none_of}
 
 -- whatever package is asked for, these places are in every set with it that meets all constraints
 abbrev pub IsInAll : IndexView → NumberSet → Type 0

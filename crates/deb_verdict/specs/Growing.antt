@@ -4,7 +4,8 @@ use Rattle.std.specs.List.{IsDistinct}
 use Rattle.deb_index.specs.Packages.{IndexView, essential_names}
 use Rattle.deb_index.specs.Constraints.{has_name, answers}
 use Rattle.sat_solve.specs.Sets.{NumberSet, members_of}
-use Rattle.deb_verdict.specs.Gathering.{Follows, all_of, none_of}
+use Rattle.core_extract.specs.Reduction.{all_of}
+use Rattle.deb_verdict.specs.Gathering.{Follows, none_of}
 use Rattle.deb_verdict.specs.PlaceSets.{with_place}
 
 -- places among that many, each once

@@ -4,8 +4,7 @@ use Rattle.deb_index.specs.declared.constraint.Constraint.{Constraint}
 use Rattle.deb_index.specs.Packages.{IndexView}
 use Rattle.deb_index.specs.Constraints.{Holds, constraints_of}
 use Rattle.sat_solve.specs.Sets.{NumberSet}
-use Rattle.deb_verdict.specs.Closure.{IsWithin}
-use Rattle.deb_verdict.specs.Reduction.{IsUpward}
+use Rattle.core_extract.specs.Reduction.{IsWithin, IsUpward}
 
 -- the set meets all constraints of the index
 abbrev pub IsHealthy : IndexView → NumberSet → Type 0

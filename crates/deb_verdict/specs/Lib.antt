@@ -6,14 +6,12 @@ pub mod Exclusions
 pub mod Gathering
 pub mod Groundwork
 pub mod Growing
-pub mod Having
 pub mod Hopeless
 pub mod Health
 pub mod Listing
 pub mod PlaceSets
 pub mod Play
 pub mod Reach
-pub mod Reduction
 pub mod Standings
 pub mod Unmet
 pub mod Verdicts

@@ -7,7 +7,8 @@ use Rattle.deb_index.specs.Packages.{IndexView}
 use Rattle.deb_index.specs.Constraints.{constraints_of}
 use Rattle.sat_solve.specs.Sets.{NumberSet, members_of}
 use Rattle.sat_solve.specs.Clauses.{Clauses}
-use Rattle.deb_verdict.specs.Closure.{IsWithin, cut, kept, IsClosed}
+use Rattle.core_extract.specs.Reduction.{IsWithin}
+use Rattle.deb_verdict.specs.Closure.{cut, kept, IsClosed}
 use Rattle.deb_verdict.specs.Encoding.{Encodes}
 use Rattle.deb_verdict.specs.Gathering.{none_of}
 

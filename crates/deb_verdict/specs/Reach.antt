@@ -6,7 +6,8 @@ use Rattle.deb_index.specs.Packages.{IndexView, essential_names}
 use Rattle.deb_index.specs.Meets.{meets_need_at}
 use Rattle.deb_index.specs.Constraints.{has_name, answers}
 use Rattle.sat_solve.specs.Sets.{NumberSet, members_of}
-use Rattle.deb_verdict.specs.Closure.{IsWithin, IsClosed}
+use Rattle.core_extract.specs.Reduction.{IsWithin}
+use Rattle.deb_verdict.specs.Closure.{IsClosed}
 
 -- places came to a list, behind those that it had; none comes twice
 pub record Joins (places : NumberSet) (before after : List ℕ) : Type 0 where

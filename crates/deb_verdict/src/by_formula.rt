@@ -6,7 +6,7 @@ ghost use Rattle.sat_solve.specs.Sets.{members_of};
 ghost use Rattle.deb_verdict.specs.Encoding.{IsChosen};
 ghost use Rattle.deb_verdict.specs.Health.{AdmitsNone};
 ghost use Rattle.deb_verdict.specs.Listing.{TellsPart};
-ghost use Rattle.deb_verdict.specs.Reduction.{left, IsRefutation};
+ghost use Rattle.core_extract.specs.Reduction.{left, IsRefutation};
 
 use crate::describe::describe_each;
 use crate::first_set::count_of;

@@ -8,8 +8,8 @@ ghost use Rattle.deb_verdict.specs.Verdicts.{IsFirstCore};
 
 use crate::kept_positions::list_constraints;
 use crate::question::Blocking;
-use crate::reduction::first_failing;
 use crate::workspace::Workspace;
+use core_extract::first_failing;
 use deb_index::{Constraint, Index};
 use std::alloc::{AllocError, Global};
 

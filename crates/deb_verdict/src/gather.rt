@@ -5,9 +5,9 @@ ghost use Rattle.std.specs.List.{list_any};
 ghost use Rattle.deb_index.specs.Packages.{needs_at};
 ghost use Rattle.deb_index.specs.Constraints.{answers};
 ghost use Rattle.sat_solve.specs.Sets.{members_of};
-ghost use Rattle.deb_verdict.specs.Closure.{IsWithin};
+ghost use Rattle.core_extract.specs.Reduction.{IsWithin, all_of};
 ghost use Rattle.deb_verdict.specs.Encoding.{places_in_play};
-ghost use Rattle.deb_verdict.specs.Gathering.{Follows, IsEnough, none_of, all_of};
+ghost use Rattle.deb_verdict.specs.Gathering.{Follows, IsEnough, none_of};
 ghost use Rattle.deb_verdict.specs.Growing.{ArePlaces, AreForced, Brings, BringsEssential, Visits};
 ghost use Rattle.deb_verdict.specs.Unmet.{LeavesUnmet, ListsUnmet, AreUnmet};
 

@@ -4,9 +4,9 @@ ghost use Rattle.std.specs.Prelude.{◌≡◌, ℕ, ◌<◌, ◌++◌, ◌∷◌
 ghost use Rattle.std.specs.List.Sorted.{IsStrictlyIncreasing};
 ghost use Rattle.deb_index.specs.Constraints.{constraints_of};
 ghost use Rattle.sat_solve.specs.Sets.{members_of};
-ghost use Rattle.deb_verdict.specs.Closure.{IsWithin, cut, kept};
+ghost use Rattle.deb_verdict.specs.Closure.{cut, kept};
 ghost use Rattle.deb_verdict.specs.Listing.{Lists, IsAnEssential, IsNeedOf, IsApartOf};
-ghost use Rattle.deb_verdict.specs.Reduction.{left};
+ghost use Rattle.core_extract.specs.Reduction.{IsWithin, left};
 
 use crate::part::Part;
 use deb_index::{Constraint, Index};

@@ -11,8 +11,8 @@
 //!   first do not answer, `scene` how each place stands, and the solver finds the first true set of the clauses that `describe` makes of all
 //!   constraints: `clauses` has those of essential names and needs, `conflicts` what an entry hits, `rivals` the entries that very many
 //!   packages may meet, `versions` that of each name one package at most is in, by `exclusion`.
-//! - `first_core` finds the first set of constraints that no set meets: `reduction` takes out those that no refutation needs, and asks
-//!   `question` whether a `part` of them, by their positions, admits none. Three modules answer, the next where one cannot tell:
+//! - `first_core` finds the first set of constraints that no set meets: the crate `core_extract` takes out those that no refutation needs,
+//!   and asks `question` whether a `part` of them, by their positions, admits none. Three modules answer, the next where one cannot tell:
 //!   - `propagation` refutes a part by what the package asks for with no choice; `derivation` has the steps of such a refutation, and
 //!     checks them.
 //!   - `witness` sees, without a search, that some set meets a part.
@@ -44,7 +44,6 @@ mod place_set;
 mod propagation;
 mod question;
 mod reach;
-mod reduction;
 mod rivals;
 mod scene;
 mod unmet;
@@ -57,18 +56,3 @@ pub use decision::{closure, verdict, verdict_in};
 pub use groundwork::Groundwork;
 pub use installable::find_installable;
 pub use workspace::Workspace;
-
-#[cfg(test)]
-mod counting;
-#[cfg(test)]
-mod gather_tests;
-#[cfg(test)]
-mod growths;
-#[cfg(test)]
-mod hopeless_tests;
-#[cfg(test)]
-mod installable_tests;
-#[cfg(test)]
-mod tests;
-#[cfg(test)]
-mod witness_tests;

@@ -3,7 +3,7 @@
 ghost use Rattle.std.specs.Prelude.{◌≡◌};
 ghost use Rattle.std.specs.List.Sorted.{IsStrictlyIncreasing};
 ghost use Rattle.sat_solve.specs.Sets.{members_of};
-ghost use Rattle.deb_verdict.specs.Reduction.{left};
+ghost use Rattle.core_extract.specs.Reduction.{left};
 
 /// Some constraints by their positions in the list of all, and all from one position on.
 #[derive(Clone, Copy)]

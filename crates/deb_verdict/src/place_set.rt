@@ -3,7 +3,7 @@
 ghost use Rattle.std.specs.Prelude.{◌≡◌, ◌⊎◌, ℕ, ◌<◌, ◌≤◌, ◌^◌, List, [], true, false, All, length, slice_get, take, Some, IfSome, IfNone, OnOk};
 ghost use Rattle.std.specs.List.Sorted.{IsStrictlyIncreasing};
 ghost use Rattle.sat_solve.specs.Sets.{members_of};
-ghost use Rattle.deb_verdict.specs.Closure.{IsWithin};
+ghost use Rattle.core_extract.specs.Reduction.{IsWithin};
 ghost use Rattle.deb_verdict.specs.Growing.{Grows};
 ghost use Rattle.deb_verdict.specs.PlaceSets.{with_place, IsNumbered};
 

@@ -3,14 +3,14 @@
 ghost use Rattle.std.specs.Prelude.{◌≡◌, ◌<◌, true, false, IfOk, length};
 ghost use Rattle.sat_solve.specs.Sets.{members_of};
 ghost use Rattle.deb_verdict.specs.Health.{AdmitsNone};
-ghost use Rattle.deb_verdict.specs.Reduction.{left, IsRefutation};
+ghost use Rattle.core_extract.specs.Reduction.{left, IsRefutation};
 
 use crate::by_formula::refute_by_formula;
 use crate::part::Part;
 use crate::propagation::{refute_by_forcing, refute_by_last_steps};
-use crate::reduction::{Question, next_of};
 use crate::witness::is_seen_to_admit;
 use crate::workspace::Workspace;
+use core_extract::{Question, next_of};
 use deb_index::Index;
 use std::alloc::{AllocError, Global};
 
@@ -55,7 +55,7 @@ pub(crate) struct Blocking<'a> {
 
 impl<'a> Question for Blocking<'a> {
     ghost use Rattle.deb_verdict.specs.Health.{AdmitsNone, admits_none_upward};
-    ghost use Rattle.deb_verdict.specs.Reduction.{listed};
+    ghost use Rattle.core_extract.specs.Reduction.{listed};
 
     ghost is_failing = { λ q. AdmitsNone q.index.now q.p };
 

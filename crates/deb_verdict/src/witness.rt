@@ -8,7 +8,7 @@ ghost use Rattle.deb_index.specs.Constraints.{Holds};
 ghost use Rattle.sat_solve.specs.Sets.{members_of};
 ghost use Rattle.deb_verdict.specs.Growing.{ArePlaces, Grows};
 ghost use Rattle.deb_verdict.specs.Health.{Admits, MeetsAt};
-ghost use Rattle.deb_verdict.specs.Reduction.{left};
+ghost use Rattle.core_extract.specs.Reduction.{left};
 ghost use Rattle.deb_verdict.specs.Standings.{HasNoEarlier};
 ghost use Rattle.deb_verdict.specs.Witnesses.{MeetsAsked, MeetsAskedOf, StandsOnce};
 

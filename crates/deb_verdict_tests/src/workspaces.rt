@@ -1,40 +1,13 @@
 //! Verdicts of two indexes by turns, in one workspace.
 
-ghost use Rattle.std.specs.Prelude.{◌≡◌};
-
 use crate::expected::{is_broken, is_found};
+use crate::grounded::Grounded;
 use crate::reading::read;
 use deb_index::{Constraint, Index};
-use deb_verdict::{Groundwork, Verdict, Workspace, verdict, verdict_in};
-use std::alloc::{AllocError, Global};
+use deb_verdict::{Verdict, Workspace, verdict};
+use std::alloc::Global;
 use std::process::Abort;
 use std::test::Fail;
-
-/// An index with its groundwork.
-#[derive(Drop)]
-struct Grounded<'a> {
-    index: &'a Index,
-    groundwork: Groundwork<'a>,
-    ghost same: { groundwork.index.now ≡ index.now },
-}
-
-impl<'a> Grounded<'a> {
-    fn new(alloc: Global, index: &'a Index) -> Result<Grounded<'a>, AllocError> {
-        let groundwork = Groundwork::new(alloc, index)?;
-        Ok(Grounded { index, groundwork })
-    }
-
-    fn verdict(
-        &self,
-        rt: &impl Abort,
-        alloc: Global,
-        workspace: &mut Workspace,
-        p: u32,
-    ) -> Result<Verdict, Fail> {
-        assert!(rt; p < self.index.len());
-        Ok(verdict_in(alloc, workspace, &self.groundwork, p)?)
-    }
-}
 
 fn expect_same(
     rt: &impl Abort,

@@ -4,9 +4,9 @@ use Rattle.deb_index.specs.declared.constraint.Constraint.{Constraint}
 use Rattle.deb_index.specs.Constraints.{IsOfIndex, constraints_of}
 use Rattle.deb_index.proofs.ConstraintLemmas.{constraints-within}
 use Rattle.sat_solve.specs.Sets.{NumberSet, members_of}
-use Rattle.deb_verdict.specs.Closure.{IsClosed, IsWithin, cut, kept}
+use Rattle.deb_verdict.specs.Closure.{IsClosed, cut, kept}
 use Rattle.deb_verdict.specs.Play.{TellsPlaces}
-use Rattle.deb_verdict.specs.Reduction.{left}
+use Rattle.core_extract.specs.Reduction.{IsWithin, left}
 use Rattle.deb_verdict.proofs.AddSteps.{below_moved}
 use Rattle.deb_verdict.proofs.Inserted.{same_below}
 use Rattle.deb_verdict.proofs.Settled.{sizes, encodes_told}

@@ -1,5 +1,5 @@
 use Rattle.sat_solve.specs.Sets.{members_of}
-use Rattle.deb_verdict.specs.Reduction.{left}
+use Rattle.core_extract.specs.Reduction.{left}
 use Rattle.deb_verdict.proofs.Derived.{IsDerived}
 use Rattle.deb_verdict.proofs.derivation.is_refutation.Given as goal
 

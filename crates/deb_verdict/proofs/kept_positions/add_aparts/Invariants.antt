@@ -1,7 +1,7 @@
 use Rattle.deb_index.specs.declared.constraint.Constraint.TheVariants.{Apart}
 use Rattle.sat_solve.specs.Sets.{members_of}
 use Rattle.deb_verdict.specs.Listing.{Lists}
-use Rattle.deb_verdict.specs.Reduction.{left}
+use Rattle.core_extract.specs.Reduction.{left}
 use Rattle.deb_verdict.proofs.Listing.{IsBelow}
 use Rattle.deb_verdict.proofs.kept_positions.add_aparts.Given as goal
 

@@ -4,7 +4,7 @@ use Rattle.deb_index.specs.Packages.{essential_names}
 use Rattle.deb_index.specs.Constraints.{constraints_of}
 use Rattle.deb_index.proofs.ConstraintLemmas.{constraints-few}
 use Rattle.sat_solve.specs.Sets.{NumberSet, members_of}
-use Rattle.deb_verdict.specs.Reduction.{left}
+use Rattle.core_extract.specs.Reduction.{left}
 use Rattle.deb_verdict.proofs.Listing.{essential_at, essential_stands, lists_start, lists_next, lists_essential}
 use Rattle.deb_verdict.proofs.kept_positions.add_essential.Goals as goal
 

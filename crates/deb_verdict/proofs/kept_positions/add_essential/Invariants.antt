@@ -1,6 +1,6 @@
 use Rattle.sat_solve.specs.Sets.{members_of}
 use Rattle.deb_verdict.specs.Listing.{Lists}
-use Rattle.deb_verdict.specs.Reduction.{left}
+use Rattle.core_extract.specs.Reduction.{left}
 use Rattle.deb_verdict.proofs.Listing.{IsBelow, essential_at}
 use Rattle.deb_verdict.proofs.kept_positions.add_essential.Given as goal
 

@@ -1,7 +1,7 @@
 use Rattle.std.proofs.Common.{[], take}
 use Rattle.sat_solve.specs.Sets.{members_of}
 use Rattle.deb_verdict.specs.Listing.{Lists}
-use Rattle.deb_verdict.specs.Reduction.{left}
+use Rattle.core_extract.specs.Reduction.{left}
 use Rattle.deb_verdict.proofs.Listing.{IsAskedIn}
 use Rattle.deb_verdict.proofs.kept_positions.list_positions.Given as goal
 

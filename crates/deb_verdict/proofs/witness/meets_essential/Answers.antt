@@ -1,6 +1,6 @@
 use Rattle.std.proofs.Common.{◌∙◌, sym}
 use Rattle.sat_solve.specs.Sets.{members_of}
-use Rattle.deb_verdict.specs.Reduction.{left}
+use Rattle.core_extract.specs.Reduction.{left}
 use Rattle.deb_verdict.proofs.WitnessLemmas.{essential_held, essential_is_name, unasked_essential}
 use Rattle.deb_verdict.proofs.witness.meets_essential.Goals as goal
 

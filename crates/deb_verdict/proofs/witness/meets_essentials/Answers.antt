@@ -4,7 +4,7 @@ use Rattle.deb_index.specs.declared.constraint.Constraint.TheVariants.{Essential
 use Rattle.deb_index.specs.Packages.{names, is_essential}
 use Rattle.deb_index.proofs.ConstraintLemmas.{where-short}
 use Rattle.sat_solve.specs.Sets.{members_of}
-use Rattle.deb_verdict.specs.Reduction.{left}
+use Rattle.core_extract.specs.Reduction.{left}
 use Rattle.deb_verdict.specs.Witnesses.{MeetsAsked}
 use Rattle.deb_verdict.proofs.Bringing.{more_answered}
 use Rattle.deb_verdict.proofs.WitnessLemmas.{essentials_held}

@@ -1,5 +1,5 @@
 use Rattle.sat_solve.specs.Sets.{members_of}
-use Rattle.deb_verdict.specs.Reduction.{left}
+use Rattle.core_extract.specs.Reduction.{left}
 use Rattle.deb_index.specs.declared.constraint.Constraint.TheVariants.{Need}
 use Rattle.deb_verdict.proofs.WitnessLemmas.{unasked}
 use Rattle.deb_verdict.proofs.witness.meets_need.Goals as goal

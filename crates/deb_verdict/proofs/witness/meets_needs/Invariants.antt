@@ -1,7 +1,7 @@
 use Rattle.std.proofs.Common.{ℕ, ◌<◌}
 use Rattle.deb_index.specs.declared.constraint.Constraint.TheVariants.{Need}
 use Rattle.sat_solve.specs.Sets.{members_of}
-use Rattle.deb_verdict.specs.Reduction.{left}
+use Rattle.core_extract.specs.Reduction.{left}
 use Rattle.deb_verdict.specs.Witnesses.{MeetsAsked}
 use Rattle.deb_verdict.proofs.witness.meets_needs.Given as goal
 

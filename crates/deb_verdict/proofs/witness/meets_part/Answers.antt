@@ -1,6 +1,6 @@
 use Rattle.std.proofs.Common.{◌≡◌, ℕ, true, List, get_or, subst}
 use Rattle.sat_solve.specs.Sets.{members_of}
-use Rattle.deb_verdict.specs.Reduction.{left}
+use Rattle.core_extract.specs.Reduction.{left}
 use Rattle.deb_verdict.specs.Witnesses.{MeetsAskedOf}
 use Rattle.deb_verdict.proofs.Bringing.{more_answered}
 use Rattle.deb_verdict.proofs.WitnessLemmas.{of_members, part_held}

@@ -1,5 +1,5 @@
 use Rattle.sat_solve.specs.Sets.{members_of}
-use Rattle.deb_verdict.specs.Reduction.{left}
+use Rattle.core_extract.specs.Reduction.{left}
 use Rattle.deb_verdict.proofs.WitnessLemmas.{once_unasked, once_held}
 use Rattle.deb_verdict.proofs.witness.stands_once.Goals as goal
 

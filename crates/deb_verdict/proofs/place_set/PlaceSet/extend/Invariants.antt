@@ -1,6 +1,6 @@
 use Rattle.std.proofs.Common.{◌≡◌, ◌⊎◌, ℕ, ◌<◌, true, All, take}
 use Rattle.sat_solve.specs.Sets.{members_of}
-use Rattle.deb_verdict.specs.Closure.{IsWithin}
+use Rattle.core_extract.specs.Reduction.{IsWithin}
 use Rattle.deb_verdict.specs.Growing.{Grows}
 use Rattle.deb_verdict.proofs.place_set.PlaceSet.extend.Given as goal
 

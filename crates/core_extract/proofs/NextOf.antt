@@ -3,7 +3,7 @@ use Rattle.std.proofs.Common.{◌≡◌, ◌⊎◌, ℕ, ◌+◌, ◌-◌, ◌^�
 use Rattle.std.proofs.lemmas.Bool.{cases_lt, false≢true, and_parts, and_from, or_cases, or_left, or_right, eqb-true, eq-eqb, lt-ltb, ltb-true, false_from_ne_true}
 use Rattle.std.proofs.lemmas.List.Folds.{list_any_more}
 use Rattle.sat_solve.specs.Sets.{members_of}
-use Rattle.deb_verdict.specs.Reduction.{listed, HasNone}
+use Rattle.core_extract.specs.Reduction.{listed, HasNone}
 
 -- the least of these from `from` on, where it is below the largest number
 pub record IsNextOf (from : ℕ) (seen : List ℕ) (next : ℕ) : Type 0 where

@@ -1,8 +1,10 @@
 //! One test for each call that can want memory; bench/growths runs them with each growth refused in turn.
 
-use super::*;
-use crate::tests::{is_broken, is_found, read};
+use crate::expected::{is_broken, is_found};
+use crate::grounded::Grounded;
+use crate::reading::read;
 use deb_index::{Constraint, Index};
+use deb_verdict::{Workspace, closure, find_installable, verdict};
 use std::alloc::{AllocGlobal, Global};
 use std::process::Abort;
 use std::test::Fail;
@@ -108,17 +110,16 @@ fn expect_broken_in(
     rt: &impl Abort,
     alloc: Global,
     workspace: &mut Workspace,
-    groundwork: &Groundwork<'_>,
+    grounded: &Grounded<'_>,
 ) -> Result<(), Fail> {
-    assert!(rt; groundwork.index.len() == 1);
     let wanted = [Constraint::Need(0, 1)];
-    match verdict_in(alloc, workspace, groundwork, 0) {
+    match grounded.verdict(rt, alloc, workspace, 0) {
         Ok(found) => {
             assert!(rt; is_broken(&found, &wanted));
             Ok(())
         }
         Err(_) => {
-            let again = verdict_in(alloc, workspace, groundwork, 0)?;
+            let again = grounded.verdict(rt, alloc, workspace, 0)?;
             assert!(rt; is_broken(&again, &wanted));
             Err(Fail::new("out of memory"))
         }
@@ -129,16 +130,15 @@ fn expect_found_in(
     rt: &impl Abort,
     alloc: Global,
     workspace: &mut Workspace,
-    groundwork: &Groundwork<'_>,
+    grounded: &Grounded<'_>,
 ) -> Result<(), Fail> {
-    assert!(rt; groundwork.index.len() == 3);
-    match verdict_in(alloc, workspace, groundwork, 0) {
+    match grounded.verdict(rt, alloc, workspace, 0) {
         Ok(found) => {
             assert!(rt; is_found(&found, &[0, 2]));
             Ok(())
         }
         Err(_) => {
-            let again = verdict_in(alloc, workspace, groundwork, 0)?;
+            let again = grounded.verdict(rt, alloc, workspace, 0)?;
             assert!(rt; is_found(&again, &[0, 2]));
             Err(Fail::new("out of memory"))
         }
@@ -148,8 +148,8 @@ fn expect_found_in(
 fn expect_both_in_one(
     rt: &impl Abort,
     alloc: Global,
-    broken: &Groundwork<'_>,
-    found: &Groundwork<'_>,
+    broken: &Grounded<'_>,
+    found: &Grounded<'_>,
 ) -> Result<(), Fail> {
     let mut workspace = Workspace::new(alloc)?;
     expect_broken_in(rt, alloc, &mut workspace, broken)?;
@@ -159,10 +159,10 @@ fn expect_both_in_one(
 fn on_both_groundworks(
     rt: &impl Abort,
     alloc: Global,
-    broken: &Groundwork<'_>,
+    broken: &Grounded<'_>,
     alternatives: &Index,
 ) -> Result<(), Fail> {
-    let found = Groundwork::new(alloc, alternatives)?;
+    let found = Grounded::new(alloc, alternatives)?;
     expect_both_in_one(rt, alloc, broken, &found)
 }
 
@@ -172,7 +172,7 @@ fn on_one_groundwork(
     two_missing: &Index,
     alternatives: &Index,
 ) -> Result<(), Fail> {
-    let broken = Groundwork::new(alloc, two_missing)?;
+    let broken = Grounded::new(alloc, two_missing)?;
     on_both_groundworks(rt, alloc, &broken, alternatives)
 }
 
@@ -187,14 +187,21 @@ fn of_verdict_in(rt: HostRuntime) -> Result<(), Fail> {
     beside_alternatives(&rt, &two_missing)
 }
 
+/// The essential package that a groundwork knows of decides the verdict over it.
+fn expect_conflict_over(
+    rt: &impl Abort,
+    alloc: Global,
+    grounded: &Grounded<'_>,
+) -> Result<(), Fail> {
+    let mut workspace = Workspace::new(alloc)?;
+    let found = grounded.verdict(rt, alloc, &mut workspace, 1)?;
+    assert!(rt; is_broken(&found, &[Constraint::Essential(0), Constraint::Apart(1, 0)]));
+    Ok(())
+}
+
 fn expect_groundwork(rt: &impl Abort, alloc: Global, index: &Index) -> Result<(), Fail> {
-    match Groundwork::new(alloc, index) {
-        Ok(groundwork) => {
-            assert!(rt; groundwork.forced.as_slice() == [0].as_slice());
-            assert!(rt; groundwork.is_met(0) && groundwork.is_met(1));
-            assert!(rt; groundwork.is_alone(0) && !groundwork.is_alone(1));
-            Ok(())
-        }
+    match Grounded::new(alloc, index) {
+        Ok(grounded) => expect_conflict_over(rt, alloc, &grounded),
         Err(_) => Err(Fail::new("out of memory")),
     }
 }

@@ -2,9 +2,9 @@
 
 ghost use Rattle.std.specs.Prelude.{◌<◌, All, IfOk, length};
 
-use crate::installable::find_installable;
-use crate::tests::read;
+use crate::reading::read;
 use deb_index::Index;
+use deb_verdict::find_installable;
 use std::alloc::Global;
 use std::process::Abort;
 use std::test::Fail;

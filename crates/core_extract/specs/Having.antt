@@ -1,7 +1,6 @@
 -- Having some numbers, as a property of sets.
 use Rattle.sat_solve.specs.Sets.{NumberSet}
-use Rattle.deb_verdict.specs.Closure.{IsWithin}
-use Rattle.deb_verdict.specs.Reduction.{IsUpward}
+use Rattle.core_extract.specs.Reduction.{IsWithin, IsUpward}
 
 abbrev pub HasAll : NumberSet → NumberSet → Type 0
 HasAll numbers = IsWithin numbers

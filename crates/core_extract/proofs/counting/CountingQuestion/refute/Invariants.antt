@@ -1,7 +1,7 @@
 use Rattle.std.proofs.Common.{◌≡◌, ℕ, ◌<◌, ◌-◌, ◌^◌, true}
 use Rattle.sat_solve.specs.Sets.{members_of}
-use Rattle.deb_verdict.specs.Reduction.{left, listed}
-use Rattle.deb_verdict.proofs.counting.CountingQuestion.refute.Given as goal
+use Rattle.core_extract.specs.Reduction.{left, listed}
+use Rattle.core_extract.proofs.counting.CountingQuestion.refute.Given as goal
 
 abbrev pub invariant-loop-number : goal.invariant-loop-number
 invariant-loop-number l = (k : ℕ) → k < l.at → listed l.self.needed.now k ≡ true → left (members_of l.kept) l.rest k ≡ true

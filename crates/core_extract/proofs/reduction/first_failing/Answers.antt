@@ -1,8 +1,8 @@
 use Rattle.std.proofs.Common.{rules, ◌≡◌, ℕ, ◌+◌, false, List, sym, subst}
 use Rattle.sat_solve.specs.Sets.{NumberSet, members_of}
-use Rattle.deb_verdict.specs.Reduction.{left}
-use Rattle.deb_verdict.proofs.Cores.{reduced_pushed, rising_after}
-use Rattle.deb_verdict.proofs.reduction.first_failing.Goals as goal
+use Rattle.core_extract.specs.Reduction.{left}
+use Rattle.core_extract.proofs.Cores.{reduced_pushed, rising_after}
+use Rattle.core_extract.proofs.reduction.first_failing.Goals as goal
 
 pub loop-number-preserved-in_ok-push : goal.loop-number-preserved-in_ok-push
 loop-number-preserved-in_ok-push g c =

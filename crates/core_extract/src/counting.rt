@@ -2,7 +2,7 @@
 
 ghost use Rattle.std.specs.Prelude.{◌≡◌};
 ghost use Rattle.sat_solve.specs.Sets.{members_of};
-ghost use Rattle.deb_verdict.specs.Reduction.{left};
+ghost use Rattle.core_extract.specs.Reduction.{left};
 
 use crate::reduction::{Question, first_failing, next_of};
 use std::alloc::{AllocError, Global};
@@ -24,8 +24,8 @@ fn is_left(kept: &[u32], rest: u32, number: u32) -> bool
 }
 
 impl<'a> Question for Counting<'a> {
-    ghost use Rattle.deb_verdict.specs.Reduction.{listed};
-    ghost use Rattle.deb_verdict.specs.Having.{HasAll, having_upward};
+    ghost use Rattle.core_extract.specs.Reduction.{listed};
+    ghost use Rattle.core_extract.specs.Having.{HasAll, having_upward};
 
     ghost is_failing = { λ q. HasAll (listed q.needed.now) };
 
@@ -51,7 +51,7 @@ impl<'a> Question for Counting<'a> {
 }
 
 /// How many questions it takes where these numbers are needed; none, where the answer is another.
-fn asked_for(alloc: Global, needed: &[u32]) -> Result<Option<u32>, AllocError> {
+pub fn asked_for(alloc: Global, needed: &[u32]) -> Result<Option<u32>, AllocError> {
     let mut question = Counting { needed, asked: 0 };
     let kept = first_failing(alloc, &mut question)?;
     if kept.as_slice() == needed {

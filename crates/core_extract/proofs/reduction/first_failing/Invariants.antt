@@ -1,8 +1,8 @@
 use Rattle.std.proofs.Common.{◌-◌, ◌^◌}
 use Rattle.std.specs.List.Sorted.{IsStrictlyIncreasing}
 use Rattle.sat_solve.specs.Sets.{members_of}
-use Rattle.deb_verdict.specs.Reduction.{IsReduced, AreSame}
-use Rattle.deb_verdict.proofs.reduction.first_failing.Given as goal
+use Rattle.core_extract.specs.Reduction.{IsReduced, AreSame}
+use Rattle.core_extract.proofs.reduction.first_failing.Given as goal
 
 abbrev pub invariant-loop-number : goal.invariant-loop-number
 invariant-loop-number g l =

@@ -1,0 +1,4 @@
+pub mod Cores
+pub mod Kept
+pub mod ListMembers
+pub mod NextOf
