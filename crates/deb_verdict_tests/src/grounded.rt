@@ -1,6 +1,6 @@
 //! An index with its groundwork, and the verdicts over it.
 
-ghost use Rattle.std.specs.Prelude.{◌≡◌};
+ghost use Rattle.std.specs.Prelude.{◌≡◌, ◌<◌, length};
 
 use deb_index::Index;
 use deb_verdict::{Groundwork, Verdict, Workspace, verdict_in};
@@ -23,7 +23,19 @@ impl<'a> Grounded<'a> {
         Ok(Grounded { index, groundwork })
     }
 
-    /// The verdict of the package at a place. The error is want of memory, or that the index has no such place.
+    /// The verdict of the package at a place of the index. The error is want of memory.
+    pub fn find(
+        &self,
+        alloc: Global,
+        workspace: &mut Workspace,
+        p: u32,
+    ) -> Result<Verdict, AllocError>
+        requires { p < length self.now.index.now.packages }
+    {
+        verdict_in(alloc, workspace, &self.groundwork, p)
+    }
+
+    /// The same, where the index has such a place; an error, too, where it has none.
     pub fn verdict(
         &self,
         rt: &impl Abort,
@@ -32,6 +44,6 @@ impl<'a> Grounded<'a> {
         p: u32,
     ) -> Result<Verdict, Fail> {
         assert!(rt; p < self.index.len());
-        Ok(verdict_in(alloc, workspace, &self.groundwork, p)?)
+        Ok(self.find(alloc, workspace, p)?)
     }
 }

@@ -112,14 +112,15 @@ fn expect_broken_in(
     workspace: &mut Workspace,
     grounded: &Grounded<'_>,
 ) -> Result<(), Fail> {
+    assert!(rt; grounded.index.len() == 1);
     let wanted = [Constraint::Need(0, 1)];
-    match grounded.verdict(rt, alloc, workspace, 0) {
+    match grounded.find(alloc, workspace, 0) {
         Ok(found) => {
             assert!(rt; is_broken(&found, &wanted));
             Ok(())
         }
         Err(_) => {
-            let again = grounded.verdict(rt, alloc, workspace, 0)?;
+            let again = grounded.find(alloc, workspace, 0)?;
             assert!(rt; is_broken(&again, &wanted));
             Err(Fail::new("out of memory"))
         }
@@ -132,13 +133,14 @@ fn expect_found_in(
     workspace: &mut Workspace,
     grounded: &Grounded<'_>,
 ) -> Result<(), Fail> {
-    match grounded.verdict(rt, alloc, workspace, 0) {
+    assert!(rt; grounded.index.len() == 3);
+    match grounded.find(alloc, workspace, 0) {
         Ok(found) => {
             assert!(rt; is_found(&found, &[0, 2]));
             Ok(())
         }
         Err(_) => {
-            let again = grounded.verdict(rt, alloc, workspace, 0)?;
+            let again = grounded.find(alloc, workspace, 0)?;
             assert!(rt; is_found(&again, &[0, 2]));
             Err(Fail::new("out of memory"))
         }
