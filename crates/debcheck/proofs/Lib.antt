@@ -4,6 +4,7 @@ mod FaultLemmas
 mod IndexLemmas
 mod LineFacts
 mod LineLemmas
+mod MergeLemmas
 mod OneReport
 mod PhaseLemmas
 mod RunLemmas

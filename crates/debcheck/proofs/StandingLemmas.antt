@@ -1,6 +1,6 @@
 -- What is told of the asked places stands for their verdicts, and the report on it is theirs.
-use Rattle.std.proofs.Common.{◌≡◌, ◌∙◌, ℕ, suc, ◌<◌, ◌≤◌, Bool, true, false, List, [], ◌∷◌, ◌++◌, Some, Ok, All, drop, get_or, length, map, slice_get, take, ap, refl, subst, sym, arith, inl, inr}
-use Rattle.std.specs.List.{filter}
+use Rattle.std.proofs.Common.{◌≡◌, ◌∙◌, ℕ, suc, ◌<◌, ◌≤◌, Bool, true, false, List, [], ◌∷◌, Some, Ok, All, get_or, length, map, slice_get, ap, refl, subst, sym, arith, inl, inr}
+use Rattle.std.specs.List.{filter, zip}
 use Rattle.std.proofs.lemmas.Bool.{cases_Bool, both_ways}
 use Rattle.std.proofs.lemmas.List.Elements.{All-cons, All-filter, All-nil, All-same}
 use Rattle.std.proofs.lemmas.List.Sums.{count_by-le-length, length-filter}
@@ -18,7 +18,7 @@ use Rattle.deb_report.specs.Settings.{Settings, shows_sets}
 use Rattle.deb_report.specs.Written.{written_report}
 use Rattle.deb_report.proofs.Unshown.{sets_unshown, summary_without_sets}
 use Rattle.debcheck.specs.Run.{IsReportOn}
-use Rattle.debcheck.specs.Standing.{StandFor, is_unmarked, told_of}
+use Rattle.debcheck.specs.Standing.{Merges, StandFor, is_unmarked}
 
 -- ---- what is left
 
@@ -65,37 +65,49 @@ module _ (index : IndexView) (marks : List Bool) where
     within = All-cons (SpeaksOf index) found told speaks rest.within;
   }
 
-  told_next : (place : ℕ) (places others : List ℕ) (found : List VerdictView) → AnswersEach (IsVerdict index) (place ∷ others) found → All (SpeaksOf index) found
-      → ((rest : List VerdictView) → AnswersEach (IsVerdict index) others rest → All (SpeaksOf index) rest → Told index places (told_of marks places rest))
-      → Told index (place ∷ places) (take 1 found ++ told_of marks places (drop 1 found))
-  told_next place places others [] each speaks tell = absurd each
-  told_next place places others (v ∷ found) each speaks tell =
-      told_found place places v (told_of marks places found) each.0 (speaks 0 v (omega arith)) (tell found each.1 (λ k d inside. speaks (suc k) d (omega arith)))
+  -- what is told behind the first place
+  merges_rest : (place : ℕ) (places : List ℕ) (found others : List VerdictView) (first : VerdictView) (told : List VerdictView) → Merges marks (place ∷ places) found (first ∷ told)
+      → map (λ pair. pair.1) (filter (λ pair. is_unmarked marks pair.0) (zip places told)) ≡ others → Merges marks places others told
+  merges_rest place places found others first told merges are = record {
+    count = omega (arith, merges.count);
+    of_marked = λ k d inside. merges.of_marked (suc k) d (omega arith);
+    of_others = are;
+  }
 
   -- what is told of all asked places
-  told_each : (asked : List ℕ) (found : List VerdictView) → length marks ≡ length index.packages → MarksOnly (IsInstallable index) marks
+  told_each : (asked : List ℕ) (found told : List VerdictView) → length marks ≡ length index.packages → MarksOnly (IsInstallable index) marks
       → All (λ place. place < length index.packages) asked → AnswersEach (IsVerdict index) (filter (is_unmarked marks) asked) found → All (SpeaksOf index) found
-      → Told index asked (told_of marks asked found)
-  told_each [] found count only places each speaks = record { verdicts = []; are_verdicts = tt; same = refl; count = refl; within = All-nil (SpeaksOf index) }
-  told_each (place ∷ asked) found count only places each speaks =
+      → Merges marks asked found told → Told index asked told
+  told_each [] found [] count only places each speaks merges = record { verdicts = []; are_verdicts = tt; same = refl; count = refl; within = All-nil (SpeaksOf index) }
+  told_each [] found (first ∷ told) count only places each speaks merges = absurd (omega (arith, merges.count))
+  told_each (place ∷ asked) found [] count only places each speaks merges = absurd (omega (arith, merges.count))
+  told_each (place ∷ asked) found (first ∷ told) count only places each speaks merges =
       let inside : place < length index.packages = places 0 place (omega arith) in
-      let rest : All (λ p. p < length index.packages) asked = λ k d lt. places (suc k) d (omega arith) in
+      let behind : All (λ p. p < length index.packages) asked = λ k d lt. places (suc k) d (omega arith) in
       elim (cases_Bool (get_or marks place false)) [
         | inl marked ↦
             let there : slice_get marks place ≡ Some true = slice_get-get_or marks place false (omega arith) ∙ ap Some marked in
-            rw marked (told_installable place asked (told_of marks asked found) inside (only place there) (told_each asked found count only rest (rw marked at each) speaks))
+            let empty : first ≡ Found [] = merges.of_marked 0 (place, first) (omega arith) (rw marked refl) in
+            let rest = merges_rest place asked found found first told merges (rw marked at merges.of_others) in
+            rw empty (told_installable place asked told inside (only place there) (told_each asked found told count only behind (rw marked at each) speaks rest))
         | inr unmarked ↦
-            rw unmarked (told_next place asked (filter (is_unmarked marks) asked) found (rw unmarked at each) speaks (λ others are speak. told_each asked others count only rest are speak))
+            let others = map (λ (pair : ℕ × VerdictView). pair.1) (filter (λ (pair : ℕ × VerdictView). is_unmarked marks pair.0) (zip asked told)) in
+            let are : found ≡ first ∷ others = sym (rw unmarked at merges.of_others) in
+            let answers : AnswersEach (IsVerdict index) (place ∷ filter (is_unmarked marks) asked) (first ∷ others) = rw are at (rw unmarked at each) in
+            let speak : All (SpeaksOf index) (first ∷ others) = rw are at speaks in
+            let rest = merges_rest place asked found others first told merges refl in
+            told_found place asked first told answers.0 (speak 0 first (omega arith))
+            (told_each asked others told count only behind answers.1 (λ k d lt. speak (suc k) d (omega arith)) rest)
       ]
 
 -- the same, where the others have an empty set by their marks, and what is left was checked
 pub told_by_marks : (index : IndexView) (marks shown_marks : List Bool) (asked held left : List ℕ) (found told : List VerdictView) → shown_marks ≡ marks → length marks ≡ length index.packages
     → MarksOnly (IsInstallable index) marks → All (λ place. place < length index.packages) asked → left ≡ held → held ≡ filter (is_unmarked shown_marks) asked
-    → AnswersEach (IsVerdict index) left found → All (SpeaksOf index) found → told ≡ told_of shown_marks asked found → Told index asked told
-told_by_marks index marks shown_marks asked held left found told shown count only places same are each speaks tells =
+    → AnswersEach (IsVerdict index) left found → All (SpeaksOf index) found → Merges shown_marks asked found told → Told index asked told
+told_by_marks index marks shown_marks asked held left found told shown count only places same are each speaks merges =
     let only_shown = subst (λ (all : List Bool). MarksOnly (IsInstallable index) all) (sym shown) only in
     let each_left = subst (λ (others : List ℕ). AnswersEach (IsVerdict index) others found) (same ∙ are) each in
-    subst (λ (views : List VerdictView). Told index asked views) (sym tells) (told_each index shown_marks asked found (ap length shown ∙ count) only_shown places each_left speaks)
+    told_each index shown_marks asked found told (ap length shown ∙ count) only_shown places each_left speaks merges
 
 -- what is told stands for the verdicts where no set is shown
 pub stands-told : (settings : Settings) (index : IndexView) (asked : List ℕ) (told : List VerdictView) → shows_sets settings ≡ false → Told index asked told

@@ -1,5 +1,5 @@
 -- Verdicts that a report may be made of in the place of the true ones.
-use Rattle.std.specs.Prelude.{◌≡◌, ℕ, Bool, false, true, not, List, [], ◌∷◌, ◌++◌, drop, if◌then◌else◌, map, slice_index_or, take}
+use Rattle.std.specs.Prelude.{◌≡◌, ℕ, Bool, false, true, not, List, [], All, filter, length, map, slice_index_or, zip}
 use Rattle.deb_index.specs.Packages.{IndexView}
 use Rattle.deb_verdict.specs.Verdicts.{Found, IsVerdict, VerdictView}
 use Rattle.work_draw.specs.Checks.{AnswersEach}
@@ -17,7 +17,8 @@ pub record StandFor (settings : Settings) (index : IndexView) (asked : List ℕ)
 abbrev pub is_unmarked : List Bool → ℕ → Bool
 is_unmarked marks place = not (slice_index_or marks place false)
 
--- what is told of the asked places: of each that is marked an empty set, of the others what was found of them, in their order
-abbrev pub told_of : List Bool → List ℕ → List VerdictView → List VerdictView
-told_of marks [] found = []
-told_of marks (place ∷ places) found = if is_unmarked marks place then take 1 found ++ told_of marks places (drop 1 found) else Found [] ∷ told_of marks places found
+-- what is told of asked places: of each that is marked an empty set, of the others what was found, in their order
+pub record Merges (marks : List Bool) (asked : List ℕ) (found told : List VerdictView) : Type 0 where
+  pub count : length told ≡ length asked
+  pub of_marked : All (λ pair. is_unmarked marks pair.0 ≡ false → pair.1 ≡ Found []) (zip asked told)
+  pub of_others : map (λ pair. pair.1) (filter (λ pair. is_unmarked marks pair.0) (zip asked told)) ≡ found

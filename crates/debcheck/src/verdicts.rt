@@ -3,7 +3,7 @@
 ghost use Rattle.std.specs.Prelude.{◌≡◌, ◌^◌, ◌<◌, ◌≤◌, All, IfOk, filter, length, map};
 ghost use Rattle.deb_report.specs.Settings.{settings_of};
 ghost use Rattle.deb_verdict.specs.Verdicts.{SpeaksOf, verdict_view};
-ghost use Rattle.debcheck.specs.Standing.{StandFor, is_unmarked, told_of};
+ghost use Rattle.debcheck.specs.Standing.{Merges, StandFor, is_unmarked};
 
 use deb_index::Index;
 use deb_report::Config;
@@ -33,8 +33,9 @@ fn merged(
     marks: &[bool],
     found: Vec<Verdict>,
 ) -> Result<Vec<Verdict>, AllocError>
-    requires { All (λ place. place < length marks.now) asked.now }
-    ensures { IfOk result (λ told. map verdict_view told.items ≡ told_of marks.now asked.now (map verdict_view found.items)) }
+    requires places { All (λ place. place < length marks.now) asked.now }
+    requires found { length found.items ≡ length (filter (is_unmarked marks.now) asked.now) }
+    ensures { IfOk result (λ told. Merges marks.now asked.now (map verdict_view found.items) (map verdict_view told.items)) }
 {
     let mut told = Vec::with_capacity(alloc, asked.len())?;
     let mut rest = found.into_iter();
