@@ -21,17 +21,46 @@ fn places(rt: &impl Abort, alloc: Global, index: &Index, asked: &[u32]) -> Resul
     Ok(places)
 }
 
-fn expect_marks(
+/// Which places are asked of, and which are expected to be marked.
+#[derive(Clone, Copy)]
+struct Marked<'a> {
+    asked: &'a [u32],
+    wanted: &'a [bool],
+}
+
+fn expect_one(
     rt: &impl Abort,
     alloc: Global,
     index: &Index,
-    asked: &[u32],
-    wanted: &[bool],
+    marked: &Marked<'_>,
 ) -> Result<(), Fail> {
-    let places = places(rt, alloc, index, asked)?;
+    let places = places(rt, alloc, index, marked.asked)?;
     let marks = find_installable(alloc, index, &places)?;
-    assert!(rt; marks.as_slice() == wanted);
+    assert!(rt; marks.as_slice() == marked.wanted);
     Ok(())
+}
+
+fn expect_each(
+    rt: &impl Abort,
+    alloc: Global,
+    index: &Index,
+    expected: &[Marked<'_>],
+) -> Result<(), Fail> {
+    for one in expected {
+        expect_one(rt, alloc, index, one)?;
+    }
+    Ok(())
+}
+
+/// Compares what is marked in the index of a text with what is expected.
+fn expect_marks(
+    rt: &impl Abort,
+    alloc: Global,
+    text: &[u8],
+    expected: &[Marked<'_>],
+) -> Result<(), Fail> {
+    let index = read(alloc, text, true)?;
+    expect_each(rt, alloc, &index, expected)
 }
 
 #[test]
@@ -55,9 +84,11 @@ Version: 1
 Architecture: all
 Depends: b
 ";
-    let index = read(rt.alloc(), text, true)?;
-    let asked = [0, 1, 2, 3];
-    expect_marks(&rt, rt.alloc(), &index, &asked, &[true, true, false, true])
+    let expected = [Marked {
+        asked: &[0, 1, 2, 3],
+        wanted: &[true, true, false, true],
+    }];
+    expect_marks(&rt, rt.alloc(), text, &expected)
 }
 
 #[test]
@@ -80,9 +111,11 @@ Version: 1
 Architecture: all
 Depends: b, a (<< 2)
 ";
-    let index = read(rt.alloc(), text, true)?;
-    let asked = [0, 1, 2, 3];
-    expect_marks(&rt, rt.alloc(), &index, &asked, &[true, true, true, false])
+    let expected = [Marked {
+        asked: &[0, 1, 2, 3],
+        wanted: &[true, true, true, false],
+    }];
+    expect_marks(&rt, rt.alloc(), text, &expected)
 }
 
 #[test]
@@ -100,9 +133,17 @@ Package: c
 Version: 1
 Architecture: all
 ";
-    let index = read(rt.alloc(), text, true)?;
-    expect_marks(&rt, rt.alloc(), &index, &[0], &[true, false, true])?;
-    expect_marks(&rt, rt.alloc(), &index, &[], &[false, false, false])
+    let expected = [
+        Marked {
+            asked: &[0],
+            wanted: &[true, false, true],
+        },
+        Marked {
+            asked: &[],
+            wanted: &[false, false, false],
+        },
+    ];
+    expect_marks(&rt, rt.alloc(), text, &expected)
 }
 
 #[test]
@@ -126,9 +167,11 @@ Package: d
 Version: 1
 Architecture: all
 ";
-    let index = read(rt.alloc(), text, true)?;
-    let asked = [0, 1, 2, 3];
-    expect_marks(&rt, rt.alloc(), &index, &asked, &[true, true, true, true])
+    let expected = [Marked {
+        asked: &[0, 1, 2, 3],
+        wanted: &[true, true, true, true],
+    }];
+    expect_marks(&rt, rt.alloc(), text, &expected)
 }
 
 #[test]
@@ -147,8 +190,11 @@ Package: f
 Version: 1
 Architecture: all
 ";
-    let index = read(rt.alloc(), text, true)?;
-    expect_marks(&rt, rt.alloc(), &index, &[0, 2], &[false, true, true])
+    let expected = [Marked {
+        asked: &[0, 2],
+        wanted: &[false, true, true],
+    }];
+    expect_marks(&rt, rt.alloc(), text, &expected)
 }
 
 #[test]
@@ -163,6 +209,9 @@ Architecture: all
 Essential: yes
 Depends: absent
 ";
-    let index = read(rt.alloc(), text, true)?;
-    expect_marks(&rt, rt.alloc(), &index, &[0, 1], &[false, false])
+    let expected = [Marked {
+        asked: &[0, 1],
+        wanted: &[false, false],
+    }];
+    expect_marks(&rt, rt.alloc(), text, &expected)
 }
