@@ -42,7 +42,7 @@ CALLS = {
     "deb_control": ["next_stanza", "stanzas"],
     "deb_relation_tests": ["parse", "parse_groups", "parse_list", "append_to"],
     "deb_index_tests": ["read", "read_both", "satisfiers", "need_satisfiers", "constraints"],
-    "sat_solve": ["new", "add", "add_to_others", "add_after_restart", "exclude", "solve", "solve_in", "solve_marked"],
+    "sat_solve_tests": ["new", "add", "add_to_others", "add_after_restart", "exclude", "solve", "solve_in", "solve_marked"],
     "core_extract": ["first_failing"],
     "deb_verdict_tests": ["closure", "verdict", "verdict_in", "groundwork", "workspace", "find_installable"],
     "work_draw_tests": ["new_board", "gather", "check_all", "check_all_with_a_gate", "draw_pieces", "crew"],

@@ -1,5 +1,5 @@
 -- How a solver goes on by one step.
-use Rattle.std.proofs.Common.{◌≡◌, ◌≢◌, ℕ, ◌-◌, ◌<◌, ◌≤◌, true, false, is_some, Contains, slice_get, Option, Some, None, List, ◌∷◌, length, get_or, slice_range, refl, sym, ◌∙◌, ap, subst, inl, inr, arith}
+use Rattle.std.proofs.Common.{◌≡◌, ◌≢◌, ℕ, ◌-◌, ◌<◌, ◌≤◌, Bool, true, false, is_some, Contains, slice_get, Option, Some, None, List, ◌∷◌, length, get_or, slice_range, refl, sym, ◌∙◌, ap, subst, inl, inr, arith}
 use mathlib.Core.Path.{fun_ext}
 use Rattle.std.proofs.lemmas.Bool.{false≢true}
 use Rattle.std.proofs.lemmas.List.Elements.{All-contains}
@@ -18,12 +18,16 @@ use Rattle.sat_solve.specs.declared.trail.Reason.{Reason}
 use Rattle.sat_solve.specs.declared.trail.Reason.TheVariants.{Decision, Clause, Pair, AllOlder}
 use Rattle.sat_solve.specs.declared.problem.Problem.{Problem}
 use Rattle.sat_solve.specs.declared.solver.Solver.{Solver}
-use Rattle.sat_solve.proofs.TrailLemmas.{value_in_newest, value_in_older, rank_rises, set_of_is_first}
+use Rattle.sat_solve.proofs.TrailLemmas.{value_in_newest, value_in_older, rank_rises, rank_below, set_of_is_first}
+use Rattle.sat_solve.proofs.ValueLemmas.{trail_fits}
 use Rattle.sat_solve.proofs.StepLemmas.{forced_sound, decided_sound, only_set}
-use Rattle.sat_solve.proofs.RoundLemmas.{work_falls}
 use Rattle.sat_solve.proofs.SpanLemmas.{clause_met}
 use Rattle.sat_solve.proofs.MarkLemmas.{there_if_read}
 use Rattle.sat_solve.proofs.ReasonLemmas.{forced_rests, conflict_fails, refuted_fails}
+
+-- what is left to do falls where the rank rises
+work_falls : (vars : ℕ) (values : List (Option Bool)) (old new : List Step) → IsLinked vars values old → rank vars old < rank vars new → power_of_three vars - rank vars new < power_of_three vars - rank vars old
+work_falls vars values old new linked higher = omega (arith, rank_below vars old (trail_fits vars values old linked))
 
 -- what was set is set under a newer step
 set_under : (step : Step) (older : List Step) (var : ℕ) → value_in older var ≢ None → value_in (step ∷ older) var ≢ None

@@ -1,10 +1,10 @@
 -- How a sound trail takes a step more, and when it shows that no set agrees with it.
-use Rattle.std.proofs.Common.{◌≡◌, ◌≢◌, ℕ, ◌<◌, Bool, true, false, Option, Some, None, unwrap_or, List, ◌∷◌, refl, sym, ◌∙◌, subst, inl, inr, arith}
+use Rattle.std.proofs.Common.{◌≡◌, ◌≢◌, ℕ, ◌<◌, Bool, true, false, Option, Some, None, unwrap_or, List, ◌∷◌, refl, sym, ◌∙◌, inl, inr, arith}
 use mathlib.Core.Path.{fun_ext}
 use Rattle.std.proofs.lemmas.Bool.{false≢true, cases_lt, false_from_ne_true}
 use Rattle.sat_solve.specs.Sets.{NumberSet}
-use Rattle.sat_solve.specs.Clauses.{Clause, clause_holds, IsTrueSet}
-use Rattle.sat_solve.specs.Trail.{value_in, set_of, is_decision, IsSound, IsRefuted, IsLinked}
+use Rattle.sat_solve.specs.Clauses.{clause_holds}
+use Rattle.sat_solve.specs.Trail.{value_in, set_of, is_decision, IsSound, IsLinked}
 use Rattle.sat_solve.specs.ClauseStatus.{Agrees, ComesDownTo}
 use Rattle.sat_solve.specs.declared.clause.Lit.{Lit}
 use Rattle.sat_solve.specs.declared.trail.Step.{Step}
@@ -25,10 +25,6 @@ module _ (P : NumberSet → Type 0) (steps : List Step) (sound : IsSound P steps
     },
     sound,
   )
-
-  -- a clause that each set with P meets, and that fails
-  pub conflict_refuted : (vars : ℕ) (clause : List Lit) → ((set : NumberSet) → P set → clause_holds set clause ≡ true) → ComesDownTo vars steps clause None → IsRefuted P steps
-  conflict_refuted vars clause meets down set holds lacks = false≢true (sym (down set (sound_agrees P steps set sound holds lacks)) ∙ meets set holds)
 
   -- a decision puts the least free variable out
   pub decided_sound : (var : ℕ) → ((lower : ℕ) → lower < var → value_in steps lower ≢ None) → IsSound P (record { var = var; value = false; reason = Decision } ∷ steps)
@@ -54,12 +50,6 @@ only_set vars values steps set linked full within agrees =
           let lacks : set var ≡ false = false_from_ne_true (set var) (λ has. let inside : var < vars = within var has in absurd (omega arith)) in
           lacks ∙ sym (set_of_past vars values steps var linked past)
     ])
-
--- a full trail whose set is no true set shows that none agrees with its decisions
-pub full_refuted : (vars : ℕ) (clauses : List Clause) (keep : List Bool) (must : ℕ) (values : List (Option Bool)) (steps : List Step) → IsLinked vars values steps → ((var : ℕ) → var < vars → value_in steps var ≢ None) → (IsTrueSet vars clauses keep must (set_of steps) → ⊥) → IsSound (IsTrueSet vars clauses keep must) steps → IsRefuted (IsTrueSet vars clauses keep must) steps
-full_refuted vars clauses keep must values steps linked full unlike sound set holds lacks =
-    let P : NumberSet → Type 0 = IsTrueSet vars clauses keep must in
-    unlike (subst P (only_set vars values steps set linked full holds.within (sound_agrees P steps set sound holds lacks)) holds)
 
 -- the trail's set is one of variables
 pub set_of_within : (vars : ℕ) (values : List (Option Bool)) (steps : List Step) → IsLinked vars values steps → (var : ℕ) → set_of steps var ≡ true → var < vars

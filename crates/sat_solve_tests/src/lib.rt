@@ -1,0 +1,15 @@
+//! Tests of the public calls of `sat_solve`.
+//!
+//! `literals` makes literals and looks at sets. `worked` has worked formulas, `trial` compares many small ones with a trial of all sets,
+//! `exclusions` does both for lists of exclusions and has a long one, `growths` has a test for each call that can want memory.
+#![tactic(auto)]
+
+#[cfg(test)]
+mod exclusions;
+#[cfg(test)]
+mod growths;
+pub mod literals;
+#[cfg(test)]
+mod trial;
+#[cfg(test)]
+mod worked;

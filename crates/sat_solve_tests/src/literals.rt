@@ -1,0 +1,33 @@
+//! Literals by their variables, and sets that were found.
+
+ghost use Rattle.std.specs.Prelude.{◌≡◌, true, false};
+
+use sat_solve::Lit;
+
+/// A variable that is in.
+pub fn lit(var: u32) -> Lit
+    ensures { result ≡ record { var = var; positive = true } }
+{
+    Lit {
+        var,
+        positive: true,
+    }
+}
+
+/// A variable that is out.
+pub fn not(var: u32) -> Lit
+    ensures { result ≡ record { var = var; positive = false } }
+{
+    Lit {
+        var,
+        positive: false,
+    }
+}
+
+/// Whether what was found is this set.
+pub fn is_set(found: &Option<Vec<u32>>, wanted: &[u32]) -> bool {
+    match found {
+        Some(members) => members.as_slice() == wanted,
+        None => false,
+    }
+}
