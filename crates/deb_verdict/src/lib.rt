@@ -12,7 +12,7 @@
 //!   constraints: `clauses` has those of essential names and needs, `conflicts` what an entry hits, `rivals` the entries that very many
 //!   packages may meet, `versions` that of each name one package at most is in, by `exclusion`.
 //! - `first_core` finds the first set of constraints that no set meets: the crate `core_extract` takes out those that no refutation needs,
-//!   and asks `question` whether a `part` of them, by their positions, admits none. Three modules answer, the next where one cannot tell:
+//!   and asks `question` whether a `part` of them, by their positions, admits none. Three modules answer, each where it can tell:
 //!   - `propagation` refutes a part by what the package asks for with no choice; `derivation` has the steps of such a refutation, and
 //!     checks them.
 //!   - `witness` sees, without a search, that some set meets a part.
