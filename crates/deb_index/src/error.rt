@@ -1,7 +1,7 @@
 //! Why an index is refused.
 ghost use Rattle.std.specs.Prelude.{◌≡◌, ◌≢◌, Err, Result, ℕ};
 ghost use Rattle.deb_index.specs.declared.error.IndexError.TheVariants.{Memory};
-ghost use Rattle.deb_index.specs.Reading.{IsBare};
+ghost use Rattle.deb_index.specs.Reading.{IsBare, field_name};
 
 use deb_control::ControlError;
 use std::alloc::{AllocError, AllocFailed};
@@ -15,6 +15,21 @@ pub enum RelField {
     Conflicts,
     Breaks,
     Provides,
+}
+
+impl RelField {
+    /// The field's name, as a stanza spells it (deb-control(5)).
+    pub fn name(self) -> &'static str
+        ensures { result.now ≡ field_name self }
+    {
+        match self {
+            RelField::PreDepends => "Pre-Depends",
+            RelField::Depends => "Depends",
+            RelField::Conflicts => "Conflicts",
+            RelField::Breaks => "Breaks",
+            RelField::Provides => "Provides",
+        }
+    }
 }
 
 /// Why an index is refused: the fault of its first stanza that has one. `stanza` is that stanza's number in the text, counted from 1.

@@ -5,7 +5,7 @@ ghost use Rattle.std.specs.List.{list_all};
 ghost use Rattle.deb_control.specs.Fields.{field_value};
 ghost use Rattle.deb_relation.specs.AtomView.{atom_view, atoms_view};
 ghost use Rattle.deb_index.specs.Packages.{package_view};
-ghost use Rattle.deb_index.specs.Reading.{Gives, field_name, head_of, head_view, groups_in, atoms_in, is_allowed, is_for, is_marked, is_provided, provides_in, package_of, reading_of, reading_view, relation_text, good_version, next_reading};
+ghost use Rattle.deb_index.specs.Reading.{Gives, head_of, head_view, groups_in, atoms_in, is_allowed, is_for, is_marked, is_provided, provides_in, package_of, reading_of, reading_view, relation_text, good_version, next_reading};
 ghost use Rattle.deb_index.specs.Reading as spec;
 
 use crate::error::{IndexError, RelField};
@@ -51,20 +51,6 @@ pub(crate) enum Reading {
     /// One of another architecture.
     Skipped,
     Kept(Package),
-}
-
-impl RelField {
-    fn name(self) -> &'static str
-        ensures { result.now ≡ field_name self }
-    {
-        match self {
-            RelField::PreDepends => "Pre-Depends",
-            RelField::Depends => "Depends",
-            RelField::Conflicts => "Conflicts",
-            RelField::Breaks => "Breaks",
-            RelField::Provides => "Provides",
-        }
-    }
 }
 
 fn mandatory<'s>(stanza: &'s Stanza, number: u64, name: &str) -> Result<&'s [u8], IndexError>

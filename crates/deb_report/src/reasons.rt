@@ -7,7 +7,7 @@ ghost use Rattle.deb_index.specs.Constraints.{IsOfIndex};
 ghost use Rattle.deb_index.specs.Packages.{package_at, package_view};
 ghost use Rattle.deb_report.specs.Report.{apart_line, entry_field, group_field, group_text, is_missing, label_of, line, need_line, need_title, place_line, reason_of, relation_start};
 
-use deb_index::{Constraint, Index, Package};
+use deb_index::{Constraint, Index, Package, RelField};
 use deb_relation::Atom;
 use std::alloc::{AllocError, Global};
 
@@ -97,9 +97,9 @@ pub fn group_field(deb: &Package, number: u32) -> &'static str
     ensures { result.now ≡ group_field (package_view deb.now) number }
 {
     if (number as usize) < deb.pre_depends.len() {
-        "Pre-Depends"
+        RelField::PreDepends.name()
     } else {
-        "Depends"
+        RelField::Depends.name()
     }
 }
 
@@ -108,9 +108,9 @@ pub fn entry_field(deb: &Package, number: u32) -> &'static str
     ensures { result.now ≡ entry_field (package_view deb.now) number }
 {
     if (number as usize) < deb.conflicts.len() {
-        "Conflicts"
+        RelField::Conflicts.name()
     } else {
-        "Breaks"
+        RelField::Breaks.name()
     }
 }
 

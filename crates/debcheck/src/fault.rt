@@ -1,11 +1,10 @@
 //! Why a run fails, and what is said of it.
 
 ghost use Rattle.std.specs.Prelude.{◌≡◌, ◌++◌, IfOk, OnOk, decimal};
-ghost use Rattle.deb_index.specs.Reading.{field_name};
 ghost use Rattle.debcheck.specs.Faults.{fault_line, fault_text, index_fault_text, stanza_text, status_of};
 ghost use Rattle.debcheck.specs.declared.fault.RunFault.TheVariants.{Memory};
 
-use deb_index::{IndexError, RelField};
+use deb_index::IndexError;
 use deb_report::Summary;
 use std::alloc::{AllocError, AllocFailed, Global};
 use thiserror::Error;
@@ -74,18 +73,6 @@ pub fn status(outcome: &Result<Summary, RunFault>) -> u8
     }
 }
 
-fn field_name(field: RelField) -> &'static [u8]
-    ensures { result.now ≡ field_name field }
-{
-    match field {
-        RelField::PreDepends => b"Pre-Depends",
-        RelField::Depends => b"Depends",
-        RelField::Conflicts => b"Conflicts",
-        RelField::Breaks => b"Breaks",
-        RelField::Provides => b"Provides",
-    }
-}
-
 // The fault's line, without the program's name and the end of the line.
 #[tactic(auto, unfolding(crate::specs::Faults::stanza_text))]
 fn push_stanza(alloc: Global, out: &mut Vec<u8>, stanza: u64, what: &[u8]) -> Result<(), AllocError>
@@ -110,7 +97,7 @@ fn push_index_fault(alloc: Global, out: &mut Vec<u8>, fault: &IndexError) -> Res
         IndexError::BadVersion { stanza } => push_stanza(alloc, out, *stanza, b"bad version"),
         IndexError::BadRelation { stanza, field } => {
             push_stanza(alloc, out, *stanza, b"bad relation in ")?;
-            out.extend_from_slice(field_name(*field))?;
+            out.extend_from_slice(field.name().as_bytes())?;
             Ok(())
         }
         IndexError::TooManyStanzas { stanza } => {
