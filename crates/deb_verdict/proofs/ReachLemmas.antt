@@ -50,19 +50,6 @@ start_joined index p first last with_p list i past list_is with_names =
     (joins_as (λ q. list_any (has_name index q) (take i list)) (λ q. list_any (has_name index q) (essential_names index)) first last
     (λ q. ap (list_any (has_name index q)) (take_whole list i past ∙ list_is)) with_names)
 
--- the places that meet one alternative more
-pub meeting_more : (index : IndexView) (atoms : List Atom) (i : ℕ) (atom : Atom) (met : List ℕ) (before between after : List ℕ) → i < length atoms → atom ≡ get_or atoms i atom
-    → met ≡ need_satisfiers index (atom_view atom) → Joins (meeting index (map atom_view (take i atoms))) before between → Joins (members_of met) between after
-    → Joins (meeting index (map atom_view (take (i + 1) atoms))) before after
-meeting_more index atoms i atom met before between after inside here met_is so_far more =
-    let test : ℕ → Atom → Bool = λ q a. meets_need_at index q (atom_view a) in
-    joins_as (λ q. list_any (test q) (take (i + 1) atoms)) (meeting index (map atom_view (take (i + 1) atoms))) before after
-    (λ q. sym (list_any-map (meets_need_at index q) atom_view (take (i + 1) atoms)))
-    (joins_more test atoms i atom before between after inside
-    (joins_as (meeting index (map atom_view (take i atoms))) (λ q. list_any (test q) (take i atoms)) before between (λ q. list_any-map (meets_need_at index q) atom_view (take i atoms)) so_far)
-    (joins_as (members_of met) (λ q. test q (get_or atoms i atom)) between after
-    (λ q. ap (λ xs. members_of xs q) met_is ∙ (member_need_satisfiers index (atom_view atom) q ∙ ap (test q) here)) more))
-
 -- a row of places that meet a group
 pub row_joined : (index : IndexView) (group : List AtomText) (row before after : List ℕ) → row ≡ group_satisfiers index group → Joins (members_of row) before after → Joins (meeting index group) before after
 row_joined index group row before after is_that joins =
