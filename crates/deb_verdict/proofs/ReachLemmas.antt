@@ -1,5 +1,5 @@
 -- The steps on the way to a closure.
-use Rattle.std.proofs.Common.{◌≡◌, ℕ, ◌+◌, ◌<◌, ◌≤◌, Bool, true, false, ◌||◌, eqb, List, [], ◌∷◌, length, get_or, take, drop, map, All, refl, sym, subst, ◌∙◌, ap, inl, inr, arith, Option, Some, None, slice_get}
+use Rattle.std.proofs.Common.{◌≡◌, ℕ, ◌+◌, ◌<◌, ◌≤◌, Bool, true, false, ◌||◌, eqb, List, [], ◌∷◌, length, get_or, take, drop, All, refl, sym, subst, ◌∙◌, ap, inl, inr, arith, Option, Some, None, slice_get}
 use Rattle.std.specs.Prelude.{nat_eq}
 use Rattle.std.specs.List.{list_any, IsDistinct}
 use Rattle.std.specs.Option.{option_map_or}
@@ -7,19 +7,17 @@ use mathlib.Core.Path.{fun_ext}
 use Rattle.std.proofs.lemmas.Bool.{cases_Bool, cases_lt, false≢true, or_cases, or_left, or_right, or_parts, or_from, both_ways, eqb-true, eq-eqb, lt-ltb, ltb-true}
 use Rattle.std.proofs.lemmas.List.{get_or_past, drop_more, drop-append-le, drop_all, get_or_default}
 use Rattle.std.proofs.lemmas.List.Folds.{list_any_at, list_any-append, Any-from_list_any}
-use Rattle.deb_relation.specs.declared.atom.Atom.{Atom}
-use Rattle.deb_relation.specs.AtomView.{atom_view}
 use Rattle.deb_relation.specs.Relationship.{AtomText}
 use Rattle.deb_index.specs.Packages.{IndexView, PackageView, needs_at, names, name_at, essential_names, is_essential, places_of}
-use Rattle.deb_index.specs.Meets.{meets_need, meets_need_at, need_satisfiers, group_satisfiers}
+use Rattle.deb_index.specs.Meets.{meets_need, group_satisfiers}
 use Rattle.deb_index.specs.Constraints.{has_name, answers}
 use Rattle.deb_index.proofs.MemberLemmas.{below-places_where, member-places_where}
 use Rattle.sat_solve.specs.Sets.{NumberSet, members_of}
 use Rattle.deb_verdict.specs.Closure.{IsClosed, IsClosure}
 use Rattle.core_extract.specs.Reduction.{IsWithin, all_below}
 use Rattle.deb_verdict.specs.Reach.{Joins, meeting, meeting_any, IsReaching}
-use Rattle.deb_verdict.proofs.AddSteps.{list_any-map, take_whole, below_members}
-use Rattle.deb_verdict.proofs.IndexFacts.{member_named, member_need_satisfiers, named_is_place, answers_is_place}
+use Rattle.deb_verdict.proofs.AddSteps.{take_whole, below_members}
+use Rattle.deb_verdict.proofs.IndexFacts.{member_named, named_is_place, answers_is_place}
 use Rattle.deb_verdict.proofs.JoinLemmas.{joins_as, joins_both, joins_keep, joins_more}
 use Rattle.deb_verdict.proofs.PlaceSetLemmas.{few_below}
 use Rattle.deb_verdict.proofs.Reaching.{IsVisit, visit_reaches, reached}
