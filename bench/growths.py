@@ -41,7 +41,7 @@ all could be tried."""
 CALLS = {
     "deb_control": ["next_stanza", "stanzas"],
     "deb_relation_tests": ["parse", "parse_groups", "parse_list", "append_to"],
-    "deb_index_tests": ["read", "read_both", "satisfiers", "need_satisfiers", "constraints"],
+    "deb_index_tests": ["read", "read_both", "satisfiers", "need_satisfiers", "answers", "constraints"],
     "sat_solve_tests": ["new", "add", "add_to_others", "add_after_restart", "exclude", "solve", "solve_in", "solve_marked"],
     "core_extract": ["first_failing"],
     "deb_verdict_tests": ["closure", "verdict", "verdict_in", "groundwork", "workspace", "find_installable"],

@@ -19,7 +19,7 @@ none-meets [] = refl
 none-meets (a ∷ group) = none-meets group
 
 -- a package meets an alternative of a group, asked of the package or of its place
-group-at : (arch : List ℕ) (group : List AtomText) (o : Option PackageView) → option_map_or (λ q. list_any (meets_need arch q) group) o false ≡ list_any (λ a. option_map_or (λ q. meets_need arch q a) o false) group
+pub group-at : (arch : List ℕ) (group : List AtomText) (o : Option PackageView) → option_map_or (λ q. list_any (meets_need arch q) group) o false ≡ list_any (λ a. option_map_or (λ q. meets_need arch q a) o false) group
 group-at arch group None = none-meets group
 group-at arch group (Some q) = refl
 

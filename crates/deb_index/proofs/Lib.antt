@@ -29,3 +29,4 @@ pub mod RowLemmas
 pub mod PartLemmas
 pub mod LinkLemmas
 pub mod PositionLemmas
+pub mod OnceLemmas

@@ -288,6 +288,28 @@ impl Index {
         self.links.groups.get(first as usize + number as usize)
     }
 
+    /// The places of the packages that answer a group, rising, each once: those that meet an alternative of it as `meets_need` tells
+    /// (Debian Policy 7.1). They are the group's row or, where it has none, what is found into the lent list.
+    ///
+    /// A row leaves the list as it was; what is found takes the place of what the list held. The error is want of memory for that:
+    /// the list then holds no answer, and may be lent again.
+    pub fn answers<'a>(
+        &'a self,
+        place: u32,
+        number: u32,
+        found: &'a mut Vec<u32>,
+    ) -> Result<&'a [u32], AllocError>
+        requires place { place < length self.now.packages }
+        requires number { number < length (needs_at self.now place) }
+        ensures { IfOk result (λ row. row.now ≡ group_satisfiers self.now (need_at self.now place number)) }
+    {
+        if let Some(row) = self.answer_row(place, number) {
+            return Ok(row);
+        }
+        self.tables.find_group(self.need(place, number), found)?;
+        Ok(found)
+    }
+
     /// The places of the packages that meet an entry as `meets` tells, rising, be they marked `Multi-Arch: allowed` or not.
     /// There is such a row exactly where the entry has at most 64 candidates: packages of the name, and entries that provide it.
     pub fn hit_row(&self, place: u32, number: u32) -> Option<&[u32]>

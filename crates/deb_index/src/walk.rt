@@ -1,8 +1,8 @@
 //! The places that meet an atom, found by a walk over the packages of its name and those that provide it.
-ghost use Rattle.std.specs.Prelude.{◌≡◌, ◌<◌, ◌||◌, List, Bool, OnOk, length, map};
+ghost use Rattle.std.specs.Prelude.{◌≡◌, ◌<◌, ◌||◌, ◌++◌, List, Bool, OnOk, length, map};
 ghost use Rattle.deb_relation.specs.AtomView.{atom_view};
 ghost use Rattle.deb_index.specs.Packages.{PackageView, places_of, places_where};
-ghost use Rattle.deb_index.specs.Meets.{meets_at, meets_need_at, provided_at};
+ghost use Rattle.deb_index.specs.Meets.{group_satisfiers, meets_at, meets_need_at, provided_at};
 ghost use Rattle.deb_index.specs.Roles.{meets_as_at, satisfiers_as};
 ghost use Rattle.deb_index.specs.Walk.{behind, first_place};
 
@@ -38,9 +38,42 @@ impl Tables {
         }
     }
 
+    /// Finds the places that meet an alternative of a group, rising, each once; they take the place of what the list held.
+    // Sorted once, in the end: to merge each alternative's places with those before would be quadratic in a long group.
+    pub(crate) fn find_group(&self, group: &[Atom], found: &mut Vec<u32>) -> Result<(), AllocError>
+        ensures { OnOk result (found.new.items ≡ group_satisfiers self.now (map atom_view group.now)) }
+    {
+        found.clear();
+        for atom in group {
+            let name = atom.name.as_slice();
+            let (named, provided) = (self.places_of(name), self.provides_of(name));
+            self.add_found(Role::Alternative, atom, named, provided, found)?;
+        }
+        found.sort_unstable();
+        found.dedup();
+        Ok(())
+    }
+
     /// Finds the places that meet an atom in its role, rising, among the packages of its name and the entries that
     /// provide it; they take the place of what the list held.
     pub(crate) fn find(
+        &self,
+        role: Role,
+        atom: &Atom,
+        named: &[u32],
+        provided: &[(u32, u32)],
+        found: &mut Vec<u32>,
+    ) -> Result<(), AllocError>
+        requires named { named.now ≡ places_of self.now (atom_view atom.now).name }
+        requires provided { provided.now ≡ provided_at self.now (atom_view atom.now).name }
+        ensures { OnOk result (found.new.items ≡ satisfiers_as role self.now (atom_view atom.now)) }
+    {
+        found.clear();
+        self.add_found(role, atom, named, provided, found)
+    }
+
+    // The same, but they come behind what the list held.
+    fn add_found(
         &self,
         role: Role,
         atom: &Atom,
@@ -50,9 +83,8 @@ impl Tables {
     ) -> Result<(), AllocError>
         requires named { named.now ≡ places_of self.now (atom_view atom.now).name }
         requires provided { provided.now ≡ provided_at self.now (atom_view atom.now).name }
-        ensures { OnOk result (found.new.items ≡ satisfiers_as role self.now (atom_view atom.now)) }
+        ensures { OnOk result (found.new.items ≡ found.old.items ++ satisfiers_as role self.now (atom_view atom.now)) }
     {
-        found.clear();
         'places: while let Some(place) = first_place(named, provided) {
             if self.meets_as(role, place, atom) {
                 found.push(place)?;

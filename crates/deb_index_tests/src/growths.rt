@@ -3,6 +3,7 @@
 use crate::backgrounds::{NEEDED, NEEDING, expect_used};
 use crate::needs::MARKED;
 use crate::reading::{read, read_both};
+use crate::rows::{SHARED, providers};
 use crate::texts::VERSIONED;
 use deb_index::{BothError, Constraint, Index, IndexError};
 use deb_relation::{Atom, parse_list};
@@ -116,6 +117,32 @@ fn expect_needed(rt: &(impl Abort + AllocGlobal), index: &Index) -> Result<(), F
 fn of_need_satisfiers(rt: HostRuntime) -> Result<(), Fail> {
     let index = read(rt.alloc(), MARKED.as_bytes(), true)?;
     let outcome = expect_needed(&rt, &index);
+    drop(index);
+    outcome
+}
+
+fn expect_answers(rt: &(impl Abort + AllocGlobal), index: &Index) -> Result<(), Fail> {
+    assert!(rt; index.len() == 71);
+    assert!(rt; index.need_count(0) == 5);
+    let mut found = Vec::new(rt.alloc());
+    match index.answers(0, 0, &mut found) {
+        Ok(answers) => {
+            assert!(rt; answers.len() == 70);
+            Ok(())
+        }
+        Err(AllocError) => {
+            let again = index.answers(0, 0, &mut found)?;
+            assert!(rt; again.len() == 70);
+            Err(Fail::new("out of memory"))
+        }
+    }
+}
+
+#[test]
+fn of_answers(rt: HostRuntime) -> Result<(), Fail> {
+    let text = providers(rt.alloc(), SHARED, 70)?;
+    let index = read(rt.alloc(), &text, true)?;
+    let outcome = expect_answers(&rt, &index);
     drop(index);
     outcome
 }

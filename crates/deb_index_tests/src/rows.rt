@@ -82,6 +82,27 @@ fn rows_of_groups(rt: HostRuntime) -> Result<(), Fail> {
     outcome
 }
 
+/// The lent list is filled before, and lent again for each group.
+fn expect_answers(rt: &(impl Abort + AllocGlobal), index: &Index) -> Result<(), Fail> {
+    let mut found = Vec::from_slice(rt.alloc(), &[9, 8])?;
+    for place in 0..index.len() {
+        for number in 0..index.need_count(place) {
+            let asked = asked_in_turn(rt.alloc(), index, index.need(place, number))?;
+            let answers = index.answers(place, number, &mut found)?;
+            assert!(rt; answers == asked.as_slice());
+        }
+    }
+    Ok(())
+}
+
+#[test]
+fn answers_of_groups(rt: HostRuntime) -> Result<(), Fail> {
+    let index = read(rt.alloc(), MIXED.as_bytes(), true)?;
+    let outcome = expect_answers(&rt, &index);
+    drop(index);
+    outcome
+}
+
 fn expect_rows_of_entries(rt: &(impl Abort + AllocGlobal), index: &Index) -> Result<(), Fail> {
     assert!(rt; index.len() == 4);
     for place in 0..index.len() {
@@ -124,17 +145,21 @@ fn names_by_place(rt: HostRuntime) -> Result<(), Fail> {
     Ok(())
 }
 
-/// Packages that provide one name, and one that asks for it, alone and as an alternative.
-fn providers(alloc: Global, count: u32) -> Result<Vec<u8>, AllocError> {
-    let mut text = Vec::from_slice(
-        alloc,
-        b"Package: asks\nVersion: 1\nArchitecture: all\nDepends: v, v | asks, asks | asks\nConflicts: v\n",
-    )?;
+const ALONE_AND_BESIDE: &[u8] = b"Depends: v, v | asks, asks | asks\nConflicts: v\n";
+
+/// Groups of several alternatives that the same packages answer.
+pub const SHARED: &[u8] =
+    b"Depends: w | v, v:any | asks, w (>= 2) | v (= 1) | w (<< 2), v | asks | w, asks | none\n";
+
+/// A package that asks, and packages that provide two names.
+pub fn providers(alloc: Global, asked: &[u8], count: u32) -> Result<Vec<u8>, AllocError> {
+    let mut text = Vec::from_slice(alloc, b"Package: asks\nVersion: 1\nArchitecture: all\n")?;
+    text.extend_from_slice(asked)?;
     for number in 0..count {
         text.extend_from_slice(b"\nPackage: p")?;
         text.push(b'a' + (number / 26 % 26) as u8)?;
         text.push(b'a' + (number % 26) as u8)?;
-        text.extend_from_slice(b"\nVersion: 1\nArchitecture: all\nProvides: v\n")?;
+        text.extend_from_slice(b"\nVersion: 1\nArchitecture: all\nProvides: v, w (= 3)\n")?;
     }
     Ok(text)
 }
@@ -159,10 +184,38 @@ fn long_rows(rt: HostRuntime) -> Result<(), Fail> {
         (64, true, false),
         (63, true, true),
     ] {
-        let text = providers(rt.alloc(), count)?;
+        let text = providers(rt.alloc(), ALONE_AND_BESIDE, count)?;
         let index = read(rt.alloc(), &text, true)?;
         expect_long_rows(&rt, &index, count + 1, alone, beside);
         drop(index);
     }
     Ok(())
+}
+
+fn expect_long_answers(rt: &(impl Abort + AllocGlobal), index: &Index) -> Result<(), Fail> {
+    assert!(rt; index.len() == 71);
+    assert!(rt; index.need_count(0) == 5);
+    let mut found = Vec::new(rt.alloc());
+    let wanted = [(1, 70), (0, 1), (1, 70), (0, 71)];
+    for number in 0..4 {
+        let (first, count) = wanted[number as usize];
+        assert!(rt; index.answer_row(0, number).is_none());
+        let answers = index.answers(0, number, &mut found)?;
+        assert!(rt; answers.len() == count);
+        assert!(rt; answers.first() == Some(&first));
+    }
+    assert!(rt; index.answers(0, 4, &mut found)? == [0].as_slice());
+    Ok(())
+}
+
+#[test]
+fn answers_of_long_groups(rt: HostRuntime) -> Result<(), Fail> {
+    let text = providers(rt.alloc(), SHARED, 70)?;
+    let index = read(rt.alloc(), &text, true)?;
+    let outcome = match expect_answers(&rt, &index) {
+        Ok(()) => expect_long_answers(&rt, &index),
+        refused => refused,
+    };
+    drop(index);
+    outcome
 }

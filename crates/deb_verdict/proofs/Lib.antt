@@ -1,6 +1,5 @@
 pub mod AddLemmas
 pub mod AddSteps
-pub mod Alternatives
 pub mod Answered
 pub mod Bringing
 pub mod Clearing

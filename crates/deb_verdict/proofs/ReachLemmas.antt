@@ -1,5 +1,5 @@
 -- The steps on the way to a closure.
-use Rattle.std.proofs.Common.{◌≡◌, ℕ, ◌+◌, ◌<◌, ◌≤◌, Bool, true, false, ◌||◌, eqb, List, [], ◌∷◌, length, get_or, take, drop, map, All, refl, sym, subst, ◌∙◌, ap, inl, inr, arith, Option, Some, None, slice_get}
+use Rattle.std.proofs.Common.{◌≡◌, ℕ, ◌+◌, ◌<◌, ◌≤◌, Bool, true, false, ◌||◌, eqb, List, [], ◌∷◌, length, get_or, take, drop, All, refl, sym, subst, ◌∙◌, ap, inl, inr, arith, Option, Some, None, slice_get}
 use Rattle.std.specs.Prelude.{nat_eq}
 use Rattle.std.specs.List.{list_any, IsDistinct}
 use Rattle.std.specs.Option.{option_map_or}
@@ -7,19 +7,17 @@ use mathlib.Core.Path.{fun_ext}
 use Rattle.std.proofs.lemmas.Bool.{cases_Bool, cases_lt, false≢true, or_cases, or_left, or_right, or_parts, or_from, both_ways, eqb-true, eq-eqb, lt-ltb, ltb-true}
 use Rattle.std.proofs.lemmas.List.{get_or_past, drop_more, drop-append-le, drop_all, get_or_default}
 use Rattle.std.proofs.lemmas.List.Folds.{list_any_at, list_any-append, Any-from_list_any}
-use Rattle.deb_relation.specs.declared.atom.Atom.{Atom}
-use Rattle.deb_relation.specs.AtomView.{atom_view}
 use Rattle.deb_relation.specs.Relationship.{AtomText}
 use Rattle.deb_index.specs.Packages.{IndexView, PackageView, needs_at, names, name_at, essential_names, is_essential, places_of}
-use Rattle.deb_index.specs.Meets.{meets_need, meets_need_at, need_satisfiers, group_satisfiers}
+use Rattle.deb_index.specs.Meets.{meets_need, group_satisfiers}
 use Rattle.deb_index.specs.Constraints.{has_name, answers}
 use Rattle.deb_index.proofs.MemberLemmas.{below-places_where, member-places_where}
 use Rattle.sat_solve.specs.Sets.{NumberSet, members_of}
 use Rattle.deb_verdict.specs.Closure.{IsClosed, IsClosure}
 use Rattle.core_extract.specs.Reduction.{IsWithin, all_below}
 use Rattle.deb_verdict.specs.Reach.{Joins, meeting, meeting_any, IsReaching}
-use Rattle.deb_verdict.proofs.AddSteps.{list_any-map, take_whole, below_members}
-use Rattle.deb_verdict.proofs.IndexFacts.{member_named, member_need_satisfiers, named_is_place, answers_is_place}
+use Rattle.deb_verdict.proofs.AddSteps.{take_whole, below_members}
+use Rattle.deb_verdict.proofs.IndexFacts.{member_named, named_is_place, answers_is_place}
 use Rattle.deb_verdict.proofs.JoinLemmas.{joins_as, joins_both, joins_keep, joins_more}
 use Rattle.deb_verdict.proofs.PlaceSetLemmas.{few_below}
 use Rattle.deb_verdict.proofs.Reaching.{IsVisit, visit_reaches, reached}
@@ -49,19 +47,6 @@ start_joined index p first last with_p list i past list_is with_names =
     joins_both (λ q. eqb p q) (λ q. list_any (has_name index q) (essential_names index)) [] first last with_p
     (joins_as (λ q. list_any (has_name index q) (take i list)) (λ q. list_any (has_name index q) (essential_names index)) first last
     (λ q. ap (list_any (has_name index q)) (take_whole list i past ∙ list_is)) with_names)
-
--- the places that meet one alternative more
-pub meeting_more : (index : IndexView) (atoms : List Atom) (i : ℕ) (atom : Atom) (met : List ℕ) (before between after : List ℕ) → i < length atoms → atom ≡ get_or atoms i atom
-    → met ≡ need_satisfiers index (atom_view atom) → Joins (meeting index (map atom_view (take i atoms))) before between → Joins (members_of met) between after
-    → Joins (meeting index (map atom_view (take (i + 1) atoms))) before after
-meeting_more index atoms i atom met before between after inside here met_is so_far more =
-    let test : ℕ → Atom → Bool = λ q a. meets_need_at index q (atom_view a) in
-    joins_as (λ q. list_any (test q) (take (i + 1) atoms)) (meeting index (map atom_view (take (i + 1) atoms))) before after
-    (λ q. sym (list_any-map (meets_need_at index q) atom_view (take (i + 1) atoms)))
-    (joins_more test atoms i atom before between after inside
-    (joins_as (meeting index (map atom_view (take i atoms))) (λ q. list_any (test q) (take i atoms)) before between (λ q. list_any-map (meets_need_at index q) atom_view (take i atoms)) so_far)
-    (joins_as (members_of met) (λ q. test q (get_or atoms i atom)) between after
-    (λ q. ap (λ xs. members_of xs q) met_is ∙ (member_need_satisfiers index (atom_view atom) q ∙ ap (test q) here)) more))
 
 -- a row of places that meet a group
 pub row_joined : (index : IndexView) (group : List AtomText) (row before after : List ℕ) → row ≡ group_satisfiers index group → Joins (members_of row) before after → Joins (meeting index group) before after

@@ -52,27 +52,13 @@ fn bring(ins: &PlaceSet, row: &[u32], free: &mut PlaceSet) -> Result<bool, Alloc
     Ok(true)
 }
 
-/// The places that answer a need, perhaps several times.
-fn answers_of(alloc: Global, index: &Index, place: u32, number: u32) -> Result<Vec<u32>, AllocError>
-    requires place { place < length index.now.packages }
-    requires number { number < length (needs_at index.now place) }
-    ensures { IfOk result (λ found. (q : ℕ) → members_of found.items q ≡ answers index.now place number q) }
-{
-    let mut found = Vec::new(alloc);
-    for atom in index.need(place, number) {
-        let met = index.need_satisfiers(alloc, atom)?;
-        found.extend_from_slice(&met)?;
-    }
-    Ok(found)
-}
-
 /// Brings all places that answer a need into play, where none of them is in; tells whether none is.
 fn bring_answers(
-    alloc: Global,
     index: &Index,
     ins: &PlaceSet,
     place: u32,
     number: u32,
+    found: &mut Vec<u32>,
     free: &mut PlaceSet,
 ) -> Result<bool, AllocError>
     requires place { place < length index.now.packages }
@@ -80,22 +66,17 @@ fn bring_answers(
     ensures brings { OnOk result (Brings (length index.now.packages) (members_of ins.now) (answers index.now place number) free.old free.new) }
     ensures unmet { IfOk result (LeavesUnmet (members_of ins.now) (answers index.now place number)) }
 {
-    match index.answer_row(place, number) {
-        Some(row) => Ok(bring(ins, row, free)?),
-        None => {
-            let row = answers_of(alloc, index, place, number)?;
-            Ok(bring(ins, &row, free)?)
-        }
-    }
+    let row = index.answers(place, number, found)?;
+    Ok(bring(ins, row, free)?)
 }
 
 /// Brings all places that answer a need into play, and lists the need, where none of them is in.
 fn bring_need(
-    alloc: Global,
     index: &Index,
     ins: &PlaceSet,
     place: u32,
     number: u32,
+    found: &mut Vec<u32>,
     free: &mut PlaceSet,
     unmet: &mut Vec<UnmetNeed>,
 ) -> Result<(), AllocError>
@@ -104,7 +85,7 @@ fn bring_need(
     ensures brings { OnOk result (Brings (length index.now.packages) (members_of ins.now) (answers index.now place number) free.old free.new) }
     ensures lists { OnOk result (ListsUnmet index.now (members_of ins.now) (λ q j. (place ≡ q) × (number ≡ j)) unmet.old.items unmet.new.items) }
 {
-    if !bring_answers(alloc, index, ins, place, number, free)? {
+    if !bring_answers(index, ins, place, number, found, free)? {
         return Ok(());
     }
     unmet.push(UnmetNeed { place, number })?;
@@ -113,10 +94,10 @@ fn bring_need(
 
 /// Brings into play what may answer the needs of a place, and lists those that nothing that is in answers.
 fn visit(
-    alloc: Global,
     groundwork: &Groundwork<'_>,
     ins: &PlaceSet,
     place: u32,
+    found: &mut Vec<u32>,
     free: &mut PlaceSet,
     unmet: &mut Vec<UnmetNeed>,
 ) -> Result<(), AllocError>
@@ -130,7 +111,7 @@ fn visit(
     }
     let index = groundwork.index;
     for number in 0..index.need_count(place) {
-        bring_need(alloc, index, ins, place, number, free, unmet)?;
+        bring_need(index, ins, place, number, found, free, unmet)?;
     }
     Ok(())
 }
@@ -147,9 +128,9 @@ fn bring_essential(index: &Index, ins: &PlaceSet, free: &mut PlaceSet) -> Result
 
 /// Visits each place that is in.
 fn visit_ins(
-    alloc: Global,
     groundwork: &Groundwork<'_>,
     ins: &PlaceSet,
+    found: &mut Vec<u32>,
     free: &mut PlaceSet,
     unmet: &mut Vec<UnmetNeed>,
 ) -> Result<(), AllocError>
@@ -159,16 +140,16 @@ fn visit_ins(
     ensures lists { OnOk result (ListsUnmet groundwork.now.index.now (members_of ins.now) (λ q j. members_of ins.now q ≡ true) unmet.old.items unmet.new.items) }
 {
     for place in ins.as_slice() {
-        visit(alloc, groundwork, ins, *place, free, unmet)?;
+        visit(groundwork, ins, *place, found, free, unmet)?;
     }
     Ok(())
 }
 
 /// Visits each place that is in play, as long as places come.
 fn visit_free(
-    alloc: Global,
     groundwork: &Groundwork<'_>,
     ins: &PlaceSet,
+    found: &mut Vec<u32>,
     free: &mut PlaceSet,
     unmet: &mut Vec<UnmetNeed>,
 ) -> Result<(), AllocError>
@@ -180,7 +161,7 @@ fn visit_free(
     let mut visited = 0;
     while visited < free.as_slice().len() {
         let place = free.as_slice()[visited];
-        visit(alloc, groundwork, ins, place, free, unmet)?;
+        visit(groundwork, ins, place, found, free, unmet)?;
         visited += 1;
     }
     Ok(())
@@ -207,8 +188,9 @@ fn gather_free(
     unmet.clear();
     free.insert(p)?;
     bring_essential(groundwork.index, ins, free)?;
-    visit_ins(alloc, groundwork, ins, free, unmet)?;
-    visit_free(alloc, groundwork, ins, free, unmet)?;
+    let mut found = Vec::new(alloc);
+    visit_ins(groundwork, ins, &mut found, free, unmet)?;
+    visit_free(groundwork, ins, &mut found, free, unmet)?;
     Ok(())
 }
 

@@ -1,17 +1,15 @@
 //! The way to a closure: each place that is reached is visited once.
 
-ghost use Rattle.std.specs.Prelude.{◌≡◌, ◌<◌, ◌||◌, ◌==◌, [], All, OnOk, length, map};
+ghost use Rattle.std.specs.Prelude.{◌≡◌, ◌<◌, ◌||◌, ◌==◌, [], All, OnOk, length};
 ghost use Rattle.std.specs.List.{list_any};
-ghost use Rattle.deb_relation.specs.AtomView.{atom_view};
 ghost use Rattle.deb_index.specs.Packages.{needs_at, essential_names};
 ghost use Rattle.deb_index.specs.Constraints.{has_name, answers};
 ghost use Rattle.sat_solve.specs.Sets.{members_of};
 ghost use Rattle.deb_verdict.specs.Closure.{IsClosure};
-ghost use Rattle.deb_verdict.specs.Reach.{Joins, meeting, meeting_any};
+ghost use Rattle.deb_verdict.specs.Reach.{Joins, meeting_any};
 
 use crate::place_set::PlaceSet;
 use deb_index::Index;
-use deb_relation::Atom;
 use std::alloc::{AllocError, Global};
 
 /// Puts in places.
@@ -24,47 +22,34 @@ fn insert_all(places: &[u32], members: &mut PlaceSet) -> Result<(), AllocError>
     Ok(())
 }
 
-/// Puts in the places that meet an alternative of a group.
-fn insert_meeting(
-    alloc: Global,
-    index: &Index,
-    group: &[Atom],
-    members: &mut PlaceSet,
-) -> Result<(), AllocError>
-    ensures { OnOk result (Joins (meeting index.now (map atom_view group.now)) members.old members.new) }
-{
-    for atom in group {
-        let met = index.need_satisfiers(alloc, atom)?;
-        insert_all(&met, members)?;
-    }
-    Ok(())
-}
-
 /// Puts in the places that answer a group of the package at a place.
 fn insert_answers(
-    alloc: Global,
     index: &Index,
     place: u32,
     number: u32,
+    found: &mut Vec<u32>,
     members: &mut PlaceSet,
 ) -> Result<(), AllocError>
     requires place { place < length index.now.packages }
     requires number { number < length (needs_at index.now place) }
     ensures { OnOk result (Joins (answers index.now place number) members.old members.new) }
 {
-    match index.answer_row(place, number) {
-        Some(row) => insert_all(row, members),
-        None => insert_meeting(alloc, index, index.need(place, number), members),
-    }
+    let row = index.answers(place, number, found)?;
+    insert_all(row, members)
 }
 
 /// Puts in the places that answer a group of the package at a place, for all its groups.
-fn visit(alloc: Global, index: &Index, place: u32, members: &mut PlaceSet) -> Result<(), AllocError>
+fn visit(
+    index: &Index,
+    place: u32,
+    found: &mut Vec<u32>,
+    members: &mut PlaceSet,
+) -> Result<(), AllocError>
     requires { place < length index.now.packages }
     ensures { OnOk result (Joins (meeting_any index.now (needs_at index.now place)) members.old members.new) }
 {
     for number in 0..index.need_count(place) {
-        insert_answers(alloc, index, place, number, members)?;
+        insert_answers(index, place, number, found, members)?;
     }
     Ok(())
 }
@@ -95,9 +80,10 @@ pub(crate) fn reach(
     ensures within { OnOk result (All (λ q. q < length index.now.packages) members.new) }
 {
     start(index, p, members)?;
+    let mut found = Vec::new(alloc);
     let mut visited = 0;
     while visited < members.as_slice().len() {
-        visit(alloc, index, members.as_slice()[visited], members)?;
+        visit(index, members.as_slice()[visited], &mut found, members)?;
         visited += 1;
     }
     Ok(())

@@ -1,0 +1,103 @@
+-- Rising lists are one where their members are, and a list that is sorted, and whose repeats are left out, is such a one.
+use Rattle.std.proofs.Common.{◌≡◌, ℕ, suc, ◌<◌, ◌≤◌, Bool, true, false, ◌+◌, ◌||◌, eqb, List, [], ◌∷◌, Contains, get_or, slice_get, refl, sym, ◌∙◌, ap, ap₂, subst, inl, inr, arith}
+use Rattle.std.specs.List.{dedup, flat_map, list_any}
+use Rattle.std.specs.List.Sorted.{IsPermutation, IsStrictlyIncreasing}
+use Rattle.std.specs.Option.{option_map_or}
+use Rattle.std.proofs.lemmas.Bool.{both_ways, cases_Bool, false≢true, or_cases, or_left, eqb-true, eq-eqb, false_from_ne_true}
+use Rattle.std.proofs.lemmas.List.Folds.{list_any-append, list_any_at}
+use Rattle.std.proofs.lemmas.List.Kept.{AllPairs-from_increasing, Contains-dedup_nat, Contains-from_dedup}
+use Rattle.std.proofs.lemmas.List.Sorted.{Contains-permutation, IsPermutation-sym}
+use Rattle.deb_relation.specs.Relationship.{AtomText}
+use Rattle.deb_index.specs.Packages.{IndexView, PackageView, places_where}
+use Rattle.deb_index.specs.Meets.{group_satisfiers, meets_need, need_satisfiers}
+use Rattle.deb_index.proofs.HoldsLemmas.{group-at}
+use Rattle.deb_index.proofs.MemberLemmas.{member-places_where, rising-places_where}
+use Rattle.deb_index.proofs.RisingLemmas.{is_in}
+
+rising-tail : (x : ℕ) (rest : List ℕ) → IsStrictlyIncreasing (x ∷ rest) → IsStrictlyIncreasing rest
+rising-tail x rest rising k below =
+    let next : suc k + 1 ≡ suc (k + 1) = omega arith in
+    omega (arith, rising (suc k) (omega arith), ap (λ m. get_or (x ∷ rest) m 0) next)
+
+-- ---- members
+
+in-contains : (xs : List ℕ) (q : ℕ) → is_in xs q ≡ true → Contains xs q
+in-contains [] q there = absurd (false≢true there)
+in-contains (x ∷ xs) q there =
+    elim (or_cases (eqb x q) (is_in xs q) there) [
+      | inl here ↦ (0, omega arith, eqb-true x q here)
+      | inr later ↦ let at = in-contains xs q later in (suc at.0, omega (arith, at.1), at.2)
+    ]
+
+contains-in : (xs : List ℕ) (q : ℕ) → Contains xs q → is_in xs q ≡ true
+contains-in xs q at = list_any_at (λ place. eqb place q) xs at.0 q at.1 (eq-eqb (get_or xs at.0 q) q at.2)
+
+same-test : (a b : Bool) → (a ≡ true → b ≡ true) → (b ≡ true → a ≡ true) → a ≡ b
+same-test a b to from =
+    elim (cases_Bool a) [
+      | inl holds ↦ holds ∙ sym (to holds)
+      | inr fails ↦ fails ∙ sym (false_from_ne_true b (λ other. both_ways a fails (from other)))
+    ]
+
+-- sorting, and leaving out what comes again, change no member
+once-members : (xs sorted : List ℕ) → IsPermutation xs sorted → (q : ℕ) → is_in (dedup eqb sorted) q ≡ is_in xs q
+once-members xs sorted moved q =
+    same-test (is_in (dedup eqb sorted) q) (is_in xs q)
+    (λ there. contains-in xs q (Contains-permutation sorted xs q (IsPermutation-sym xs sorted moved) (Contains-from_dedup eqb sorted q (in-contains (dedup eqb sorted) q there))))
+    (λ there. contains-in (dedup eqb sorted) q (Contains-dedup_nat sorted q (Contains-permutation xs sorted q moved (in-contains xs q there))))
+
+-- ---- rising lists
+
+above-first : (x : ℕ) (rest : List ℕ) → IsStrictlyIncreasing (x ∷ rest) → (q : ℕ) → is_in rest q ≡ true → x < q
+above-first x rest rising q there =
+    let at = in-contains rest q there in
+    let less : x < get_or rest at.0 q = AllPairs-from_increasing (x ∷ rest) rising 0 (suc at.0) q (omega arith) (omega (arith, at.1)) in
+    omega (arith, at.2)
+
+not-behind : (x : ℕ) (rest : List ℕ) → IsStrictlyIncreasing (x ∷ rest) → is_in rest x ≡ false
+not-behind x rest rising = false_from_ne_true (is_in rest x) (λ there. let less : x < x = above-first x rest rising x there in omega arith)
+
+first-least : (x y : ℕ) (xs ys : List ℕ) → IsStrictlyIncreasing (y ∷ ys) → ((q : ℕ) → is_in (x ∷ xs) q ≡ is_in (y ∷ ys) q) → y ≤ x
+first-least x y xs ys rising same =
+    let here : is_in (y ∷ ys) x ≡ true = sym (same x) ∙ or_left (eqb x x) (is_in xs x) (eq-eqb x x refl) in
+    elim (or_cases (eqb y x) (is_in ys x) here) [
+      | inl it ↦ let e : y ≡ x = eqb-true y x it in omega arith
+      | inr later ↦ omega (arith, above-first y ys rising x later)
+    ]
+
+same-rest : (x : ℕ) (xs ys : List ℕ) → IsStrictlyIncreasing (x ∷ xs) → IsStrictlyIncreasing (x ∷ ys) → ((q : ℕ) → is_in (x ∷ xs) q ≡ is_in (x ∷ ys) q) → (q : ℕ) → is_in xs q ≡ is_in ys q
+same-rest x xs ys rising also same q =
+    elim (cases_Bool (eqb x q)) [
+      | inl it ↦ let e : x ≡ q = eqb-true x q it in sym (ap (is_in xs) e) ∙ (not-behind x xs rising ∙ (sym (not-behind x ys also) ∙ ap (is_in ys) e))
+      | inr other ↦ sym (ap (λ b. b || is_in xs q) other) ∙ (same q ∙ ap (λ b. b || is_in ys q) other)
+    ]
+
+pub rising-once : (xs ys : List ℕ) → IsStrictlyIncreasing xs → IsStrictlyIncreasing ys → ((q : ℕ) → is_in xs q ≡ is_in ys q) → xs ≡ ys
+rising-once [] [] rising also same = refl
+rising-once [] (y ∷ ys) rising also same = absurd (false≢true (same y ∙ or_left (eqb y y) (is_in ys y) (eq-eqb y y refl)))
+rising-once (x ∷ xs) [] rising also same = absurd (false≢true (sym (same x) ∙ or_left (eqb x x) (is_in xs x) (eq-eqb x x refl)))
+rising-once (x ∷ xs) (y ∷ ys) rising also same =
+    let up : y ≤ x = first-least x y xs ys also same in
+    let down : x ≤ y = first-least y x ys xs rising (λ q. sym (same q)) in
+    let e : x ≡ y = omega arith in
+    let P : ℕ → Type 0 = λ z. IsStrictlyIncreasing (z ∷ ys) in
+    let Q : ℕ → Type 0 = λ z. (q : ℕ) → is_in (x ∷ xs) q ≡ is_in (z ∷ ys) q in
+    let rest : xs ≡ ys = rising-once xs ys (rising-tail x xs rising) (rising-tail y ys also) (same-rest x xs ys rising (subst P (sym e) also) (subst Q (sym e) same)) in
+    ap (λ z. z ∷ xs) e ∙ ap (λ zs. y ∷ zs) rest
+
+-- ---- the places that answer a group, from those of each alternative
+
+any-found : (index : IndexView) (group : List AtomText) (q : ℕ)
+    → is_in (flat_map (need_satisfiers index) group) q ≡ list_any (λ atom. option_map_or (λ p. meets_need index.arch p atom) (slice_get index.packages q) false) group
+any-found index [] q = refl
+any-found index (atom ∷ group) q =
+    list_any-append (λ place. eqb place q) (need_satisfiers index atom) (flat_map (need_satisfiers index) group)
+    ∙ ap₂ (λ a b. a || b) (member-places_where (λ p. meets_need index.arch p atom) index.packages q) (any-found index group q)
+
+pub group-found : (index : IndexView) (group : List AtomText) (found sorted once : List ℕ) → found ≡ flat_map (need_satisfiers index) group → IsPermutation found sorted → once ≡ dedup eqb sorted → IsStrictlyIncreasing once
+    → once ≡ group_satisfiers index group
+group-found index group found sorted once are moved left rising =
+    let test : PackageView → Bool = λ p. list_any (meets_need index.arch p) group in
+    rising-once once (places_where test index.packages) rising (rising-places_where test index.packages)
+    (λ q. ap (λ xs. is_in xs q) left ∙ once-members found sorted moved q ∙ ap (λ xs. is_in xs q) are ∙ any-found index group q
+    ∙ sym (group-at index.arch group (slice_get index.packages q)) ∙ sym (member-places_where test index.packages q))
