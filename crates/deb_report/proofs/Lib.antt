@@ -5,6 +5,7 @@ mod CauseOrder
 mod GatherLemmas
 mod JsonLemmas
 mod ListLemmas
+mod MissingLemmas
 mod NearLemmas
 mod PlainIndex
 mod PlainTexts

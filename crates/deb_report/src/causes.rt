@@ -29,7 +29,7 @@ fn is_final(alloc: Global, index: &Index, constraint: Constraint) -> Result<bool
     ensures { IfOk result (λ last. last ≡ is_final index.now constraint) }
 {
     match constraint {
-        Constraint::Need(place, number) => is_missing(alloc, index, index.need(place, number)),
+        Constraint::Need(place, number) => is_missing(alloc, index, place, number),
         Constraint::Essential(_) | Constraint::Apart(_, _) | Constraint::Only(_) => Ok(true),
     }
 }

@@ -168,7 +168,7 @@ fn push_need(
 {
     let group = index.need(place, number);
     let deb = index.package(place);
-    let missing = is_missing(alloc, index, group)?;
+    let missing = is_missing(alloc, index, place, number)?;
     push_relation_start(out, need_kind(missing), deb, group_field(deb, number))?;
     push_group(out, group)?;
     out.extend_from_slice(b"\"}")?;

@@ -4,7 +4,7 @@ ghost use Rattle.std.specs.Prelude.{◌≡◌, ◌++◌, ◌<◌, [], All, IfOk,
 ghost use Rattle.std.specs.List.{flat_map};
 ghost use Rattle.deb_relation.specs.AtomView.{atom_view};
 ghost use Rattle.deb_index.specs.Constraints.{IsOfIndex};
-ghost use Rattle.deb_index.specs.Packages.{package_at, package_view};
+ghost use Rattle.deb_index.specs.Packages.{need_at, package_at, package_view};
 ghost use Rattle.deb_report.specs.Report.{apart_line, entry_field, group_field, group_text, is_missing, label_of, line, need_line, need_title, place_line, reason_of, relation_start};
 
 use deb_index::{Constraint, Index, Package, RelField};
@@ -61,17 +61,18 @@ pub fn push_group(out: &mut Vec<u8>, group: &[Atom]) -> Result<(), AllocError>
     Ok(())
 }
 
-// Whether no package meets any atom of the group.
-#[tactic(auto, unfolding(crate::specs::Report::is_missing))]
-pub(crate) fn is_missing(alloc: Global, index: &Index, group: &[Atom]) -> Result<bool, AllocError>
-    ensures { IfOk result (λ missing. missing ≡ is_missing index.now (map atom_view group.now)) }
+// Whether no package answers a group.
+pub(crate) fn is_missing(
+    alloc: Global,
+    index: &Index,
+    place: u32,
+    number: u32,
+) -> Result<bool, AllocError>
+    requires { IsOfIndex index.now (Constraint.Need place number) }
+    ensures { IfOk result (λ missing. missing ≡ is_missing index.now (need_at index.now place number)) }
 {
-    for atom in group {
-        if !index.need_satisfiers(alloc, atom)?.is_empty() {
-            return Ok(false);
-        }
-    }
-    Ok(true)
+    let mut found = Vec::new(alloc);
+    Ok(index.answers(place, number, &mut found)?.is_empty())
 }
 
 // Adds what a constraint of a package asks in a field, but for the text of what is asked.
@@ -139,7 +140,7 @@ fn push_need(
 {
     let group = index.need(place, number);
     let deb = index.package(place);
-    let missing = is_missing(alloc, index, group)?;
+    let missing = is_missing(alloc, index, place, number)?;
     push_relation_start(out, need_title(missing), deb, group_field(deb, number))?;
     push_group(out, group)?;
     out.extend_from_slice(b"\n")?;
