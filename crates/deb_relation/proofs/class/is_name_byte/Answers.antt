@@ -1,6 +1,5 @@
-use Rattle.std.proofs.Common.{◌≡◌, ◌∙◌, ◌||◌, Bool, true, false, ap, sym, refl}
+use Rattle.std.proofs.Common.{◌≡◌, ◌∙◌, ◌||◌, Bool, true, false, sym, refl}
 use Rattle.std.specs.Char.{is_ascii_lowercase}
-use Rattle.deb_relation.specs.Form.{is_name_byte}
 use Rattle.deb_relation.proofs.class.is_name_byte.Goals as goal
 
 or-true : (b : Bool) → true ≡ (b || true)
