@@ -1,10 +1,10 @@
 -- Rows that lie in one list of places, one behind the other.
-use Rattle.std.proofs.Common.{◌≡◌, ◌<◌, ◌≤◌, ◌+◌, ℕ, List, [], ◌∷◌, ◌++◌, map, length, take, drop, get_or, Some, None, refl, sym, ap, ◌∙◌, subst, arith}
+use Rattle.std.proofs.Common.{◌≡◌, ◌<◌, ◌≤◌, ◌+◌, ℕ, List, [], ◌∷◌, ◌++◌, map, length, take, drop, get_or, true, Some, None, refl, sym, ap, ◌∙◌, subst, arith}
 use Prim.Native.Nat.{suc, zero}
 use Rattle.std.specs.List.{AllByRecursion}
+use Rattle.std.specs.Prelude.{if◌then◌else◌}
 use Rattle.std.proofs.lemmas.List.{get_or-map, length-append, map-append}
 use Rattle.deb_index.specs.declared.rows.Span.{Span}
-use Rattle.deb_index.specs.declared.rows.Span.TheVariants.{Kept, LeftOut}
 use Rattle.deb_index.specs.Rows.{IsWithin, row_in}
 use Rattle.deb_index.proofs.ListingLemmas.{all-push}
 
@@ -27,12 +27,14 @@ behind-all [] ys = whole ys
 behind-all (x ∷ xs) ys = behind-all xs ys
 
 span-longer : (xs ys : List ℕ) (s : Span) → IsWithin (length xs) s → row_in (xs ++ ys) s ≡ row_in xs s
-span-longer xs ys (Kept start len) h = ap Some (inside start len xs ys h)
-span-longer xs ys LeftOut h = refl
+span-longer xs ys s h = ap (λ (row : List ℕ). if s.kept then Some row else None) (inside s.start s.len xs ys h)
 
 span-within : (xs ys : List ℕ) (s : Span) → IsWithin (length xs) s → IsWithin (length (xs ++ ys)) s
-span-within xs ys (Kept start len) h = omega (arith, length-append xs ys, h)
-span-within xs ys LeftOut h = tt
+span-within xs ys s h = omega (arith, length-append xs ys, h)
+
+-- the span of a row that is kept
+abbrev pub kept : ℕ → ℕ → Span
+kept start len = record { start = start; len = len; kept = true }
 
 -- more places change no row
 pub rows-longer : (xs ys : List ℕ) (ss : List Span) → AllByRecursion (IsWithin (length xs)) ss → map (row_in (xs ++ ys)) ss ≡ map (row_in xs) ss
@@ -43,11 +45,11 @@ pub within-longer : (xs ys : List ℕ) (ss : List Span) → AllByRecursion (IsWi
 within-longer xs ys [] h = tt
 within-longer xs ys (s ∷ ss) h = (span-within xs ys s h.0, within-longer xs ys ss h.1)
 
-pub within-push : (xs ys : List ℕ) (ss : List Span) → AllByRecursion (IsWithin (length xs)) ss → AllByRecursion (IsWithin (length (xs ++ ys))) (ss ++ Kept (length xs) (length ys) ∷ [])
-within-push xs ys ss h = all-push (IsWithin (length (xs ++ ys))) ss (Kept (length xs) (length ys)) (within-longer xs ys ss h) (omega (arith, length-append xs ys))
+pub within-push : (xs ys : List ℕ) (ss : List Span) → AllByRecursion (IsWithin (length xs)) ss → AllByRecursion (IsWithin (length (xs ++ ys))) (ss ++ kept (length xs) (length ys) ∷ [])
+within-push xs ys ss h = all-push (IsWithin (length (xs ++ ys))) ss (kept (length xs) (length ys)) (within-longer xs ys ss h) (omega (arith, length-append xs ys))
 
-pub rows-push : (xs ys : List ℕ) (ss : List Span) → AllByRecursion (IsWithin (length xs)) ss → map (row_in (xs ++ ys)) (ss ++ Kept (length xs) (length ys) ∷ []) ≡ map (row_in xs) ss ++ Some ys ∷ []
-rows-push xs ys ss h = map-append (row_in (xs ++ ys)) ss (Kept (length xs) (length ys) ∷ []) ∙ (λ i. rows-longer xs ys ss h i ++ Some (behind-all xs ys i) ∷ [])
+pub rows-push : (xs ys : List ℕ) (ss : List Span) → AllByRecursion (IsWithin (length xs)) ss → map (row_in (xs ++ ys)) (ss ++ kept (length xs) (length ys) ∷ []) ≡ map (row_in xs) ss ++ Some ys ∷ []
+rows-push xs ys ss h = map-append (row_in (xs ++ ys)) ss (kept (length xs) (length ys) ∷ []) ∙ (λ i. rows-longer xs ys ss h i ++ Some (behind-all xs ys i) ∷ [])
 
 pub within-at : (count : ℕ) (ss : List Span) (i : ℕ) (s : Span) → i < length ss → s ≡ get_or ss i s → AllByRecursion (IsWithin count) ss → IsWithin count s
 within-at count [] i s less e h = absurd (omega arith)

@@ -2,7 +2,6 @@
 use Rattle.std.specs.Prelude.{◌≤◌, ◌+◌, ℕ, nat_le, List, length, sum_by, take, drop, Option, Some, None, if◌then◌else◌}
 use Rattle.deb_relation.specs.Relationship.{AtomText}
 use Rattle.deb_index.specs.declared.rows.Span.{Span}
-use Rattle.deb_index.specs.declared.rows.Span.TheVariants.{Kept, LeftOut}
 use Rattle.deb_index.specs.Packages.{IndexView, places_of}
 use Rattle.deb_index.specs.Meets.{group_satisfiers, provided_at, satisfiers}
 
@@ -30,10 +29,8 @@ hit_row index atom = if nat_le (candidate_count index atom) row_limit then Some 
 
 -- what lies in a span of some places
 abbrev pub row_in : List ℕ → Span → Option (List ℕ)
-row_in places (Kept start len) = Some (take len (drop start places))
-row_in places LeftOut = None
+row_in places span = if span.kept then Some (take span.len (drop span.start places)) else None
 
 -- a span lies within so many places
 abbrev pub IsWithin : ℕ → Span → Type 0
-IsWithin count (Kept start len) = start + len ≤ count
-IsWithin count LeftOut = Unit {0}
+IsWithin count span = span.start + span.len ≤ count

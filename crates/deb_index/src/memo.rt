@@ -1,13 +1,12 @@
 //! Rows of one place, remembered by their atoms: most atoms come many times, and most are met by one package alone.
 ghost use Rattle.std.specs.Prelude.{◌≡◌, ◌<◌, ◌∷◌, [], Some, IfOk, IfSome, IsTrue};
-ghost use Rattle.std.specs.Option.{option_map};
 ghost use Rattle.deb_relation.specs.AtomView.{atom_view};
 ghost use Rattle.deb_index.specs.Memo.{slot_count};
 ghost use Rattle.deb_index.specs.Roles.{row_as};
 
 use crate::meets::Role;
 use crate::tables::Tables;
-use deb_relation::{Atom, Op, Version};
+use deb_relation::{Atom, Op, Qualifier, Version};
 use std::alloc::{AllocError, Global};
 use std::marker::Model;
 
@@ -43,8 +42,8 @@ impl<'t> Model for Memo<'t> {
 }
 
 // Whether both are qualifiers of one text, or neither is there.
-fn is_same_qualifier(qualifier: &Option<Vec<u8>>, other: &Option<Vec<u8>>) -> bool
-    ensures { IsTrue result → option_map (λ v. v.items) qualifier.now ≡ option_map (λ v. v.items) other.now }
+fn is_same_qualifier(qualifier: &Option<Qualifier>, other: &Option<Qualifier>) -> bool
+    ensures { IsTrue result → qualifier.now ≡ other.now }
 {
     match (qualifier, other) {
         (None, None) => true,

@@ -5,11 +5,12 @@ ghost use Rattle.std.specs.Option.{option_map};
 use std::alloc::{AllocError, Global};
 use std::marker::Model;
 
-/// Where a row lies among all places, or that there is none.
+/// Where a row lies among all places, and whether it is kept: nothing lies there where it is left out.
 #[derive(Clone, Copy)]
-pub(crate) enum Span {
-    Kept { start: usize, len: u32 },
-    LeftOut,
+pub(crate) struct Span {
+    pub(crate) start: usize,
+    pub(crate) len: u32,
+    pub(crate) kept: bool,
 }
 
 /// Rows of places by number. Some are left out.
@@ -48,9 +49,10 @@ impl Rows {
     {
         let start = self.places.len();
         self.places.extend_from_slice(row)?;
-        self.spans.push(Span::Kept {
+        self.spans.push(Span {
             start,
             len: row.len() as u32,
+            kept: true,
         })?;
         Ok(())
     }
@@ -59,7 +61,11 @@ impl Rows {
     pub(crate) fn leave_out(&mut self) -> Result<(), AllocError>
         ensures { OnOk result (self.new ≡ self.old ++ None ∷ []) }
     {
-        self.spans.push(Span::LeftOut)?;
+        self.spans.push(Span {
+            start: 0,
+            len: 0,
+            kept: false,
+        })?;
         Ok(())
     }
 
@@ -75,9 +81,10 @@ impl Rows {
         requires { number < length self.now }
         ensures { option_map (λ r. r.now) result ≡ slice_index_or self.now number None }
     {
-        match self.spans[number] {
-            Span::Kept { start, len } => Some(&self.places[start..start + len as usize]),
-            Span::LeftOut => None,
+        let span = self.spans[number];
+        if !span.kept {
+            return None;
         }
+        Some(&self.places[span.start..span.start + span.len as usize])
     }
 }

@@ -1,7 +1,6 @@
 use Rattle.std.proofs.Common.{◌≡◌, ◌++◌, ◌∷◌, ◌∙◌, [], Some, ap, map, length, arith}
-use Rattle.deb_index.specs.declared.rows.Span.TheVariants.{Kept}
 use Rattle.deb_index.specs.Rows.{row_in}
-use Rattle.deb_index.proofs.SpanLemmas.{rows-push}
+use Rattle.deb_index.proofs.SpanLemmas.{kept, rows-push}
 use Rattle.deb_index.proofs.rows.Rows.push.Goals as goal
 
 pub returns : goal.returns
@@ -12,4 +11,4 @@ returns c =
     let counted = c.self.inside.places.ok in
     let start : c.len-start.result ≡ length places = omega arith in
     rw (c.in_ok-push.ensures.items, c.in_ok-extend_from_slice.ensures.items)
-    (ap (λ n. map (row_in (places ++ row)) (spans ++ Kept n (length row) ∷ [])) start ∙ rows-push places row spans c.self.invariant ∙ ap (λ l. l ++ Some row ∷ []) c.self.view_is)
+    (ap (λ n. map (row_in (places ++ row)) (spans ++ kept n (length row) ∷ [])) start ∙ rows-push places row spans c.self.invariant ∙ ap (λ l. l ++ Some row ∷ []) c.self.view_is)
