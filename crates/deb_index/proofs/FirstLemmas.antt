@@ -1,5 +1,5 @@
 -- The first of each kind, and tests over filtered lists.
-use Rattle.std.proofs.Common.{◌≡◌, ℕ, Bool, true, false, not, cond, ◌||◌, List, [], ◌∷◌, ◌++◌, filter, refl, sym, ap, ◌∙◌, subst}
+use Rattle.std.proofs.Common.{◌≡◌, ℕ, Bool, true, false, not, cond, ◌||◌, List, [], ◌∷◌, ◌++◌, map, filter, refl, sym, ap, ◌∙◌, subst}
 use Rattle.std.specs.List.{list_any}
 use Rattle.std.specs.Str.{bytes_eq}
 use Rattle.std.specs.Cmp.Lexicographic.{bytes_decides}
@@ -27,6 +27,12 @@ names-turned a b = by (bytes_eq b a) refl
     by : (t : Bool) → bytes_eq b a ≡ t → bytes_eq a b ≡ bytes_eq b a
     by true e = subst (λ w. bytes_eq a w ≡ bytes_eq w a) (sym (same-name b a e)) refl
     by false e = other-name b a e ∙ sym e
+
+-- ---- tests over a list that is seen through a view
+
+pub any-map : {A B : Type 0} (test : B → Bool) (f : A → B) (xs : List A) → list_any test (map f xs) ≡ list_any (λ x. test (f x)) xs
+any-map test f [] = refl
+any-map test f (x ∷ xs) = ap (λ r. test (f x) || r) (any-map test f xs)
 
 -- ---- tests over a filtered list
 

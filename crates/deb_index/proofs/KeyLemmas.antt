@@ -10,11 +10,8 @@ use Rattle.std.proofs.lemmas.List.{append-nil, get_or-map, length-map}
 use Rattle.deb_index.specs.declared.package.Package.{Package}
 use Rattle.deb_index.specs.Packages.{PackageView, is_named, package_view, places_where}
 use Rattle.deb_index.specs.Reading.{same_package}
-use Rattle.deb_index.specs.Tables.{IsKnown, IsTable, is_known, named_places, package_key, same_key}
+use Rattle.deb_index.specs.Built.{IsKnown, is_known, package_key, same_key}
 use Rattle.deb_index.proofs.FirstLemmas.{names-turned, same-name}
-use Rattle.deb_index.proofs.ListingLemmas.{any-map}
-use Rattle.deb_index.proofs.NameLemmas.{table-names}
-use Rattle.deb_index.proofs.TableLemmas.{any-first}
 
 or-false : (b : Bool) → (b || false) ≡ b
 or-false true = refl
@@ -181,7 +178,3 @@ known-push packages later q known p =
         passed : (a : Bool) → list_any (is_named p.name) packages ≡ a → cond (list_any (is_named p.name) packages) (find (is_named p.name) packages) (cond (bytes_eq p.name q.name) (Some q) None) ≡ find (is_named p.name) packages
         passed true h = rw h refl
         passed false h = rw (h, e) (sym (find-none (is_named p.name) packages h))
-
--- a table has a name where a package has it
-pub there-named : (name : List ℕ) (packages : List PackageView) {ks : List (List ℕ)} {lists : List (List ℕ)} → IsTable (named_places packages) ks lists → list_any (bytes_eq name) ks ≡ list_any (is_named name) packages
-there-named name packages t = ap (list_any (bytes_eq name)) (table-names packages t) ∙ any-first name (map (λ (p : PackageView). p.name) packages) ∙ any-map (bytes_eq name) (λ (p : PackageView). p.name) packages

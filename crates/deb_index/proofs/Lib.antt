@@ -5,7 +5,6 @@ pub mod BackgroundLemmas
 pub mod FieldSums
 pub mod TableLemmas
 pub mod NextLemmas
-pub mod PlaceLemmas
 pub mod SmallLemmas
 pub mod Examples
 pub mod MemberLemmas
@@ -21,12 +20,13 @@ pub mod RoomLemmas
 pub mod EnumerateLemmas
 pub mod NameLemmas
 pub mod ProvidedLemmas
-pub mod ListingLemmas
+pub mod BuiltLemmas
 pub mod EssentialLemmas
 pub mod SpanLemmas
 pub mod MergeLemmas
 pub mod RowLemmas
 pub mod PartLemmas
 pub mod LinkLemmas
+pub mod ViewLemmas
 pub mod PositionLemmas
 pub mod OnceLemmas

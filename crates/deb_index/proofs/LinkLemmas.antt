@@ -1,22 +1,15 @@
 -- What an index looks up by place: how it grows by a package, and what stands at a place.
-use Rattle.std.proofs.Common.{◌≡◌, ◌<◌, ◌≤◌, ◌+◌, ℕ, true, List, [], ◌∷◌, ◌++◌, map, length, take, get_or, sum_by, Option, None, Result, Ok, Err, OnOk, sym, ap, ◌∙◌, subst, append_assoc, arith}
-use Prim.Native.Nat.{suc, zero}
-use Rattle.std.specs.Prelude.{position, unwrap_or}
-use Rattle.std.specs.List.{flat_map, list_any}
-use Rattle.std.specs.Str.{bytes_eq}
-use Rattle.std.proofs.lemmas.Bool.{or_left, or_right}
+use Rattle.std.proofs.Common.{◌≡◌, ◌<◌, ◌≤◌, ◌+◌, ℕ, List, [], ◌∷◌, ◌++◌, map, length, take, get_or, sum_by, Option, None, Result, Ok, Err, OnOk, sym, ap, ◌∙◌, subst, append_assoc, arith}
+use Rattle.std.specs.List.{flat_map}
 use Rattle.std.proofs.lemmas.List.{get_or-map, length-map, map-append, take_more}
 use Rattle.std.proofs.lemmas.List.Concat.{length-flat_map}
 use Rattle.deb_index.specs.declared.links.Links.{Links}
 use Rattle.deb_index.specs.declared.links.Start.{Start}
-use Rattle.deb_index.specs.Packages.{IndexView, PackageView, aparts, aparts_at, apart_at, name_at, names, need_at, needs, needs_at, no_atom, no_package, package_at}
+use Rattle.deb_index.specs.Packages.{IndexView, PackageView, aparts, aparts_at, apart_at, need_at, needs, needs_at, no_atom, no_package}
 use Rattle.deb_index.specs.Tables.{asked_count}
 use Rattle.deb_index.specs.Rows.{answer_row, hit_row}
-use Rattle.deb_index.specs.Links.{IsLinked, number_of}
-use Rattle.deb_index.proofs.FirstLemmas.{name-itself}
-use Rattle.deb_index.proofs.NameLemmas.{number-position}
+use Rattle.deb_index.specs.Links.{IsLinked}
 use Rattle.deb_index.proofs.PartLemmas.{flat-at, flat-push, flat-within, start-at, starts-length, starts-none, starts-push, sum-less, sum-more}
-use Rattle.deb_index.proofs.TableLemmas.{any-first, number-named}
 
 pub on-ok : {A E : Type 0} {P Q : Type 0} (r : Result A E) → (P → Q) → OnOk r P → OnOk r Q
 on-ok (Ok x) f h = f h
@@ -30,9 +23,8 @@ rows-more f front xs n d less =
 
 -- ---- how they grow
 
-pub linked-none : (index : IndexView) (none : List Start) (l : Links) → l.numbers.items ≡ [] → none ≡ [] → l.starts.items ≡ none ++ record { group = 0; entry = 0 } ∷ [] → l.groups ≡ [] → l.entries ≡ [] → IsLinked index [] l
-linked-none index none l n o s g e = record {
-  numbers = n;
+pub linked-none : (index : IndexView) (none : List Start) (l : Links) → none ≡ [] → l.starts.items ≡ none ++ record { group = 0; entry = 0 } ∷ [] → l.groups ≡ [] → l.entries ≡ [] → IsLinked index [] l
+linked-none index none l o s g e = record {
   group_starts = ap (map (λ (s : Start). s.group)) first ∙ sym (starts-none (λ (p : PackageView). length (needs p)));
   entry_starts = ap (map (λ (s : Start). s.entry)) first ∙ sym (starts-none (λ (p : PackageView). length (aparts p)));
   groups = g;
@@ -69,10 +61,9 @@ module _ (index : IndexView) where
     entries-are : new.entries ≡ flat_map entry_rows (packages ++ p ∷ [])
     entries-are = e ∙ ap (λ l. l ++ entry_rows p) o.entries ∙ sym (flat-push entry_rows packages p)
 
-    pub linked-push : (n : ℕ) (s : Start) → new.numbers.items ≡ old.numbers.items ++ n ∷ [] → n ≡ number_of index p.name → new.starts.items ≡ old.starts.items ++ s ∷ []
+    pub linked-push : (s : Start) → new.starts.items ≡ old.starts.items ++ s ∷ []
         → s.group ≡ length new.groups → s.entry ≡ length new.entries → IsLinked index (packages ++ p ∷ []) new
-    linked-push n s ns at ss sg se = record {
-      numbers = ns ∙ (λ i. o.numbers i ++ at i ∷ []) ∙ sym (map-append (λ (q : PackageView). number_of index q.name) packages (p ∷ []));
+    linked-push s ss sg se = record {
       group_starts = ap (map (λ (t : Start). t.group)) ss ∙ map-append (λ (t : Start). t.group) old.starts.items (s ∷ [])
           ∙ (λ i. o.group_starts i ++ (sg ∙ ap length groups-are ∙ groups-length (packages ++ p ∷ [])) i ∷ []) ∙ sym (starts-push (λ (q : PackageView). length (needs q)) packages p);
       entry_starts = ap (map (λ (t : Start). t.entry)) ss ∙ map-append (λ (t : Start). t.entry) old.starts.items (s ∷ [])
@@ -90,26 +81,7 @@ module _ (index : IndexView) where
 
 -- ---- what stands at a place
 
-is-there : (packages : List PackageView) (i : ℕ) → i < length packages → list_any (bytes_eq (get_or packages i no_package).name) (map (λ (p : PackageView). p.name) packages) ≡ true
-is-there [] i h = absurd (omega arith)
-is-there (p ∷ ps) zero h = or_left (bytes_eq p.name p.name) _ (name-itself p.name)
-is-there (p ∷ ps) (suc i) h = or_right (bytes_eq (get_or ps i no_package).name p.name) _ (is-there ps i (omega arith))
-
--- the number of a name that is there leads to it
-number-leads : (name : List ℕ) (ks : List (List ℕ)) → list_any (bytes_eq name) ks ≡ true → (unwrap_or (position (bytes_eq name) ks) 0 < length ks) × (get_or ks (unwrap_or (position (bytes_eq name) ks) 0) [] ≡ name)
-number-leads name ks h = subst (λ o. (unwrap_or o 0 < length ks) × (get_or ks (unwrap_or o 0) [] ≡ name)) (number-position name ks) (number-named name ks h)
-
 module _ (index : IndexView) (l : Links) (k : IsLinked index index.packages l) where
-  pub number-known : (i n : ℕ) → i < length index.packages → n ≡ get_or l.numbers.items i n → (n < length (names index)) × (name_at index n ≡ (package_at index i).name)
-  number-known i n less at =
-      let name = (package_at index i).name in
-      let is : n ≡ number_of index name = at ∙ ap (λ ns. get_or ns i n) k.numbers ∙ get_or-map (λ (p : PackageView). number_of index p.name) index.packages i no_package n less in
-      subst (λ m. (m < length (names index)) × (name_at index m ≡ name)) (sym is)
-      (number-leads name (names index) (any-first name (map (λ (p : PackageView). p.name) index.packages) ∙ is-there index.packages i less))
-
-  pub numbers-long : length l.numbers.items ≡ length index.packages
-  numbers-long = ap length k.numbers ∙ length-map index.packages (λ (p : PackageView). number_of index p.name)
-
   pub starts-long : length l.starts.items ≡ length index.packages + 1
   starts-long = sym (length-map l.starts.items (λ (s : Start). s.group)) ∙ ap length k.group_starts ∙ starts-length (λ (p : PackageView). length (needs p)) index.packages
 

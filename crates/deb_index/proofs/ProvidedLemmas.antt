@@ -1,17 +1,19 @@
--- Where names are provided: the table of what entries of Provides put down.
-use Rattle.std.proofs.Common.{◌≡◌, ◌<◌, ◌≤◌, ◌+◌, ℕ, Bool, true, false, cond, List, [], ◌∷◌, ◌++◌, map, filter, length, take, get_or, refl, sym, ap, ◌∙◌, append_assoc, arith}
+-- Where names are provided: what entries of Provides put down.
+use Rattle.std.proofs.Common.{◌≡◌, ◌<◌, ◌≤◌, ◌+◌, ℕ, Bool, true, false, cond, List, [], ◌∷◌, ◌++◌, map, filter, length, take, get_or, refl, sym, ap, ◌∙◌, append_assoc, subst, arith}
 use Rattle.std.specs.List.{enumerate_from, flat_map}
 use Rattle.std.specs.Str.{bytes_eq}
-use Rattle.std.proofs.lemmas.List.{append-nil, map-append, length-map, length-take-le, take_more}
+use Rattle.std.proofs.lemmas.List.{append-nil, get_or-map, map-append, length-map, length-take-le, take_more}
 use Rattle.std.proofs.lemmas.List.Elements.{filter-append}
 use Rattle.std.proofs.lemmas.Grind.{flat_map-append}
 use Rattle.deb_relation.specs.declared.atom.Atom.{Atom}
 use Rattle.deb_relation.specs.AtomView.{atom_view}
 use Rattle.deb_relation.specs.Relationship.{AtomText}
 use Rattle.deb_relation.specs.Usable.{is_usable}
-use Rattle.deb_index.specs.Packages.{PackageView, IndexView, places_where}
+use Rattle.deb_index.specs.declared.package.Package.{Package}
+use Rattle.deb_index.specs.Packages.{PackageView, IndexView, no_package, package_view, places_where}
 use Rattle.deb_index.specs.Meets.{is_providing, provided_at}
-use Rattle.deb_index.specs.Tables.{items_of, numbered_entries, provided_entries, provided_places}
+use Rattle.deb_index.specs.Tables.{items_of}
+use Rattle.deb_index.specs.Names.{numbered_entries, provided_entries, provided_places}
 use Rattle.deb_index.proofs.EnumerateLemmas.{enumerate-push}
 
 items-append : {T : Type 0} (name : List ℕ) (xs ys : List (List ℕ × T)) → items_of name (xs ++ ys) ≡ items_of name xs ++ items_of name ys
@@ -83,6 +85,17 @@ entries-push arch place es e =
     by : (t : Bool) → is_usable arch e.qualifier ≡ t → map put (filter test ((0 + length es, e) ∷ [])) ≡ cond (is_usable arch e.qualifier) ((e.name, (place, 0 + length es)) ∷ []) []
     by true h = rw h refl
     by false h = rw h refl
+
+-- a step of the walk over the packages
+pub provided-step : (arch : List ℕ) (packages : List Package) (i : ℕ) (p : Package) → i < length packages → p ≡ get_or packages i p
+    → provided_places arch (take (i + 1) (map package_view packages)) ≡ provided_places arch (take i (map package_view packages)) ++ provided_entries arch i (map atom_view p.provides.items)
+provided-step arch packages i p within at =
+    let views = map package_view packages in
+    let less : i < length views = subst (λ n. i < n) (sym (length-map packages package_view)) within in
+    let le : i ≤ length views = omega (arith, less) in
+    let here : get_or views i no_package ≡ package_view p = get_or-map package_view packages i p no_package within ∙ ap package_view (sym at) in
+    ap (provided_places arch) (take_more views i no_package less ∙ ap (λ q. take i views ++ q ∷ []) here) ∙ provided-push arch (take i views) (package_view p)
+    ∙ ap (λ m. provided_places arch (take i views) ++ provided_entries arch m (package_view p).provides) (length-take-le i views le)
 
 -- a step of the walk over a package's entries
 module _ (arch : List ℕ) (place : ℕ) (atoms : List Atom) (i : ℕ) (a : Atom) (within : i < length atoms) (at : a ≡ get_or atoms i a) where

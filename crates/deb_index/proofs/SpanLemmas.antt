@@ -6,7 +6,7 @@ use Rattle.std.specs.Prelude.{if◌then◌else◌}
 use Rattle.std.proofs.lemmas.List.{get_or-map, length-append, map-append}
 use Rattle.deb_index.specs.declared.rows.Span.{Span}
 use Rattle.deb_index.specs.Rows.{IsWithin, row_in}
-use Rattle.deb_index.proofs.ListingLemmas.{all-push}
+use Rattle.deb_index.proofs.BuiltLemmas.{all-push}
 
 take-front : (n : ℕ) (xs ys : List ℕ) → n ≤ length xs → take n (xs ++ ys) ≡ take n xs
 take-front zero xs ys h = refl

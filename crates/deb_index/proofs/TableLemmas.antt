@@ -3,7 +3,6 @@ use Rattle.std.proofs.Common.{◌≡◌, ◌<◌, ◌+◌, ℕ, Bool, true, fals
 use Prim.Native.Nat.{suc}
 use Rattle.std.specs.List.{list_any, position, position_or_len}
 use Rattle.std.specs.Option.{option_map}
-use Rattle.std.specs.Prelude.{unwrap_or}
 use Rattle.std.specs.Str.{bytes_eq}
 use Rattle.std.proofs.lemmas.List.{map-append, append-nil, get_or-map, length-map, map-set}
 use Rattle.std.proofs.lemmas.List.Elements.{filter-append}
@@ -121,7 +120,7 @@ some-any name (k ∷ ks) i e = by (bytes_eq name k) (number_in name ks) refl ref
     by false (Some j) t h ih = rw t (ih j h)
 
 -- what a map has at a name's place
-get-there : {T : Type 0} (name : List ℕ) (f : List ℕ → T) (ks : List (List ℕ)) (i : ℕ) (d : T) → number_in name ks ≡ Some i → get_or (map f ks) i d ≡ f name
+pub get-there : {T : Type 0} (name : List ℕ) (f : List ℕ → T) (ks : List (List ℕ)) (i : ℕ) (d : T) → number_in name ks ≡ Some i → get_or (map f ks) i d ≡ f name
 get-there name f [] i d e = absurd (none-some i e)
 get-there {T} name f (k ∷ ks) i d e = by (bytes_eq name k) (number_in name ks) refl refl (λ j. get-there name f ks j d)
   where
@@ -131,15 +130,26 @@ get-there {T} name f (k ∷ ks) i d e = by (bytes_eq name k) (number_in name ks)
     by false (Some j) t h ih = subst (λ m. get_or (map f (k ∷ ks)) m d ≡ f name) (some-same (suc j) i (rw (t, h) at e)) (ih j h)
 
 -- the same test with its sides turned
-any-turned : (name : List ℕ) (ks : List (List ℕ)) → list_any (λ k. bytes_eq k name) ks ≡ list_any (bytes_eq name) ks
+pub any-turned : (name : List ℕ) (ks : List (List ℕ)) → list_any (λ k. bytes_eq k name) ks ≡ list_any (bytes_eq name) ks
 any-turned name [] = refl
 any-turned name (k ∷ ks) = (λ i. names-turned k name i || any-turned name ks i)
 
-names-chain : (a b c : List ℕ) → bytes_eq a b ≡ true → bytes_eq b c ≡ true → bytes_eq a c ≡ true
+pub names-chain : (a b c : List ℕ) → bytes_eq a b ≡ true → bytes_eq b c ≡ true → bytes_eq a c ≡ true
 names-chain a b c e h = subst (λ w. bytes_eq a w ≡ true) (same-name b c h) e
 
+any-seen : {K : Type 0} (bytes : K → List ℕ) (name : List ℕ) (keys : List K) → list_any (bytes_eq name) (map bytes keys) ≡ list_any (λ k. bytes_eq name (bytes k)) keys
+any-seen bytes name [] = refl
+any-seen bytes name (k ∷ ks) = ap (λ r. bytes_eq name (bytes k) || r) (any-seen bytes name ks)
+
+-- the key of a name that is not there goes last
+pub texts-grow : {K : Type 0} (bytes : K → List ℕ) (keys : List K) (key : K) (name : List ℕ) → bytes key ≡ name → number_in name (map bytes keys) ≡ None
+    → map bytes (cond (list_any (λ k. bytes_eq (bytes key) (bytes k)) keys) keys (keys ++ key ∷ [])) ≡ map bytes keys ++ name ∷ []
+texts-grow bytes keys key name same e =
+    let none : list_any (λ k. bytes_eq (bytes key) (bytes k)) keys ≡ false = subst (λ w. list_any (λ k. bytes_eq w (bytes k)) keys ≡ false) (sym same) (sym (any-seen bytes name keys) ∙ none-any name (map bytes keys) e) in
+    ap (λ c. map bytes (cond c keys (keys ++ key ∷ []))) none ∙ map-append bytes keys (key ∷ []) ∙ ap (λ w. map bytes keys ++ w ∷ []) same
+
 module _ {T : Type 0} where
-  items-push : (k name : List ℕ) (x : T) (pairs : List (List ℕ × T)) → items_of k (pairs ++ (name, x) ∷ []) ≡ items_of k pairs ++ cond (bytes_eq k name) (x ∷ []) []
+  pub items-push : (k name : List ℕ) (x : T) (pairs : List (List ℕ × T)) → items_of k (pairs ++ (name, x) ∷ []) ≡ items_of k pairs ++ cond (bytes_eq k name) (x ∷ []) []
   unfolding items_of
   items-push k name x pairs = ap (map item) (filter-append test pairs ((name, x) ∷ [])) ∙ map-append item (filter test pairs) (filter test ((name, x) ∷ []))
       ∙ ap (λ (r : List T). map item (filter test pairs) ++ r) (by (bytes_eq k name) refl)
@@ -154,14 +164,14 @@ module _ {T : Type 0} where
       by true e = rw e refl
       by false e = rw e refl
 
-  items-same : (name : List ℕ) (x : T) (pairs : List (List ℕ × T)) → items_of name (pairs ++ (name, x) ∷ []) ≡ items_of name pairs ++ x ∷ []
+  pub items-same : (name : List ℕ) (x : T) (pairs : List (List ℕ × T)) → items_of name (pairs ++ (name, x) ∷ []) ≡ items_of name pairs ++ x ∷ []
   items-same name x pairs = items-push name name x pairs ∙ rw (name-itself name) refl
 
-  items-other : (name : List ℕ) (x : T) (pairs : List (List ℕ × T)) (k : List ℕ) → bytes_eq name k ≡ false → items_of k (pairs ++ (name, x) ∷ []) ≡ items_of k pairs
+  pub items-other : (name : List ℕ) (x : T) (pairs : List (List ℕ × T)) (k : List ℕ) → bytes_eq name k ≡ false → items_of k (pairs ++ (name, x) ∷ []) ≡ items_of k pairs
   items-other name x pairs k e = items-push k name x pairs ∙ rw (other-name name k e) (append-nil (items_of k pairs))
 
   -- a name that no pair has
-  no-items : (name : List ℕ) (pairs : List (List ℕ × T)) → list_any (bytes_eq name) (map (λ (p : List ℕ × T). p.0) pairs) ≡ false → items_of name pairs ≡ []
+  pub no-items : (name : List ℕ) (pairs : List (List ℕ × T)) → list_any (bytes_eq name) (map (λ (p : List ℕ × T). p.0) pairs) ≡ false → items_of name pairs ≡ []
   unfolding items_of
   no-items name [] h = refl
   no-items name (p ∷ ps) h = by (bytes_eq name p.0) refl (no-items name ps)
@@ -226,29 +236,11 @@ module _ {T : Type 0} where
     put-at {pairs} {ks} vs name x i old new t e at put = subst (λ l. IsTable (pairs ++ (name, x) ∷ []) ks l)
         (ap (λ v. set (map items vs) i (v ++ x ∷ [])) (get_or-map items vs i old [] (listed-at vs name i t e) ∙ ap items (sym at)) ∙ ap (λ v. set (map items vs) i v) (sym put) ∙ sym (map-set items vs i new)) (put-there name x i t e)
 
-    any-seen : {K : Type 0} (bytes : K → List ℕ) (name : List ℕ) (keys : List K) → list_any (bytes_eq name) (map bytes keys) ≡ list_any (λ k. bytes_eq name (bytes k)) keys
-    any-seen bytes name [] = refl
-    any-seen bytes name (k ∷ ks) = ap (λ r. bytes_eq name (bytes k) || r) (any-seen bytes name ks)
-
     pub put-first : {K : Type 0} (bytes : K → List ℕ) {pairs : List (List ℕ × T)} (keys : List K) (vs : List V) (name : List ℕ) (x : T) (key : K) (v : V)
         → IsTable pairs (map bytes keys) (map items vs) → number_in name (map bytes keys) ≡ None → bytes key ≡ name → items v ≡ x ∷ []
         → IsTable (pairs ++ (name, x) ∷ []) (map bytes (cond (list_any (λ k. bytes_eq (bytes key) (bytes k)) keys) keys (keys ++ key ∷ []))) (map items (vs ++ v ∷ []))
     put-first bytes {pairs} keys vs name x key v t e same one =
-        let none : list_any (λ k. bytes_eq (bytes key) (bytes k)) keys ≡ false = subst (λ w. list_any (λ k. bytes_eq w (bytes k)) keys ≡ false) (sym same) (sym (any-seen bytes name keys) ∙ none-any name (map bytes keys) e) in
-        let longer : map bytes keys ++ name ∷ [] ≡ map bytes (cond (list_any (λ k. bytes_eq (bytes key) (bytes k)) keys) keys (keys ++ key ∷ [])) =
-        ap (λ w. map bytes keys ++ w ∷ []) (sym same) ∙ sym (map-append bytes keys (key ∷ [])) ∙ ap (λ c. map bytes (cond c keys (keys ++ key ∷ []))) (sym none) in
+        let longer = sym (texts-grow bytes keys key name same e) in
         let put : IsTable (pairs ++ (name, x) ∷ []) (map bytes keys ++ name ∷ []) (map items vs ++ (x ∷ []) ∷ []) = put-new name x t e in
         subst (λ l. IsTable (pairs ++ (name, x) ∷ []) l (map items (vs ++ v ∷ []))) longer
         (subst (λ l. IsTable (pairs ++ (name, x) ∷ []) (map bytes keys ++ name ∷ []) l) (ap (λ w. map items vs ++ w ∷ []) (sym one) ∙ sym (map-append items vs (v ∷ []))) put)
-
--- a name that is there has a number, and stands at it
-pub number-named : (name : List ℕ) (ks : List (List ℕ)) → list_any (bytes_eq name) ks ≡ true → (unwrap_or (number_in name ks) 0 < length ks) × (get_or ks (unwrap_or (number_in name ks) 0) [] ≡ name)
-number-named name ks h = by (number_in name ks) refl
-  where
-    named : (ks : List (List ℕ)) → map (λ k. k) ks ≡ ks
-    named [] = refl
-    named (k ∷ ks) = ap (λ r. k ∷ r) (named ks)
-
-    by : (o : Option ℕ) → number_in name ks ≡ o → (unwrap_or o 0 < length ks) × (get_or ks (unwrap_or o 0) [] ≡ name)
-    by None e = absurd (false≢true (sym (none-any name ks e) ∙ h))
-    by (Some i) e = (number-within name ks i e, ap (λ l. get_or l i []) (sym (named ks)) ∙ get-there name (λ k. k) ks i [] e)

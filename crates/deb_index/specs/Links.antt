@@ -1,9 +1,8 @@
--- What is looked up by place: the number of each package's name, and the rows of its groups and entries.
-use Rattle.std.specs.Prelude.{◌≡◌, ◌+◌, ℕ, List, [], ◌∷◌, map, length, position, sum_by, take, unwrap_or}
+-- What is looked up by place: the rows of a package's groups and entries.
+use Rattle.std.specs.Prelude.{◌≡◌, ◌+◌, ℕ, List, [], ◌∷◌, map, length, sum_by, take}
 use Rattle.std.specs.List.{flat_map}
-use Rattle.std.specs.Str.{bytes_eq}
 use Rattle.deb_index.specs.declared.links.Links.{Links}
-use Rattle.deb_index.specs.Packages.{PackageView, IndexView, aparts, essential_names, names, needs}
+use Rattle.deb_index.specs.Packages.{PackageView, IndexView, aparts, essential_names, needs}
 use Rattle.deb_index.specs.Rows.{answer_row, hit_row}
 use Rattle.deb_index.specs.Tables.{asked_count}
 
@@ -12,17 +11,12 @@ unfoldable pub starts_from : {A : Type 0} → (A → ℕ) → ℕ → List A →
 starts_from count n [] = n ∷ []
 starts_from count n (x ∷ xs) = n ∷ starts_from count (n + count x) xs
 
--- the number of a name that the index has
-abbrev pub number_of : IndexView → List ℕ → ℕ
-number_of index name = unwrap_or (position (bytes_eq name) (names index)) 0
-
 -- where the constraints of the package at a place begin in the list of all, and behind the last place those of the names
 abbrev pub first_position : IndexView → ℕ → ℕ
 first_position index place = length (essential_names index) + sum_by asked_count (take place index.packages)
 
 -- the rows of some packages, and where those of each begin
 pub record IsLinked (index : IndexView) (packages : List PackageView) (l : Links) : Type 0 where
-  pub numbers : l.numbers.items ≡ map (λ p. number_of index p.name) packages
   pub group_starts : map (λ s. s.group) l.starts.items ≡ starts_from (λ p. length (needs p)) 0 packages
   pub entry_starts : map (λ s. s.entry) l.starts.items ≡ starts_from (λ p. length (aparts p)) 0 packages
   pub groups : l.groups ≡ flat_map (λ p. map (answer_row index) (needs p)) packages

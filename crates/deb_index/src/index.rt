@@ -4,21 +4,21 @@ ghost use Rattle.std.specs.Option.{is_some};
 ghost use Rattle.std.specs.Str.{bytes_eq};
 ghost use Rattle.deb_relation.specs.AtomView.{atom_view};
 ghost use Rattle.deb_index.specs.Packages.{package_view, names, places_of, essential_names, needs_at, aparts_at, need_at, apart_at, package_at, name_at};
-ghost use Rattle.deb_index.specs.Reading.{Gives, IsBare, continued, index_of, index_of_both, byte_limit, readings, stanza_limit};
+ghost use Rattle.deb_index.specs.Reading.{IsBare, index_of, index_of_both, byte_limit, stanza_limit};
 ghost use Rattle.deb_index.specs.Meets.{meets_at, meets_need_at, need_satisfiers, satisfiers, group_satisfiers, provided_at};
 ghost use Rattle.deb_index.specs.Constraints.{constraints_at, constraints_of, IsOfIndex};
-ghost use Rattle.deb_control.specs.Stanzas.{stanzas_of};
 ghost use Rattle.deb_index.specs.Tables.{asked_count, asked_limit};
 ghost use Rattle.deb_index.specs.Links.{first_position};
 ghost use Rattle.deb_index.specs.Rows.{candidate_count, group_candidates, row_limit};
 
+use crate::builder::Builder;
 use crate::constraint::Constraint;
 use crate::error::{BothError, IndexError, in_back, in_fore};
 use crate::links::Links;
+use crate::lookup::Lookup;
 use crate::meets::Role;
-use crate::package::{Package, next_reading};
-use crate::tables::Tables;
-use deb_control::Reader;
+use crate::names::Names;
+use crate::package::Package;
 use deb_relation::Atom;
 use std::alloc::{AllocError, Global};
 use std::marker::Model;
@@ -28,48 +28,36 @@ use std::marker::Model;
 /// they first occur.
 #[derive(Drop)]
 pub struct Index {
-    tables: Tables,
-    essential: Vec<u32>,
-    links: Links,
+    pub(crate) arch: Vec<u8>,
+    pub(crate) with_essential: bool,
+    pub(crate) stanzas: u32,
+    pub(crate) skipped: u32,
+    pub(crate) duplicates: u32,
+    pub(crate) foreground: u32,
+    pub(crate) packages: Vec<Package>,
+    // The number of each package's name.
+    pub(crate) numbers: Vec<u32>,
+    pub(crate) names: Names,
+    // The numbers of the essential names.
+    pub(crate) essential: Vec<u32>,
+    pub(crate) links: Links,
 }
 
 impl Model for Index {
-    ghost use Rattle.std.specs.Prelude.{◌≡◌};
-    ghost use Rattle.deb_index.specs.Packages.{IndexView, essential_names};
-    ghost use Rattle.deb_index.specs.Links.{IsLinked};
+    ghost use Rattle.std.specs.Prelude.{map};
+    ghost use Rattle.deb_index.specs.Packages.{IndexView, package_view};
+    ghost use Rattle.deb_index.specs.Built.{IsWhole};
 
     ghost Value = { IndexView };
 
-    ghost view = { λ i. i.tables };
+    ghost view = { λ i. record { arch = i.arch.items; packages = map package_view i.packages.items; with_essential = i.with_essential; stanzas = i.stanzas; skipped = i.skipped; duplicates = i.duplicates; foreground = i.foreground } };
 
-    ghost invariant = { λ i. (i.essential.items ≡ essential_names i.tables) × IsLinked i.tables i.tables.packages i.links };
-}
-
-// Takes the stanzas of a text into the tables, behind those that they have.
-fn read_into(alloc: Global, text: &[u8], arch: &[u8], tables: &mut Tables) -> Result<(), IndexError>
-    requires short { length text.now ≤ byte_limit }
-    requires few { tables.old.stanzas ≤ stanza_limit }
-    requires room { sum_by asked_count tables.old.packages ≤ byte_limit + 1 + 4 * tables.old.stanzas }
-    ensures room { OnOk result (sum_by asked_count tables.new.packages ≤ sum_by asked_count tables.old.packages + (byte_limit + 1) + 4 * (tables.new.stanzas - tables.old.stanzas)) }
-    ensures more { OnOk result (tables.old.stanzas ≤ tables.new.stanzas) }
-    ensures accepted { IfOk result (λ _. continued tables.old (readings arch.now tables.old.stanzas 0 (stanzas_of text.now)) ≡ Ok tables.new) }
-    ensures refused { IfErr result (λ e. e ≢ IndexError.Memory → continued tables.old (readings arch.now tables.old.stanzas 0 (stanzas_of text.now)) ≡ Err e) }
-{
-    let before = tables.stanzas();
-    let mut reader = Reader::new(text);
-    'stanzas: while let Some(reading) = next_reading(
-        alloc,
-        arch,
-        before,
-        tables.stanzas() - before,
-        &mut reader,
-    )? {
-        tables.add(alloc, reading)?;
-    }
-    Ok(())
+    ghost invariant = { λ i. IsWhole (record { arch = i.arch.items; packages = map package_view i.packages.items; with_essential = i.with_essential; stanzas = i.stanzas; skipped = i.skipped; duplicates = i.duplicates; foreground = i.foreground }) i.numbers.items i.names i.essential.items i.links };
 }
 
 impl Index {
+    ghost use Rattle.deb_index.specs.Built.{looked_up};
+
     /// Reads the index of a text for an architecture; without `essential` no name is essential. The error is the fault of the first
     /// stanza that has one, or want of memory.
     ///
@@ -84,10 +72,9 @@ impl Index {
         ensures accepted { IfOk result (λ index. index_of text.now arch.now essential ≡ Ok index) }
         ensures refused { IfErr result (λ e. e ≢ IndexError.Memory → index_of text.now arch.now essential ≡ Err e) }
     {
-        let mut tables = Tables::new(alloc, arch.as_bytes(), essential)?;
-        read_into(alloc, text, arch.as_bytes(), &mut tables)?;
-        tables.end_foreground();
-        let index = Index::over(alloc, tables)?;
+        let empty = Builder::new(alloc, arch.as_bytes(), essential)?;
+        let fore = empty.add_text(alloc, text, arch.as_bytes())?;
+        let index = fore.end_foreground().finish(alloc)?;
         Ok(index)
     }
 
@@ -110,29 +97,24 @@ impl Index {
         ensures refused { IfErr result (λ e. e ≢ BothError.Memory → index_of_both text.now background.now arch.now essential ≡ Err e) }
         ensures bare { IfErr result IsBare }
     {
-        let mut tables = Tables::new(alloc, arch.as_bytes(), essential)?;
-        if let Err(error) = read_into(alloc, text, arch.as_bytes(), &mut tables) {
-            return Err(in_fore(error));
-        }
-        tables.end_foreground();
-        if let Err(error) = read_into(alloc, background, arch.as_bytes(), &mut tables) {
-            return Err(in_back(error));
-        }
-        let index = Index::over(alloc, tables)?;
+        let empty = Builder::new(alloc, arch.as_bytes(), essential)?;
+        let fore = match empty.add_text(alloc, text, arch.as_bytes()) {
+            Ok(fore) => fore.end_foreground(),
+            Err(error) => return Err(in_fore(error)),
+        };
+        let both = match fore.add_text(alloc, background, arch.as_bytes()) {
+            Ok(both) => both,
+            Err(error) => return Err(in_back(error)),
+        };
+        let index = both.finish(alloc)?;
         Ok(index)
     }
 
-    // The index that the tables make.
-    fn over(alloc: Global, tables: Tables) -> Result<Index, AllocError>
-        ensures { IfOk result (λ index. index ≡ tables) }
+    // What places are looked up in.
+    fn lookup(&self) -> Lookup
+        ensures { result ≡ looked_up self.now.arch self.now.packages }
     {
-        let essential = tables.essential_names(alloc)?;
-        let links = Links::of(alloc, &tables)?;
-        Ok(Index {
-            tables,
-            essential,
-            links,
-        })
+        Lookup::new(&self.arch, &self.packages, &self.names)
     }
 
     /// How many packages are the foreground's: their places are those below this number. Where there is no background, all are.
@@ -140,7 +122,7 @@ impl Index {
         ensures value { result ≡ self.now.foreground }
         ensures front { self.now.foreground ≤ length self.now.packages }
     {
-        self.tables.foreground()
+        self.foreground
     }
 
     /// How many packages there are: at most `STANZA_LIMIT`, the most stanzas that the texts may have. Together they have at most
@@ -150,14 +132,14 @@ impl Index {
         ensures few { length self.now.packages ≤ stanza_limit }
         ensures few_asked { sum_by asked_count self.now.packages ≤ asked_limit }
     {
-        self.tables.len()
+        self.packages.len() as u32
     }
 
     /// The architecture that the index was read for.
     pub fn arch(&self) -> &[u8]
         ensures { result.now ≡ self.now.arch }
     {
-        self.tables.arch()
+        &self.arch
     }
 
     /// The package at a place, which is below `len`.
@@ -165,14 +147,14 @@ impl Index {
         requires { place < length self.now.packages }
         ensures { package_view result.now ≡ package_at self.now place }
     {
-        self.tables.package(place)
+        &self.packages[place as usize]
     }
 
     /// How many distinct names there are.
     pub fn name_count(&self) -> u32
         ensures { result ≡ length (names self.now) }
     {
-        self.tables.name_count()
+        self.names.front as u32
     }
 
     /// The name with a number, which is below `name_count`.
@@ -180,21 +162,24 @@ impl Index {
         requires { number < length (names self.now) }
         ensures { result.now ≡ name_at self.now number }
     {
-        self.tables.name_text(number)
+        self.names.text(number as usize)
     }
 
     /// The number of a name; `None` where no package has it. Names are compared byte by byte (Debian Policy 5.6.7).
     pub fn name_number(&self, name: &[u8]) -> Option<u32>
         ensures { result ≡ position (bytes_eq name.now) (names self.now) }
     {
-        self.tables.name_number(name)
+        match self.names.number(name) {
+            Some(number) if number < self.names.front => Some(number as u32),
+            _ => None,
+        }
     }
 
     /// The places of a name's packages, rising: none for an unknown name.
     pub fn places_of(&self, name: &[u8]) -> &[u32]
         ensures { result.now ≡ places_of self.now name.now }
     {
-        self.tables.places_of(name)
+        self.names.candidates(name).named
     }
 
     /// Where a name is provided (Debian Policy 7.5), rising: each pair is a place and the number, from 0, of an entry in the
@@ -202,7 +187,7 @@ impl Index {
     pub fn provides_of(&self, name: &[u8]) -> &[(u32, u32)]
         ensures { result.now ≡ provided_at self.now name.now }
     {
-        self.tables.provides_of(name)
+        self.names.candidates(name).provided
     }
 
     /// The numbers of the essential names, rising: a name is essential if some package of it has `Essential: yes`
@@ -238,7 +223,7 @@ impl Index {
         requires { number < length (names self.now) }
         ensures { result.now ≡ places_of self.now (name_at self.now number) }
     {
-        self.tables.places_named(number)
+        self.names.places(number as usize)
     }
 
     /// The number of the name of the package at a place.
@@ -247,7 +232,7 @@ impl Index {
         ensures within { result < length (names self.now) }
         ensures name { name_at self.now result ≡ (package_at self.now place).name }
     {
-        self.links.numbers[place as usize]
+        self.numbers[place as usize]
     }
 
     /// The places of all packages that have the name of the package at a place, rising; the place is among them.
@@ -306,7 +291,7 @@ impl Index {
         if let Some(row) = self.answer_row(place, number) {
             return Ok(row);
         }
-        self.tables.find_group(self.need(place, number), found)?;
+        self.lookup().find_group(self.need(place, number), found)?;
         Ok(found)
     }
 
@@ -326,21 +311,21 @@ impl Index {
     pub fn stanzas(&self) -> u32
         ensures { result ≡ self.now.stanzas }
     {
-        self.tables.stanzas()
+        self.stanzas
     }
 
     /// How many stanzas of both are passed over, since their architecture is neither the index's nor `all`.
     pub fn skipped(&self) -> u32
         ensures { result ≡ self.now.skipped }
     {
-        self.tables.skipped()
+        self.skipped
     }
 
     /// How many stanzas of both have the name and the version text of an earlier one that was kept, and are left out.
     pub fn duplicates(&self) -> u32
         ensures { result ≡ self.now.duplicates }
     {
-        self.tables.duplicates()
+        self.duplicates
     }
 
     /// Whether the package at a place meets an atom. An atom with a qualifier other than `any` and the index's architecture
@@ -350,7 +335,7 @@ impl Index {
         requires { place < length self.now.packages }
         ensures { result ≡ meets_at self.now place (atom_view atom.now) }
     {
-        self.tables.meets(place, atom)
+        self.package(place).meets(&self.arch, atom)
     }
 
     /// Whether the package at a place meets an atom as an alternative of Pre-Depends or Depends: it meets the atom, by its
@@ -360,7 +345,7 @@ impl Index {
         requires { place < length self.now.packages }
         ensures { result ≡ meets_need_at self.now place (atom_view atom.now) }
     {
-        self.tables.meets_need(place, atom)
+        self.package(place).meets_need(&self.arch, atom)
     }
 
     /// The places of all packages that meet an atom as an alternative of Pre-Depends or Depends, rising. The error is want
@@ -369,10 +354,9 @@ impl Index {
         ensures { IfOk result (λ v. v.items ≡ need_satisfiers self.now (atom_view atom.now)) }
     {
         let mut found = Vec::new(alloc);
-        let name = atom.name.as_slice();
-        let (named, provided) = (self.places_of(name), self.provides_of(name));
-        self.tables
-            .find(Role::Alternative, atom, named, provided, &mut found)?;
+        let lookup = self.lookup();
+        let candidates = lookup.candidates(atom.name.as_slice());
+        lookup.find(Role::Alternative, atom, candidates, &mut found)?;
         Ok(found)
     }
 
@@ -384,10 +368,9 @@ impl Index {
         ensures { IfOk result (λ v. v.items ≡ satisfiers self.now (atom_view atom.now)) }
     {
         let mut found = Vec::new(alloc);
-        let name = atom.name.as_slice();
-        let (named, provided) = (self.places_of(name), self.provides_of(name));
-        self.tables
-            .find(Role::Entry, atom, named, provided, &mut found)?;
+        let lookup = self.lookup();
+        let candidates = lookup.candidates(atom.name.as_slice());
+        lookup.find(Role::Entry, atom, candidates, &mut found)?;
         Ok(found)
     }
 
@@ -402,7 +385,7 @@ impl Index {
         for name in self.essential_names() {
             found.push(Constraint::Essential(*name))?;
         }
-        for place in 0..self.tables.len() {
+        for place in 0..self.len() {
             self.push_constraints(place, &mut found)?;
         }
         for number in 0..self.name_count() {

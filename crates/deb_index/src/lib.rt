@@ -1,29 +1,30 @@
-//! The packages of a Debian package index, with tables of names and of what is provided.
+//! The packages of a Debian package index, with the names that they have and provide.
 //!
 //! The modules, in reading order:
 //!
 //! - `limits`: how large an index may be; `error`: why one is refused.
 //! - `package`: one stanza, read as a package; `meets`: what it asks for, and which atoms it meets.
-//! - `table`: lists of items by name; `listing`: the packages by place, with such tables; `tables`: these, filled stanza by stanza.
-//! - `walk`: all places that meet an atom, found by the tables.
+//! - `names`: the names that packages have or provide, with where each is found.
+//! - `lookup`: all places that meet an atom, found by the names; `walk`: rising lists of places, side by side.
 //! - `rows`: lists of places, one behind the other; `memo`: rows that come many times; `links`: the row of each group and of each entry, made once.
+//! - `builder`: an index while it is read, stanza by stanza, which is consumed into
 //! - `index`: the index of a text, or of a text and a background, and all that is read from it; `constraint`: its constraints.
 //! - `laws`: what a background adds.
 #![tactic(auto)]
 
+mod builder;
 mod constraint;
 mod error;
 mod index;
 pub mod laws;
 mod limits;
 mod links;
-mod listing;
+mod lookup;
 mod meets;
 mod memo;
+mod names;
 mod package;
 mod rows;
-mod table;
-mod tables;
 mod walk;
 
 pub use constraint::Constraint;

@@ -1,15 +1,15 @@
-//! What an index looks up by place: the name of each package, and the rows of places for its groups and entries.
+//! The rows of places for the groups and entries of the packages, by place.
 ghost use Rattle.std.specs.Prelude.{◌≡◌, ◌<◌, ◌≤◌, ◌+◌, ◌++◌, ◌∷◌, [], false, IfOk, OnOk, length, map, sum_by, take};
 ghost use Rattle.deb_relation.specs.AtomView.{atom_view};
 ghost use Rattle.deb_index.specs.Packages.{aparts, needs, package_view};
 ghost use Rattle.deb_index.specs.Reading.{stanza_limit};
 ghost use Rattle.deb_index.specs.Tables.{asked_count, asked_limit};
 
+use crate::lookup::Lookup;
 use crate::meets::Role;
 use crate::memo::Memo;
 use crate::package::Package;
 use crate::rows::Rows;
-use crate::tables::Tables;
 use crate::walk::merge;
 use deb_relation::Atom;
 use std::alloc::{AllocError, Global};
@@ -25,10 +25,9 @@ pub(crate) struct Start {
     pub(crate) entry: u32,
 }
 
-/// The numbers of the packages' names, and the rows of their groups and entries, by place.
+/// The rows of the packages' groups and entries, by place.
 #[derive(Drop)]
 pub(crate) struct Links {
-    pub(crate) numbers: Vec<u32>,
     // One more than there are packages.
     pub(crate) starts: Vec<Start>,
     pub(crate) groups: Rows,
@@ -39,12 +38,12 @@ impl Links {
     ghost use Rattle.deb_index.specs.Links.{IsLinked};
     ghost use Rattle.deb_index.specs.Packages.{IndexView};
 
-    pub(crate) fn of(alloc: Global, tables: &Tables) -> Result<Links, AllocError>
-        ensures { IfOk result (λ l. IsLinked tables.now tables.now.packages l) }
+    pub(crate) fn of(alloc: Global, lookup: &Lookup) -> Result<Links, AllocError>
+        ensures { IfOk result (λ l. IsLinked lookup.now lookup.now.packages l) }
     {
-        let mut finder = Finder::new(alloc, tables)?;
+        let mut finder = Finder::new(alloc, lookup)?;
         let mut links = Links::new(alloc)?;
-        for place in 0..tables.len() {
+        for place in 0..lookup.len() {
             links.add(place, &mut finder)?;
         }
         Ok(links)
@@ -56,7 +55,6 @@ impl Links {
         let mut starts = Vec::new(alloc);
         starts.push(Start { group: 0, entry: 0 })?;
         Ok(Links {
-            numbers: Vec::new(alloc),
             starts,
             groups: Rows::new(alloc),
             entries: Rows::new(alloc),
@@ -72,10 +70,7 @@ impl Links {
         ensures index { finder.new.memo ≡ finder.old.memo }
         ensures linked { OnOk result (IsLinked finder.old.memo (take (place + 1) finder.old.memo.packages) self.new) }
     {
-        let tables = finder.memo.tables();
-        let asking = tables.package(place);
-        self.numbers
-            .push(tables.name_number(asking.name.as_slice()).unwrap_or(0))?;
+        let asking = finder.memo.lookup().package(place);
         finder.add_groups(asking, &mut self.groups)?;
         finder.add_entries(asking, &mut self.entries)?;
         self.starts.push(Start {
@@ -99,11 +94,11 @@ impl<'t> Finder<'t> {
     ghost use Rattle.deb_index.specs.Roles.{row_as};
     ghost use Rattle.deb_index.specs.Rows.{answer_row, hit_row};
 
-    fn new(alloc: Global, tables: &'t Tables) -> Result<Finder<'t>, AllocError>
-        ensures { IfOk result (λ f. f.memo ≡ tables.now) }
+    fn new(alloc: Global, lookup: &'t Lookup<'t>) -> Result<Finder<'t>, AllocError>
+        ensures { IfOk result (λ f. f.memo ≡ lookup.now) }
     {
         Ok(Finder {
-            memo: Memo::new(alloc, tables)?,
+            memo: Memo::new(alloc, lookup)?,
             found: Vec::new(alloc),
             more: Vec::new(alloc),
             merged: Vec::new(alloc),
@@ -154,13 +149,12 @@ impl<'t> Finder<'t> {
         ensures index { self.new.memo ≡ self.old.memo }
         ensures row { OnOk result (rows.new ≡ rows.old ++ row_as role self.old.memo (atom_view atom.now) ∷ []) }
     {
-        let tables = self.memo.tables();
-        let name = atom.name.as_slice();
-        let (named, provided) = (tables.places_of(name), tables.provides_of(name));
-        if named.len() + provided.len() > ROW_LIMIT {
+        let lookup = self.memo.lookup();
+        let candidates = lookup.candidates(atom.name.as_slice());
+        if candidates.named.len() + candidates.provided.len() > ROW_LIMIT {
             return rows.leave_out();
         }
-        tables.find(role, atom, named, provided, &mut self.found)?;
+        lookup.find(role, atom, candidates, &mut self.found)?;
         if let [place] = self.found.as_slice() {
             let place = *place;
             self.memo.put(role, atom, place);
@@ -185,17 +179,16 @@ impl<'t> Finder<'t> {
         if let [atom] = group {
             return self.add_atom(Role::Alternative, atom, rows);
         }
-        let tables = self.memo.tables();
+        let lookup = self.memo.lookup();
         let mut count = 0;
         self.found.clear();
         'alternatives: for (number, atom) in group.iter().enumerate() {
-            let name = atom.name.as_slice();
-            let (named, provided) = (tables.places_of(name), tables.provides_of(name));
-            count += named.len() + provided.len();
+            let candidates = lookup.candidates(atom.name.as_slice());
+            count += candidates.named.len() + candidates.provided.len();
             if count > ROW_LIMIT {
                 return rows.leave_out();
             }
-            tables.find(Role::Alternative, atom, named, provided, &mut self.more)?;
+            lookup.find(Role::Alternative, atom, candidates, &mut self.more)?;
             merge(&self.found, &self.more, &mut self.merged)?;
             mem::swap(&mut self.found, &mut self.merged);
         }

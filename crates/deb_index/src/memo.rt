@@ -4,8 +4,8 @@ ghost use Rattle.deb_relation.specs.AtomView.{atom_view};
 ghost use Rattle.deb_index.specs.Memo.{slot_count};
 ghost use Rattle.deb_index.specs.Roles.{row_as};
 
+use crate::lookup::Lookup;
 use crate::meets::Role;
-use crate::tables::Tables;
 use deb_relation::{Atom, Op, Qualifier, Version};
 use std::alloc::{AllocError, Global};
 use std::marker::Model;
@@ -24,7 +24,7 @@ pub(crate) struct Met<'t> {
 /// What was found of some atoms, each in the slot that it is given by its bytes. Contracts see the index that it was found in.
 #[derive(Drop)]
 pub(crate) struct Memo<'t> {
-    tables: &'t Tables,
+    lookup: &'t Lookup<'t>,
     slots: Vec<Option<Met<'t>>>,
 }
 
@@ -36,9 +36,9 @@ impl<'t> Model for Memo<'t> {
 
     ghost Value = { IndexView };
 
-    ghost view = { λ m. m.tables.now };
+    ghost view = { λ m. m.lookup.now };
 
-    ghost invariant = { λ m. (length m.slots.items ≡ slot_count) × AllByRecursion (IsMet m.tables.now) m.slots.items };
+    ghost invariant = { λ m. (length m.slots.items ≡ slot_count) × AllByRecursion (IsMet m.lookup.now) m.slots.items };
 }
 
 // Whether both are qualifiers of one text, or neither is there.
@@ -101,21 +101,21 @@ fn slot_of(atom: &Atom) -> usize
 }
 
 impl<'t> Memo<'t> {
-    pub(crate) fn new(alloc: Global, tables: &'t Tables) -> Result<Memo<'t>, AllocError>
-        ensures { IfOk result (λ m. m ≡ tables.now) }
+    pub(crate) fn new(alloc: Global, lookup: &'t Lookup<'t>) -> Result<Memo<'t>, AllocError>
+        ensures { IfOk result (λ m. m ≡ lookup.now) }
     {
         let mut slots = Vec::with_capacity(alloc, SLOT_COUNT)?;
         for _ in 0..SLOT_COUNT {
             slots.push(None)?;
         }
-        Ok(Memo { tables, slots })
+        Ok(Memo { lookup, slots })
     }
 
-    /// The tables that it was found in.
-    pub(crate) fn tables(&self) -> &'t Tables
+    /// What it was looked up in.
+    pub(crate) fn lookup(&self) -> &'t Lookup<'t>
         ensures { result.now ≡ self.now }
     {
-        self.tables
+        self.lookup
     }
 
     /// The place of the one package that meets an atom in its role, if that is remembered.

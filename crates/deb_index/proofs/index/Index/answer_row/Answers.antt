@@ -8,7 +8,7 @@ use Rattle.deb_index.proofs.index.Index.answer_row.Goals as goal
 pub index-requires : goal.index-requires
 index-requires c =
     let i = c.self.inside in
-    let linked = subst (λ (w : IndexView). IsLinked w w.packages i.links) c.self.view_is c.self.invariant.1 in
+    let linked = subst (λ (w : IndexView). IsLinked w w.packages i.links) c.self.view_is c.self.invariant.linked in
     let long = starts-long c.args.self.now i.links linked in
     let counted = i.links.starts.ok in
     omega (arith, c.requires.place)
@@ -18,7 +18,7 @@ get-requires c =
     let i = c.self.inside in
     let v = c.args.self.now in
     let place = c.args.place in
-    let linked = subst (λ (w : IndexView). IsLinked w w.packages i.links) c.self.view_is c.self.invariant.1 in
+    let linked = subst (λ (w : IndexView). IsLinked w w.packages i.links) c.self.view_is c.self.invariant.linked in
     let this : place ≤ length v.packages = omega (arith, c.requires.place) in
     group-within v i.links linked place c.requires.place c.args.number _ c.requires.number (ap (λ m. m + c.args.number) (group-start v i.links linked place c.index.result.now this c.index.ensures))
 
@@ -27,7 +27,7 @@ returns-clause-row c =
     let i = c.self.inside in
     let v = c.args.self.now in
     let place = c.args.place in
-    let linked = subst (λ (w : IndexView). IsLinked w w.packages i.links) c.self.view_is c.self.invariant.1 in
+    let linked = subst (λ (w : IndexView). IsLinked w w.packages i.links) c.self.view_is c.self.invariant.linked in
     let this : place ≤ length v.packages = omega (arith, c.requires.place) in
     row-is (λ r. r.now) _ _ c.get.result (c.get.ensures ∙ group-at v i.links linked place c.requires.place c.args.number _ c.requires.number (ap (λ m. m + c.args.number) (group-start v i.links linked place c.index.result.now this c.index.ensures)))
 
@@ -36,6 +36,6 @@ returns-clause-short c =
     let i = c.self.inside in
     let v = c.args.self.now in
     let place = c.args.place in
-    let linked = subst (λ (w : IndexView). IsLinked w w.packages i.links) c.self.view_is c.self.invariant.1 in
+    let linked = subst (λ (w : IndexView). IsLinked w w.packages i.links) c.self.view_is c.self.invariant.linked in
     let this : place ≤ length v.packages = omega (arith, c.requires.place) in
     row-there (λ r. r.now) _ _ c.get.result (c.get.ensures ∙ group-at v i.links linked place c.requires.place c.args.number _ c.requires.number (ap (λ m. m + c.args.number) (group-start v i.links linked place c.index.result.now this c.index.ensures)))

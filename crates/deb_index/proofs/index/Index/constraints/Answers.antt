@@ -1,9 +1,7 @@
 use Rattle.std.proofs.Common.{◌≡◌, ◌≤◌, ◌<◌, ◌++◌, ◌∷◌, [], ◌∙◌, All, ap, sym, subst, length, arith}
-use Rattle.std.specs.Prelude.{◌^◌, sum_by}
+use Rattle.std.specs.Prelude.{◌^◌}
 use Rattle.deb_index.specs.declared.constraint.Constraint.TheVariants.{Only}
-use Rattle.deb_index.specs.Packages.{IndexView, essential_names, names}
-use Rattle.deb_index.specs.Reading.{stanza_limit}
-use Rattle.deb_index.specs.Tables.{asked_count, asked_limit}
+use Rattle.deb_index.specs.Packages.{essential_names, names}
 use Rattle.deb_index.specs.Constraints.{IsOfIndex, constraints_at}
 use Rattle.deb_index.proofs.ConstraintLemmas.{all-pushed, constraints-few, constraints-within, flat-more, mapped-more}
 use Rattle.deb_index.proofs.index.Index.constraints.Goals as goal
@@ -18,13 +16,12 @@ pub returns : goal.returns
 returns c =
     let index = c.args.self.now in
     let whole : length (essential_names index) ≤ c.loop-name.name-index = omega (arith, ap length c.essential_names-name-items.ensures) in
-    let many : c.loop-place.place ≡ length index.packages = omega (arith, ap (λ (v : IndexView). length v.packages) c.self.view_is) in
+    let many : c.loop-place.place ≡ length index.packages = omega (arith, c.len-place-end.ensures.value) in
     let more : c.loop-number.number ≡ length (names index) = omega arith in
     let value = all-pushed index c.loop-name.name-index c.loop-place.place c.loop-number.number c.loop-name.found.items c.loop-place.found.items c.loop-number.found.items
     c.loop-name.invariant c.loop-place.invariant c.loop-number.invariant whole many more in
     record {
       value = value;
       within = subst (All (IsOfIndex index)) (sym value) (constraints-within index);
-      few = subst (λ l. length l < 2 ^ 32) (sym value) (constraints-few index (subst (λ (v : IndexView). length v.packages ≤ stanza_limit) c.self.view_is c.len-place-end.ensures.few)
-          (subst (λ (v : IndexView). sum_by asked_count v.packages ≤ asked_limit) c.self.view_is c.len-place-end.ensures.few_asked));
+      few = subst (λ l. length l < 2 ^ 32) (sym value) (constraints-few index c.len-place-end.ensures.few c.len-place-end.ensures.few_asked);
     }

@@ -9,7 +9,7 @@ use Rattle.deb_index.proofs.index.Index.first_position.Goals as goal
 pub index-start-requires : goal.index-start-requires
 index-start-requires c =
     let i = c.self.inside in
-    let linked = subst (λ (w : IndexView). IsLinked w w.packages i.links) c.self.view_is c.self.invariant.1 in
+    let linked = subst (λ (w : IndexView). IsLinked w w.packages i.links) c.self.view_is c.self.invariant.linked in
     let long = starts-long c.args.self.now i.links linked in
     let counted = i.links.starts.ok in
     omega (arith, c.requires)
@@ -20,8 +20,8 @@ sum-is c =
     let i = c.self.inside in
     let v = c.args.self.now in
     let place = c.args.place in
-    let linked = subst (λ (w : IndexView). IsLinked w w.packages i.links) c.self.view_is c.self.invariant.1 in
-    let essential = ap length c.self.invariant.0 ∙ ap (λ (w : IndexView). length (essential_names w)) c.self.view_is in
+    let linked = subst (λ (w : IndexView). IsLinked w w.packages i.links) c.self.view_is c.self.invariant.linked in
+    let essential = ap length c.self.invariant.essentials ∙ ap (λ (w : IndexView). length (essential_names w)) c.self.view_is in
     let counted = i.essential.ok in
     omega (arith, c.len-2.ensures, essential, sums-joined v place, group-start v i.links linked place c.index-start.result.now c.requires c.index-start.ensures, entry-start v i.links linked place c.index-start.result.now c.requires c.index-start.ensures)
 
@@ -30,7 +30,7 @@ overflow_cast-result c =
     let i = c.self.inside in
     let v = c.args.self.now in
     let few = constraints-few v c.len.ensures.few c.len.ensures.few_asked in
-    let essential = ap length c.self.invariant.0 ∙ ap (λ (w : IndexView). length (essential_names w)) c.self.view_is in
+    let essential = ap length c.self.invariant.essentials ∙ ap (λ (w : IndexView). length (essential_names w)) c.self.view_is in
     let counted = i.essential.ok in
     omega (arith, few, c.len-2.ensures, essential, first-within v 0)
 
@@ -39,9 +39,9 @@ overflow_add-result c =
     let i = c.self.inside in
     let v = c.args.self.now in
     let place = c.args.place in
-    let linked = subst (λ (w : IndexView). IsLinked w w.packages i.links) c.self.view_is c.self.invariant.1 in
+    let linked = subst (λ (w : IndexView). IsLinked w w.packages i.links) c.self.view_is c.self.invariant.linked in
     let few = constraints-few v c.len.ensures.few c.len.ensures.few_asked in
-    let essential = ap length c.self.invariant.0 ∙ ap (λ (w : IndexView). length (essential_names w)) c.self.view_is in
+    let essential = ap length c.self.invariant.essentials ∙ ap (λ (w : IndexView). length (essential_names w)) c.self.view_is in
     let counted = i.essential.ok in
     omega (arith, few, c.len-2.ensures, essential, sums-joined v place, first-within v place, group-start v i.links linked place c.index-start.result.now c.requires c.index-start.ensures)
 

@@ -1,17 +1,24 @@
-use Rattle.std.proofs.Common.{subst}
-use Rattle.deb_index.specs.Packages.{IndexView}
-use Rattle.deb_index.specs.Links.{IsLinked}
-use Rattle.deb_index.proofs.LinkLemmas.{number-known}
+use Rattle.std.proofs.Common.{◌≡◌, ◌<◌, length, map, subst, sym, arith}
+use Rattle.deb_index.specs.Packages.{IndexView, name_at, names, package_at, package_view}
+use Rattle.deb_index.proofs.NameLemmas.{number-leads, numbers-long}
 use Rattle.deb_index.proofs.index.Index.name_of.Goals as goal
+
+pub index-requires : goal.index-requires
+index-requires c =
+    let packages = map package_view c.self.inside.packages.items in
+    let less = subst (λ (v : IndexView). c.args.place < length v.packages) (sym c.self.view_is) c.requires in
+    omega (arith, less, numbers-long packages c.self.inside.numbers.items c.self.invariant.numbered, c.self.inside.numbers.ok)
 
 pub returns-clause-within : goal.returns-clause-within
 returns-clause-within c =
-    let i = c.self.inside in
-    let linked = subst (λ (w : IndexView). IsLinked w w.packages i.links) c.self.view_is c.self.invariant.1 in
-    (number-known c.args.self.now i.links linked c.args.place c.index.result.now c.requires c.index.ensures).0
+    let packages = map package_view c.self.inside.packages.items in
+    let less = subst (λ (v : IndexView). c.args.place < length v.packages) (sym c.self.view_is) c.requires in
+    subst (λ (v : IndexView). c.index.result.now < length (names v)) c.self.view_is
+    (number-leads packages c.self.inside.numbers.items c.args.place c.index.result.now c.self.invariant.numbered less c.index.ensures).0
 
 pub returns-clause-name : goal.returns-clause-name
 returns-clause-name c =
-    let i = c.self.inside in
-    let linked = subst (λ (w : IndexView). IsLinked w w.packages i.links) c.self.view_is c.self.invariant.1 in
-    (number-known c.args.self.now i.links linked c.args.place c.index.result.now c.requires c.index.ensures).1
+    let packages = map package_view c.self.inside.packages.items in
+    let less = subst (λ (v : IndexView). c.args.place < length v.packages) (sym c.self.view_is) c.requires in
+    subst (λ (v : IndexView). name_at v c.index.result.now ≡ (package_at v c.args.place).name) c.self.view_is
+    (number-leads packages c.self.inside.numbers.items c.args.place c.index.result.now c.self.invariant.numbered less c.index.ensures).1

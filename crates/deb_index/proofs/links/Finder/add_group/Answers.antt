@@ -11,19 +11,19 @@ use Rattle.deb_index.proofs.RowLemmas.{count-more, count-past, found-more, group
 use Rattle.deb_index.proofs.links.Finder.add_group.Goals as goal
 
 pub alternatives-init : goal.alternatives-init
-alternatives-init c = (refl, refl, none-found c.tables-tables.result.now _ c.clear.ensures.items, refl, omega arith)
+alternatives-init c = (refl, refl, none-found c.lookup-lookup.result.now _ c.clear.ensures.items, refl, omega arith)
 
 pub returns-then-count-gt-ROW_LIMIT : goal.returns-then-count-gt-ROW_LIMIT
 returns-then-count-gt-ROW_LIMIT c =
-    let index = c.tables-tables.result.now in
+    let index = c.lookup-lookup.result.now in
     let group = c.args.group.now in
     let i = c.alternatives.number in
     let a = c.index-group-number.result in
     let within : i < length group = omega arith in
-    let named = ap length (c.places_of-named.ensures ∙ ap (places_of index) c.as_slice-name.ensures.value) in
-    let provided = ap length (c.provides_of-provided.ensures ∙ ap (provided_at index) c.as_slice-name.ensures.value) in
+    let named = ap length (c.candidates-candidates.ensures.named ∙ ap (places_of index) c.as_slice.ensures.value) in
+    let provided = ap length (c.candidates-candidates.ensures.provided ∙ ap (provided_at index) c.as_slice.ensures.value) in
     let past = count-past index group i a within c.index-group-number.is (omega (arith, c.alternatives.invariant.3, named, provided)) in
-    let none = sym (group-left index (map atom_view group) past) ∙ ap (λ (v : IndexView). answer_row v (map atom_view group)) c.tables-tables.ensures in
+    let none = sym (group-left index (map atom_view group) past) ∙ ap (λ (v : IndexView). answer_row v (map atom_view group)) c.lookup-lookup.ensures in
     record {
       index = c.alternatives.invariant.0;
       row = on-ok c.leave_out.result (λ e. e ∙ (λ j. c.alternatives.invariant.1 j ++ none j ∷ [])) c.leave_out.ensures;
@@ -31,13 +31,13 @@ returns-then-count-gt-ROW_LIMIT c =
 
 pub alternatives-preserved : goal.alternatives-preserved
 alternatives-preserved c =
-    let index = c.tables-tables.result.now in
+    let index = c.lookup-lookup.result.now in
     let group = c.args.group.now in
     let i = c.alternatives.number in
     let a = c.index-group-number.result in
     let within : i < length group = omega arith in
-    let named = ap length (c.places_of-named.ensures ∙ ap (places_of index) c.as_slice-name.ensures.value) in
-    let provided = ap length (c.provides_of-provided.ensures ∙ ap (provided_at index) c.as_slice-name.ensures.value) in
+    let named = ap length (c.candidates-candidates.ensures.named ∙ ap (places_of index) c.as_slice.ensures.value) in
+    let provided = ap length (c.candidates-candidates.ensures.provided ∙ ap (provided_at index) c.as_slice.ensures.value) in
     let merged = c.in_ok-merge.ensures index.packages (λ q. list_any (meets_need index.arch q) (map atom_view (take i group))) (λ q. meets_need index.arch q (atom_view a))
     (c.deref.ensures.value ∙ c.alternatives.invariant.2) (c.deref-in-alternatives.ensures.value ∙ c.in_ok-find.ensures) in (
       c.alternatives.invariant.0,
@@ -49,10 +49,10 @@ alternatives-preserved c =
 
 pub push-requires : goal.push-requires
 push-requires c =
-    let index = c.tables-tables.result.now in
+    let index = c.lookup-lookup.result.now in
     let group = c.args.group.now in
     let all : length group ≤ c.alternatives.number = omega arith in
-    let few = subst (λ (v : IndexView). length v.packages ≤ stanza_limit) (sym c.tables-tables.ensures) c.requires in
+    let few = subst (λ (v : IndexView). length v.packages ≤ stanza_limit) (sym c.lookup-lookup.ensures) c.requires in
     row-short (λ q. list_any (meets_need index.arch q) (map atom_view group)) index.packages _ few
     (c.deref-2.ensures.value ∙ c.alternatives.invariant.2 ∙ ap (λ l. group_satisfiers index (map atom_view l)) (take_all c.alternatives.number group all))
 

@@ -3,4 +3,4 @@ use Rattle.deb_index.specs.Links.{IsLinked}
 use Rattle.deb_index.proofs.links.Links.of.Given as goal
 
 abbrev pub invariant-loop-place : goal.invariant-loop-place
-invariant-loop-place l = (l.finder.memo ≡ l.tables) × IsLinked l.tables (take l.place l.tables.packages) l.links
+invariant-loop-place l = (l.finder.memo ≡ l.fn.lookup) × IsLinked l.fn.lookup (take l.place l.fn.lookup.packages) l.links
