@@ -9,30 +9,30 @@ use Rattle.deb_index.specs.Meets.{meets_need_at, group_satisfiers}
 use Rattle.deb_index.specs.Constraints.{has_name, answers}
 use Rattle.sat_solve.specs.Sets.{NumberSet, members_of}
 use Rattle.core_extract.specs.Reduction.{IsWithin}
-use Rattle.core_extract.proofs.ListMembers.{members_of_at}
-use Rattle.deb_verdict.specs.Encoding.{places_in_play}
+use Rattle.deb_encode.proofs.Members.{members_of_at, any_member}
+use Rattle.deb_encode.specs.Play.{places_in_play}
 use Rattle.deb_verdict.specs.Gathering.{IsEnough, none_of}
-use Rattle.deb_verdict.specs.Growing.{Grows, IsAnswered, Brings, IsVisited, BringsEssential, Visits}
-use Rattle.deb_verdict.proofs.AddSteps.{below_members}
-use Rattle.deb_verdict.proofs.IndexFacts.{member_named, answers_is_place}
-use Rattle.deb_verdict.proofs.Members.{any_member}
+use Rattle.deb_encode.specs.PlaceSets.{Grows}
+use Rattle.deb_verdict.specs.Growing.{IsAnswered, Brings, IsVisited, BringsEssential, Visits}
+use Rattle.deb_encode.proofs.AddSteps.{below_members}
+use Rattle.deb_encode.proofs.IndexFacts.{member_named, answers_is_place}
 use Rattle.deb_verdict.proofs.Forcing.{member_answers}
-use Rattle.deb_verdict.proofs.Placing.{grows_none, grows_both, grows_keeps}
+use Rattle.deb_encode.proofs.Placing.{grows_none, grows_both, grows_keeps}
 
 -- ---- what is answered
 
-answered_more : (ins row within more : NumberSet) → IsAnswered ins row within → IsWithin within more → IsAnswered ins row more
-answered_more ins row within more (inl some) keeps = inl some
-answered_more ins row within more (inr all) keeps = inr (λ q is_in. keeps q (all q is_in))
+answered_more : (forced row within more : NumberSet) → IsAnswered forced row within → IsWithin within more → IsAnswered forced row more
+answered_more forced row within more (inl some) keeps = inl some
+answered_more forced row within more (inr all) keeps = inr (λ q is_in. keeps q (all q is_in))
 
-answered_as : (ins row other within : NumberSet) → ((q : ℕ) → row q ≡ other q) → IsAnswered ins row within → IsAnswered ins other within
-answered_as ins row other within same (inl some) = inl (some.0, some.1, sym (same some.0) ∙ some.2)
-answered_as ins row other within same (inr all) = inr (λ q is_in. all q (same q ∙ is_in))
+answered_as : (forced row other within : NumberSet) → ((q : ℕ) → row q ≡ other q) → IsAnswered forced row within → IsAnswered forced other within
+answered_as forced row other within same (inl some) = inl (some.0, some.1, sym (same some.0) ∙ some.2)
+answered_as forced row other within same (inr all) = inr (λ q is_in. all q (same q ∙ is_in))
 
-pub brings_as : (count : ℕ) (ins row other : NumberSet) (before after : List ℕ) → ((q : ℕ) → row q ≡ other q) → Brings count ins row before after → Brings count ins other before after
-brings_as count ins row other before after same brings = record {
+pub brings_as : (count : ℕ) (forced row other : NumberSet) (before after : List ℕ) → ((q : ℕ) → row q ≡ other q) → Brings count forced row before after → Brings count forced other before after
+brings_as count forced row other before after same brings = record {
   grows = brings.grows;
-  answered = answered_as ins row other (members_of after) same brings.answered;
+  answered = answered_as forced row other (members_of after) same brings.answered;
 }
 
 -- each that came before is answered still, and one more
@@ -45,18 +45,18 @@ more_answered Then Now i still so_far here k below =
 
 -- ---- a row
 
-pub brings_none : (count : ℕ) (ins row free : List ℕ) → list_any (members_of ins) row ≡ true → Brings count (members_of ins) (members_of row) free free
-brings_none count ins row free some = record { grows = grows_none count free; answered = inl (any_member (members_of ins) row some) }
+pub brings_none : (count : ℕ) (forced row free : List ℕ) → list_any (members_of forced) row ≡ true → Brings count (members_of forced) (members_of row) free free
+brings_none count forced row free some = record { grows = grows_none count free; answered = inl (any_member (members_of forced) row some) }
 
-pub brings_all : (count : ℕ) (ins : NumberSet) (row before after : List ℕ) → IsWithin (members_of row) (members_of after) → Grows count before after → Brings count ins (members_of row) before after
-brings_all count ins row before after all grows = record { grows = grows; answered = inr all }
+pub brings_all : (count : ℕ) (forced : NumberSet) (row before after : List ℕ) → IsWithin (members_of row) (members_of after) → Grows count before after → Brings count forced (members_of row) before after
+brings_all count forced row before after all grows = record { grows = grows; answered = inr all }
 
 -- ---- the needs of a place
 
-pub brings_need : (index : IndexView) (ins : NumberSet) (place j : ℕ) (row before after : List ℕ) → row ≡ group_satisfiers index (need_at index place j)
-    → Brings (length index.packages) ins (members_of row) before after → Brings (length index.packages) ins (answers index place j) before after
-brings_need index ins place j row before after row_is brings =
-    brings_as (length index.packages) ins (members_of row) (answers index place j) before after (λ q. ap (λ list. members_of list q) row_is ∙ member_answers index place j q) brings
+pub brings_need : (index : IndexView) (forced : NumberSet) (place j : ℕ) (row before after : List ℕ) → row ≡ group_satisfiers index (need_at index place j)
+    → Brings (length index.packages) forced (members_of row) before after → Brings (length index.packages) forced (answers index place j) before after
+brings_need index forced place j row before after row_is brings =
+    brings_as (length index.packages) forced (members_of row) (answers index place j) before after (λ q. ap (λ list. members_of list q) row_is ∙ member_answers index place j q) brings
 
 -- the row of a need has places only
 pub row_within : (index : IndexView) (place j : ℕ) (row : List ℕ) → row ≡ group_satisfiers index (need_at index place j) → All (λ q. q < length index.packages) row
@@ -65,17 +65,17 @@ row_within index place j row row_is =
     (λ q is_in. answers_is_place index place j q (sym (ap (λ list. members_of list q) row_is ∙ member_answers index place j q) ∙ is_in))
 
 -- what is so far known of the needs below a number
-pub record VisitsBelow (index : IndexView) (ins : NumberSet) (place number : ℕ) (before after : List ℕ) : Type 0 where
+pub record VisitsBelow (index : IndexView) (forced : NumberSet) (place number : ℕ) (before after : List ℕ) : Type 0 where
   pub grows : Grows (length index.packages) before after
-  pub so_far : (j : ℕ) → j < number → IsAnswered ins (answers index place j) (members_of after)
+  pub so_far : (j : ℕ) → j < number → IsAnswered forced (answers index place j) (members_of after)
 
-pub visits_more : (index : IndexView) (ins : NumberSet) (place number : ℕ) (before between after : List ℕ) → VisitsBelow index ins place number before between
-    → Brings (length index.packages) ins (answers index place number) between after → VisitsBelow index ins place (number + 1) before after
-visits_more index ins place number before between after visits brings = record {
+pub visits_more : (index : IndexView) (forced : NumberSet) (place number : ℕ) (before between after : List ℕ) → VisitsBelow index forced place number before between
+    → Brings (length index.packages) forced (answers index place number) between after → VisitsBelow index forced place (number + 1) before after
+visits_more index forced place number before between after visits brings = record {
   grows = grows_both (length index.packages) before between after visits.grows brings.grows;
   so_far =
-      more_answered (λ j. IsAnswered ins (answers index place j) (members_of between)) (λ j. IsAnswered ins (answers index place j) (members_of after)) number
-      (λ j below answered. answered_more ins (answers index place j) (members_of between) (members_of after) answered (grows_keeps (length index.packages) between after brings.grows))
+      more_answered (λ j. IsAnswered forced (answers index place j) (members_of between)) (λ j. IsAnswered forced (answers index place j) (members_of after)) number
+      (λ j below answered. answered_more forced (answers index place j) (members_of between) (members_of after) answered (grows_keeps (length index.packages) between after brings.grows))
       visits.so_far brings.answered;
 }
 
@@ -84,11 +84,11 @@ pub no_answer : (index : IndexView) (place j q : ℕ) → length (needs_at index
 no_answer index place j q past answered =
     false≢true (sym (ap (λ (group : List AtomText). list_any (meets_need_at index q) group) (get_or_past (needs_at index place) j [] past)) ∙ answered)
 
-pub visits_place : (index : IndexView) (ins : NumberSet) (place number : ℕ) (before after : List ℕ) → length (needs_at index place) ≤ number → VisitsBelow index ins place number before after
-    → Visits index ins (λ q. eqb place q) before after
-visits_place index ins place number before after past visits =
-    let At : ℕ → Type 0 = λ q. IsVisited index ins q (members_of after) in
-    let here : IsVisited index ins place (members_of after) = λ j.
+pub visits_place : (index : IndexView) (forced : NumberSet) (place number : ℕ) (before after : List ℕ) → length (needs_at index place) ≤ number → VisitsBelow index forced place number before after
+    → Visits index forced (λ q. eqb place q) before after
+visits_place index forced place number before after past visits =
+    let At : ℕ → Type 0 = λ q. IsVisited index forced q (members_of after) in
+    let here : IsVisited index forced place (members_of after) = λ j.
     elim (cases_lt j number) [
       | inl below ↦ visits.so_far j below
       | inr above ↦ inr (λ q answered. absurd (no_answer index place j q (omega arith) answered))
@@ -98,35 +98,35 @@ visits_place index ins place number before after past visits =
       visited = λ q same. subst At (eqb-true place q same) here;
     }
 
-visited_more : (index : IndexView) (ins within more : NumberSet) (place : ℕ) → IsVisited index ins place within → IsWithin within more → IsVisited index ins place more
-visited_more index ins within more place visited keeps j = answered_more ins (answers index place j) within more (visited j) keeps
+visited_more : (index : IndexView) (forced within more : NumberSet) (place : ℕ) → IsVisited index forced place within → IsWithin within more → IsVisited index forced place more
+visited_more index forced within more place visited keeps j = answered_more forced (answers index place j) within more (visited j) keeps
 
 -- ---- the places of a list
 
 -- what is so far known of the places of a list below a number
-pub record VisitsList (index : IndexView) (ins : NumberSet) (list : List ℕ) (number : ℕ) (before after : List ℕ) : Type 0 where
+pub record VisitsList (index : IndexView) (forced : NumberSet) (list : List ℕ) (number : ℕ) (before after : List ℕ) : Type 0 where
   pub grows : Grows (length index.packages) before after
-  pub so_far : (k : ℕ) → k < number → IsVisited index ins (get_or list k 0) (members_of after)
+  pub so_far : (k : ℕ) → k < number → IsVisited index forced (get_or list k 0) (members_of after)
 
 -- the list may grow too, where only places that were there are visited
-pub list_more : (index : IndexView) (ins : NumberSet) (list list_then : List ℕ) (number place : ℕ) (before between after : List ℕ) → get_or list number 0 ≡ place
+pub list_more : (index : IndexView) (forced : NumberSet) (list list_then : List ℕ) (number place : ℕ) (before between after : List ℕ) → get_or list number 0 ≡ place
     → ((k : ℕ) → k < number + 1 → get_or list_then k 0 ≡ get_or list k 0)
-    → VisitsList index ins list number before between → Visits index ins (λ q. eqb place q) between after → VisitsList index ins list_then (number + 1) before after
-list_more index ins list list_then number place before between after here same visits more =
-    let At : ℕ → Type 0 = λ q. IsVisited index ins q (members_of after) in
+    → VisitsList index forced list number before between → Visits index forced (λ q. eqb place q) between after → VisitsList index forced list_then (number + 1) before after
+list_more index forced list list_then number place before between after here same visits more =
+    let At : ℕ → Type 0 = λ q. IsVisited index forced q (members_of after) in
     record {
       grows = grows_both (length index.packages) before between after visits.grows more.grows;
       so_far =
-          more_answered (λ k. IsVisited index ins (get_or list k 0) (members_of between)) (λ k. IsVisited index ins (get_or list_then k 0) (members_of after)) number
-          (λ k below visited. subst At (sym (same k (omega arith))) (visited_more index ins (members_of between) (members_of after) (get_or list k 0) visited (grows_keeps (length index.packages) between after more.grows)))
+          more_answered (λ k. IsVisited index forced (get_or list k 0) (members_of between)) (λ k. IsVisited index forced (get_or list_then k 0) (members_of after)) number
+          (λ k below visited. subst At (sym (same k (omega arith))) (visited_more index forced (members_of between) (members_of after) (get_or list k 0) visited (grows_keeps (length index.packages) between after more.grows)))
           visits.so_far
           (subst At (sym (same number (omega arith) ∙ here)) (more.visited place (eq-eqb place place refl)));
     }
 
-pub list_visited : (index : IndexView) (ins : NumberSet) (list : List ℕ) (number : ℕ) (before after : List ℕ) → length list ≤ number → VisitsList index ins list number before after
-    → Visits index ins (members_of list) before after
-list_visited index ins list number before after past visits =
-    let At : ℕ → Type 0 = λ q. IsVisited index ins q (members_of after) in
+pub list_visited : (index : IndexView) (forced : NumberSet) (list : List ℕ) (number : ℕ) (before after : List ℕ) → length list ≤ number → VisitsList index forced list number before after
+    → Visits index forced (members_of list) before after
+list_visited index forced list number before after past visits =
+    let At : ℕ → Type 0 = λ q. IsVisited index forced q (members_of after) in
     record {
       grows = visits.grows;
       visited = λ place is_in. (let at = members_of_at list place is_in in subst At at.2 (visits.so_far at.0 (omega (arith, at.1))));
@@ -134,59 +134,59 @@ list_visited index ins list number before after past visits =
 
 -- ---- the essential names
 
-pub record EssentialBelow (index : IndexView) (ins : NumberSet) (list : List ℕ) (number : ℕ) (before after : List ℕ) : Type 0 where
+pub record EssentialBelow (index : IndexView) (forced : NumberSet) (list : List ℕ) (number : ℕ) (before after : List ℕ) : Type 0 where
   pub grows : Grows (length index.packages) before after
-  pub so_far : (k : ℕ) → k < number → IsAnswered ins (λ q. has_name index q (get_or list k 0)) (members_of after)
+  pub so_far : (k : ℕ) → k < number → IsAnswered forced (λ q. has_name index q (get_or list k 0)) (members_of after)
 
-pub essential_more : (index : IndexView) (ins : NumberSet) (list : List ℕ) (number name : ℕ) (row before between after : List ℕ) → get_or list number 0 ≡ name
+pub essential_more : (index : IndexView) (forced : NumberSet) (list : List ℕ) (number name : ℕ) (row before between after : List ℕ) → get_or list number 0 ≡ name
     → row ≡ places_of index (name_at index name)
-    → EssentialBelow index ins list number before between → Brings (length index.packages) ins (members_of row) between after → EssentialBelow index ins list (number + 1) before after
-essential_more index ins list number name row before between after here row_is essential brings = record {
+    → EssentialBelow index forced list number before between → Brings (length index.packages) forced (members_of row) between after → EssentialBelow index forced list (number + 1) before after
+essential_more index forced list number name row before between after here row_is essential brings = record {
   grows = grows_both (length index.packages) before between after essential.grows brings.grows;
   so_far =
-      more_answered (λ k. IsAnswered ins (λ q. has_name index q (get_or list k 0)) (members_of between)) (λ k. IsAnswered ins (λ q. has_name index q (get_or list k 0)) (members_of after)) number
-      (λ k below answered. answered_more ins (λ q. has_name index q (get_or list k 0)) (members_of between) (members_of after) answered (grows_keeps (length index.packages) between after brings.grows))
+      more_answered (λ k. IsAnswered forced (λ q. has_name index q (get_or list k 0)) (members_of between)) (λ k. IsAnswered forced (λ q. has_name index q (get_or list k 0)) (members_of after)) number
+      (λ k below answered. answered_more forced (λ q. has_name index q (get_or list k 0)) (members_of between) (members_of after) answered (grows_keeps (length index.packages) between after brings.grows))
       essential.so_far
-      (answered_as ins (members_of row) (λ q. has_name index q (get_or list number 0)) (members_of after)
+      (answered_as forced (members_of row) (λ q. has_name index q (get_or list number 0)) (members_of after)
       (λ q. ap (λ places. members_of places q) row_is ∙ (member_named index name q ∙ ap (has_name index q) (sym here))) brings.answered);
 }
 
-pub essential_brought : (index : IndexView) (ins : NumberSet) (list : List ℕ) (number : ℕ) (before after : List ℕ) → length list ≤ number → list ≡ essential_names index
-    → EssentialBelow index ins list number before after → BringsEssential index ins before after
-essential_brought index ins list number before after past list_is essential = record {
+pub essential_brought : (index : IndexView) (forced : NumberSet) (list : List ℕ) (number : ℕ) (before after : List ℕ) → length list ≤ number → list ≡ essential_names index
+    → EssentialBelow index forced list number before after → BringsEssential index forced before after
+essential_brought index forced list number before after past list_is essential = record {
   grows = essential.grows;
   essential = λ name right.
       (let inside : right.0 < length list = omega (arith, right.1, ap length list_is) in
       let here : get_or list right.0 0 ≡ name = ap (λ xs. get_or xs right.0 0) list_is ∙ (get_or_default (essential_names index) right.0 0 name right.1 ∙ right.2) in
-      answered_as ins (λ q. has_name index q (get_or list right.0 0)) (λ q. has_name index q name) (members_of after) (λ q. ap (has_name index q) here)
+      answered_as forced (λ q. has_name index q (get_or list right.0 0)) (λ q. has_name index q name) (members_of after) (λ q. ap (has_name index q) here)
       (essential.so_far right.0 (omega (arith, inside))));
 }
 
 -- ---- all that is in play
 
-pub enough : (index : IndexView) (ins before free_then free_now free : List ℕ) → BringsEssential index (members_of ins) before free_then
-    → Visits index (members_of ins) (members_of ins) free_then free_now → Visits index (members_of ins) (members_of free) free_now free
-    → IsEnough index (members_of ins) none_of (places_in_play (members_of ins) free)
-enough index ins before free_then free_now free brings first second =
+pub enough : (index : IndexView) (forced before free_then free_now free : List ℕ) → BringsEssential index (members_of forced) before free_then
+    → Visits index (members_of forced) (members_of forced) free_then free_now → Visits index (members_of forced) (members_of free) free_now free
+    → IsEnough index (members_of forced) none_of (places_in_play (members_of forced) free)
+enough index forced before free_then free_now free brings first second =
     let count : ℕ = length index.packages in
     let later : IsWithin (members_of free_then) (members_of free) = λ q is_in. grows_keeps count free_now free second.grows q (grows_keeps count free_then free_now first.grows q is_in) in
-    let in_play : IsWithin (members_of free) (places_in_play (members_of ins) free) = λ q is_in. or_right (members_of ins q) (members_of free q) is_in in
+    let in_play : IsWithin (members_of free) (places_in_play (members_of forced) free) = λ q is_in. or_right (members_of forced q) (members_of free q) is_in in
     record {
-      has_ins = λ q is_in. or_left (members_of ins q) (members_of free q) is_in;
+      has_forced = λ q is_in. or_left (members_of forced q) (members_of free q) is_in;
       essential = λ number named.
-          (with_outs (λ q. has_name index q number) (places_in_play (members_of ins) free)
-          (answered_more (members_of ins) (λ q. has_name index q number) (members_of free_then) (places_in_play (members_of ins) free) (brings.essential number named) (λ q is_in. in_play q (later q is_in))));
+          (with_outs (λ q. has_name index q number) (places_in_play (members_of forced) free)
+          (answered_more (members_of forced) (λ q. has_name index q number) (members_of free_then) (places_in_play (members_of forced) free) (brings.essential number named) (λ q is_in. in_play q (later q is_in))));
       answered = λ member j is_in.
-          (with_outs (answers index member j) (places_in_play (members_of ins) free)
-          (answered_more (members_of ins) (answers index member j) (members_of free) (places_in_play (members_of ins) free)
-          (elim (or_cases (members_of ins member) (members_of free member) is_in) [
-            | inl forced ↦ answered_more (members_of ins) (answers index member j) (members_of free_now) (members_of free) (first.visited member forced j) (grows_keeps count free_now free second.grows)
+          (with_outs (answers index member j) (places_in_play (members_of forced) free)
+          (answered_more (members_of forced) (answers index member j) (members_of free) (places_in_play (members_of forced) free)
+          (elim (or_cases (members_of forced member) (members_of free member) is_in) [
+            | inl is_forced ↦ answered_more (members_of forced) (answers index member j) (members_of free_now) (members_of free) (first.visited member is_forced j) (grows_keeps count free_now free second.grows)
             | inr brought ↦ second.visited member brought j
           ])
           in_play));
     }
   where
-    with_outs : (row within : NumberSet) → IsAnswered (members_of ins) row within
-        → ((q : ℕ) × (members_of ins q ≡ true) × (row q ≡ true)) ⊎ ((q : ℕ) → row q ≡ true → none_of q ≡ false → within q ≡ true)
+    with_outs : (row within : NumberSet) → IsAnswered (members_of forced) row within
+        → ((q : ℕ) × (members_of forced q ≡ true) × (row q ≡ true)) ⊎ ((q : ℕ) → row q ≡ true → none_of q ≡ false → within q ≡ true)
     with_outs row within (inl some) = inl some
     with_outs row within (inr all) = inr (λ q is_in kept. all q is_in)

@@ -14,37 +14,38 @@ use Rattle.sat_solve.proofs.SetLemmas.{first_within}
 use Rattle.deb_verdict.specs.Gathering.{none_of, Respects, IsEnough}
 use Rattle.deb_verdict.specs.Health.{IsHealthy, IsInstallation, MeetsAt, Admits, AdmitsNone}
 use Rattle.deb_verdict.specs.Closure.{cut, IsClosed, is_kept, is_kept_there, kept}
-use Rattle.deb_verdict.proofs.IndexFacts.{All-at, IsRight, all_right, some_named}
+use Rattle.deb_encode.proofs.IndexFacts.{All-at, IsRight, all_right, some_named}
+use Rattle.deb_verdict.proofs.Bringing.{enough}
 
 not_out : (outs set : NumberSet) (q : ℕ) → ((q : ℕ) → outs q ≡ true → set q ≡ false) → set q ≡ true → outs q ≡ false
 not_out outs set q lacks is_in = false_from_ne_true (outs q) (λ out. both_ways (set q) (lacks q out) is_in)
 
 -- a constraint that a set meets, it meets when cut down to such a part
-pub cut_holds : (index : IndexView) (ins outs within : NumberSet) → IsEnough index ins outs within → (set : NumberSet) → Respects ins outs set
+pub cut_holds : (index : IndexView) (forced outs within : NumberSet) → IsEnough index forced outs within → (set : NumberSet) → Respects forced outs set
     → (constraint : Constraint) → IsRight index constraint → Holds index set constraint → Holds index (cut set within) constraint
-cut_holds index ins outs within enough set respects (Essential number) right holds =
+cut_holds index forced outs within enough set respects (Essential number) right holds =
     elim (enough.essential number right) [
-      | inl one ↦ (one.0, and_from (set one.0) (within one.0) (respects.has_ins one.0 one.1) (enough.has_ins one.0 one.1), one.2)
+      | inl one ↦ (one.0, and_from (set one.0) (within one.0) (respects.has_forced one.0 one.1) (enough.has_forced one.0 one.1), one.2)
       | inr all ↦ (holds.0, and_from (set holds.0) (within holds.0) holds.1 (all holds.0 holds.2 (not_out outs set holds.0 respects.lacks_outs holds.1)), holds.2)
     ]
-cut_holds index ins outs within enough set respects (Need p j) right holds =
+cut_holds index forced outs within enough set respects (Need p j) right holds =
     λ is_in.
     let both = and_parts (set p) (within p) is_in in
     let found = holds both.0 in
     elim (enough.answered p j both.1) [
-      | inl one ↦ (one.0, and_from (set one.0) (within one.0) (respects.has_ins one.0 one.1) (enough.has_ins one.0 one.1), one.2)
+      | inl one ↦ (one.0, and_from (set one.0) (within one.0) (respects.has_forced one.0 one.1) (enough.has_forced one.0 one.1), one.2)
       | inr all ↦ (found.0, and_from (set found.0) (within found.0) found.1 (all found.0 found.2 (not_out outs set found.0 respects.lacks_outs found.1)), found.2)
     ]
-cut_holds index ins outs within enough set respects (Apart p j) right holds =
+cut_holds index forced outs within enough set respects (Apart p j) right holds =
     λ is_in q there hit. holds ((and_parts (set p) (within p) is_in).0) q ((and_parts (set q) (within q) there).0) hit
-cut_holds index ins outs within enough set respects (Only number) right holds =
+cut_holds index forced outs within enough set respects (Only number) right holds =
     λ q r one other. holds q r ((and_parts (set q) (within q) one).0) ((and_parts (set r) (within r) other).0)
 
 -- the pruned form: what a set meets, it meets when cut down
-pub cut_meets : (index : IndexView) (ins outs within : NumberSet) → IsEnough index ins outs within → (set : NumberSet) → Respects ins outs set
+pub cut_meets : (index : IndexView) (forced outs within : NumberSet) → IsEnough index forced outs within → (set : NumberSet) → Respects forced outs set
     → (positions : NumberSet) → MeetsAt index set positions → MeetsAt index (cut set within) positions
-cut_meets index ins outs within enough set respects positions meets k constraint asked there =
-    cut_holds index ins outs within enough set respects constraint (All-at (IsRight index) (constraints_of index) k constraint (all_right index) there) (meets k constraint asked there)
+cut_meets index forced outs within enough set respects positions meets k constraint asked there =
+    cut_holds index forced outs within enough set respects constraint (All-at (IsRight index) (constraints_of index) k constraint (all_right index) there) (meets k constraint asked there)
 
 pub healthy_from_meets : (index : IndexView) (set all : NumberSet) → ((k : ℕ) → k < length (constraints_of index) → all k ≡ true) → MeetsAt index set all → IsHealthy index set
 healthy_from_meets index set all whole meets k d below =
@@ -54,31 +55,31 @@ pub meets_from_healthy : (index : IndexView) (set positions : NumberSet) → IsH
 meets_from_healthy index set positions healthy k constraint asked there = All-at (Holds index set) (constraints_of index) k constraint healthy there
 
 -- a healthy set with p, cut down, is one still
-pub cut_installation : (index : IndexView) (p : ℕ) (ins outs within : NumberSet) → IsEnough index ins outs within → within p ≡ true → (set : NumberSet) → Respects ins outs set
+pub cut_installation : (index : IndexView) (p : ℕ) (forced outs within : NumberSet) → IsEnough index forced outs within → within p ≡ true → (set : NumberSet) → Respects forced outs set
     → IsInstallation index p set → IsInstallation index p (cut set within)
-cut_installation index p ins outs within enough has_p set respects installed = (
-  healthy_from_meets index (cut set within) all_of (λ k below. refl) (cut_meets index ins outs within enough set respects all_of (meets_from_healthy index set all_of installed.0)),
+cut_installation index p forced outs within enough has_p set respects installed = (
+  healthy_from_meets index (cut set within) all_of (λ k below. refl) (cut_meets index forced outs within enough set respects all_of (meets_from_healthy index set all_of installed.0)),
   and_from (set p) (within p) installed.1 has_p,
 )
 
 -- so where all healthy sets with p respect what is in and what is out, the first one lies in the part
-pub first_is_within : (index : IndexView) (p : ℕ) (ins outs within : NumberSet) → IsEnough index ins outs within → within p ≡ true
-    → ((set : NumberSet) → IsInstallation index p set → Respects ins outs set)
+pub first_is_within : (index : IndexView) (p : ℕ) (forced outs within : NumberSet) → IsEnough index forced outs within → within p ≡ true
+    → ((set : NumberSet) → IsInstallation index p set → Respects forced outs set)
     → (set : NumberSet) → IsFirst (IsInstallation index p) set → IsWithin set within
-first_is_within index p ins outs within enough has_p respected set first q is_in =
-    let same : set ≡ cut set within = first_within (IsInstallation index p) set within first (cut_installation index p ins outs within enough has_p set (respected set first.0) first.0) in
+first_is_within index p forced outs within enough has_p respected set first q is_in =
+    let same : set ≡ cut set within = first_within (IsInstallation index p) set within first (cut_installation index p forced outs within enough has_p set (respected set first.0) first.0) in
     (and_parts (set q) (within q) (sym (ap (λ (s : NumberSet). s q) same) ∙ is_in)).1
 
 -- nothing in and nothing out: a closed set is enough
 pub closed_enough : (index : IndexView) (p : ℕ) (members : NumberSet) → IsClosed index p members → IsEnough index none_of none_of members
 closed_enough index p members closed = record {
-  has_ins = λ number is_in. absurd (false≢true is_in);
+  has_forced = λ number is_in. absurd (false≢true is_in);
   essential = λ number right. inr (λ q named out. closed.essential number q right named);
   answered = λ member j is_in. inr (λ q answered out. closed.answered member j q is_in answered);
 }
 
 pub respects_nothing : (set : NumberSet) → Respects none_of none_of set
-respects_nothing set = record { has_ins = λ number is_in. absurd (false≢true is_in); lacks_outs = λ q is_out. absurd (false≢true is_out) }
+respects_nothing set = record { has_forced = λ number is_in. absurd (false≢true is_in); lacks_outs = λ q is_out. absurd (false≢true is_out) }
 
 -- a set of members meets each constraint that speaks of none
 pub unkept_holds : (index : IndexView) (members set : NumberSet) → IsWithin set members → (constraint : Constraint) → is_kept index members constraint ≡ false → Holds index set constraint

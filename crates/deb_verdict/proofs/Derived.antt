@@ -17,11 +17,11 @@ use Rattle.deb_verdict.specs.declared.derivation.Outcome.TheVariants.{Forced, Co
 use Rattle.deb_verdict.specs.Deriving.{row_of, Comes, Gives}
 use Rattle.deb_verdict.specs.Gathering.{Follows, none_of}
 use Rattle.deb_verdict.specs.Health.{AdmitsNone, MeetsAt}
-use Rattle.deb_verdict.specs.PlaceSets.{with_place}
+use Rattle.deb_encode.specs.PlaceSets.{with_place}
 use Rattle.core_extract.specs.Reduction.{IsWithin, IsRefutation}
-use Rattle.deb_verdict.proofs.IndexFacts.{member_named}
+use Rattle.deb_encode.proofs.IndexFacts.{member_named}
 use Rattle.deb_verdict.proofs.Forcing.{member_answers}
-use Rattle.deb_verdict.proofs.Placing.{with_place_only}
+use Rattle.deb_encode.proofs.Placing.{with_place_only}
 use Rattle.deb_verdict.proofs.ReachLemmas.{essential_below}
 
 -- ---- one constraint
@@ -42,8 +42,8 @@ module _ (index : IndexView) where
       let below = essential_below index list list_is i (slice_get_within list i number at) in
       subst (λ n. n < length (names index)) (get_or_from_slice_get list i number 0 at) below
 
-  pub essential_gives : (i number : ℕ) (outcome : Outcome) → slice_get (essential_names index) i ≡ Some number → places_of index (name_at index number) ≡ row_of outcome → (ins : NumberSet) → Gives index ins i outcome
-  essential_gives i number outcome at row_is ins = record {
+  pub essential_gives : (i number : ℕ) (outcome : Outcome) → slice_get (essential_names index) i ≡ Some number → places_of index (name_at index number) ≡ row_of outcome → (forced : NumberSet) → Gives index forced i outcome
+  essential_gives i number outcome at row_is forced = record {
     constraint = Essential number;
     stands = essential_position index i number at;
     gives = λ set has holds.
@@ -56,9 +56,9 @@ module _ (index : IndexView) where
       ap (λ found. option_map_or (is_named (name_at index number)) found false) (slice_get-get_or index.packages q no_package inside)
       ∙ (ap (λ name. bytes_eq name (package_at index q).name) is ∙ name-itself (package_at index q).name)
 
-  module _ (ins : NumberSet) where
-    pub need_gives : (place j position : ℕ) (outcome : Outcome) → slice_get (constraints_of index) position ≡ Some (Need place j) → ins place ≡ true
-        → group_satisfiers index (need_at index place j) ≡ row_of outcome → Gives index ins position outcome
+  module _ (forced : NumberSet) where
+    pub need_gives : (place j position : ℕ) (outcome : Outcome) → slice_get (constraints_of index) position ≡ Some (Need place j) → forced place ≡ true
+        → group_satisfiers index (need_at index place j) ≡ row_of outcome → Gives index forced position outcome
     need_gives place j position outcome stands is_in row_is = record {
       constraint = Need place j;
       stands = stands;
@@ -67,8 +67,8 @@ module _ (index : IndexView) where
           row_comes set outcome found.0 (sym (ap (λ list. members_of list found.0) row_is) ∙ (member_answers index place j found.0 ∙ found.2)) found.1);
     }
 
-    pub apart_gives : (place j other position : ℕ) → slice_get (constraints_of index) position ≡ Some (Apart place j) → ins place ≡ true → ins other ≡ true → other ≢ place
-        → hits index place j other ≡ true → Gives index ins position Contradiction
+    pub apart_gives : (place j other position : ℕ) → slice_get (constraints_of index) position ≡ Some (Apart place j) → forced place ≡ true → forced other ≡ true → other ≢ place
+        → hits index place j other ≡ true → Gives index forced position Contradiction
     apart_gives place j other position stands is_in is_too apart hit = record {
       constraint = Apart place j;
       stands = stands;
@@ -76,8 +76,8 @@ module _ (index : IndexView) where
     }
 
     pub only_gives : (first second number position : ℕ) → slice_get (constraints_of index) position ≡ Some (Only number) → first < length index.packages → second < length index.packages
-        → ins first ≡ true → ins second ≡ true → second ≢ first → name_at index number ≡ (package_at index first).name → name_at index number ≡ (package_at index second).name
-        → Gives index ins position Contradiction
+        → forced first ≡ true → forced second ≡ true → second ≢ first → name_at index number ≡ (package_at index first).name → name_at index number ≡ (package_at index second).name
+        → Gives index forced position Contradiction
     only_gives first second number position stands inside inside_too is_in is_too apart named also = record {
       constraint = Only number;
       stands = stands;
@@ -88,9 +88,9 @@ module _ (index : IndexView) where
 -- ---- steps
 
 -- steps at positions of a part, and what is in by them
-pub record IsDerived (index : IndexView) (p : ℕ) (part : NumberSet) (positions ins : List ℕ) : Type 0 where
+pub record IsDerived (index : IndexView) (p : ℕ) (part : NumberSet) (positions forced : List ℕ) : Type 0 where
   pub within : IsWithin (members_of positions) part
-  pub follows : Follows index p (members_of positions) (members_of ins) none_of
+  pub follows : Follows index p (members_of positions) (members_of forced) none_of
 
 -- what is in one list is in a longer one; what came is there, too
 push_old : (numbers : List ℕ) (added number : ℕ) → members_of numbers number ≡ true → members_of (numbers ++ added ∷ []) number ≡ true
@@ -111,35 +111,35 @@ push_within part numbers added within has number is_in =
 
 module _ (index : IndexView) (p : ℕ) (part : NumberSet) where
   abbrev Derived : List ℕ → List ℕ → Type 0
-  Derived positions ins = IsDerived index p part positions ins
+  Derived positions forced = IsDerived index p part positions forced
 
-  module _ (positions ins : List ℕ) (position : ℕ) (derived : IsDerived index p part positions ins) (has : part position ≡ true) where
+  module _ (positions forced : List ℕ) (position : ℕ) (derived : IsDerived index p part positions forced) (has : part position ≡ true) where
     -- what a set that meets the constraints of all steps has
-    step_gives : (outcome : Outcome) → Gives index (members_of ins) position outcome → (set : NumberSet) → set p ≡ true → MeetsAt index set (members_of (positions ++ position ∷ [])) → Comes set outcome
+    step_gives : (outcome : Outcome) → Gives index (members_of forced) position outcome → (set : NumberSet) → set p ≡ true → MeetsAt index set (members_of (positions ++ position ∷ [])) → Comes set outcome
     step_gives outcome gives set has_p meets =
         let old = derived.follows set has_p (λ k constraint asked there. meets k constraint (push_old positions position k asked) there) in
-        gives.gives set old.has_ins (meets position gives.constraint (push_new positions position) gives.stands)
+        gives.gives set old.has_forced (meets position gives.constraint (push_new positions position) gives.stands)
 
-    pub derived_more : (q : ℕ) (positions_then ins_then : List ℕ) → Gives index (members_of ins) position (Forced q) → positions_then ≡ positions ++ position ∷ [] → ins_then ≡ with_place ins q
-        → Derived positions_then ins_then
-    derived_more q positions_then ins_then gives pushed inserted =
-        subst (λ list. Derived list ins_then) (sym pushed)
+    pub derived_more : (q : ℕ) (positions_then forced_then : List ℕ) → Gives index (members_of forced) position (Forced q) → positions_then ≡ positions ++ position ∷ [] → forced_then ≡ with_place forced q
+        → Derived positions_then forced_then
+    derived_more q positions_then forced_then gives pushed inserted =
+        subst (λ list. Derived list forced_then) (sym pushed)
         (subst (λ list. Derived (positions ++ position ∷ []) list) (sym inserted)
         (record {
           within = push_within part positions position derived.within has;
           follows = λ set has_p meets.
               (let old = derived.follows set has_p (λ k constraint asked there. meets k constraint (push_old positions position k asked) there) in
               record {
-                has_ins = λ number is_in.
-                    elim (with_place_only ins q number is_in) [
-                      | inl before ↦ old.has_ins number before
+                has_forced = λ number is_in.
+                    elim (with_place_only forced q number is_in) [
+                      | inl before ↦ old.has_forced number before
                       | inr here ↦ ap set (sym here) ∙ step_gives (Forced q) gives set has_p meets
                     ];
                 lacks_outs = old.lacks_outs;
               });
         }))
 
-    pub derived_refutes : (positions_then : List ℕ) → Gives index (members_of ins) position Contradiction → positions_then ≡ positions ++ position ∷ []
+    pub derived_refutes : (positions_then : List ℕ) → Gives index (members_of forced) position Contradiction → positions_then ≡ positions ++ position ∷ []
         → IsRefutation (AdmitsNone index p) part (members_of positions_then)
     derived_refutes positions_then gives pushed =
         subst (λ list. IsRefutation (AdmitsNone index p) part (members_of list)) (sym pushed)

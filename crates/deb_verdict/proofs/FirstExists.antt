@@ -14,8 +14,11 @@ use Rattle.deb_verdict.specs.Gathering.{none_of, IsEnough}
 use Rattle.deb_verdict.specs.Health.{IsInstallation, IsInstallable}
 use Rattle.deb_verdict.specs.Verdicts.{IsFirstInstallation}
 use Rattle.deb_verdict.proofs.Cutting.{cut_installation, respects_nothing}
-use Rattle.deb_verdict.proofs.Encoded.{and_true}
-use Rattle.deb_verdict.proofs.IndexFacts.{named_is_place, answers_is_place}
+use Rattle.deb_encode.proofs.IndexFacts.{named_is_place, answers_is_place}
+
+and_true : (a b : Bool) → b ≡ true → (a && b) ≡ a
+and_true true b yes_it = yes_it
+and_true false b yes_it = refl
 
 -- ---- the first of the sets below a limit that pass a test
 
@@ -157,7 +160,7 @@ module _ (index : IndexView) (p : ℕ) where
   -- all that has a name or answers a need is a place
   places_enough : IsEnough index none_of none_of (λ q. ltb q (length index.packages))
   places_enough = record {
-    has_ins = λ number is_in. absurd (false≢true is_in);
+    has_forced = λ number is_in. absurd (false≢true is_in);
     essential = λ number right. inr (λ q named out. lt-ltb q (length index.packages) (named_is_place index q number named));
     answered = λ member j is_in. inr (λ q answered out. lt-ltb q (length index.packages) (answers_is_place index member j q answered));
   }

@@ -11,12 +11,12 @@ use Rattle.deb_index.specs.Constraints.{has_name, answers}
 use Rattle.deb_index.proofs.MemberLemmas.{member-places_where}
 use Rattle.sat_solve.specs.Sets.{members_of}
 use Rattle.core_extract.specs.Reduction.{IsWithin, all_of}
-use Rattle.deb_verdict.specs.PlaceSets.{with_place}
+use Rattle.deb_encode.specs.PlaceSets.{with_place}
 use Rattle.deb_verdict.specs.Gathering.{Follows, none_of}
 use Rattle.deb_verdict.specs.Growing.{KeepsForced, TakesOnly}
 use Rattle.deb_verdict.specs.Growing.TakesOnly.{Same, Took}
-use Rattle.deb_verdict.proofs.IndexFacts.{member_named, named_is_place, answers_is_place}
-use Rattle.deb_verdict.proofs.Placing.{grows_none, grows_both, grows_with, with_place_only}
+use Rattle.deb_encode.proofs.IndexFacts.{member_named, named_is_place, answers_is_place}
+use Rattle.deb_encode.proofs.Placing.{grows_none, grows_both, grows_with, with_place_only}
 use Rattle.deb_verdict.proofs.Standing.{need_stands, essential_stands}
 use Rattle.deb_verdict.proofs.Units.{with_one, one_in, last_answer, last_essential}
 
@@ -62,10 +62,10 @@ follows_with : (index : IndexView) (p q : ℕ) (places : List ℕ) → Follows i
 follows_with index p q places follows set has_p meets =
     let old = follows set has_p meets in
     record {
-      has_ins = λ number is_in.
+      has_forced = λ number is_in.
           elim (with_place_only places q number is_in) [
-            | inl before ↦ old.has_ins number (or_left (members_of places number) (eqb q number) before)
-            | inr here ↦ old.has_ins number (or_right (members_of places number) (eqb q number) (eq-eqb q number here))
+            | inl before ↦ old.has_forced number (or_left (members_of places number) (eqb q number) before)
+            | inr here ↦ old.has_forced number (or_right (members_of places number) (eqb q number) (eq-eqb q number here))
           ];
       lacks_outs = old.lacks_outs;
     }
@@ -122,7 +122,7 @@ pub forced_fewer : (index : IndexView) (p : ℕ) (places fewer : List ℕ) → I
     → Follows index p all_of (members_of fewer) none_of
 forced_fewer index p places fewer within follows set has_p meets =
     let all = follows set has_p meets in
-    record { has_ins = λ number is_in. all.has_ins number (within number is_in); lacks_outs = all.lacks_outs }
+    record { has_forced = λ number is_in. all.has_forced number (within number is_in); lacks_outs = all.lacks_outs }
 
 pub forced_start : (index : IndexView) (p : ℕ) (places : List ℕ) → Follows index p all_of (members_of places) none_of → Follows index p all_of (members_of (with_place places p)) none_of
 forced_start index p places follows =

@@ -4,11 +4,11 @@ use Rattle.std.proofs.lemmas.Bool.{false≢true, cases_lt, eqb-true}
 use Rattle.deb_index.specs.Packages.{IndexView, needs_at}
 use Rattle.sat_solve.specs.Sets.{NumberSet, members_of}
 use Rattle.core_extract.specs.Reduction.{IsWithin, all_of}
-use Rattle.deb_verdict.specs.PlaceSets.{with_place}
+use Rattle.deb_encode.specs.PlaceSets.{with_place, ArePlaces, Grows}
 use Rattle.deb_verdict.specs.Gathering.{Follows, none_of}
 use Rattle.deb_verdict.specs.Groundwork.{IsMet}
-use Rattle.deb_verdict.specs.Growing.{ArePlaces, AreForced, Grows, KeepsForced, IsVisited, Visits}
-use Rattle.deb_verdict.proofs.Placing.{grows_none, grows_with, grows_keeps, with_place_has, places_empty}
+use Rattle.deb_verdict.specs.Growing.{AreForced, KeepsForced, IsVisited, Visits}
+use Rattle.deb_encode.proofs.Placing.{grows_none, grows_with, grows_keeps, with_place_has, places_empty}
 use Rattle.deb_verdict.proofs.Forcing.{forced_fewer, forced_start}
 use Rattle.deb_verdict.proofs.Bringing.{no_answer}
 
@@ -45,10 +45,10 @@ first_ground index p forced row extended started after row_is has started_is kee
     ∙ grows_keeps (p + 1) extended (with_place extended p) (grows_with (p + 1) extended p (omega arith)) q (has q (ap (λ list. members_of list q) row_is ∙ is_in)))
 
 -- nothing need come where each need is met
-pub visits_met : (index : IndexView) (forced ins : NumberSet) (place : ℕ) (before : List ℕ) → IsWithin forced ins → IsMet index forced place → Visits index ins (λ q. eqb place q) before before
-visits_met index forced ins place before within met =
-    let At : ℕ → Type 0 = λ q. IsVisited index ins q (members_of before) in
-    let here : IsVisited index ins place (members_of before) = λ j.
+pub visits_met : (index : IndexView) (known forced : NumberSet) (place : ℕ) (before : List ℕ) → IsWithin known forced → IsMet index known place → Visits index forced (λ q. eqb place q) before before
+visits_met index known forced place before within met =
+    let At : ℕ → Type 0 = λ q. IsVisited index forced q (members_of before) in
+    let here : IsVisited index forced place (members_of before) = λ j.
     elim (cases_lt j (length (needs_at index place))) [
       | inl below ↦ let found = met j below in inl (found.0, within found.0 found.1, found.2)
       | inr above ↦ inr (λ q answered. absurd (no_answer index place j q (omega arith) answered))

@@ -8,32 +8,34 @@ use Rattle.deb_index.specs.Packages.{IndexView, package_at, places_of, aparts_at
 use Rattle.deb_index.specs.Meets.{satisfiers, group_satisfiers}
 use Rattle.deb_index.specs.Constraints.{answers, hits}
 use Rattle.sat_solve.specs.Sets.{NumberSet, members_of}
-use Rattle.deb_verdict.specs.Groundwork.{IsInAll, IsMet, HasAnswers, IsAlone, MarksOnly}
-use Rattle.deb_verdict.specs.Growing.{ArePlaces, KeepsForced}
+use Rattle.deb_verdict.specs.Groundwork.{IsInAll, IsMet, HasAnswers}
+use Rattle.deb_encode.specs.Alone.{IsAlone, MarksOnly}
+use Rattle.deb_encode.specs.PlaceSets.{ArePlaces}
+use Rattle.deb_verdict.specs.Growing.{KeepsForced}
 use Rattle.deb_verdict.proofs.Forcing.{member_answers}
-use Rattle.deb_verdict.proofs.IndexFacts.{member_satisfiers}
-use Rattle.deb_verdict.proofs.Placing.{places_empty}
-use Rattle.deb_verdict.proofs.Members.{any_member, member_any, all_member}
+use Rattle.deb_encode.proofs.IndexFacts.{member_satisfiers}
+use Rattle.deb_encode.proofs.Placing.{places_empty}
+use Rattle.deb_encode.proofs.Members.{any_member, member_any, all_member}
 
 -- ---- needs that are answered by what is in
 
 -- a place that is in answers the need
 abbrev pub IsAnsweredBy : IndexView → NumberSet → ℕ → ℕ → Type 0
-IsAnsweredBy index ins place j = (q : ℕ) × (ins q ≡ true) × (answers index place j q ≡ true)
+IsAnsweredBy index forced place j = (q : ℕ) × (forced q ≡ true) × (answers index place j q ≡ true)
 
-pub answered_by_row : (index : IndexView) (ins : NumberSet) (place j : ℕ) (row : List ℕ) → row ≡ group_satisfiers index (need_at index place j) → list_any ins row ≡ true → IsAnsweredBy index ins place j
-answered_by_row index ins place j row row_is holds =
-    let at = any_member ins row holds in
+pub answered_by_row : (index : IndexView) (forced : NumberSet) (place j : ℕ) (row : List ℕ) → row ≡ group_satisfiers index (need_at index place j) → list_any forced row ≡ true → IsAnsweredBy index forced place j
+answered_by_row index forced place j row row_is holds =
+    let at = any_member forced row holds in
     (at.0, at.1, sym (ap (λ list. members_of list at.0) row_is ∙ member_answers index place j at.0) ∙ at.2)
 
 -- the two ways to say that each need is answered
-pub answers_from_met : (index : IndexView) (ins : NumberSet) (place : ℕ) → IsMet index ins place → HasAnswers index ins place
-answers_from_met index ins place met j inside =
+pub answers_from_met : (index : IndexView) (forced : NumberSet) (place : ℕ) → IsMet index forced place → HasAnswers index forced place
+answers_from_met index forced place met j inside =
     let at = met j inside in
-    member_any ins (group_satisfiers index (need_at index place j)) at.0 at.1 (member_answers index place j at.0 ∙ at.2)
+    member_any forced (group_satisfiers index (need_at index place j)) at.0 at.1 (member_answers index place j at.0 ∙ at.2)
 
-pub met_from_answers : (index : IndexView) (ins : NumberSet) (place : ℕ) → HasAnswers index ins place → IsMet index ins place
-met_from_answers index ins place has j inside = answered_by_row index ins place j (group_satisfiers index (need_at index place j)) refl (has j inside)
+pub met_from_answers : (index : IndexView) (forced : NumberSet) (place : ℕ) → HasAnswers index forced place → IsMet index forced place
+met_from_answers index forced place has j inside = answered_by_row index forced place j (group_satisfiers index (need_at index place j)) refl (has j inside)
 
 -- ---- entries that hit no other place, and names that no earlier place has
 
@@ -85,7 +87,7 @@ empty_are_places count places empty =
 none_in_all : (index : IndexView) (places : List ℕ) → places ≡ [] → IsInAll index (members_of places)
 none_in_all index places empty =
     let For : List ℕ → Type 0 = λ list. IsInAll index (members_of list) in
-    subst For (sym empty) (λ p set has_p meets. record { has_ins = λ q never. absurd (false≢true never); lacks_outs = λ q never. absurd (false≢true never) })
+    subst For (sym empty) (λ p set has_p meets. record { has_forced = λ q never. absurd (false≢true never); lacks_outs = λ q never. absurd (false≢true never) })
 
 pub forced_in_all : (index : IndexView) (start between after : List ℕ) → start ≡ [] → KeepsForced index start between → KeepsForced index between after → IsInAll index (members_of after)
 forced_in_all index start between after empty first second p = second.forced p (first.forced p (none_in_all index start empty p))

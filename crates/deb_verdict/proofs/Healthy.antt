@@ -17,10 +17,11 @@ use Rattle.deb_index.proofs.FirstLemmas.{same-name, name-itself, names-turned, a
 use Rattle.deb_index.proofs.MemberLemmas.{member-places_where}
 use Rattle.sat_solve.specs.Sets.{NumberSet, members_of}
 use Rattle.deb_verdict.specs.Health.{IsHealthy}
-use Rattle.deb_verdict.specs.Standings.{HasNoEarlier, HasOneOf, HasOneVersion, MeetsPlace}
-use Rattle.core_extract.proofs.ListMembers.{members_of_at, at_members_of}
-use Rattle.deb_verdict.proofs.IndexFacts.{member_named, named_is_place}
-use Rattle.deb_verdict.proofs.AddLemmas.{All-front, All-back}
+use Rattle.deb_verdict.specs.Meeting.{HasNoEarlier, MeetsPlace}
+use Rattle.deb_encode.specs.Standings.{HasOneOf, HasOneVersion}
+use Rattle.deb_encode.proofs.Members.{members_of_at, at_members_of}
+use Rattle.deb_encode.proofs.IndexFacts.{member_named, named_is_place, only_says_once}
+use Rattle.deb_encode.proofs.AddLemmas.{All-front, All-back}
 
 -- ---- lists
 
@@ -106,16 +107,6 @@ module _ (index : IndexView) where
       member-places_where (is_named (package_at index p).name) index.packages p
       ∙ (ap (λ there. option_map_or (is_named (package_at index p).name) there false) (slice_get-get_or index.packages p no_package inside) ∙ name-itself (package_at index p).name)
 
-  -- at most one of the places of a name is in where no two of its packages are
-  only_says_once : (number : ℕ) (set : NumberSet) → Holds index set (Only number) → HasOneOf (places_of index (name_at index number)) set
-  only_says_once number set holds q r named also is_there is_too = holds q r is_there is_too (sym (member_named index number q) ∙ named) (sym (member_named index number r) ∙ also)
-
-  pub once_says_only : (number : ℕ) (set : NumberSet) → (HasOneOf (places_of index (name_at index number)) set ↔ Holds index set (Only number))
-  once_says_only number set = (
-    λ once q r is_there is_too named also. once q r (member_named index number q ∙ named) (member_named index number r ∙ also) is_there is_too,
-    λ holds. only_says_once number set holds,
-  )
-
   module _ (set : NumberSet) where
     no_two : (number q r : ℕ) → has_name index q number ≡ true → has_name index r number ≡ true → set q ≡ true → set r ≡ true → HasNoEarlier index set r → q < r → ⊥
     no_two number q r named also there is_too alone less = alone is_too q less (has_version number r q (name_is r number also) ∙ named) there
@@ -142,7 +133,7 @@ module _ (index : IndexView) where
     once_from_only all p inside =
         let at = numbered p inside in
         let Once : List ℕ → Type 0 = λ name. HasOneOf (places_of index name) set in
-        subst Once at.2 (only_says_once at.0 set (all at.0 at.1))
+        subst Once at.2 (only_says_once index at.0 set (all at.0 at.1))
 
     only_from_once : (number : ℕ) → ((q : ℕ) → set q ≡ true → MeetsPlace index set q) → Holds index set (Only number)
     only_from_once number each q r is_there is_too named also =

@@ -7,12 +7,12 @@ use Rattle.deb_index.specs.Packages.{IndexView, name_at, places_of, essential_na
 use Rattle.deb_index.specs.Meets.{group_satisfiers}
 use Rattle.deb_index.specs.Constraints.{Holds, constraints_of}
 use Rattle.sat_solve.specs.Sets.{NumberSet, members_of}
-use Rattle.deb_verdict.specs.PlaceSets.{with_place}
+use Rattle.deb_encode.specs.PlaceSets.{with_place}
 use Rattle.deb_verdict.specs.Hopeless.{IsHopeless, AreHopeless, IsUnanswered, HasUnanswered}
 use Rattle.deb_verdict.proofs.Forcing.{member_answers}
-use Rattle.deb_verdict.proofs.IndexFacts.{All-at, member_named}
-use Rattle.deb_verdict.proofs.Members.{all_member}
-use Rattle.deb_verdict.proofs.Placing.{with_place_only}
+use Rattle.deb_encode.proofs.IndexFacts.{All-at, member_named}
+use Rattle.deb_encode.proofs.Members.{all_member}
+use Rattle.deb_encode.proofs.Placing.{with_place_only}
 use Rattle.deb_verdict.proofs.Standing.{need_stands, essential_stands}
 
 -- a need whose row has such places alone

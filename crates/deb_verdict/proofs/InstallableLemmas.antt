@@ -7,9 +7,9 @@ use Rattle.std.proofs.lemmas.List.Folds.{list_any_at}
 use Rattle.std.proofs.lemmas.Option.{slice_get_within, get_or_from_slice_get, slice_get-get_or}
 use Rattle.deb_index.specs.Packages.{IndexView}
 use Rattle.sat_solve.specs.Sets.{members_of}
-use Rattle.deb_verdict.specs.Groundwork.{MarksOnly}
+use Rattle.deb_encode.specs.Alone.{MarksOnly}
 use Rattle.deb_verdict.specs.Health.{IsHealthy, IsInstallable, MeetsAt}
-use Rattle.deb_verdict.specs.PlaceSets.{with_place}
+use Rattle.deb_encode.specs.PlaceSets.{with_place}
 use Rattle.core_extract.specs.Reduction.{left}
 use Rattle.deb_verdict.proofs.Cutting.{healthy_from_meets}
 

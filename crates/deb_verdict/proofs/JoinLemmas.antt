@@ -8,7 +8,7 @@ use Rattle.std.proofs.lemmas.List.Folds.{list_any_more, list_any-append}
 use Rattle.std.proofs.lemmas.Map.Keys.{IsDistinct-push}
 use Rattle.sat_solve.specs.Sets.{NumberSet, members_of}
 use Rattle.core_extract.specs.Reduction.{IsWithin}
-use Rattle.deb_verdict.specs.PlaceSets.{with_place}
+use Rattle.deb_encode.specs.PlaceSets.{with_place}
 use Rattle.deb_verdict.specs.Reach.{Joins}
 
 -- what was there still is

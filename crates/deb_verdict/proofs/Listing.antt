@@ -15,9 +15,9 @@ use Rattle.sat_solve.proofs.MembersLemmas.{members_of_push}
 use Rattle.deb_verdict.specs.Closure.{cut, kept, is_kept, is_kept_there}
 use Rattle.deb_verdict.specs.Listing.{Lists, IsAnEssential, IsNeedOf, IsApartOf}
 use Rattle.deb_verdict.proofs.Healthy.{name_is}
-use Rattle.deb_verdict.proofs.IndexFacts.{All-at, IsRight, all_right, member_named}
+use Rattle.deb_encode.proofs.IndexFacts.{All-at, IsRight, all_right, member_named}
 use Rattle.core_extract.proofs.Kept.{pushed_has}
-use Rattle.deb_verdict.proofs.Members.{any_member}
+use Rattle.deb_encode.proofs.Members.{any_member}
 use Rattle.deb_verdict.proofs.Names.{one_number}
 
 -- the constraints that are told by numbers below a count

@@ -10,8 +10,8 @@ use Rattle.sat_solve.specs.Sets.{NumberSet, members_of}
 use Rattle.sat_solve.proofs.SetLemmas.{first_once}
 use Rattle.deb_verdict.specs.Health.{IsInstallation, AdmitsNone}
 use Rattle.deb_verdict.specs.Verdicts.{IsFirstInstallation, IsFirstCore}
-use Rattle.core_extract.proofs.ListMembers.{members_of_at}
-use Rattle.deb_verdict.proofs.Encoded.{rising_lt}
+use Rattle.deb_encode.proofs.Members.{members_of_at}
+use Rattle.deb_encode.proofs.PositionsOf.{rising_lt}
 
 pub rising_tail : (x : ℕ) (rest : List ℕ) → IsStrictlyIncreasing (x ∷ rest) → IsStrictlyIncreasing rest
 rising_tail x rest rising k below =

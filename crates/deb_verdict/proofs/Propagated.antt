@@ -7,12 +7,11 @@ use Rattle.deb_index.proofs.MemberLemmas.{rising-places_where, below-places_wher
 use Rattle.sat_solve.specs.Sets.{members_of}
 use Rattle.deb_verdict.specs.Deriving.{row_of}
 use Rattle.deb_verdict.specs.declared.derivation.Outcome.TheVariants.{Forced}
-use Rattle.deb_verdict.specs.Growing.{Grows}
-use Rattle.deb_verdict.specs.PlaceSets.{with_place}
+use Rattle.deb_encode.specs.PlaceSets.{Grows, with_place}
 use Rattle.deb_verdict.proofs.Forcing.{member_answers}
-use Rattle.deb_verdict.proofs.IndexFacts.{member_named, named_is_place, answers_is_place}
-use Rattle.deb_verdict.proofs.Placing.{grows_with}
-use Rattle.deb_verdict.proofs.SceneLemmas.{rising_length}
+use Rattle.deb_encode.proofs.IndexFacts.{member_named, named_is_place, answers_is_place}
+use Rattle.deb_encode.proofs.Placing.{grows_with}
+use Rattle.deb_encode.proofs.PlayLemmas.{rising_length}
 
 single_has : (only : ℕ) → members_of (only ∷ []) only ≡ true
 single_has only = or_left (eqb only only) false (eq-eqb only only refl)

@@ -1,5 +1,5 @@
 -- The steps on the way to a closure.
-use Rattle.std.proofs.Common.{◌≡◌, ℕ, ◌+◌, ◌<◌, ◌≤◌, Bool, true, false, ◌||◌, eqb, List, [], ◌∷◌, length, get_or, take, drop, All, refl, sym, subst, ◌∙◌, ap, inl, inr, arith, Option, Some, None, slice_get}
+use Rattle.std.proofs.Common.{◌≡◌, ℕ, ◌+◌, ◌<◌, ◌≤◌, true, false, ◌||◌, eqb, List, [], ◌∷◌, length, get_or, take, drop, All, refl, sym, subst, ◌∙◌, ap, inl, inr, arith, Option, Some, None, slice_get}
 use Rattle.std.specs.Prelude.{nat_eq}
 use Rattle.std.specs.List.{list_any, IsDistinct}
 use Rattle.std.specs.Option.{option_map_or}
@@ -16,10 +16,10 @@ use Rattle.sat_solve.specs.Sets.{NumberSet, members_of}
 use Rattle.deb_verdict.specs.Closure.{IsClosed, IsClosure}
 use Rattle.core_extract.specs.Reduction.{IsWithin, all_below}
 use Rattle.deb_verdict.specs.Reach.{Joins, meeting, meeting_any, IsReaching}
-use Rattle.deb_verdict.proofs.AddSteps.{take_whole, below_members}
-use Rattle.deb_verdict.proofs.IndexFacts.{member_named, named_is_place, answers_is_place}
+use Rattle.deb_encode.proofs.AddSteps.{take_whole, below_members}
+use Rattle.deb_encode.proofs.IndexFacts.{member_named, named_is_place, answers_is_place}
 use Rattle.deb_verdict.proofs.JoinLemmas.{joins_as, joins_both, joins_keep, joins_more}
-use Rattle.deb_verdict.proofs.PlaceSetLemmas.{few_below}
+use Rattle.deb_encode.proofs.PlaceSetLemmas.{few_below}
 use Rattle.deb_verdict.proofs.Reaching.{IsVisit, visit_reaches, reached}
 
 -- ---- what comes in

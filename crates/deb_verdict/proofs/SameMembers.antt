@@ -2,7 +2,7 @@
 use Rattle.std.proofs.Common.{◌≡◌, ℕ, true, List, get_or, Contains, sym, ◌∙◌, ap}
 use Rattle.std.proofs.lemmas.List.{get_or_default}
 use Rattle.sat_solve.specs.Sets.{members_of}
-use Rattle.core_extract.proofs.ListMembers.{members_of_at, at_members_of}
+use Rattle.deb_encode.proofs.Members.{members_of_at, at_members_of}
 
 pub contains_member : (numbers : List ℕ) (number : ℕ) → Contains numbers number → members_of numbers number ≡ true
 contains_member numbers number there =

@@ -9,12 +9,11 @@ use Rattle.deb_index.specs.Constraints.{answers}
 use Rattle.sat_solve.specs.Sets.{NumberSet, members_of}
 use Rattle.core_extract.specs.Reduction.{IsWithin}
 use Rattle.deb_verdict.specs.declared.unmet.UnmetNeed.{UnmetNeed}
-use Rattle.core_extract.proofs.ListMembers.{members_of_at}
-use Rattle.deb_verdict.specs.Encoding.{places_in_play}
+use Rattle.deb_encode.proofs.Members.{members_of_at, any_member, member_any}
+use Rattle.deb_encode.specs.Play.{places_in_play}
 use Rattle.deb_verdict.specs.Groundwork.{IsMet}
 use Rattle.deb_verdict.specs.Unmet.{LeavesUnmet, IsUnmet, ListsUnmet, AreUnmet}
 use Rattle.deb_verdict.proofs.Forcing.{member_answers}
-use Rattle.deb_verdict.proofs.Members.{any_member, member_any}
 
 -- it is one of the first places of the list
 abbrev pub IsAmong : List ℕ → ℕ → ℕ → ℕ → Type 0
@@ -22,37 +21,37 @@ IsAmong list number q j = (k : ℕ) × (k < number) × (get_or list k 0 ≡ q)
 
 -- ---- a row
 
-pub row_met : (ins : NumberSet) (row : List ℕ) → list_any ins row ≡ true → LeavesUnmet ins (members_of row) false
-row_met ins row some = record {
-  met = λ same. any_member ins row some;
+pub row_met : (forced : NumberSet) (row : List ℕ) → list_any forced row ≡ true → LeavesUnmet forced (members_of row) false
+row_met forced row some = record {
+  met = λ same. any_member forced row some;
   unmet = λ never. absurd (false≢true never);
 }
 
-pub row_unmet : (ins : NumberSet) (row : List ℕ) → list_any ins row ≡ false → LeavesUnmet ins (members_of row) true
-row_unmet ins row none = record {
+pub row_unmet : (forced : NumberSet) (row : List ℕ) → list_any forced row ≡ false → LeavesUnmet forced (members_of row) true
+row_unmet forced row none = record {
   met = λ never. absurd (false≢true (sym never));
-  unmet = λ same q is_in listed. both_ways (list_any ins row) none (member_any ins row q is_in listed);
+  unmet = λ same q is_in listed. both_ways (list_any forced row) none (member_any forced row q is_in listed);
 }
 
 -- the same row, said in other words
-pub leaves_as : (ins row other : NumberSet) (is_unmet : Bool) → ((q : ℕ) → row q ≡ other q) → LeavesUnmet ins row is_unmet → LeavesUnmet ins other is_unmet
-leaves_as ins row other is_unmet same leaves = record {
+pub leaves_as : (forced row other : NumberSet) (is_unmet : Bool) → ((q : ℕ) → row q ≡ other q) → LeavesUnmet forced row is_unmet → LeavesUnmet forced other is_unmet
+leaves_as forced row other is_unmet same leaves = record {
   met = λ is_met. (let found = leaves.met is_met in (found.0, found.1, sym (same found.0) ∙ found.2));
   unmet = λ is_not q is_in answered. leaves.unmet is_not q is_in (same q ∙ answered);
 }
 
 -- the row of a need
-pub leaves_need : (index : IndexView) (ins : NumberSet) (place j : ℕ) (row : List ℕ) (is_unmet : Bool) → row ≡ group_satisfiers index (need_at index place j)
-    → LeavesUnmet ins (members_of row) is_unmet → LeavesUnmet ins (answers index place j) is_unmet
-leaves_need index ins place j row is_unmet row_is leaves =
-    leaves_as ins (members_of row) (answers index place j) is_unmet (λ q. ap (λ list. members_of list q) row_is ∙ member_answers index place j q) leaves
+pub leaves_need : (index : IndexView) (forced : NumberSet) (place j : ℕ) (row : List ℕ) (is_unmet : Bool) → row ≡ group_satisfiers index (need_at index place j)
+    → LeavesUnmet forced (members_of row) is_unmet → LeavesUnmet forced (answers index place j) is_unmet
+leaves_need index forced place j row is_unmet row_is leaves =
+    leaves_as forced (members_of row) (answers index place j) is_unmet (λ q. ap (λ list. members_of list q) row_is ∙ member_answers index place j q) leaves
 
-module _ (index : IndexView) (ins : NumberSet) where
+module _ (index : IndexView) (forced : NumberSet) where
   abbrev IsAnsweredAt : ℕ → ℕ → Type 0
-  IsAnsweredAt place j = (q : ℕ) × (ins q ≡ true) × (answers index place j q ≡ true)
+  IsAnsweredAt place j = (q : ℕ) × (forced q ≡ true) × (answers index place j q ≡ true)
 
   -- nothing comes where all that is asked for is answered
-  lists_none : (Asked : ℕ → ℕ → Type 0) (before : List UnmetNeed) → ((place j : ℕ) → j < length (needs_at index place) → Asked place j → IsAnsweredAt place j) → ListsUnmet index ins Asked before before
+  lists_none : (Asked : ℕ → ℕ → Type 0) (before : List UnmetNeed) → ((place j : ℕ) → j < length (needs_at index place) → Asked place j → IsAnsweredAt place j) → ListsUnmet index forced Asked before before
   lists_none Asked before answered = record {
     keeps = λ need has. has;
     only = λ all. all;
@@ -61,7 +60,7 @@ module _ (index : IndexView) (ins : NumberSet) where
 
   -- what is asked for in two steps
   lists_both : (First Second Asked : ℕ → ℕ → Type 0) (before between after : List UnmetNeed) → ((place j : ℕ) → Asked place j → First place j ⊎ Second place j)
-      → ListsUnmet index ins First before between → ListsUnmet index ins Second between after → ListsUnmet index ins Asked before after
+      → ListsUnmet index forced First before between → ListsUnmet index forced Second between after → ListsUnmet index forced Asked before after
   lists_both First Second Asked before between after split first second = record {
     keeps = λ need has. second.keeps need (first.keeps need has);
     only = λ all. second.only (first.only all);
@@ -77,7 +76,7 @@ module _ (index : IndexView) (ins : NumberSet) where
 
   -- the same, asked for in other words
   lists_as : (Asked Other : ℕ → ℕ → Type 0) (before after : List UnmetNeed) → ((place j : ℕ) → j < length (needs_at index place) → Other place j → Asked place j)
-      → ListsUnmet index ins Asked before after → ListsUnmet index ins Other before after
+      → ListsUnmet index forced Asked before after → ListsUnmet index forced Other before after
   lists_as Asked Other before after same lists = record {
     keeps = lists.keeps;
     only = lists.only;
@@ -87,7 +86,7 @@ module _ (index : IndexView) (ins : NumberSet) where
   -- ---- one need
 
   module _ (place number : ℕ) (before : List UnmetNeed) where
-    pub lists_met : IsAnsweredAt place number → ListsUnmet index ins (λ q j. (place ≡ q) × (number ≡ j)) before before
+    pub lists_met : IsAnsweredAt place number → ListsUnmet index forced (λ q j. (place ≡ q) × (number ≡ j)) before before
     lists_met answered =
         lists_none (λ q j. (place ≡ q) × (number ≡ j)) before
         (λ q j less same.
@@ -99,12 +98,12 @@ module _ (index : IndexView) (ins : NumberSet) where
     it = record { place = place; number = number }
 
     pub lists_it : (after : List UnmetNeed) → after ≡ before ++ it ∷ [] → place < length index.packages → number < length (needs_at index place)
-        → ((q : ℕ) → ins q ≡ true → answers index place number q ≡ true → ⊥) → ListsUnmet index ins (λ q j. (place ≡ q) × (number ≡ j)) before after
+        → ((q : ℕ) → forced q ≡ true → answers index place number q ≡ true → ⊥) → ListsUnmet index forced (λ q j. (place ≡ q) × (number ≡ j)) before after
     lists_it after pushed is_place is_need unmet =
-        let Lists : List UnmetNeed → Type 0 = λ list. ListsUnmet index ins (λ q j. (place ≡ q) × (number ≡ j)) before list in
+        let Lists : List UnmetNeed → Type 0 = λ list. ListsUnmet index forced (λ q j. (place ≡ q) × (number ≡ j)) before list in
         subst Lists (sym pushed) (record {
           keeps = λ need has. Contains-append_left before (it ∷ []) need has;
-          only = λ all. All-push (IsUnmet index ins) before it all (record { is_place = is_place; is_need = is_need; unmet = unmet });
+          only = λ all. All-push (IsUnmet index forced) before it all (record { is_place = is_place; is_need = is_need; unmet = unmet });
           all = λ q j less same.
               (let Of : ℕ → Type 0 = λ p. Contains (before ++ it ∷ []) (record { place = p; number = number }) in
               let At : ℕ → Type 0 = λ i. Contains (before ++ it ∷ []) (record { place = q; number = i }) in
@@ -113,8 +112,8 @@ module _ (index : IndexView) (ins : NumberSet) where
 
   -- ---- the needs of a place
 
-  pub lists_more : (place number : ℕ) (before between after : List UnmetNeed) → ListsUnmet index ins (λ q j. (place ≡ q) × (j < number)) before between
-      → ListsUnmet index ins (λ q j. (place ≡ q) × (number ≡ j)) between after → ListsUnmet index ins (λ q j. (place ≡ q) × (j < number + 1)) before after
+  pub lists_more : (place number : ℕ) (before between after : List UnmetNeed) → ListsUnmet index forced (λ q j. (place ≡ q) × (j < number)) before between
+      → ListsUnmet index forced (λ q j. (place ≡ q) × (number ≡ j)) between after → ListsUnmet index forced (λ q j. (place ≡ q) × (j < number + 1)) before after
   lists_more place number before between after first second =
       lists_both (λ q j. (place ≡ q) × (j < number)) (λ q j. (place ≡ q) × (number ≡ j)) (λ q j. (place ≡ q) × (j < number + 1)) before between after
       (λ q j asked. elim (cases_lt j number) [
@@ -123,13 +122,13 @@ module _ (index : IndexView) (ins : NumberSet) where
       ])
       first second
 
-  pub lists_place : (place number : ℕ) (before after : List UnmetNeed) → length (needs_at index place) ≤ number → ListsUnmet index ins (λ q j. (place ≡ q) × (j < number)) before after
-      → ListsUnmet index ins (λ q j. place ≡ q) before after
+  pub lists_place : (place number : ℕ) (before after : List UnmetNeed) → length (needs_at index place) ≤ number → ListsUnmet index forced (λ q j. (place ≡ q) × (j < number)) before after
+      → ListsUnmet index forced (λ q j. place ≡ q) before after
   lists_place place number before after past lists =
       lists_as (λ q j. (place ≡ q) × (j < number)) (λ q j. place ≡ q) before after
       (λ q j less same. (same, omega (arith, less, past, ap (λ p. length (needs_at index p)) same))) lists
 
-  pub lists_met_place : (some : NumberSet) (place : ℕ) (before : List UnmetNeed) → IsWithin some ins → IsMet index some place → ListsUnmet index ins (λ q j. place ≡ q) before before
+  pub lists_met_place : (some : NumberSet) (place : ℕ) (before : List UnmetNeed) → IsWithin some forced → IsMet index some place → ListsUnmet index forced (λ q j. place ≡ q) before before
   lists_met_place some place before within met =
       lists_none (λ q j. place ≡ q) before
       (λ q j less same.
@@ -142,7 +141,7 @@ module _ (index : IndexView) (ins : NumberSet) where
   -- the list may grow too, where only places that were there are visited
   pub lists_next : (list list_then : List ℕ) (number place : ℕ) (before between after : List UnmetNeed) → get_or list number 0 ≡ place
       → ((k : ℕ) → k < number + 1 → get_or list_then k 0 ≡ get_or list k 0)
-      → ListsUnmet index ins (IsAmong list number) before between → ListsUnmet index ins (λ q j. place ≡ q) between after → ListsUnmet index ins (IsAmong list_then (number + 1)) before after
+      → ListsUnmet index forced (IsAmong list number) before between → ListsUnmet index forced (λ q j. place ≡ q) between after → ListsUnmet index forced (IsAmong list_then (number + 1)) before after
   lists_next list list_then number place before between after here same first second =
       lists_both (IsAmong list number) (λ q j. place ≡ q) (IsAmong list_then (number + 1)) before between after
       (λ q j asked. elim (cases_lt asked.0 number) [
@@ -153,41 +152,41 @@ module _ (index : IndexView) (ins : NumberSet) where
       ])
       first second
 
-  pub lists_list : (list : List ℕ) (number : ℕ) (before after : List UnmetNeed) → length list ≤ number → ListsUnmet index ins (IsAmong list number) before after
-      → ListsUnmet index ins (λ q j. members_of list q ≡ true) before after
+  pub lists_list : (list : List ℕ) (number : ℕ) (before after : List UnmetNeed) → length list ≤ number → ListsUnmet index forced (IsAmong list number) before after
+      → ListsUnmet index forced (λ q j. members_of list q ≡ true) before after
   lists_list list number before after past lists =
       lists_as (IsAmong list number) (λ q j. members_of list q ≡ true) before after
       (λ q j less is_in. (let at = members_of_at list q is_in in (at.0, omega (arith, past, at.1), at.2))) lists
 
 -- ---- all that is in play
 
-pub are_unmet : (index : IndexView) (ins free : List ℕ) (empty between after : List UnmetNeed) → empty ≡ []
-    → ListsUnmet index (members_of ins) (λ q j. members_of ins q ≡ true) empty between → ListsUnmet index (members_of ins) (λ q j. members_of free q ≡ true) between after
-    → AreUnmet index (members_of ins) (places_in_play (members_of ins) free) after
-are_unmet index ins free empty between after empty_is first second =
-    let InPlay : ℕ → ℕ → Type 0 = λ q j. places_in_play (members_of ins) free q ≡ true in
-    let all : ListsUnmet index (members_of ins) InPlay empty after =
-    lists_both index (members_of ins) (λ q j. members_of ins q ≡ true) (λ q j. members_of free q ≡ true) InPlay empty between after
-    (λ q j is_in. or_cases (members_of ins q) (members_of free q) is_in) first second in
-    let AllUnmet : List UnmetNeed → Type 0 = λ list. All (IsUnmet index (members_of ins)) list in
+pub are_unmet : (index : IndexView) (forced free : List ℕ) (empty between after : List UnmetNeed) → empty ≡ []
+    → ListsUnmet index (members_of forced) (λ q j. members_of forced q ≡ true) empty between → ListsUnmet index (members_of forced) (λ q j. members_of free q ≡ true) between after
+    → AreUnmet index (members_of forced) (places_in_play (members_of forced) free) after
+are_unmet index forced free empty between after empty_is first second =
+    let InPlay : ℕ → ℕ → Type 0 = λ q j. places_in_play (members_of forced) free q ≡ true in
+    let all : ListsUnmet index (members_of forced) InPlay empty after =
+    lists_both index (members_of forced) (λ q j. members_of forced q ≡ true) (λ q j. members_of free q ≡ true) InPlay empty between after
+    (λ q j is_in. or_cases (members_of forced q) (members_of free q) is_in) first second in
+    let AllUnmet : List UnmetNeed → Type 0 = λ list. All (IsUnmet index (members_of forced)) list in
     record {
-      only = all.only (subst AllUnmet (sym empty_is) (All-nil (IsUnmet index (members_of ins))));
+      only = all.only (subst AllUnmet (sym empty_is) (All-nil (IsUnmet index (members_of forced))));
       all = λ place j is_in less. all.all place j less is_in;
     }
 
 -- in another scene of the same places
-pub unmet_moved : (a b : IndexView) (ins ins_too members members_too : List ℕ) (listed : List UnmetNeed) → b ≡ a → ins_too ≡ ins → members_too ≡ members
-    → AreUnmet a (members_of ins) (places_in_play (members_of ins) members) listed → AreUnmet b (members_of ins_too) (places_in_play (members_of ins_too) members_too) listed
-unmet_moved a b ins ins_too members members_too listed same_index same_ins same_members are =
-    let Of : IndexView → Type 0 = λ index. AreUnmet index (members_of ins) (places_in_play (members_of ins) members) listed in
+pub unmet_moved : (a b : IndexView) (forced forced_too members members_too : List ℕ) (listed : List UnmetNeed) → b ≡ a → forced_too ≡ forced → members_too ≡ members
+    → AreUnmet a (members_of forced) (places_in_play (members_of forced) members) listed → AreUnmet b (members_of forced_too) (places_in_play (members_of forced_too) members_too) listed
+unmet_moved a b forced forced_too members members_too listed same_index same_forced same_members are =
+    let Of : IndexView → Type 0 = λ index. AreUnmet index (members_of forced) (places_in_play (members_of forced) members) listed in
     let Ins : List ℕ → Type 0 = λ list. AreUnmet b (members_of list) (places_in_play (members_of list) members) listed in
-    let Members : List ℕ → Type 0 = λ list. AreUnmet b (members_of ins_too) (places_in_play (members_of ins_too) list) listed in
-    subst Members (sym same_members) (subst Ins (sym same_ins) (subst Of (sym same_index) are))
+    let Members : List ℕ → Type 0 = λ list. AreUnmet b (members_of forced_too) (places_in_play (members_of forced_too) list) listed in
+    subst Members (sym same_members) (subst Ins (sym same_forced) (subst Of (sym same_index) are))
 
 -- the same for a list with the same members
-pub unmet_sorted : (index : IndexView) (ins : NumberSet) (members sorted : List ℕ) (listed : List UnmetNeed) → ((q : ℕ) → members_of sorted q ≡ members_of members q)
-    → AreUnmet index ins (places_in_play ins members) listed → AreUnmet index ins (places_in_play ins sorted) listed
-unmet_sorted index ins members sorted listed same are = record {
+pub unmet_sorted : (index : IndexView) (forced : NumberSet) (members sorted : List ℕ) (listed : List UnmetNeed) → ((q : ℕ) → members_of sorted q ≡ members_of members q)
+    → AreUnmet index forced (places_in_play forced members) listed → AreUnmet index forced (places_in_play forced sorted) listed
+unmet_sorted index forced members sorted listed same are = record {
   only = are.only;
-  all = λ place j is_in less. are.all place j (ap (λ b. ins place || b) (sym (same place)) ∙ is_in) less;
+  all = λ place j is_in less. are.all place j (ap (λ b. forced place || b) (sym (same place)) ∙ is_in) less;
 }

@@ -16,7 +16,8 @@ use Rattle.deb_verdict.specs.Closure.{cut}
 use Rattle.deb_verdict.specs.Health.{IsInstallation, AdmitsNone}
 use Rattle.core_extract.specs.Reduction.{all_of, all_below, listed, IsRefutation}
 use Rattle.deb_verdict.proofs.Cutting.{healthy_from_meets}
-use Rattle.deb_verdict.proofs.IndexFacts.{All-at}
+use Rattle.deb_encode.proofs.IndexFacts.{All-at}
+use Rattle.deb_verdict.proofs.Encoded.{sizes}
 
 module _ (index : IndexView) (p : ℕ) where
   -- where no healthy set has p, all constraints admit none

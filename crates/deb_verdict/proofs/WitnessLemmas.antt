@@ -11,12 +11,11 @@ use Rattle.deb_index.proofs.ConstraintLemmas.{constraints-within}
 use Rattle.deb_index.proofs.PositionLemmas.{one_position, essential_position}
 use Rattle.sat_solve.specs.Sets.{NumberSet, members_of}
 use Rattle.deb_verdict.specs.Health.{MeetsAt}
-use Rattle.deb_verdict.specs.Standings.{HasNoEarlier}
+use Rattle.deb_verdict.specs.Meeting.{HasNoEarlier}
 use Rattle.deb_verdict.specs.Witnesses.{IsAsked, MeetsAsked, MeetsAskedOf, StandsOnce}
-use Rattle.core_extract.proofs.ListMembers.{members_of_at}
+use Rattle.deb_encode.proofs.Members.{members_of_at, any_member, member_any}
 use Rattle.deb_verdict.proofs.Healthy.{only_says, name_is}
-use Rattle.deb_verdict.proofs.IndexFacts.{All-at, IsRight, all_right, member_named, member_satisfiers}
-use Rattle.deb_verdict.proofs.Members.{any_member, member_any}
+use Rattle.deb_encode.proofs.IndexFacts.{All-at, IsRight, all_right, member_named, member_satisfiers}
 use Rattle.deb_verdict.proofs.Names.{one_number}
 use Rattle.deb_verdict.proofs.SameMembers.{contains_member}
 

@@ -19,7 +19,7 @@ Comes set (Forced place) = set place ≡ true
 Comes set Contradiction = ⊥
 
 -- the constraint at a position gives this for the sets that have what is in and meet it
-pub record Gives (index : IndexView) (ins : NumberSet) (position : ℕ) (outcome : Outcome) : Type 0 where
+pub record Gives (index : IndexView) (forced : NumberSet) (position : ℕ) (outcome : Outcome) : Type 0 where
   pub constraint : Constraint
   pub stands : slice_get (constraints_of index) position ≡ Some constraint
-  pub gives : (set : NumberSet) → IsWithin ins set → Holds index set constraint → Comes set outcome
+  pub gives : (set : NumberSet) → IsWithin forced set → Holds index set constraint → Comes set outcome

@@ -1,23 +1,11 @@
 -- Places that come to a set, one after another, and what is known of those that came.
-use Rattle.std.specs.Prelude.{◌≡◌, ◌⊎◌, ℕ, ◌<◌, ◌++◌, ◌∷◌, [], ◌==◌, true, List, All, Contains, length}
-use Rattle.std.specs.List.{IsDistinct}
+use Rattle.std.specs.Prelude.{◌≡◌, ◌⊎◌, ℕ, ◌∷◌, [], true, List, Contains, length}
 use Rattle.deb_index.specs.Packages.{IndexView, essential_names}
 use Rattle.deb_index.specs.Constraints.{has_name, answers}
 use Rattle.sat_solve.specs.Sets.{NumberSet, members_of}
 use Rattle.core_extract.specs.Reduction.{all_of}
 use Rattle.deb_verdict.specs.Gathering.{Follows, none_of}
-use Rattle.deb_verdict.specs.PlaceSets.{with_place}
-
--- places among that many, each once
-pub record ArePlaces (count : ℕ) (places : List ℕ) : Type 0 where
-  pub within : All (λ place. place < count) places
-  pub once : IsDistinct ◌==◌ places
-
--- places came behind those that were there
-pub record Grows (count : ℕ) (before after : List ℕ) : Type 0 where
-  pub more : List ℕ
-  pub appended : after ≡ before ++ more
-  pub places : ArePlaces count before → ArePlaces count after
+use Rattle.deb_encode.specs.PlaceSets.{with_place, Grows}
 
 -- p is in the list, and each set that contains p and meets all constraints has the whole list
 pub record AreForced (index : IndexView) (p : ℕ) (places : List ℕ) : Type 0 where
@@ -36,23 +24,23 @@ pub data TakesOnly (row before after : List ℕ) : Type 0 where
 
 -- a place of the row is in, or else all of them are in play
 abbrev pub IsAnswered : NumberSet → NumberSet → NumberSet → Type 0
-IsAnswered ins row within = ((q : ℕ) × (ins q ≡ true) × (row q ≡ true)) ⊎ ((q : ℕ) → row q ≡ true → within q ≡ true)
+IsAnswered forced row within = ((q : ℕ) × (forced q ≡ true) × (row q ≡ true)) ⊎ ((q : ℕ) → row q ≡ true → within q ≡ true)
 
 -- places came, so that a row is answered
-pub record Brings (count : ℕ) (ins row : NumberSet) (before after : List ℕ) : Type 0 where
+pub record Brings (count : ℕ) (forced row : NumberSet) (before after : List ℕ) : Type 0 where
   pub grows : Grows count before after
-  pub answered : IsAnswered ins row (members_of after)
+  pub answered : IsAnswered forced row (members_of after)
 
 -- each need of the place is answered
 abbrev pub IsVisited : IndexView → NumberSet → ℕ → NumberSet → Type 0
-IsVisited index ins place within = (j : ℕ) → IsAnswered ins (answers index place j) within
+IsVisited index forced place within = (j : ℕ) → IsAnswered forced (answers index place j) within
 
 -- places came, so that each essential name is answered
-pub record BringsEssential (index : IndexView) (ins : NumberSet) (before after : List ℕ) : Type 0 where
+pub record BringsEssential (index : IndexView) (forced : NumberSet) (before after : List ℕ) : Type 0 where
   pub grows : Grows (length index.packages) before after
-  pub essential : (number : ℕ) → Contains (essential_names index) number → IsAnswered ins (λ q. has_name index q number) (members_of after)
+  pub essential : (number : ℕ) → Contains (essential_names index) number → IsAnswered forced (λ q. has_name index q number) (members_of after)
 
 -- places came, so that each need of these places is answered
-pub record Visits (index : IndexView) (ins asked : NumberSet) (before after : List ℕ) : Type 0 where
+pub record Visits (index : IndexView) (forced asked : NumberSet) (before after : List ℕ) : Type 0 where
   pub grows : Grows (length index.packages) before after
-  pub visited : (place : ℕ) → asked place ≡ true → IsVisited index ins place (members_of after)
+  pub visited : (place : ℕ) → asked place ≡ true → IsVisited index forced place (members_of after)

@@ -1,5 +1,5 @@
 -- Positions of a part of the constraints that come to a list, and formulas over them.
-use Rattle.std.specs.Prelude.{◌≡◌, ◌⊎◌, ℕ, ◌<◌, true, List, Some, length, slice_get}
+use Rattle.std.specs.Prelude.{◌≡◌, ◌⊎◌, ℕ, ◌<◌, true, List, [], Some, map, length, slice_get}
 use Rattle.std.specs.List.Sorted.{IsStrictlyIncreasing}
 use Rattle.deb_index.specs.declared.constraint.Constraint.{Constraint}
 use Rattle.deb_index.specs.declared.constraint.Constraint.TheVariants.{Essential, Need, Apart}
@@ -9,8 +9,7 @@ use Rattle.sat_solve.specs.Sets.{NumberSet, members_of}
 use Rattle.sat_solve.specs.Clauses.{Clauses}
 use Rattle.core_extract.specs.Reduction.{IsWithin}
 use Rattle.deb_verdict.specs.Closure.{cut, kept, IsClosed}
-use Rattle.deb_verdict.specs.Encoding.{Encodes}
-use Rattle.deb_verdict.specs.Gathering.{none_of}
+use Rattle.deb_encode.specs.Play.{TellsPlaces}
 
 -- what constraints ask for: an essential name; a need, or a conflict, of the package at a place
 abbrev pub IsAnEssential : Constraint → Type 0
@@ -37,4 +36,6 @@ pub record TellsPart (index : IndexView) (p : ℕ) (part : NumberSet) (members p
   pub all : IsWithin (cut part (kept index (members_of members))) (members_of positions)
   pub vars : formula.vars ≡ length members
   pub groups : formula.groups ≡ length positions
-  pub encodes : Encodes index none_of members positions formula.clauses
+  pub constraints : List Constraint
+  pub stand : map (slice_get (constraints_of index)) positions ≡ map Some constraints
+  pub tells : TellsPlaces index [] members constraints formula.clauses

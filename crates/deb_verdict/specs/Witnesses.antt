@@ -5,7 +5,7 @@ use Rattle.deb_index.specs.declared.constraint.Constraint.TheVariants.{Need, Apa
 use Rattle.deb_index.specs.Packages.{IndexView, package_at, names, name_at, needs_at, aparts_at}
 use Rattle.deb_index.specs.Constraints.{Holds, constraints_of}
 use Rattle.sat_solve.specs.Sets.{NumberSet}
-use Rattle.deb_verdict.specs.Standings.{HasNoEarlier}
+use Rattle.deb_verdict.specs.Meeting.{HasNoEarlier}
 
 -- the constraint stands at one of these positions
 abbrev pub IsAsked : IndexView → NumberSet → Constraint → Type 0

@@ -8,12 +8,12 @@ ghost use Rattle.deb_verdict.specs.Health.{AdmitsNone};
 ghost use Rattle.deb_verdict.specs.Listing.{TellsPart};
 ghost use Rattle.core_extract.specs.Reduction.{left, IsRefutation};
 
-use crate::describe::describe_each;
 use crate::first_set::count_of;
 use crate::kept_positions::{list_constraints, list_positions};
 use crate::part::Part;
 use crate::reach::reach;
 use crate::workspace::Workspace;
+use deb_encode::{Play, encode_each};
 use deb_index::Index;
 use std::alloc::{AllocError, Global};
 
@@ -35,7 +35,7 @@ pub(crate) fn refute_by_formula(
     ensures still { IfOk result (λ refuted. refuted ≡ false → workspace.new.used ≡ workspace.old.used) }
 {
     describe_part(alloc, index, part, p, workspace)?;
-    let must = workspace.members.number_of(p).unwrap();
+    let must = workspace.candidates.number_of(p).unwrap();
     workspace.keep.clear();
     workspace.keep.resize(workspace.positions.len(), true)?;
     let found = workspace.formula.solve_marked(
@@ -54,7 +54,7 @@ pub(crate) fn refute_by_formula(
     }
 }
 
-/// The workspace's formula becomes that of a part, over the closure of a package, which are the workspace's members then.
+/// The workspace's formula becomes that of a part, over the closure of a package, which are the workspace's candidates then: nothing is forced.
 fn describe_part(
     alloc: Global,
     index: &Index,
@@ -63,26 +63,25 @@ fn describe_part(
     workspace: &mut Workspace,
 ) -> Result<(), AllocError>
     requires { p < length index.now.packages }
-    ensures tells { OnOk result (TellsPart index.now p (left (members_of part.entry.kept.now) part.entry.rest) workspace.new.members workspace.new.positions.items workspace.new.formula) }
-    ensures few { OnOk result (length workspace.new.members < 2 ^ 32) }
+    ensures tells { OnOk result (TellsPart index.now p (left (members_of part.entry.kept.now) part.entry.rest) workspace.new.candidates workspace.new.positions.items workspace.new.formula) }
+    ensures few { OnOk result (length workspace.new.candidates < 2 ^ 32) }
     ensures still { OnOk result (workspace.new.used ≡ workspace.old.used) }
 {
-    reach(alloc, index, p, &mut workspace.members)?;
-    workspace.members.sort();
-    let members = workspace.members.as_slice();
+    reach(alloc, index, p, &mut workspace.candidates)?;
+    workspace.candidates.sort();
+    let members = workspace.candidates.as_slice();
     list_positions(index, part, members, &mut workspace.positions)?;
     list_constraints(index, &workspace.positions, &mut workspace.constraints)?;
     let vars = count_of(index, members);
     let groups = workspace.positions.len() as u32;
     workspace.formula.restart(vars, groups);
-    workspace.ins.clear();
-    describe_each(
-        alloc,
-        index,
-        &workspace.ins,
-        &workspace.members,
+    workspace.forced.clear();
+    let play = Play::new(index, &workspace.forced, &workspace.candidates, &[]);
+    encode_each(
+        &play,
         &workspace.constraints,
         &mut workspace.clause,
+        &mut workspace.found,
         &mut workspace.versions,
         &mut workspace.formula,
     )?;

@@ -12,9 +12,9 @@ use crate::answer::Verdict;
 use crate::first_core::first_core;
 use crate::first_set::first_set;
 use crate::groundwork::Groundwork;
-use crate::place_set::PlaceSet;
 use crate::reach::reach;
 use crate::workspace::Workspace;
+use deb_encode::PlaceSet;
 use deb_index::Index;
 use std::alloc::{AllocError, Global};
 

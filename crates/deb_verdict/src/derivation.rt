@@ -9,7 +9,7 @@ ghost use Rattle.core_extract.specs.Reduction.{left, IsRefutation};
 ghost use Rattle.deb_verdict.specs.Deriving.{row_of, Gives};
 
 use crate::part::Part;
-use crate::place_set::PlaceSet;
+use deb_encode::PlaceSet;
 use deb_index::Index;
 use std::alloc::AllocError;
 
@@ -89,7 +89,7 @@ fn has_apart(index: &Index, place: u32, number: u32) -> bool
 
 /// What an essential name gives, by its number among them.
 fn by_essential(index: &Index, number: u32) -> Option<Conclusion>
-    ensures { IfSome result (λ found. (ins : NumberSet) → Gives index.now ins found.position found.outcome) }
+    ensures { IfSome result (λ found. (forced : NumberSet) → Gives index.now forced found.position found.outcome) }
 {
     let name = *index.essential_names().get(number as usize)?;
     let outcome = name_outcome(index, name)?;
@@ -100,10 +100,10 @@ fn by_essential(index: &Index, number: u32) -> Option<Conclusion>
 }
 
 /// What a need gives where its owner is in.
-fn by_need(index: &Index, place: u32, number: u32, ins: &PlaceSet) -> Option<Conclusion>
-    ensures { IfSome result (λ found. Gives index.now (members_of ins.now) found.position found.outcome) }
+fn by_need(index: &Index, place: u32, number: u32, forced: &PlaceSet) -> Option<Conclusion>
+    ensures { IfSome result (λ found. Gives index.now (members_of forced.now) found.position found.outcome) }
 {
-    if !has_need(index, place, number) || !ins.contains(place) {
+    if !has_need(index, place, number) || !forced.contains(place) {
         return None;
     }
     let outcome = need_outcome(index, place, number)?;
@@ -114,10 +114,10 @@ fn by_need(index: &Index, place: u32, number: u32, ins: &PlaceSet) -> Option<Con
 }
 
 /// Whether two places are in, and are not one.
-fn are_two(ins: &PlaceSet, first: u32, second: u32) -> bool
-    ensures { result ≡ true → (members_of ins.now first ≡ true) × (members_of ins.now second ≡ true) × (second ≢ first) }
+fn are_two(forced: &PlaceSet, first: u32, second: u32) -> bool
+    ensures { result ≡ true → (members_of forced.now first ≡ true) × (members_of forced.now second ≡ true) × (second ≢ first) }
 {
-    second != first && ins.contains(first) && ins.contains(second)
+    second != first && forced.contains(first) && forced.contains(second)
 }
 
 /// What an entry gives where it hits another place than its own, and both are in.
@@ -126,14 +126,14 @@ fn by_apart(
     place: u32,
     number: u32,
     other: u32,
-    ins: &PlaceSet,
+    forced: &PlaceSet,
 ) -> Option<Conclusion>
-    ensures { IfSome result (λ found. Gives index.now (members_of ins.now) found.position found.outcome) }
+    ensures { IfSome result (λ found. Gives index.now (members_of forced.now) found.position found.outcome) }
 {
     if !has_apart(index, place, number) || other >= index.len() {
         return None;
     }
-    if !are_two(ins, place, other) || !index.meets(other, index.apart(place, number)) {
+    if !are_two(forced, place, other) || !index.meets(other, index.apart(place, number)) {
         return None;
     }
     Some(Conclusion {
@@ -143,14 +143,14 @@ fn by_apart(
 }
 
 /// What it gives that no name is there twice, where two places of one name are in.
-fn by_only(index: &Index, first: u32, second: u32, ins: &PlaceSet) -> Option<Conclusion>
-    ensures { IfSome result (λ found. Gives index.now (members_of ins.now) found.position found.outcome) }
+fn by_only(index: &Index, first: u32, second: u32, forced: &PlaceSet) -> Option<Conclusion>
+    ensures { IfSome result (λ found. Gives index.now (members_of forced.now) found.position found.outcome) }
 {
     if first >= index.len() || second >= index.len() {
         return None;
     }
     let name = index.name_of(first);
-    if !are_two(ins, first, second) || index.name_of(second) != name {
+    if !are_two(forced, first, second) || index.name_of(second) != name {
         return None;
     }
     Some(Conclusion {
@@ -160,34 +160,34 @@ fn by_only(index: &Index, first: u32, second: u32, ins: &PlaceSet) -> Option<Con
 }
 
 /// What a step gives for the places that are in; `None` where it doesn't hold of them.
-fn conclude(index: &Index, step: Step, ins: &PlaceSet) -> Option<Conclusion>
-    ensures { IfSome result (λ found. Gives index.now (members_of ins.now) found.position found.outcome) }
+fn conclude(index: &Index, step: Step, forced: &PlaceSet) -> Option<Conclusion>
+    ensures { IfSome result (λ found. Gives index.now (members_of forced.now) found.position found.outcome) }
 {
     match step {
         Step::Essential(number) => by_essential(index, number),
-        Step::Need(place, number) => by_need(index, place, number, ins),
-        Step::Apart(place, number, other) => by_apart(index, place, number, other, ins),
-        Step::Only(first, second) => by_only(index, first, second, ins),
+        Step::Need(place, number) => by_need(index, place, number, forced),
+        Step::Apart(place, number, other) => by_apart(index, place, number, other, forced),
+        Step::Only(first, second) => by_only(index, first, second, forced),
     }
 }
 
 /// Whether the steps, each with a constraint of the part, lead from the package at a place to a contradiction. `positions` then has their
-/// constraints; `ins` is a buffer.
+/// constraints; `forced` is a buffer.
 pub(crate) fn is_refutation(
     index: &Index,
     part: Part<'_>,
     p: u32,
     steps: &[Step],
-    ins: &mut PlaceSet,
+    forced: &mut PlaceSet,
     positions: &mut Vec<u32>,
 ) -> Result<bool, AllocError>
     ensures { IfOk result (λ holds. holds ≡ true → IsRefutation (AdmitsNone index.now p) (left (members_of part.entry.kept.now) part.entry.rest) (members_of positions.new.items)) }
 {
-    ins.clear();
-    ins.insert(p)?;
+    forced.clear();
+    forced.insert(p)?;
     positions.clear();
     for step in steps {
-        let Some(found) = conclude(index, *step, ins) else {
+        let Some(found) = conclude(index, *step, forced) else {
             return Ok(false);
         };
         if !part.has(found.position) {
@@ -195,7 +195,7 @@ pub(crate) fn is_refutation(
         }
         positions.push(found.position)?;
         match found.outcome {
-            Outcome::Forced(place) => ins.insert(place)?,
+            Outcome::Forced(place) => forced.insert(place)?,
             Outcome::Contradiction => return Ok(true),
         }
     }

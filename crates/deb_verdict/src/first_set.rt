@@ -4,36 +4,36 @@ ghost use Rattle.std.specs.Prelude.{◌≡◌, ℕ, ◌<◌, All, IfOk, OnOk, If
 ghost use Rattle.std.specs.List.Sorted.{IsStrictlyIncreasing};
 ghost use Rattle.sat_solve.specs.Sets.{NumberSet, members_of};
 ghost use Rattle.deb_verdict.specs.Health.{IsInstallation};
-ghost use Rattle.deb_verdict.specs.Play.{placed};
+ghost use Rattle.deb_encode.specs.Play.{placed};
 ghost use Rattle.deb_verdict.specs.Verdicts.{IsFirstInstallation};
 
 use crate::describe::describe;
 use crate::gather::gather;
 use crate::groundwork::Groundwork;
-use crate::place_set::PlaceSet;
 use crate::workspace::Workspace;
+use deb_encode::PlaceSet;
 use deb_index::Index;
 use std::alloc::{AllocError, Global};
 
-/// How many members there are, which are places of the index.
-pub(crate) fn count_of(index: &Index, members: &[u32]) -> u32
-    requires within { All (λ q. q < length index.now.packages) members.now }
-    requires rising { IsStrictlyIncreasing members.now }
-    ensures { result ≡ length members.now }
+/// How many candidates there are, which are places of the index.
+pub(crate) fn count_of(index: &Index, candidates: &[u32]) -> u32
+    requires within { All (λ q. q < length index.now.packages) candidates.now }
+    requires rising { IsStrictlyIncreasing candidates.now }
+    ensures { result ≡ length candidates.now }
 {
-    let count = members.len();
+    let count = candidates.len();
     let packages = index.len();
     prove!(count <= packages as usize);
     count as u32
 }
 
-/// Puts in the members with these numbers.
-fn add_members(ins: &mut PlaceSet, members: &[u32], vars: &[u32]) -> Result<(), AllocError>
-    requires { All (λ var. var < length members.now) vars.now }
-    ensures { OnOk result ((q : ℕ) → members_of ins.new q ≡ placed ins.old members.now (members_of vars.now) q) }
+/// Puts in the candidates with these numbers.
+fn add_candidates(forced: &mut PlaceSet, candidates: &[u32], vars: &[u32]) -> Result<(), AllocError>
+    requires { All (λ var. var < length candidates.now) vars.now }
+    ensures { OnOk result ((q : ℕ) → members_of forced.new q ≡ placed forced.old candidates.now (members_of vars.now) q) }
 {
     for var in vars {
-        ins.insert(members[*var as usize])?;
+        forced.insert(candidates[*var as usize])?;
     }
     Ok(())
 }
@@ -54,33 +54,37 @@ pub(crate) fn first_set(
         alloc,
         groundwork,
         p,
-        &mut workspace.ins,
-        &mut workspace.members,
+        &mut workspace.forced,
+        &mut workspace.candidates,
         &mut workspace.unmet,
     )?;
-    workspace.members.sort();
-    let count = count_of(groundwork.index, workspace.members.as_slice());
+    workspace.candidates.sort();
+    let count = count_of(groundwork.index, workspace.candidates.as_slice());
     workspace.formula.restart(count, 1);
     describe(
-        alloc,
         groundwork,
-        &workspace.ins,
-        &workspace.members,
+        &workspace.forced,
+        &workspace.candidates,
         &workspace.unmet,
         &mut workspace.clause,
+        &mut workspace.found,
         &mut workspace.rivals,
         &mut workspace.versions,
         &mut workspace.formula,
     )?;
-    let must = workspace.members.number_of(p).unwrap();
+    let must = workspace.candidates.number_of(p).unwrap();
     let found = workspace
         .formula
         .solve_in(alloc, &mut workspace.solver, &[true], must as u32)?;
     match found {
         Some(vars) => {
-            add_members(&mut workspace.ins, workspace.members.as_slice(), &vars)?;
-            workspace.ins.sort();
-            let places = Vec::from_slice(alloc, workspace.ins.as_slice())?;
+            add_candidates(
+                &mut workspace.forced,
+                workspace.candidates.as_slice(),
+                &vars,
+            )?;
+            workspace.forced.sort();
+            let places = Vec::from_slice(alloc, workspace.forced.as_slice())?;
             Ok(Some(places))
         }
         None => Ok(None),

@@ -2,18 +2,19 @@
 
 ghost use Rattle.std.specs.Prelude.{◌≡◌, ◌<◌, true, OnOk, length};
 ghost use Rattle.sat_solve.specs.Sets.{members_of};
-ghost use Rattle.deb_verdict.specs.Growing.{ArePlaces, KeepsForced, TakesOnly};
+ghost use Rattle.deb_encode.specs.PlaceSets.{ArePlaces};
+ghost use Rattle.deb_verdict.specs.Growing.{KeepsForced, TakesOnly};
 
-use crate::place_set::PlaceSet;
+use deb_encode::PlaceSet;
 use deb_index::Index;
 use std::alloc::AllocError;
 
 /// Puts in the only place of a row, if it has one only.
-fn take_only(row: &[u32], ins: &mut PlaceSet) -> Result<(), AllocError>
-    ensures { OnOk result (TakesOnly row.now ins.old ins.new) }
+fn take_only(row: &[u32], forced: &mut PlaceSet) -> Result<(), AllocError>
+    ensures { OnOk result (TakesOnly row.now forced.old forced.new) }
 {
     match row {
-        [only] => ins.insert(*only)?,
+        [only] => forced.insert(*only)?,
         _ => {}
     }
     Ok(())
@@ -32,29 +33,29 @@ fn force_needs(
     index: &Index,
     met: &[bool],
     place: u32,
-    ins: &mut PlaceSet,
+    forced: &mut PlaceSet,
 ) -> Result<(), AllocError>
     requires place { place < length index.now.packages }
-    requires known { members_of ins.old place ≡ true }
-    ensures { OnOk result (KeepsForced index.now ins.old ins.new) }
+    requires known { members_of forced.old place ≡ true }
+    ensures { OnOk result (KeepsForced index.now forced.old forced.new) }
 {
     if is_marked(met, place) {
         return Ok(());
     }
     for number in 0..index.need_count(place) {
         if let Some(row) = index.answer_row(place, number) {
-            take_only(row, ins)?;
+            take_only(row, forced)?;
         }
     }
     Ok(())
 }
 
 /// Puts in the only package of each essential name that has one only.
-pub(crate) fn force_essential(index: &Index, ins: &mut PlaceSet) -> Result<(), AllocError>
-    ensures { OnOk result (KeepsForced index.now ins.old ins.new) }
+pub(crate) fn force_essential(index: &Index, forced: &mut PlaceSet) -> Result<(), AllocError>
+    ensures { OnOk result (KeepsForced index.now forced.old forced.new) }
 {
     for name in index.essential_names() {
-        take_only(index.places_named(*name), ins)?;
+        take_only(index.places_named(*name), forced)?;
     }
     Ok(())
 }
@@ -66,15 +67,15 @@ pub(crate) fn force_from(
     index: &Index,
     met: &[bool],
     start: usize,
-    ins: &mut PlaceSet,
+    forced: &mut PlaceSet,
 ) -> Result<(), AllocError>
-    requires { ArePlaces (length index.now.packages) ins.old }
-    ensures { OnOk result (KeepsForced index.now ins.old ins.new) }
+    requires { ArePlaces (length index.now.packages) forced.old }
+    ensures { OnOk result (KeepsForced index.now forced.old forced.new) }
 {
     let mut visited = start;
-    while visited < ins.as_slice().len() {
-        let place = ins.as_slice()[visited];
-        force_needs(index, met, place, ins)?;
+    while visited < forced.as_slice().len() {
+        let place = forced.as_slice()[visited];
+        force_needs(index, met, place, forced)?;
         visited += 1;
     }
     Ok(())

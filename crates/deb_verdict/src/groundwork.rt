@@ -6,14 +6,15 @@ ghost use Rattle.std.proofs.Props.{props};
 ghost use Rattle.deb_index.specs.Packages.{needs_at, aparts_at};
 ghost use Rattle.deb_index.specs.Constraints.{answers, hits};
 ghost use Rattle.sat_solve.specs.Sets.{members_of};
-ghost use Rattle.deb_verdict.specs.Growing.{ArePlaces};
-ghost use Rattle.deb_verdict.specs.Groundwork.{IsInAll, IsMet, HasAnswers, IsAlone, MarksOnly};
+ghost use Rattle.deb_encode.specs.PlaceSets.{ArePlaces};
+ghost use Rattle.deb_verdict.specs.Groundwork.{IsInAll, IsMet, HasAnswers};
+ghost use Rattle.deb_encode.specs.Alone.{IsAlone, MarksOnly};
 ghost use Rattle.deb_verdict.specs.Hopeless.{IsHopeless, AreHopeless};
 
 use crate::forced::{force_essential, force_from};
 use crate::gather::has_any;
 use crate::hopeless::find_hopeless;
-use crate::place_set::PlaceSet;
+use deb_encode::PlaceSet;
 use deb_index::Index;
 use std::alloc::{AllocError, Global};
 
@@ -30,7 +31,7 @@ pub struct Groundwork<'a> {
     /// By place: what is in every healthy set answers each need.
     pub(crate) met: Vec<bool>,
     /// By place: no other package is hit by an entry, and none has the name.
-    alone: Vec<bool>,
+    pub(crate) alone: Vec<bool>,
     ghost places: { ArePlaces (length index.now.packages) forced } by { Prim.hlevel props },
     ghost in_all: { IsInAll index.now (members_of forced) },
     ghost in_none: { AreHopeless index.now (members_of hopeless) },
@@ -39,24 +40,24 @@ pub struct Groundwork<'a> {
 }
 
 /// Whether a place that is in answers a need. `false` where the answers are too many for a row.
-pub(crate) fn is_answered(index: &Index, ins: &PlaceSet, place: u32, number: u32) -> bool
+pub(crate) fn is_answered(index: &Index, forced: &PlaceSet, place: u32, number: u32) -> bool
     requires place { place < length index.now.packages }
     requires number { number < length (needs_at index.now place) }
-    ensures { result ≡ true → (q : ℕ) × (members_of ins.now q ≡ true) × (answers index.now place number q ≡ true) }
+    ensures { result ≡ true → (q : ℕ) × (members_of forced.now q ≡ true) × (answers index.now place number q ≡ true) }
 {
     match index.answer_row(place, number) {
-        Some(row) => has_any(ins, row),
+        Some(row) => has_any(forced, row),
         None => false,
     }
 }
 
 /// Whether places that are in answer each need of a place.
-fn is_met(index: &Index, ins: &PlaceSet, place: u32) -> bool
+fn is_met(index: &Index, forced: &PlaceSet, place: u32) -> bool
     requires { place < length index.now.packages }
-    ensures { result ≡ true → IsMet index.now (members_of ins.now) place }
+    ensures { result ≡ true → IsMet index.now (members_of forced.now) place }
 {
     for number in 0..index.need_count(place) {
-        if !is_answered(index, ins, place, number) {
+        if !is_answered(index, forced, place, number) {
             return false;
         }
     }
@@ -96,12 +97,12 @@ fn is_alone(index: &Index, place: u32) -> bool
 }
 
 /// Marks the places whose needs are answered by places that are in.
-fn mark_met(alloc: Global, index: &Index, ins: &PlaceSet) -> Result<Vec<bool>, AllocError>
-    ensures { IfOk result (λ marks. MarksOnly (IsMet index.now (members_of ins.now)) marks.items) }
+fn mark_met(alloc: Global, index: &Index, forced: &PlaceSet) -> Result<Vec<bool>, AllocError>
+    ensures { IfOk result (λ marks. MarksOnly (IsMet index.now (members_of forced.now)) marks.items) }
 {
     let mut marks = Vec::with_capacity(alloc, index.len() as usize)?;
     for place in 0..index.len() {
-        marks.push(is_met(index, ins, place))?;
+        marks.push(is_met(index, forced, place))?;
     }
     Ok(marks)
 }
@@ -168,16 +169,6 @@ impl<'a> Groundwork<'a> {
     {
         match self.met.get(place as usize) {
             Some(met) => *met,
-            None => false,
-        }
-    }
-
-    /// Whether a place is known to keep out no other one, and to be the only one of its name.
-    pub(crate) fn is_alone(&self, place: u32) -> bool
-        ensures { result ≡ true → IsAlone self.now.index.now place }
-    {
-        match self.alone.get(place as usize) {
-            Some(alone) => *alone,
             None => false,
         }
     }

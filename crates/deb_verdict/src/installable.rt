@@ -2,14 +2,14 @@
 
 ghost use Rattle.std.specs.Prelude.{◌≡◌, ◌<◌, true, All, IfOk, OnOk, length};
 ghost use Rattle.sat_solve.specs.Sets.{members_of};
-ghost use Rattle.deb_verdict.specs.Groundwork.{MarksOnly};
+ghost use Rattle.deb_encode.specs.Alone.{MarksOnly};
 ghost use Rattle.deb_verdict.specs.Health.{IsHealthy, IsInstallable};
 
 use crate::groundwork::Groundwork;
 use crate::installation::{Installation, weight};
 use crate::part::Part;
-use crate::place_set::PlaceSet;
 use crate::witness::meets_part;
+use deb_encode::PlaceSet;
 use deb_index::Index;
 use std::alloc::{AllocError, Global};
 

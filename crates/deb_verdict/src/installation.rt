@@ -5,8 +5,8 @@ ghost use Rattle.deb_index.specs.Packages.{aparts_at};
 
 use crate::gather::has_any;
 use crate::groundwork::Groundwork;
-use crate::place_set::PlaceSet;
 use crate::witness::{FEW, hits_no_other};
+use deb_encode::PlaceSet;
 use deb_index::Index;
 use std::alloc::{AllocError, Global};
 

@@ -3,14 +3,13 @@
 //! The modules in reading order:
 //!
 //! - `answer` has what is found of a package, `decision` the public calls, `laws` what holds of the definitions alone.
-//! - `place_set` is the set of places that all work is done on, `workspace` the buffers that one verdict leaves to the next.
+//! - `workspace` has the buffers that one verdict leaves to the next; the sets of places that all work is done on are those of `deb_encode`.
 //! - `reach` finds the closure.
 //! - `groundwork` knows what all verdicts of an index have in common; `forced` finds the places that are in every healthy set,
 //!   `hopeless` those that are in none.
-//! - `first_set` finds the first healthy set: `gather` says which places are in anyway and which are in play, `unmet` has the needs that the
-//!   first do not answer, `scene` how each place stands, and the solver finds the first true set of the clauses that `describe` makes of all
-//!   constraints: `clauses` has those of essential names and needs, `conflicts` what an entry hits, `rivals` the entries that very many
-//!   packages may meet, `versions` that of each name one package at most is in, by `exclusion`.
+//! - `first_set` finds the first healthy set: `gather` says which places are forced and which are candidates, `unmet` has the needs that no
+//!   forced place answers, `describe` has the encoder of `deb_encode` make clauses of all constraints that speak of these places, and the
+//!   solver finds the first true set of the clauses.
 //! - `first_core` finds the first set of constraints that no set meets: the crate `core_extract` takes out those that no refutation needs,
 //!   and asks `question` whether a `part` of them, by their positions, admits none. Three modules answer, each where it can tell:
 //!   - `propagation` refutes a part by what the package asks for with no choice; `derivation` has the steps of such a refutation, and
@@ -23,12 +22,9 @@
 
 mod answer;
 mod by_formula;
-mod clauses;
-mod conflicts;
 mod decision;
 mod derivation;
 mod describe;
-mod exclusion;
 mod first_core;
 mod first_set;
 mod forced;
@@ -40,14 +36,10 @@ mod installation;
 mod kept_positions;
 pub mod laws;
 mod part;
-mod place_set;
 mod propagation;
 mod question;
 mod reach;
-mod rivals;
-mod scene;
 mod unmet;
-mod versions;
 mod witness;
 mod workspace;
 

@@ -4,14 +4,14 @@ ghost use Rattle.std.specs.Prelude.{◌≡◌, ℕ, ◌<◌, true, false, IfOk, 
 ghost use Rattle.std.specs.List.Sorted.{IsStrictlyIncreasing};
 ghost use Rattle.sat_solve.specs.Sets.{members_of};
 ghost use Rattle.deb_index.specs.Packages.{names, needs_at, aparts_at};
-ghost use Rattle.deb_verdict.specs.Growing.{ArePlaces, Grows};
+ghost use Rattle.deb_encode.specs.PlaceSets.{ArePlaces, Grows};
 ghost use Rattle.deb_verdict.specs.Health.{AdmitsNone};
 ghost use Rattle.core_extract.specs.Reduction.{left, IsRefutation};
 
 use crate::derivation::{Outcome, Step, is_refutation, name_outcome, need_outcome};
 use crate::kept_positions::sort_once;
 use crate::part::Part;
-use crate::place_set::PlaceSet;
+use deb_encode::PlaceSet;
 use deb_index::Index;
 use std::alloc::{AllocError, Global};
 use std::mem;
@@ -28,15 +28,15 @@ pub(crate) struct Propagation {
     /// The steps that it rests on, with its own.
     steps: Vec<Step>,
     /// What is in by the steps that are checked.
-    ins: PlaceSet,
+    checked: PlaceSet,
     /// The positions of their constraints.
     positions: Vec<u32>,
 }
 
 /// A place of a row, other than this one, that is in.
-fn other_in(row: &[u32], place: u32, ins: &PlaceSet) -> Option<u32> {
+fn other_in(row: &[u32], place: u32, forced: &PlaceSet) -> Option<u32> {
     for other in row {
-        if *other != place && ins.contains(*other) {
+        if *other != place && forced.contains(*other) {
             return Some(*other);
         }
     }
@@ -44,34 +44,34 @@ fn other_in(row: &[u32], place: u32, ins: &PlaceSet) -> Option<u32> {
 }
 
 /// Another place that is in and that an entry hits. `None` where what it hits is too much for a row.
-fn hit_in(index: &Index, place: u32, number: u32, ins: &PlaceSet) -> Option<u32>
+fn hit_in(index: &Index, place: u32, number: u32, forced: &PlaceSet) -> Option<u32>
     requires place { place < length index.now.packages }
     requires number { number < length (aparts_at index.now place) }
 {
     match index.hit_row(place, number) {
-        Some(row) => other_in(row, place, ins),
+        Some(row) => other_in(row, place, forced),
         None => None,
     }
 }
 
 /// Another place of the name that is in. `None` where the name has more places than are in.
-fn version_in(index: &Index, place: u32, ins: &PlaceSet) -> Option<u32>
+fn version_in(index: &Index, place: u32, forced: &PlaceSet) -> Option<u32>
     requires { place < length index.now.packages }
 {
     let row = index.versions_of(place);
-    if row.len() > ins.as_slice().len() {
+    if row.len() > forced.as_slice().len() {
         return None;
     }
-    other_in(row, place, ins)
+    other_in(row, place, forced)
 }
 
 /// A constraint of the part that keeps a place that is in from another one.
-fn conflict_of(index: &Index, part: Part<'_>, place: u32, ins: &PlaceSet) -> Option<Step>
+fn conflict_of(index: &Index, part: Part<'_>, place: u32, forced: &PlaceSet) -> Option<Step>
     requires { place < length index.now.packages }
 {
     for number in 0..index.apart_count(place) {
         if part.has(index.apart_position(place, number)) {
-            if let Some(other) = hit_in(index, place, number, ins) {
+            if let Some(other) = hit_in(index, place, number, forced) {
                 return Some(Step::Apart(place, number, other));
             }
         }
@@ -79,16 +79,16 @@ fn conflict_of(index: &Index, part: Part<'_>, place: u32, ins: &PlaceSet) -> Opt
     if !part.has(index.only_position(index.name_of(place))) {
         return None;
     }
-    let other = version_in(index, place, ins)?;
+    let other = version_in(index, place, forced)?;
     Some(Step::Only(place, other))
 }
 
 /// A constraint of the part that keeps two places apart that are in.
-fn conflict_in(index: &Index, part: Part<'_>, ins: &PlaceSet) -> Option<Step>
-    requires { ArePlaces (length index.now.packages) ins.now }
+fn conflict_in(index: &Index, part: Part<'_>, forced: &PlaceSet) -> Option<Step>
+    requires { ArePlaces (length index.now.packages) forced.now }
 {
-    for place in ins.as_slice() {
-        if let Some(step) = conflict_of(index, part, *place, ins) {
+    for place in forced.as_slice() {
+        if let Some(step) = conflict_of(index, part, *place, forced) {
             return Some(step);
         }
     }
@@ -144,7 +144,7 @@ impl Propagation {
             causes: Vec::new(alloc),
             needed: Vec::new(alloc),
             steps: Vec::new(alloc),
-            ins: PlaceSet::new(alloc),
+            checked: PlaceSet::new(alloc),
             positions: Vec::new(alloc),
         }
     }
@@ -308,7 +308,7 @@ pub(crate) fn refute_by_last_steps(
         part,
         p,
         &buffers.steps,
-        &mut buffers.ins,
+        &mut buffers.checked,
         &mut buffers.positions,
     )?;
     if !holds {

@@ -8,7 +8,7 @@ ghost use Rattle.sat_solve.specs.Sets.{members_of};
 ghost use Rattle.deb_verdict.specs.Closure.{IsClosure};
 ghost use Rattle.deb_verdict.specs.Reach.{Joins, meeting_any};
 
-use crate::place_set::PlaceSet;
+use deb_encode::PlaceSet;
 use deb_index::Index;
 use std::alloc::{AllocError, Global};
 

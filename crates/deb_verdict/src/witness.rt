@@ -6,17 +6,17 @@ ghost use Rattle.std.specs.List.{list_any};
 ghost use Rattle.deb_index.specs.Packages.{essential_names, needs_at, aparts_at};
 ghost use Rattle.deb_index.specs.Constraints.{Holds};
 ghost use Rattle.sat_solve.specs.Sets.{members_of};
-ghost use Rattle.deb_verdict.specs.Growing.{ArePlaces, Grows};
+ghost use Rattle.deb_encode.specs.PlaceSets.{ArePlaces, Grows};
 ghost use Rattle.deb_verdict.specs.Health.{Admits, MeetsAt};
 ghost use Rattle.core_extract.specs.Reduction.{left};
-ghost use Rattle.deb_verdict.specs.Standings.{HasNoEarlier};
+ghost use Rattle.deb_verdict.specs.Meeting.{HasNoEarlier};
 ghost use Rattle.deb_verdict.specs.Witnesses.{MeetsAsked, MeetsAskedOf, StandsOnce};
 
 use crate::derivation::has_need;
 use crate::gather::has_any;
 use crate::groundwork::is_answered;
 use crate::part::Part;
-use crate::place_set::PlaceSet;
+use deb_encode::PlaceSet;
 use deb_index::{Constraint, Index};
 use std::alloc::{AllocError, Global};
 

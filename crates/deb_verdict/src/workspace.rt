@@ -1,11 +1,9 @@
 //! The buffers of a verdict.
 
-use crate::place_set::PlaceSet;
 use crate::propagation::Propagation;
-use crate::rivals::Rivals;
 use crate::unmet::UnmetNeed;
-use crate::versions::Versions;
 use crate::witness::Witness;
+use deb_encode::{PlaceSet, Rivals, Versions};
 use deb_index::Constraint;
 use sat_solve::{Formula, Lit};
 use std::alloc::{AllocError, Global};
@@ -15,12 +13,15 @@ use std::alloc::{AllocError, Global};
 /// What an earlier verdict left in them changes no answer.
 #[derive(Drop)]
 pub struct Workspace {
-    pub(crate) ins: PlaceSet,
-    pub(crate) members: PlaceSet,
-    /// The needs of these that no place of `ins` answers.
+    /// The places that are in every set that is looked for, and those that have a variable each.
+    pub(crate) forced: PlaceSet,
+    pub(crate) candidates: PlaceSet,
+    /// The needs of these that no forced place answers.
     pub(crate) unmet: Vec<UnmetNeed>,
     pub(crate) formula: Formula,
+    /// A clause in the making, and the places that answer a need.
     pub(crate) clause: Vec<Lit>,
+    pub(crate) found: Vec<u32>,
     pub(crate) rivals: Rivals,
     pub(crate) versions: Versions,
     pub(crate) solver: sat_solve::Workspace,
@@ -40,11 +41,12 @@ impl Workspace {
     /// Buffers with no room yet. The error is want of memory.
     pub fn new(alloc: Global) -> Result<Workspace, AllocError> {
         Ok(Workspace {
-            ins: PlaceSet::new(alloc),
-            members: PlaceSet::new(alloc),
+            forced: PlaceSet::new(alloc),
+            candidates: PlaceSet::new(alloc),
             unmet: Vec::new(alloc),
             formula: Formula::new(alloc, 0, 0)?,
             clause: Vec::new(alloc),
+            found: Vec::new(alloc),
             rivals: Rivals::new(alloc),
             versions: Versions::new(alloc),
             solver: sat_solve::Workspace::new(alloc),

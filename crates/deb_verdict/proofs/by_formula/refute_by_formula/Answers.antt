@@ -14,7 +14,7 @@ pub returns-clause-refuted : goal.returns-clause-refuted
 returns-clause-refuted c =
     let index = c.args.index.now in
     let part : NumberSet = left (members_of c.args.part.kept.now) c.args.part.rest in
-    let members : List ℕ = c.describe_part.new.workspace.members in
+    let members : List ℕ = c.describe_part.new.workspace.candidates in
     let positions : List ℕ = c.describe_part.new.workspace.positions.items in
     let formula : Clauses = c.describe_part.new.workspace.formula in
     let marks : List Bool = c.solve_marked.new.marks.items in
@@ -39,7 +39,7 @@ pub returns-clause-admitted : goal.returns-clause-admitted
 returns-clause-admitted c =
     let index = c.args.index.now in
     let part : NumberSet = left (members_of c.args.part.kept.now) c.args.part.rest in
-    let members : List ℕ = c.describe_part.new.workspace.members in
+    let members : List ℕ = c.describe_part.new.workspace.candidates in
     let positions : List ℕ = c.describe_part.new.workspace.positions.items in
     let formula : Clauses = c.describe_part.new.workspace.formula in
     let keep : List Bool = c.deref.result.now in

@@ -10,5 +10,5 @@ returns c =
     let first : c.args.first < length c.args.index.now.packages = omega (arith, c.len.ensures.value) in
     let second : c.args.second < length c.args.index.now.packages = omega (arith, c.len-else-first-len.ensures.value) in
     let one : c.name_of-name.result ≡ c.name_of.result = omega arith in
-    only_gives c.args.index.now (members_of c.args.ins.now) c.args.first c.args.second c.name_of-name.result c.only_position.result c.only_position.ensures first second
+    only_gives c.args.index.now (members_of c.args.forced.now) c.args.first c.args.second c.name_of-name.result c.only_position.result c.only_position.ensures first second
     two.0 two.1 two.2 c.name_of-name.ensures.name (ap (name_at c.args.index.now) one ∙ c.name_of.ensures.name)

@@ -3,7 +3,7 @@ use Rattle.deb_index.specs.declared.constraint.Constraint.{Constraint}
 use Rattle.deb_index.specs.Constraints.{IsOfIndex, constraints_of}
 use Rattle.deb_index.proofs.ConstraintLemmas.{constraints-within}
 use Rattle.sat_solve.specs.Sets.{members_of}
-use Rattle.deb_verdict.proofs.AddSteps.{below_members, below_moved}
+use Rattle.deb_encode.proofs.AddSteps.{below_members, below_moved}
 use Rattle.deb_verdict.proofs.Whole.{all_admit_none, first_in_list, named_all}
 use Rattle.deb_verdict.proofs.first_core.first_core.Goals as goal
 

@@ -8,5 +8,5 @@ places_named-requires c =
 
 pub loop-name-preserved : goal.loop-name-preserved
 loop-name-preserved c =
-    forced_by_names c.args.index.now c.essential_names-name-items.result.now c.loop-name.name-index c.places_named.result.now c.args.ins.now c.loop-name.ins c.take_only.new.ins
+    forced_by_names c.args.index.now c.essential_names-name-items.result.now c.loop-name.name-index c.places_named.result.now c.args.forced.now c.loop-name.forced c.take_only.new.forced
     c.loop-name-test.true c.essential_names-name-items.ensures c.places_named.ensures c.loop-name.invariant c.in_ok-take_only.ensures

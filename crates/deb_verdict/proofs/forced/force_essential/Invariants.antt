@@ -2,4 +2,4 @@ use Rattle.deb_verdict.specs.Growing.{KeepsForced}
 use Rattle.deb_verdict.proofs.forced.force_essential.Given as goal
 
 abbrev pub invariant-loop-name : goal.invariant-loop-name
-invariant-loop-name l = KeepsForced l.index l.initial.ins l.ins
+invariant-loop-name l = KeepsForced l.index l.initial.forced l.forced

@@ -1,6 +1,6 @@
 use Rattle.std.proofs.Common.{arith}
 use Rattle.deb_verdict.specs.Growing.TakesOnly.{Took}
-use Rattle.deb_verdict.proofs.Placing.{single_row}
+use Rattle.deb_encode.proofs.Placing.{single_row}
 use Rattle.deb_verdict.proofs.forced.take_only.Goals as goal
 
 pub returns-in_ok-insert-in-len1 : goal.returns-in_ok-insert-in-len1

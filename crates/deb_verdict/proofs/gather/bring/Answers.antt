@@ -6,12 +6,12 @@ use Rattle.deb_verdict.proofs.gather.bring.Goals as goal
 
 pub returns-then-has_any : goal.returns-then-has_any
 returns-then-has_any c = record {
-  brings = λ count all. brings_none count c.args.ins.now c.args.row.now c.args.free.now (sym c.has_any.ensures ∙ c.if-has_any.true);
-  unmet = row_met (members_of c.args.ins.now) c.args.row.now (sym c.has_any.ensures ∙ c.if-has_any.true);
+  brings = λ count all. brings_none count c.args.forced.now c.args.row.now c.args.candidates.now (sym c.has_any.ensures ∙ c.if-has_any.true);
+  unmet = row_met (members_of c.args.forced.now) c.args.row.now (sym c.has_any.ensures ∙ c.if-has_any.true);
 }
 
 pub returns : goal.returns
 returns c = record {
-  brings = λ count all. brings_all count (members_of c.args.ins.now) c.args.row.now c.args.free.now c.extend.new.self c.in_ok-extend.ensures.has (c.in_ok-extend.ensures.grows count all);
-  unmet = row_unmet (members_of c.args.ins.now) c.args.row.now (sym c.has_any.ensures ∙ c.if-has_any.false);
+  brings = λ count all. brings_all count (members_of c.args.forced.now) c.args.row.now c.args.candidates.now c.extend.new.self c.in_ok-extend.ensures.has (c.in_ok-extend.ensures.grows count all);
+  unmet = row_unmet (members_of c.args.forced.now) c.args.row.now (sym c.has_any.ensures ∙ c.if-has_any.false);
 }

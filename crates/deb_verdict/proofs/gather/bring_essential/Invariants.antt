@@ -3,4 +3,4 @@ use Rattle.deb_verdict.proofs.Bringing.{EssentialBelow}
 use Rattle.deb_verdict.proofs.gather.bring_essential.Given as goal
 
 abbrev pub invariant-loop-name : goal.invariant-loop-name
-invariant-loop-name l = EssentialBelow l.index (members_of l.ins) l.name-items l.name-index l.initial.free l.free
+invariant-loop-name l = EssentialBelow l.index (members_of l.forced) l.name-items l.name-index l.initial.candidates l.candidates

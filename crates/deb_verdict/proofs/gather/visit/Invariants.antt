@@ -6,6 +6,6 @@ use Rattle.deb_verdict.proofs.gather.visit.Given as goal
 
 abbrev pub invariant-loop-number : goal.invariant-loop-number
 invariant-loop-number l = record {
-  visits : VisitsBelow l.groundwork.index.now (members_of l.ins) l.place l.number l.initial.free l.free;
-  lists : ListsUnmet l.groundwork.index.now (members_of l.ins) (λ q j. (l.place ≡ q) × (j < l.number)) l.initial.unmet.items l.unmet.items;
+  visits : VisitsBelow l.groundwork.index.now (members_of l.forced) l.place l.number l.initial.candidates l.candidates;
+  lists : ListsUnmet l.groundwork.index.now (members_of l.forced) (λ q j. (l.place ≡ q) × (j < l.number)) l.initial.unmet.items l.unmet.items;
 }

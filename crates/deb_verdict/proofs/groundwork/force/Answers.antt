@@ -11,4 +11,4 @@ returns-clause-places c =
 
 pub returns-clause-in_all : goal.returns-clause-in_all
 returns-clause-in_all c =
-    forced_in_all c.args.index.now _ c.force_essential.new.ins c.force_from.new.ins c.new-forced.ensures c.in_ok-force_essential.ensures c.in_ok-force_from.ensures
+    forced_in_all c.args.index.now _ c.force_essential.new.forced c.force_from.new.forced c.new-forced.ensures c.in_ok-force_essential.ensures c.in_ok-force_from.ensures

@@ -5,4 +5,4 @@ use Rattle.deb_verdict.proofs.groundwork.is_met.Goals as goal
 
 pub loop-number-preserved : goal.loop-number-preserved
 loop-number-preserved c =
-    more_answered (IsAnsweredBy c.args.index.now (members_of c.args.ins.now) c.args.place) (IsAnsweredBy c.args.index.now (members_of c.args.ins.now) c.args.place) c.loop-number.number (λ j below there. there) c.loop-number.invariant (c.is_answered.ensures c.if-not-is_answered.false)
+    more_answered (IsAnsweredBy c.args.index.now (members_of c.args.forced.now) c.args.place) (IsAnsweredBy c.args.index.now (members_of c.args.forced.now) c.args.place) c.loop-number.number (λ j below there. there) c.loop-number.invariant (c.is_answered.ensures c.if-not-is_answered.false)

@@ -4,4 +4,4 @@ use Rattle.deb_verdict.proofs.GroundworkLemmas.{IsAnsweredBy}
 use Rattle.deb_verdict.proofs.groundwork.is_met.Given as goal
 
 abbrev pub invariant-loop-number : goal.invariant-loop-number
-invariant-loop-number l = (j : ℕ) → j < l.number → IsAnsweredBy l.index (members_of l.ins) l.place j
+invariant-loop-number l = (j : ℕ) → j < l.number → IsAnsweredBy l.index (members_of l.forced) l.place j

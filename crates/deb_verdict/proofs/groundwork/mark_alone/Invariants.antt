@@ -1,4 +1,4 @@
-use Rattle.deb_verdict.specs.Groundwork.{IsAlone}
+use Rattle.deb_encode.specs.Alone.{IsAlone}
 use Rattle.deb_verdict.proofs.GroundworkLemmas.{MarksFirst}
 use Rattle.deb_verdict.proofs.groundwork.mark_alone.Given as goal
 

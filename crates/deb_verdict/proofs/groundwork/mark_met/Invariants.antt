@@ -4,4 +4,4 @@ use Rattle.deb_verdict.proofs.GroundworkLemmas.{MarksFirst}
 use Rattle.deb_verdict.proofs.groundwork.mark_met.Given as goal
 
 abbrev pub invariant-loop-place : goal.invariant-loop-place
-invariant-loop-place l = MarksFirst (IsMet l.index (members_of l.ins)) l.place l.marks.items
+invariant-loop-place l = MarksFirst (IsMet l.index (members_of l.forced)) l.place l.marks.items

@@ -1,5 +1,5 @@
 use Rattle.std.proofs.Common.{◌≡◌, length}
-use Rattle.deb_verdict.specs.Groundwork.{MarksOnly}
+use Rattle.deb_encode.specs.Alone.{MarksOnly}
 use Rattle.deb_verdict.specs.Health.{IsInstallable}
 use Rattle.deb_verdict.proofs.installable.mark_installable.Given as goal
 

@@ -4,7 +4,7 @@ use Rattle.deb_index.proofs.ConstraintLemmas.{constraints-few}
 use Rattle.sat_solve.specs.Sets.{NumberSet, members_of}
 use Rattle.deb_verdict.specs.Listing.{Lists, IsAnEssential}
 use Rattle.core_extract.specs.Reduction.{left}
-use Rattle.deb_verdict.proofs.AddSteps.{take_whole, below_members}
+use Rattle.deb_encode.proofs.AddSteps.{take_whole, below_members}
 use Rattle.deb_verdict.proofs.Inserted.{rising_length}
 use Rattle.deb_verdict.proofs.Listing.{IsAskedIn, lists_first, lists_place, lists_only, listed_within, listed_all, listed_below}
 use Rattle.deb_verdict.proofs.kept_positions.list_positions.Goals as goal

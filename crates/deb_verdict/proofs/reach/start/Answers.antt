@@ -1,5 +1,5 @@
 use Rattle.std.proofs.Common.{◌∙◌, ap, []}
-use Rattle.deb_verdict.specs.PlaceSets.{with_place}
+use Rattle.deb_encode.specs.PlaceSets.{with_place}
 use Rattle.deb_verdict.proofs.JoinLemmas.{joins_place}
 use Rattle.deb_verdict.proofs.ReachLemmas.{essential_below, named_joined, start_joined}
 use Rattle.deb_verdict.proofs.reach.start.Goals as goal

@@ -1,4 +1,4 @@
-use Rattle.std.proofs.Common.{◌≡◌, ◌∙◌, sym}
+use Rattle.std.proofs.Common.{◌∙◌, sym}
 use Rattle.sat_solve.specs.Sets.{members_of}
 use Rattle.deb_verdict.proofs.witness.is_witness.Goals as goal
 

@@ -1,7 +1,7 @@
 use Rattle.std.proofs.Common.{◌<◌, ℕ, length, get_or}
 use Rattle.std.proofs.lemmas.List.Elements.{All-same}
 use Rattle.deb_index.specs.Packages.{places_of, name_at}
-use Rattle.deb_verdict.proofs.AddSteps.{named_below}
+use Rattle.deb_encode.proofs.AddSteps.{named_below}
 use Rattle.deb_verdict.proofs.ReachLemmas.{essential_below}
 use Rattle.deb_verdict.proofs.installation.Installation.add_essentials.Goals as goal
 

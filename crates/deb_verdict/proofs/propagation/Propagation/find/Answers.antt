@@ -1,6 +1,6 @@
 use Rattle.std.proofs.Common.{◌∙◌, ℕ, List, length, ap}
-use Rattle.deb_verdict.specs.PlaceSets.{with_place}
-use Rattle.deb_verdict.proofs.Placing.{places_first}
+use Rattle.deb_encode.specs.PlaceSets.{with_place}
+use Rattle.deb_encode.proofs.Placing.{places_first}
 use Rattle.deb_verdict.proofs.propagation.Propagation.find.Goals as goal
 
 pub propagate-requires : goal.propagate-requires

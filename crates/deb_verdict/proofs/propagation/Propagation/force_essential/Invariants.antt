@@ -1,5 +1,5 @@
 use Rattle.std.proofs.Common.{length}
-use Rattle.deb_verdict.specs.Growing.{Grows}
+use Rattle.deb_encode.specs.PlaceSets.{Grows}
 use Rattle.deb_verdict.proofs.propagation.Propagation.force_essential.Given as goal
 
 abbrev pub invariant-loop-number : goal.invariant-loop-number

@@ -1,5 +1,5 @@
 use Rattle.std.proofs.Common.{◌-◌, length}
-use Rattle.deb_verdict.specs.Growing.{ArePlaces}
+use Rattle.deb_encode.specs.PlaceSets.{ArePlaces}
 use Rattle.deb_verdict.proofs.propagation.Propagation.propagate.Given as goal
 
 abbrev pub invariant-loop-visited : goal.invariant-loop-visited

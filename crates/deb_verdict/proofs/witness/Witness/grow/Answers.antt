@@ -1,6 +1,6 @@
 use Rattle.std.proofs.Common.{◌≡◌, ◌∙◌, ap, List, ℕ, length, []}
-use Rattle.deb_verdict.specs.PlaceSets.{with_place}
-use Rattle.deb_verdict.proofs.Placing.{places_first}
+use Rattle.deb_encode.specs.PlaceSets.{with_place}
+use Rattle.deb_encode.proofs.Placing.{places_first}
 use Rattle.deb_verdict.proofs.witness.Witness.grow.Goals as goal
 
 pub returns-then-not-branch : goal.returns-then-not-branch

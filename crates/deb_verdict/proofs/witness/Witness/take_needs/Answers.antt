@@ -1,5 +1,5 @@
 use Rattle.std.proofs.Common.{◌<◌, ◌+◌, ◌-◌, length, get_or, refl, ap, arith}
-use Rattle.deb_verdict.proofs.Placing.{number_within}
+use Rattle.deb_encode.proofs.Placing.{number_within}
 use Rattle.deb_verdict.proofs.witness.Witness.take_needs.Goals as goal
 
 pub loop-visited-smaller : goal.loop-visited-smaller

@@ -1,5 +1,5 @@
 use Rattle.std.proofs.Common.{◌-◌, ◌≤◌, length}
-use Rattle.deb_verdict.specs.Growing.{Grows}
+use Rattle.deb_encode.specs.PlaceSets.{Grows}
 use Rattle.deb_verdict.proofs.witness.Witness.take_needs.Given as goal
 
 abbrev pub invariant-loop-visited : goal.invariant-loop-visited

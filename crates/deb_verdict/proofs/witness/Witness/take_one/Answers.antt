@@ -1,6 +1,6 @@
 use Rattle.std.proofs.Common.{List, ℕ, length, sym, subst}
-use Rattle.deb_verdict.specs.Growing.{Grows}
-use Rattle.deb_verdict.proofs.Placing.{grows_with}
+use Rattle.deb_encode.specs.PlaceSets.{Grows}
+use Rattle.deb_encode.proofs.Placing.{grows_with}
 use Rattle.deb_verdict.proofs.witness.Witness.take_one.Goals as goal
 
 pub returns-in_ok-push-in-Some : goal.returns-in_ok-push-in-Some

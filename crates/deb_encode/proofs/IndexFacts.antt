@@ -1,0 +1,98 @@
+-- What the definitions of an index give.
+use Rattle.std.proofs.Common.{◌≡◌, ℕ, ◌<◌, Bool, true, false, List, [], ◌∷◌, ◌++◌, length, map, Option, Some, None, slice_get, refl, subst, ◌∙◌, inl, inr, arith, All, ◌↔◌, sym, Contains}
+use Rattle.std.specs.List.{list_any, flat_map}
+use Rattle.std.specs.Option.{option_map_or}
+use Rattle.std.proofs.lemmas.Bool.{false≢true, or_cases}
+use Rattle.std.proofs.lemmas.List.Elements.{All-append, All-map, All-contains_itself}
+use Rattle.std.proofs.lemmas.Option.{slice_get_within, get_or_from_slice_get}
+use Rattle.deb_relation.specs.Relationship.{AtomText}
+use Rattle.deb_index.specs.declared.constraint.Constraint.{Constraint}
+use Rattle.deb_index.specs.declared.constraint.Constraint.TheVariants.{Essential, Need, Apart, Only}
+use Rattle.deb_index.specs.Packages.{IndexView, names, name_at, is_named, places_of, essential_names, needs_at, aparts_at, need_at}
+use Rattle.deb_index.specs.Meets.{meets, meets_at, meets_need, meets_need_at, need_satisfiers, satisfiers}
+use Rattle.deb_index.specs.Constraints.{constraints_at, constraints_of, below, has_name, answers, Holds}
+use Rattle.deb_index.proofs.MemberLemmas.{member-places_where}
+use Rattle.sat_solve.specs.Sets.{NumberSet, members_of}
+use Rattle.deb_encode.proofs.Members.{member_any}
+use Rattle.deb_encode.specs.Standings.{HasOneOf}
+
+-- what is at an index of the list has what all have
+pub All-at : {A : Type 0} (P : A → Type 0) (xs : List A) (k : ℕ) (x : A) → All P xs → slice_get xs k ≡ Some x → P x
+All-at P xs k x all there =
+    let inside : k < length xs = slice_get_within xs k x there in
+    subst P (get_or_from_slice_get xs k x x there) (all k x inside)
+
+-- only essential names have an `Essential` constraint
+abbrev pub IsRight : IndexView → Constraint → Type 0
+IsRight index (Essential number) = Contains (essential_names index) number
+IsRight index (Need p j) = Unit {0}
+IsRight index (Apart p j) = Unit {0}
+IsRight index (Only number) = Unit {0}
+
+All-flat_map : {A B : Type 0} (P : B → Type 0) (f : A → List B) → ((x : A) → All P (f x)) → (xs : List A) → All P (flat_map f xs)
+All-flat_map P f each [] = λ k d below. absurd (omega arith)
+All-flat_map P f each (x ∷ xs) = All-append P (f x) (flat_map f xs) (each x) (All-flat_map P f each xs)
+
+right_of_package : (index : IndexView) (p : ℕ) → All (IsRight index) (constraints_at index p)
+right_of_package index p =
+    All-append (IsRight index) (map (λ j. Need p j) (below (length (needs_at index p)))) (map (λ j. Apart p j) (below (length (aparts_at index p))))
+    (All-map (IsRight index) (λ j. Need p j) (below (length (needs_at index p))) (λ k d below. tt))
+    (All-map (IsRight index) (λ j. Apart p j) (below (length (aparts_at index p))) (λ k d below. tt))
+
+pub all_right : (index : IndexView) → All (IsRight index) (constraints_of index)
+unfolding constraints_of
+all_right index =
+    All-append (IsRight index) (map (λ n. Essential n) (essential_names index) ++ flat_map (constraints_at index) (below (length index.packages))) (map (λ n. Only n) (below (length (names index))))
+    (All-append (IsRight index) (map (λ n. Essential n) (essential_names index)) (flat_map (constraints_at index) (below (length index.packages)))
+    (All-map (IsRight index) (λ n. Essential n) (essential_names index) (All-contains_itself (essential_names index)))
+    (All-flat_map (IsRight index) (constraints_at index) (right_of_package index) (below (length index.packages))))
+    (All-map (IsRight index) (λ n. Only n) (below (length (names index))) (λ k d below. tt))
+
+-- a test of what is at a place passes at places alone
+found_within : {A : Type 0} (test : A → Bool) (xs : List A) (q : ℕ) (found : Option A) → slice_get xs q ≡ found → option_map_or test found false ≡ true → q < length xs
+found_within test xs q (Some x) there holds = slice_get_within xs q x there
+found_within test xs q None there holds = absurd (false≢true holds)
+
+pub named_is_place : (index : IndexView) (q number : ℕ) → has_name index q number ≡ true → q < length index.packages
+named_is_place index q number named = found_within (is_named (name_at index number)) index.packages q (slice_get index.packages q) refl named
+
+meets_need_is_place : (index : IndexView) (q : ℕ) (atom : AtomText) → meets_need_at index q atom ≡ true → q < length index.packages
+meets_need_is_place index q atom met = found_within (λ item. meets_need index.arch item atom) index.packages q (slice_get index.packages q) refl met
+
+any_meets_need_is_place : (index : IndexView) (q : ℕ) (group : List AtomText) → list_any (meets_need_at index q) group ≡ true → q < length index.packages
+any_meets_need_is_place index q [] met = absurd (false≢true met)
+any_meets_need_is_place index q (atom ∷ group) met =
+    elim (or_cases (meets_need_at index q atom) (list_any (meets_need_at index q) group) met) [
+      | inl here ↦ meets_need_is_place index q atom here
+      | inr later ↦ any_meets_need_is_place index q group later
+    ]
+
+pub answers_is_place : (index : IndexView) (p j q : ℕ) → answers index p j q ≡ true → q < length index.packages
+answers_is_place index p j q answered = any_meets_need_is_place index q (need_at index p j) answered
+
+-- the places of a name are those that have it
+pub member_named : (index : IndexView) (number q : ℕ) → members_of (places_of index (name_at index number)) q ≡ has_name index q number
+member_named index number q = member-places_where (is_named (name_at index number)) index.packages q
+
+-- the satisfiers of an atom are the places that meet it
+pub member_satisfiers : (index : IndexView) (atom : AtomText) (q : ℕ) → members_of (satisfiers index atom) q ≡ meets_at index q atom
+member_satisfiers index atom q = member-places_where (λ item. meets index.arch item atom) index.packages q
+
+-- and of an alternative of a need those that meet it as such
+pub member_need_satisfiers : (index : IndexView) (atom : AtomText) (q : ℕ) → members_of (need_satisfiers index atom) q ≡ meets_need_at index q atom
+member_need_satisfiers index atom q = member-places_where (λ item. meets_need index.arch item atom) index.packages q
+
+-- a member with the name is one of the name's places
+pub some_named : (index : IndexView) (candidates : NumberSet) (q number : ℕ) → candidates q ≡ true → has_name index q number ≡ true → list_any candidates (places_of index (name_at index number)) ≡ true
+some_named index candidates q number is_in named =
+    member_any candidates (places_of index (name_at index number)) q is_in (member_named index number q ∙ named)
+
+-- at most one of the places of a name is in where no two of its packages are
+pub only_says_once : (index : IndexView) (number : ℕ) (set : NumberSet) → Holds index set (Only number) → HasOneOf (places_of index (name_at index number)) set
+only_says_once index number set holds q r named also is_there is_too = holds q r is_there is_too (sym (member_named index number q) ∙ named) (sym (member_named index number r) ∙ also)
+
+pub once_says_only : (index : IndexView) (number : ℕ) (set : NumberSet) → (HasOneOf (places_of index (name_at index number)) set ↔ Holds index set (Only number))
+once_says_only index number set = (
+  λ once q r is_there is_too named also. once q r (member_named index number q ∙ named) (member_named index number r ∙ also) is_there is_too,
+  λ holds. only_says_once index number set holds,
+)

@@ -1,0 +1,207 @@
+-- Clauses in the making, and what is added with them.
+use Rattle.std.proofs.Common.{◌≡◌, ℕ, zero, suc, ◌+◌, ◌<◌, ◌≤◌, Bool, true, false, ◌||◌, not, List, [], ◌∷◌, length, get_or, take, map, All, Option, Some, None, slice_get, ◌↔◌, refl, sym, subst, ◌∙◌, ap, inl, inr, arith}
+use Rattle.std.specs.List.{list_any}
+use Rattle.std.specs.Option.{option_map_or}
+use Rattle.std.proofs.lemmas.Bool.{cases_Bool, false≢true, both_ways, or_cases, or_left, or_right, not-true, not_from_false}
+use Rattle.std.proofs.lemmas.List.Folds.{list_any_more}
+use Rattle.deb_relation.specs.declared.atom.Atom.{Atom}
+use Rattle.deb_relation.specs.AtomView.{atom_view}
+use Rattle.deb_relation.specs.Relationship.{AtomText}
+use Rattle.deb_index.specs.declared.constraint.Constraint.TheVariants.{Essential, Need}
+use Rattle.deb_index.specs.Packages.{IndexView, PackageView, name_at, places_of, need_at}
+use Rattle.deb_index.specs.Meets.{meets_need, meets_need_at, need_satisfiers, group_satisfiers}
+use Rattle.deb_index.specs.Constraints.{Holds}
+use Rattle.deb_index.proofs.MemberLemmas.{member-places_where}
+use Rattle.sat_solve.specs.declared.clause.Lit.{Lit}
+use Rattle.sat_solve.specs.Sets.{NumberSet, members_of}
+use Rattle.sat_solve.specs.Clauses.{Clauses, clause_holds}
+use Rattle.deb_encode.specs.Adding.{Adds}
+use Rattle.deb_encode.specs.Standings.{Widens}
+use Rattle.deb_encode.proofs.Members.{any_member, member_any}
+use Rattle.deb_encode.proofs.IndexFacts.{member_named, member_need_satisfiers, some_named}
+use Rattle.deb_encode.proofs.AddLemmas.{adds_as}
+use Rattle.deb_encode.proofs.AddSteps.{take_whole, list_any-map}
+
+or_assoc : (a b c : Bool) → ((a || b) || c) ≡ (a || (b || c))
+or_assoc true b c = refl
+or_assoc false b c = refl
+
+or_false : (b : Bool) → (b || false) ≡ b
+or_false true = refl
+or_false false = refl
+
+-- two tests that pass together are one
+pub same_test : (a b : Bool) → (a ≡ true → b ≡ true) → (b ≡ true → a ≡ true) → a ≡ b
+same_test true b to from = sym (to refl)
+same_test false true to from = from refl
+same_test false false to from = refl
+
+any_kept : {A : Type 0} (test : A → Bool) (i : ℕ) (xs : List A) → list_any test (take i xs) ≡ true → list_any test xs ≡ true
+any_kept test zero xs holds = absurd (false≢true holds)
+any_kept test (suc i) [] holds = absurd (false≢true holds)
+any_kept test (suc i) (x ∷ xs) holds =
+    elim (or_cases (test x) (list_any test (take i xs)) holds) [
+      | inl here ↦ or_left (test x) (list_any test xs) here
+      | inr later ↦ or_right (test x) (list_any test xs) (any_kept test i xs later)
+    ]
+
+module _ (count : ℕ) where
+  -- for one test, and then for another one
+  pub widens_both : (A B : NumberSet → Bool) (before between after : List Lit) (anyway : Bool) → Widens A count before between false → Widens B count between after anyway
+      → Widens (λ vars. A vars || B vars) count before after anyway
+  widens_both A B before between after anyway first second = record {
+    in_range = λ all. second.in_range (first.in_range all);
+    says = λ vars. second.says vars ∙ (ap (λ b. b || B vars) (first.says vars) ∙ or_assoc (clause_holds vars before) (A vars) (B vars));
+  }
+
+  -- the same test in other words
+  pub widens_as : (A B : NumberSet → Bool) (before after : List Lit) (anyway : Bool) → ((vars : NumberSet) → A vars ≡ B vars) → Widens A count before after anyway → Widens B count before after anyway
+  widens_as A B before after anyway same widens = record {
+    in_range = widens.in_range;
+    says = λ vars. widens.says vars ∙ ap (λ b. clause_holds vars before || b) (same vars);
+  }
+
+  -- what holds anyway for a test holds anyway where more passes
+  pub widens_settled : (A B : NumberSet → Bool) (before after : List Lit) → ((vars : NumberSet) → A vars ≡ true → B vars ≡ true) → Widens A count before after true → Widens B count before after true
+  widens_settled A B before after more widens = record {
+    in_range = widens.in_range;
+    says = λ vars.
+        elim (or_cases (clause_holds vars before) (A vars) (sym (widens.says vars))) [
+          | inl held ↦ sym (or_left (clause_holds vars before) (B vars) held)
+          | inr passes ↦ sym (or_right (clause_holds vars before) (B vars) (more vars passes))
+        ];
+  }
+
+  module _ {A : Type 0} (test : NumberSet → A → Bool) (xs : List A) where
+    -- one element more that may pass
+    pub some_more : (i : ℕ) (d : A) (before between after : List Lit) (anyway : Bool) → i < length xs → Widens (λ vars. list_any (test vars) (take i xs)) count before between false
+        → Widens (λ vars. test vars (get_or xs i d)) count between after anyway → Widens (λ vars. list_any (test vars) (take (i + 1) xs)) count before after anyway
+    some_more i d before between after anyway inside so_far one =
+        widens_as (λ vars. list_any (test vars) (take i xs) || test vars (get_or xs i d)) (λ vars. list_any (test vars) (take (i + 1) xs)) before after anyway
+        (λ vars. sym (list_any_more (test vars) xs i d inside))
+        (widens_both (λ vars. list_any (test vars) (take i xs)) (λ vars. test vars (get_or xs i d)) before between after anyway so_far one)
+
+    pub some_settled : (i : ℕ) (d : A) (before between after : List Lit) (anyway : Bool) → anyway ≡ true → i < length xs → Widens (λ vars. list_any (test vars) (take i xs)) count before between false
+        → Widens (λ vars. test vars (get_or xs i d)) count between after anyway → Widens (λ vars. list_any (test vars) xs) count before after true
+    some_settled i d before between after anyway is_true inside so_far one =
+        let With : Bool → Type 0 = λ b. Widens (λ vars. test vars (get_or xs i d)) count between after b in
+        widens_settled (λ vars. list_any (test vars) (take (i + 1) xs)) (λ vars. list_any (test vars) xs) before after (λ vars passes. any_kept (test vars) (i + 1) xs passes)
+        (some_more i d before between after true inside so_far (subst With is_true one))
+
+    pub some_open : (i : ℕ) (d : A) (before between after : List Lit) (anyway : Bool) → anyway ≡ false → i < length xs → Widens (λ vars. list_any (test vars) (take i xs)) count before between false
+        → Widens (λ vars. test vars (get_or xs i d)) count between after anyway → Widens (λ vars. list_any (test vars) (take (i + 1) xs)) count before after false
+    some_open i d before between after anyway is_false inside so_far one =
+        let With : Bool → Type 0 = λ b. Widens (λ vars. test vars (get_or xs i d)) count between after b in
+        some_more i d before between after false inside so_far (subst With is_false one)
+
+    pub some_whole : (i : ℕ) (before after : List Lit) → length xs ≤ i → Widens (λ vars. list_any (test vars) (take i xs)) count before after false → Widens (λ vars. list_any (test vars) xs) count before after false
+    some_whole i before after past so_far =
+        let For : List A → Type 0 = λ list. Widens (λ vars. list_any (test vars) list) count before after false in
+        subst For (take_whole xs i past) so_far
+
+-- ---- the places that answer a group
+
+meets_some : (arch : List ℕ) (group : List AtomText) (there : Option PackageView) → list_any (λ (a : AtomText). option_map_or (λ (q : PackageView). meets_need arch q a) there false) group ≡ option_map_or (λ (q : PackageView). list_any (meets_need arch q) group) there false
+meets_some arch group (Some q) = refl
+meets_some arch [] None = refl
+meets_some arch (a ∷ group) None = meets_some arch group None
+
+member_answers : (index : IndexView) (group : List AtomText) (q : ℕ) → members_of (group_satisfiers index group) q ≡ list_any (meets_need_at index q) group
+member_answers index group q =
+    member-places_where (λ item. list_any (meets_need index.arch item) group) index.packages q ∙ sym (meets_some index.arch group (slice_get index.packages q))
+
+module _ (index : IndexView) (set : NumberSet) where
+  alternative_met : (group : List AtomText) → list_any (λ atom. list_any set (need_satisfiers index atom)) group ≡ true → (q : ℕ) × (set q ≡ true) × (list_any (meets_need_at index q) group ≡ true)
+  alternative_met [] holds = absurd (false≢true holds)
+  alternative_met (atom ∷ group) holds =
+      elim (or_cases (list_any set (need_satisfiers index atom)) (list_any (λ other. list_any set (need_satisfiers index other)) group) holds) [
+        | inl here ↦
+            let at = any_member set (need_satisfiers index atom) here in
+            (at.0, at.1, or_left (meets_need_at index at.0 atom) (list_any (meets_need_at index at.0) group) (sym (member_need_satisfiers index atom at.0) ∙ at.2))
+        | inr later ↦ let at = alternative_met group later in (at.0, at.1, or_right (meets_need_at index at.0 atom) (list_any (meets_need_at index at.0) group) at.2)
+      ]
+
+  met_alternative : (group : List AtomText) (q : ℕ) → set q ≡ true → list_any (meets_need_at index q) group ≡ true → list_any (λ atom. list_any set (need_satisfiers index atom)) group ≡ true
+  met_alternative [] q is_there met = absurd (false≢true met)
+  met_alternative (atom ∷ group) q is_there met =
+      elim (or_cases (meets_need_at index q atom) (list_any (meets_need_at index q) group) met) [
+        | inl here ↦
+            or_left (list_any set (need_satisfiers index atom)) (list_any (λ other. list_any set (need_satisfiers index other)) group)
+            (member_any set (need_satisfiers index atom) q is_there (member_need_satisfiers index atom q ∙ here))
+        | inr later ↦ or_right (list_any set (need_satisfiers index atom)) (list_any (λ other. list_any set (need_satisfiers index other)) group) (met_alternative group q is_there later)
+      ]
+
+  some_answer : (group : List AtomText) → list_any set (group_satisfiers index group) ≡ true → (q : ℕ) × (set q ≡ true) × (list_any (meets_need_at index q) group ≡ true)
+  some_answer group holds = let at = any_member set (group_satisfiers index group) holds in (at.0, at.1, sym (member_answers index group at.0) ∙ at.2)
+
+  answer_some : (group : List AtomText) (q : ℕ) → set q ≡ true → list_any (meets_need_at index q) group ≡ true → list_any set (group_satisfiers index group) ≡ true
+  answer_some group q is_there met = member_any set (group_satisfiers index group) q is_there (member_answers index group q ∙ met)
+
+  -- one alternative after the other finds the same
+  pub alternatives : (atoms : List Atom) (group : List AtomText) → map atom_view atoms ≡ group → list_any (λ (a : Atom). list_any set (need_satisfiers index (atom_view a))) atoms ≡ list_any set (group_satisfiers index group)
+  alternatives atoms group same =
+      let each : NumberSet → AtomText → Bool = λ s atom. list_any s (need_satisfiers index atom) in
+      sym (list_any-map (each set) atom_view atoms)
+      ∙ (ap (list_any (each set)) same
+      ∙ same_test (list_any (each set) group) (list_any set (group_satisfiers index group))
+      (λ holds. let at = alternative_met group holds in answer_some group at.0 at.1 at.2)
+      (λ holds. let at = some_answer group holds in met_alternative group at.0 at.1 at.2))
+
+  pub need_says : (p j : ℕ) → ((not (set p) || list_any set (group_satisfiers index (need_at index p j))) ≡ true) ↔ Holds index set (Need p j)
+  need_says p j =
+      let answered : Bool = list_any set (group_satisfiers index (need_at index p j)) in (
+        λ holds has.
+            elim (or_cases (not (set p)) answered holds) [
+              | inl lacks ↦ absurd (both_ways (set p) (not-true (set p) lacks) has)
+              | inr some ↦ some_answer (need_at index p j) some
+            ],
+        λ holds.
+            elim (cases_Bool (set p)) [
+              | inl has ↦ let at = holds has in or_right (not (set p)) answered (answer_some (need_at index p j) at.0 at.1 at.2)
+              | inr lacks ↦ or_left (not (set p)) answered (not_from_false (set p) lacks)
+            ],
+      )
+
+  pub essential_says : (number : ℕ) → (list_any set (places_of index (name_at index number)) ≡ true) ↔ Holds index set (Essential number)
+  essential_says number = (
+    λ holds. (let at = any_member set (places_of index (name_at index number)) holds in (at.0, at.1, sym (member_named index number at.0) ∙ at.2)),
+    λ found. some_named index set found.0 number found.1 found.2,
+  )
+
+-- ---- what is added with them
+
+-- a clause that was made from none, added unless it holds anyway, says that the test passes
+pub widened_adds : (group count : ℕ) (test : NumberSet → Bool) (empty clause given : List Lit) (anyway : Bool) (before after : Clauses) → empty ≡ [] → given ≡ clause → Widens test count empty clause anyway
+    → Adds group (λ vars. (anyway || clause_holds vars given) ≡ true) before after → Adds group (λ vars. test vars ≡ true) before after
+widened_adds group count test empty clause given anyway before after is_empty same widens adds =
+    let from_none : (vars : NumberSet) → (anyway || clause_holds vars given) ≡ test vars =
+    λ vars. ap (λ literals. anyway || clause_holds vars literals) same ∙ (widens.says vars ∙ ap (λ literals. clause_holds vars literals || test vars) is_empty) in
+    adds_as group (λ vars. (anyway || clause_holds vars given) ≡ true) (λ vars. test vars ≡ true) before after
+    (λ vars. (λ holds. sym (from_none vars) ∙ holds, λ holds. from_none vars ∙ holds)) adds
+
+-- what holds anyway passes in each set
+pub settled_passes : (count : ℕ) (test : NumberSet → Bool) (empty clause : List Lit) (anyway : Bool) → anyway ≡ true → empty ≡ [] → Widens test count empty clause anyway → (vars : NumberSet) → test vars ≡ true
+settled_passes count test empty clause anyway is_true is_empty widens vars =
+    sym (widens.says vars ∙ ap (λ literals. clause_holds vars literals || test vars) is_empty) ∙ ap (λ b. b || clause_holds vars clause) is_true
+
+-- the literals of a clause made from none are of variables
+pub widened_below : (count limit : ℕ) (test : NumberSet → Bool) (empty clause given : List Lit) (anyway : Bool) → limit ≡ count → empty ≡ [] → given ≡ clause → Widens test count empty clause anyway
+    → All (λ (literal : Lit). literal.var < limit) given
+widened_below count limit test empty clause given anyway size is_empty same widens =
+    let Below : List Lit → Type 0 = λ literals. All (λ (literal : Lit). literal.var < count) literals in
+    let all : Below given = subst Below (sym same) (widens.in_range (subst Below (sym is_empty) (λ k d inside. absurd (omega arith)))) in
+    λ k d inside. omega (arith, all k d inside, size)
+
+module _ (count : ℕ) (A B : NumberSet → Bool) (empty between clause given : List Lit) (first anyway : Bool) (is_open : first ≡ false) (is_empty : empty ≡ []) (same : given ≡ clause)
+    (one : Widens A count empty between first) (other : Widens B count between clause anyway) where
+  abbrev Either : NumberSet → Bool
+  Either vars = A vars || B vars
+
+  widens_pair : Widens Either count empty clause anyway
+  widens_pair = (let With : Bool → Type 0 = λ b. Widens A count empty between b in widens_both count A B empty between clause anyway (subst With is_open one) other)
+
+  pub pair_below : (limit : ℕ) → limit ≡ count → All (λ (literal : Lit). literal.var < limit) given
+  pair_below limit size = widened_below count limit Either empty clause given anyway size is_empty same widens_pair
+
+  pub pair_adds : (group : ℕ) (before after : Clauses) → Adds group (λ vars. (anyway || clause_holds vars given) ≡ true) before after → Adds group (λ vars. (A vars || B vars) ≡ true) before after
+  pair_adds group before after adds = widened_adds group count Either empty clause given anyway before after is_empty same widens_pair adds

@@ -1,0 +1,41 @@
+-- What is gathered of places that may not stand together: names of which one package at most is in, and the variables of places.
+use Rattle.std.specs.Prelude.{◌≡◌, ◌⊎◌, ℕ, ◌<◌, ◌≤◌, true, false, List, All, Contains, length, slice_index, slice_index_or}
+use Rattle.deb_index.specs.Packages.{IndexView, package_at, names, name_at, aparts_at, apart_at}
+use Rattle.sat_solve.specs.Sets.{NumberSet, members_of}
+use Rattle.deb_encode.specs.declared.rivals.Entry.{Entry}
+use Rattle.deb_encode.specs.Alone.{IsAlone}
+use Rattle.deb_encode.specs.Standings.{has_row}
+
+-- the list has the numbers of those candidates that are among these places
+pub record AreNumbersOf (candidates places list : List ℕ) : Type 0 where
+  pub below : All (λ number. number < length candidates) list
+  pub among : (number : ℕ) → members_of list number ≡ true → members_of places (slice_index candidates number) ≡ true
+  pub all : (number : ℕ) → number < length candidates → members_of places (slice_index candidates number) ≡ true → members_of list number ≡ true
+
+-- the numbers are of names of these places, and of each name but those whose only package stands alone
+pub record AreNamesOf (index : IndexView) (places : NumberSet) (numbers : List ℕ) : Type 0 where
+  pub below : All (λ number. number < length (names index)) numbers
+  pub among : (number : ℕ) → members_of numbers number ≡ true → (q : ℕ) × (places q ≡ true) × (name_at index number ≡ (package_at index q).name)
+  pub all : (q : ℕ) → places q ≡ true → IsAlone index q ⊎ ((number : ℕ) × (members_of numbers number ≡ true) × (name_at index number ≡ (package_at index q).name))
+
+-- an entry of the index that very many packages may meet
+pub record IsWide (index : IndexView) (entry : Entry) : Type 0 where
+  pub of_place : entry.place < length index.packages
+  pub numbered : entry.number < length (aparts_at index entry.place)
+  pub wide : has_row index entry.place entry.number ≡ false
+
+-- the wide entries of these places came to a list, but for those of places that stand alone
+pub record AddsWide (index : IndexView) (places : NumberSet) (before after : List Entry) : Type 0 where
+  pub wide : All (IsWide index) before → All (IsWide index) after
+  pub kept : (entry : Entry) → Contains before entry → Contains after entry
+  pub all : (q : ℕ) → places q ≡ true → IsAlone index q ⊎ ((j : ℕ) → j < length (aparts_at index q) → has_row index q j ≡ false → Contains after (record { place = q; number = j }))
+
+-- the entry at an index of a list
+abbrev pub entry_at : List Entry → ℕ → Entry
+entry_at entries k = slice_index_or entries k (record { place = 0; number = 0 })
+
+-- entries of one atom that stand together in a list, and the places whose they are
+pub record IsRun (index : IndexView) (entries : List Entry) (start end : ℕ) (owners : List ℕ) : Type 0 where
+  pub one_atom : (k : ℕ) → start ≤ k → k < end → apart_at index (entry_at entries k).place (entry_at entries k).number ≡ apart_at index (entry_at entries start).place (entry_at entries start).number
+  pub owned : (k : ℕ) → start ≤ k → k < end → members_of owners (entry_at entries k).place ≡ true
+  pub only : (q : ℕ) → members_of owners q ≡ true → (k : ℕ) × (start ≤ k) × (k < end) × ((entry_at entries k).place ≡ q)

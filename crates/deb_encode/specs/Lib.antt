@@ -1,0 +1,7 @@
+pub mod Adding
+pub mod Alone
+pub mod Encoders
+pub mod Exclusions
+pub mod PlaceSets
+pub mod Play
+pub mod Standings

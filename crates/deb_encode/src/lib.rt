@@ -1,0 +1,31 @@
+//! The constraints of an index as clauses over the places in play, some of which are forced and others, the candidates, have a variable each.
+//!
+//! The modules in reading order:
+//!
+//! - `place_set` is the set of places that all work is done on.
+//! - `play` has the places in play, and how each place stands in the sets that are looked for.
+//! - `encoder` holds them and the formula that it adds to. Its calls stand by topic: each adds clauses that hold in just the sets that meet
+//!   one thing.
+//! - `needs` adds what an essential name or a need says, `conflicts` what an entry of Conflicts or Breaks says.
+//! - `exclusion` tells that of some places one at most is in; by it `versions` adds that a name stands once.
+//! - `entries` and `rivals` add what all entries of the places in play say: those that few packages may meet, and the others.
+//! - `groups` adds each constraint of a list in a group of its own.
+#![tactic(auto)]
+
+mod conflicts;
+mod encoder;
+mod entries;
+mod exclusion;
+mod groups;
+mod needs;
+mod place_set;
+mod play;
+mod rivals;
+mod versions;
+
+pub use encoder::Encoder;
+pub use groups::encode_each;
+pub use place_set::PlaceSet;
+pub use play::Play;
+pub use rivals::Rivals;
+pub use versions::Versions;

@@ -1,0 +1,106 @@
+//! An essential name, or a need, as a clause over the places in play.
+
+ghost use Rattle.std.specs.Prelude.{◌≡◌, ℕ, ◌<◌, ◌||◌, true, All, IfOk, OnOk, length};
+ghost use Rattle.std.specs.List.{list_any};
+ghost use Rattle.deb_index.specs.Packages.{names, essential_names, needs_at, need_at};
+ghost use Rattle.deb_index.specs.Meets.{group_satisfiers};
+ghost use Rattle.deb_index.specs.Constraints.{Holds};
+ghost use Rattle.sat_solve.specs.Sets.{members_of};
+ghost use Rattle.sat_solve.specs.Clauses.{clause_holds};
+ghost use Rattle.deb_encode.specs.Encoders.{AddsVars, Tells};
+ghost use Rattle.deb_encode.specs.Play.{placed};
+ghost use Rattle.deb_encode.specs.Standings.{Widens};
+
+use crate::encoder::Encoder;
+use crate::play::Play;
+use deb_index::Constraint;
+use sat_solve::Lit;
+use std::alloc::AllocError;
+
+/// Makes a clause hold where one of the places is in, too. `true`: it holds anyway, whatever its literals say.
+fn or_some(play: &Play<'_>, places: &[u32], clause: &mut Vec<Lit>) -> Result<bool, AllocError>
+    ensures { IfOk result (λ anyway. Widens (λ vars. list_any (placed play.now.forced.now play.now.candidates.now vars) places.now) (length play.now.candidates.now) clause.old.items clause.new.items anyway) }
+{
+    for place in places {
+        if play.standing(*place).or_in(clause)? {
+            return Ok(true);
+        }
+    }
+    Ok(false)
+}
+
+/// Makes a clause hold where a place that answers a group is in, too. `true`: it holds anyway, whatever its literals say. `found` is a buffer.
+fn or_answers(
+    play: &Play<'_>,
+    place: u32,
+    number: u32,
+    found: &mut Vec<u32>,
+    clause: &mut Vec<Lit>,
+) -> Result<bool, AllocError>
+    requires place { place < length play.now.index.now.packages }
+    requires number { number < length (needs_at play.now.index.now place) }
+    ensures { IfOk result (λ anyway. Widens (λ vars. list_any (placed play.now.forced.now play.now.candidates.now vars) (group_satisfiers play.now.index.now (need_at play.now.index.now place number))) (length play.now.candidates.now) clause.old.items clause.new.items anyway) }
+{
+    let row = play.index.answers(place, number, found)?;
+    or_some(play, row, clause)
+}
+
+impl Encoder<'_> {
+    /// Adds the clause that was made, unless what it says holds anyway.
+    pub(crate) fn add_unless(&mut self, anyway: bool) -> Result<(), AllocError>
+        requires { All (λ literal. literal.var < length self.old.play.candidates.now) self.old.clause.now.items }
+        ensures same_formula { self.new.formula.ghost_name ≡ self.old.formula.ghost_name }
+        ensures adds { OnOk result (AddsVars (λ play vars. (anyway || clause_holds vars self.old.clause.now.items) ≡ true) self.old self.new) }
+    {
+        if anyway {
+            return Ok(());
+        }
+        self.formula.add(self.group, self.clause)?;
+        Ok(())
+    }
+
+    /// Adds that some package of an essential name is in. The error is want of memory.
+    pub fn add_essential(&mut self, name: u32) -> Result<(), AllocError>
+        requires { name < length (names self.old.play.index.now) }
+        ensures same_formula { self.new.formula.ghost_name ≡ self.old.formula.ghost_name }
+        ensures adds { OnOk result (Tells (λ play set. Holds play.index.now set (Constraint.Essential name)) self.old self.new) }
+    {
+        let play = self.play;
+        self.clause.clear();
+        let row = play.index.places_named(name);
+        let anyway = or_some(&play, row, self.clause)?;
+        self.add_unless(anyway)?;
+        Ok(())
+    }
+
+    /// Adds that of each essential name some package is in. The error is want of memory.
+    pub fn add_essentials(&mut self) -> Result<(), AllocError>
+        ensures same_formula { self.new.formula.ghost_name ≡ self.old.formula.ghost_name }
+        ensures adds { OnOk result (Tells (λ play set. (number : ℕ) → members_of (essential_names play.index.now) number ≡ true → Holds play.index.now set (Constraint.Essential number)) self.old self.new) }
+    {
+        let play = self.play;
+        for name in play.index.essential_names() {
+            self.add_essential(*name)?;
+        }
+        Ok(())
+    }
+
+    /// Adds that the package at a place is not in, or one that answers its group is. The error is want of memory.
+    ///
+    /// `place` is below the index's length, `number` below its count of needs.
+    pub fn add_need(&mut self, place: u32, number: u32) -> Result<(), AllocError>
+        requires place { place < length self.old.play.index.now.packages }
+        requires number { number < length (needs_at self.old.play.index.now place) }
+        ensures same_formula { self.new.formula.ghost_name ≡ self.old.formula.ghost_name }
+        ensures adds { OnOk result (Tells (λ play set. Holds play.index.now set (Constraint.Need place number)) self.old self.new) }
+    {
+        let play = self.play;
+        self.clause.clear();
+        if play.standing(place).or_out(self.clause)? {
+            return Ok(());
+        }
+        let anyway = or_answers(&play, place, number, self.found, self.clause)?;
+        self.add_unless(anyway)?;
+        Ok(())
+    }
+}

@@ -1,7 +1,0 @@
-use Rattle.std.proofs.Common.{take}
-use Rattle.sat_solve.specs.Sets.{members_of}
-use Rattle.deb_verdict.specs.Exclusions.{AddsWide}
-use Rattle.deb_verdict.proofs.rivals.gather_wide.Given as goal
-
-abbrev pub invariant-loop-place : goal.invariant-loop-place
-invariant-loop-place l = AddsWide l.groundwork.index.now (members_of (take l.place-index l.places)) l.initial.entries.items l.entries.items
