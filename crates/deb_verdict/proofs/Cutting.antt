@@ -15,7 +15,6 @@ use Rattle.deb_verdict.specs.Gathering.{none_of, Respects, IsEnough}
 use Rattle.deb_verdict.specs.Health.{IsHealthy, IsInstallation, MeetsAt, Admits, AdmitsNone}
 use Rattle.deb_verdict.specs.Closure.{cut, IsClosed, is_kept, is_kept_there, kept}
 use Rattle.deb_encode.proofs.IndexFacts.{All-at, IsRight, all_right, some_named}
-use Rattle.deb_verdict.proofs.Bringing.{enough}
 
 not_out : (outs set : NumberSet) (q : ℕ) → ((q : ℕ) → outs q ≡ true → set q ≡ false) → set q ≡ true → outs q ≡ false
 not_out outs set q lacks is_in = false_from_ne_true (outs q) (λ out. both_ways (set q) (lacks q out) is_in)
