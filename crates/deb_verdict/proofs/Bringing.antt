@@ -1,5 +1,5 @@
 -- Places that come into play, so that needs are answered.
-use Rattle.std.proofs.Common.{◌≡◌, ◌⊎◌, ℕ, ◌+◌, ◌<◌, ◌≤◌, true, false, eqb, List, [], length, get_or, All, refl, sym, subst, ◌∙◌, ap, inl, inr, arith}
+use Rattle.std.proofs.Common.{◌≡◌, ℕ, ◌+◌, ◌<◌, ◌≤◌, true, eqb, List, [], length, get_or, All, refl, sym, subst, ◌∙◌, ap, inl, inr, arith}
 use Rattle.std.specs.List.{list_any}
 use Rattle.std.proofs.lemmas.Bool.{cases_lt, false≢true, or_cases, or_left, or_right, eqb-true, eq-eqb}
 use Rattle.std.proofs.lemmas.List.{get_or_past, get_or_default}
@@ -11,7 +11,7 @@ use Rattle.sat_solve.specs.Sets.{NumberSet, members_of}
 use Rattle.core_extract.specs.Reduction.{IsWithin}
 use Rattle.deb_encode.proofs.Members.{members_of_at, any_member}
 use Rattle.deb_encode.specs.Play.{places_in_play}
-use Rattle.deb_verdict.specs.Gathering.{IsEnough, none_of}
+use Rattle.deb_verdict.specs.Gathering.{IsEnough}
 use Rattle.deb_encode.specs.PlaceSets.{Grows}
 use Rattle.deb_verdict.specs.Growing.{IsAnswered, Brings, IsVisited, BringsEssential, Visits}
 use Rattle.deb_encode.proofs.AddSteps.{below_members}
@@ -166,7 +166,7 @@ essential_brought index forced list number before after past list_is essential =
 
 pub enough : (index : IndexView) (forced before free_then free_now free : List ℕ) → BringsEssential index (members_of forced) before free_then
     → Visits index (members_of forced) (members_of forced) free_then free_now → Visits index (members_of forced) (members_of free) free_now free
-    → IsEnough index (members_of forced) none_of (places_in_play (members_of forced) free)
+    → IsEnough index (members_of forced) (places_in_play (members_of forced) free)
 enough index forced before free_then free_now free brings first second =
     let count : ℕ = length index.packages in
     let later : IsWithin (members_of free_then) (members_of free) = λ q is_in. grows_keeps count free_now free second.grows q (grows_keeps count free_then free_now first.grows q is_in) in
@@ -174,19 +174,12 @@ enough index forced before free_then free_now free brings first second =
     record {
       has_forced = λ q is_in. or_left (members_of forced q) (members_of free q) is_in;
       essential = λ number named.
-          (with_outs (λ q. has_name index q number) (places_in_play (members_of forced) free)
-          (answered_more (members_of forced) (λ q. has_name index q number) (members_of free_then) (places_in_play (members_of forced) free) (brings.essential number named) (λ q is_in. in_play q (later q is_in))));
+          answered_more (members_of forced) (λ q. has_name index q number) (members_of free_then) (places_in_play (members_of forced) free) (brings.essential number named) (λ q is_in. in_play q (later q is_in));
       answered = λ member j is_in.
-          (with_outs (answers index member j) (places_in_play (members_of forced) free)
-          (answered_more (members_of forced) (answers index member j) (members_of free) (places_in_play (members_of forced) free)
+          answered_more (members_of forced) (answers index member j) (members_of free) (places_in_play (members_of forced) free)
           (elim (or_cases (members_of forced member) (members_of free member) is_in) [
             | inl is_forced ↦ answered_more (members_of forced) (answers index member j) (members_of free_now) (members_of free) (first.visited member is_forced j) (grows_keeps count free_now free second.grows)
             | inr brought ↦ second.visited member brought j
           ])
-          in_play));
+          in_play;
     }
-  where
-    with_outs : (row within : NumberSet) → IsAnswered (members_of forced) row within
-        → ((q : ℕ) × (members_of forced q ≡ true) × (row q ≡ true)) ⊎ ((q : ℕ) → row q ≡ true → none_of q ≡ false → within q ≡ true)
-    with_outs row within (inl some) = inl some
-    with_outs row within (inr all) = inr (λ q is_in kept. all q is_in)

@@ -2,7 +2,7 @@
 use Rattle.std.proofs.Common.{◌≡◌, ℕ, ◌<◌, true, false, refl, sym, ◌∙◌, ap, inl, inr}
 use Rattle.std.specs.Prelude.{length, slice_index_or}
 use Rattle.std.specs.List.{list_any}
-use Rattle.std.proofs.lemmas.Bool.{cases_Bool, false≢true, true≢false, and_parts, and_from, both_ways, false_from_ne_true}
+use Rattle.std.proofs.lemmas.Bool.{cases_Bool, false≢true, true≢false, and_parts, and_from, both_ways}
 use Rattle.std.proofs.lemmas.Option.{slice_get-get_or}
 use Rattle.deb_index.specs.declared.constraint.Constraint.{Constraint}
 use Rattle.deb_index.specs.declared.constraint.Constraint.TheVariants.{Essential, Need, Apart, Only}
@@ -11,40 +11,37 @@ use Rattle.deb_index.specs.Constraints.{Holds, constraints_of}
 use Rattle.sat_solve.specs.Sets.{NumberSet, IsFirst}
 use Rattle.core_extract.specs.Reduction.{all_of, IsWithin}
 use Rattle.sat_solve.proofs.SetLemmas.{first_within}
-use Rattle.deb_verdict.specs.Gathering.{none_of, Respects, IsEnough}
+use Rattle.deb_verdict.specs.Gathering.{IsEnough}
 use Rattle.deb_verdict.specs.Health.{IsHealthy, IsInstallation, MeetsAt, Admits, AdmitsNone}
 use Rattle.deb_verdict.specs.Closure.{cut, IsClosed, is_kept, is_kept_there, kept}
 use Rattle.deb_encode.proofs.IndexFacts.{All-at, IsRight, all_right, some_named}
 
-not_out : (outs set : NumberSet) (q : ℕ) → ((q : ℕ) → outs q ≡ true → set q ≡ false) → set q ≡ true → outs q ≡ false
-not_out outs set q lacks is_in = false_from_ne_true (outs q) (λ out. both_ways (set q) (lacks q out) is_in)
-
 -- a constraint that a set meets, it meets when cut down to such a part
-pub cut_holds : (index : IndexView) (forced outs within : NumberSet) → IsEnough index forced outs within → (set : NumberSet) → Respects forced outs set
+pub cut_holds : (index : IndexView) (forced within : NumberSet) → IsEnough index forced within → (set : NumberSet) → IsWithin forced set
     → (constraint : Constraint) → IsRight index constraint → Holds index set constraint → Holds index (cut set within) constraint
-cut_holds index forced outs within enough set respects (Essential number) right holds =
+cut_holds index forced within enough set has (Essential number) right holds =
     elim (enough.essential number right) [
-      | inl one ↦ (one.0, and_from (set one.0) (within one.0) (respects.has_forced one.0 one.1) (enough.has_forced one.0 one.1), one.2)
-      | inr all ↦ (holds.0, and_from (set holds.0) (within holds.0) holds.1 (all holds.0 holds.2 (not_out outs set holds.0 respects.lacks_outs holds.1)), holds.2)
+      | inl one ↦ (one.0, and_from (set one.0) (within one.0) (has one.0 one.1) (enough.has_forced one.0 one.1), one.2)
+      | inr all ↦ (holds.0, and_from (set holds.0) (within holds.0) holds.1 (all holds.0 holds.2), holds.2)
     ]
-cut_holds index forced outs within enough set respects (Need p j) right holds =
+cut_holds index forced within enough set has (Need p j) right holds =
     λ is_in.
     let both = and_parts (set p) (within p) is_in in
     let found = holds both.0 in
     elim (enough.answered p j both.1) [
-      | inl one ↦ (one.0, and_from (set one.0) (within one.0) (respects.has_forced one.0 one.1) (enough.has_forced one.0 one.1), one.2)
-      | inr all ↦ (found.0, and_from (set found.0) (within found.0) found.1 (all found.0 found.2 (not_out outs set found.0 respects.lacks_outs found.1)), found.2)
+      | inl one ↦ (one.0, and_from (set one.0) (within one.0) (has one.0 one.1) (enough.has_forced one.0 one.1), one.2)
+      | inr all ↦ (found.0, and_from (set found.0) (within found.0) found.1 (all found.0 found.2), found.2)
     ]
-cut_holds index forced outs within enough set respects (Apart p j) right holds =
+cut_holds index forced within enough set has (Apart p j) right holds =
     λ is_in q there hit. holds ((and_parts (set p) (within p) is_in).0) q ((and_parts (set q) (within q) there).0) hit
-cut_holds index forced outs within enough set respects (Only number) right holds =
+cut_holds index forced within enough set has (Only number) right holds =
     λ q r one other. holds q r ((and_parts (set q) (within q) one).0) ((and_parts (set r) (within r) other).0)
 
 -- the pruned form: what a set meets, it meets when cut down
-pub cut_meets : (index : IndexView) (forced outs within : NumberSet) → IsEnough index forced outs within → (set : NumberSet) → Respects forced outs set
+pub cut_meets : (index : IndexView) (forced within : NumberSet) → IsEnough index forced within → (set : NumberSet) → IsWithin forced set
     → (positions : NumberSet) → MeetsAt index set positions → MeetsAt index (cut set within) positions
-cut_meets index forced outs within enough set respects positions meets k constraint asked there =
-    cut_holds index forced outs within enough set respects constraint (All-at (IsRight index) (constraints_of index) k constraint (all_right index) there) (meets k constraint asked there)
+cut_meets index forced within enough set has positions meets k constraint asked there =
+    cut_holds index forced within enough set has constraint (All-at (IsRight index) (constraints_of index) k constraint (all_right index) there) (meets k constraint asked there)
 
 pub healthy_from_meets : (index : IndexView) (set all : NumberSet) → ((k : ℕ) → k < length (constraints_of index) → all k ≡ true) → MeetsAt index set all → IsHealthy index set
 healthy_from_meets index set all whole meets k d below =
@@ -54,31 +51,35 @@ pub meets_from_healthy : (index : IndexView) (set positions : NumberSet) → IsH
 meets_from_healthy index set positions healthy k constraint asked there = All-at (Holds index set) (constraints_of index) k constraint healthy there
 
 -- a healthy set with p, cut down, is one still
-pub cut_installation : (index : IndexView) (p : ℕ) (forced outs within : NumberSet) → IsEnough index forced outs within → within p ≡ true → (set : NumberSet) → Respects forced outs set
+pub cut_installation : (index : IndexView) (p : ℕ) (forced within : NumberSet) → IsEnough index forced within → within p ≡ true → (set : NumberSet) → IsWithin forced set
     → IsInstallation index p set → IsInstallation index p (cut set within)
-cut_installation index p forced outs within enough has_p set respects installed = (
-  healthy_from_meets index (cut set within) all_of (λ k below. refl) (cut_meets index forced outs within enough set respects all_of (meets_from_healthy index set all_of installed.0)),
+cut_installation index p forced within enough has_p set has installed = (
+  healthy_from_meets index (cut set within) all_of (λ k below. refl) (cut_meets index forced within enough set has all_of (meets_from_healthy index set all_of installed.0)),
   and_from (set p) (within p) installed.1 has_p,
 )
 
--- so where all healthy sets with p respect what is in and what is out, the first one lies in the part
-pub first_is_within : (index : IndexView) (p : ℕ) (forced outs within : NumberSet) → IsEnough index forced outs within → within p ≡ true
-    → ((set : NumberSet) → IsInstallation index p set → Respects forced outs set)
+-- so where all healthy sets with p have what is forced, the first one lies in the part
+pub first_is_within : (index : IndexView) (p : ℕ) (forced within : NumberSet) → IsEnough index forced within → within p ≡ true
+    → ((set : NumberSet) → IsInstallation index p set → IsWithin forced set)
     → (set : NumberSet) → IsFirst (IsInstallation index p) set → IsWithin set within
-first_is_within index p forced outs within enough has_p respected set first q is_in =
-    let same : set ≡ cut set within = first_within (IsInstallation index p) set within first (cut_installation index p forced outs within enough has_p set (respected set first.0) first.0) in
+first_is_within index p forced within enough has_p respected set first q is_in =
+    let same : set ≡ cut set within = first_within (IsInstallation index p) set within first (cut_installation index p forced within enough has_p set (respected set first.0) first.0) in
     (and_parts (set q) (within q) (sym (ap (λ (s : NumberSet). s q) same) ∙ is_in)).1
 
--- nothing in and nothing out: a closed set is enough
-pub closed_enough : (index : IndexView) (p : ℕ) (members : NumberSet) → IsClosed index p members → IsEnough index none_of none_of members
+-- no numbers
+abbrev pub none_of : NumberSet
+none_of number = false
+
+-- with no place forced, a closed set is enough
+pub closed_enough : (index : IndexView) (p : ℕ) (members : NumberSet) → IsClosed index p members → IsEnough index none_of members
 closed_enough index p members closed = record {
   has_forced = λ number is_in. absurd (false≢true is_in);
-  essential = λ number right. inr (λ q named out. closed.essential number q right named);
-  answered = λ member j is_in. inr (λ q answered out. closed.answered member j q is_in answered);
+  essential = λ number right. inr (λ q named. closed.essential number q right named);
+  answered = λ member j is_in. inr (λ q answered. closed.answered member j q is_in answered);
 }
 
-pub respects_nothing : (set : NumberSet) → Respects none_of none_of set
-respects_nothing set = record { has_forced = λ number is_in. absurd (false≢true is_in); lacks_outs = λ q is_out. absurd (false≢true is_out) }
+pub has_nothing : (set : NumberSet) → IsWithin none_of set
+has_nothing set number is_in = absurd (false≢true is_in)
 
 -- a set of members meets each constraint that speaks of none
 pub unkept_holds : (index : IndexView) (members set : NumberSet) → IsWithin set members → (constraint : Constraint) → is_kept index members constraint ≡ false → Holds index set constraint
@@ -105,7 +106,7 @@ cut_within a b number is_in = (and_parts (a number) (b number) is_in).0
 module _ (index : IndexView) (p : ℕ) (members : NumberSet) (closed : IsClosed index p members) where
   -- what a set meets, its part in the closure meets
   pub closure_meets : (set positions : NumberSet) → MeetsAt index set positions → MeetsAt index (cut set members) positions
-  closure_meets set positions meets = cut_meets index none_of none_of members (closed_enough index p members closed) set (respects_nothing set) positions meets
+  closure_meets set positions meets = cut_meets index none_of members (closed_enough index p members closed) set (has_nothing set) positions meets
 
   -- which contains p where the set does
   pub cut_contains : (set : NumberSet) → set p ≡ true → cut set members p ≡ true
@@ -127,7 +128,7 @@ module _ (index : IndexView) (p : ℕ) (members : NumberSet) (closed : IsClosed 
 
   -- the first healthy set lies in the closure
   pub first_set_within : (set : NumberSet) → IsFirst (IsInstallation index p) set → IsWithin set members
-  first_set_within set first = first_is_within index p none_of none_of members (closed_enough index p members closed) closed.start (λ other installed. respects_nothing other) set first
+  first_set_within set first = first_is_within index p none_of members (closed_enough index p members closed) closed.start (λ other installed. has_nothing other) set first
 
   -- the first core has kept constraints alone
   pub first_core_within : (positions : NumberSet) → IsFirst (AdmitsNone index p) positions → IsWithin positions (kept index members)

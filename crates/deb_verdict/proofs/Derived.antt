@@ -15,7 +15,6 @@ use Rattle.sat_solve.proofs.MembersLemmas.{members_of_push}
 use Rattle.deb_verdict.specs.declared.derivation.Outcome.{Outcome}
 use Rattle.deb_verdict.specs.declared.derivation.Outcome.TheVariants.{Forced, Contradiction}
 use Rattle.deb_verdict.specs.Deriving.{row_of, Comes, Gives}
-use Rattle.deb_verdict.specs.Gathering.{Follows, none_of}
 use Rattle.deb_verdict.specs.Health.{AdmitsNone, MeetsAt}
 use Rattle.deb_encode.specs.PlaceSets.{with_place}
 use Rattle.core_extract.specs.Reduction.{IsWithin, IsRefutation}
@@ -90,7 +89,7 @@ module _ (index : IndexView) where
 -- steps at positions of a part, and what is in by them
 pub record IsDerived (index : IndexView) (p : ℕ) (part : NumberSet) (positions forced : List ℕ) : Type 0 where
   pub within : IsWithin (members_of positions) part
-  pub follows : Follows index p (members_of positions) (members_of forced) none_of
+  pub follows : (set : NumberSet) → set p ≡ true → MeetsAt index set (members_of positions) → IsWithin (members_of forced) set
 
 -- what is in one list is in a longer one; what came is there, too
 push_old : (numbers : List ℕ) (added number : ℕ) → members_of numbers number ≡ true → members_of (numbers ++ added ∷ []) number ≡ true
@@ -118,7 +117,7 @@ module _ (index : IndexView) (p : ℕ) (part : NumberSet) where
     step_gives : (outcome : Outcome) → Gives index (members_of forced) position outcome → (set : NumberSet) → set p ≡ true → MeetsAt index set (members_of (positions ++ position ∷ [])) → Comes set outcome
     step_gives outcome gives set has_p meets =
         let old = derived.follows set has_p (λ k constraint asked there. meets k constraint (push_old positions position k asked) there) in
-        gives.gives set old.has_forced (meets position gives.constraint (push_new positions position) gives.stands)
+        gives.gives set old (meets position gives.constraint (push_new positions position) gives.stands)
 
     pub derived_more : (q : ℕ) (positions_then forced_then : List ℕ) → Gives index (members_of forced) position (Forced q) → positions_then ≡ positions ++ position ∷ [] → forced_then ≡ with_place forced q
         → Derived positions_then forced_then
@@ -129,14 +128,11 @@ module _ (index : IndexView) (p : ℕ) (part : NumberSet) where
           within = push_within part positions position derived.within has;
           follows = λ set has_p meets.
               (let old = derived.follows set has_p (λ k constraint asked there. meets k constraint (push_old positions position k asked) there) in
-              record {
-                has_forced = λ number is_in.
-                    elim (with_place_only forced q number is_in) [
-                      | inl before ↦ old.has_forced number before
-                      | inr here ↦ ap set (sym here) ∙ step_gives (Forced q) gives set has_p meets
-                    ];
-                lacks_outs = old.lacks_outs;
-              });
+              λ number is_in.
+              elim (with_place_only forced q number is_in) [
+                | inl before ↦ old number before
+                | inr here ↦ ap set (sym here) ∙ step_gives (Forced q) gives set has_p meets
+              ]);
         }))
 
     pub derived_refutes : (positions_then : List ℕ) → Gives index (members_of forced) position Contradiction → positions_then ≡ positions ++ position ∷ []

@@ -10,10 +10,10 @@ use Rattle.deb_index.proofs.HoldsLemmas.{holds-from-test, test-from-holds}
 use Rattle.sat_solve.specs.Sets.{NumberSet, members_of, AgreeBelow, IsBefore, IsFirst}
 use Rattle.sat_solve.proofs.MembersLemmas.{ListsBelow, lists_more_in, lists_more_out, lists_all}
 use Rattle.deb_verdict.specs.Closure.{cut}
-use Rattle.deb_verdict.specs.Gathering.{none_of, IsEnough}
+use Rattle.deb_verdict.specs.Gathering.{IsEnough}
 use Rattle.deb_verdict.specs.Health.{IsInstallation, IsInstallable}
 use Rattle.deb_verdict.specs.Verdicts.{IsFirstInstallation}
-use Rattle.deb_verdict.proofs.Cutting.{cut_installation, respects_nothing}
+use Rattle.deb_verdict.proofs.Cutting.{none_of, cut_installation, has_nothing}
 use Rattle.deb_encode.proofs.IndexFacts.{named_is_place, answers_is_place}
 
 and_true : (a b : Bool) → b ≡ true → (a && b) ≡ a
@@ -158,19 +158,19 @@ module _ (index : IndexView) (p : ℕ) where
       (λ k d below. holds-from-test index set (get_or (constraints_of index) k d) (AllPass-from_list_all (is_holding index set) (constraints_of index) parts.1 k d below), parts.0)
 
   -- all that has a name or answers a need is a place
-  places_enough : IsEnough index none_of none_of (λ q. ltb q (length index.packages))
+  places_enough : IsEnough index none_of (λ q. ltb q (length index.packages))
   places_enough = record {
     has_forced = λ number is_in. absurd (false≢true is_in);
-    essential = λ number right. inr (λ q named out. lt-ltb q (length index.packages) (named_is_place index q number named));
-    answered = λ member j is_in. inr (λ q answered out. lt-ltb q (length index.packages) (answers_is_place index member j q answered));
+    essential = λ number right. inr (λ q named. lt-ltb q (length index.packages) (named_is_place index q number named));
+    answered = λ member j is_in. inr (λ q answered. lt-ltb q (length index.packages) (answers_is_place index member j q answered));
   }
 
   cut_passes : p < length index.packages → (set : NumberSet) → IsInstallation index p set → Passes (length index.packages) is_installation (cut_at (length index.packages) set)
   cut_passes inside set installed = (
     cut_under (length index.packages) set,
     installation_passes (cut_at (length index.packages) set)
-        (cut_installation index p none_of none_of (λ q. ltb q (length index.packages)) places_enough
-        (lt-ltb p (length index.packages) inside) set (respects_nothing set) installed),
+        (cut_installation index p none_of (λ q. ltb q (length index.packages)) places_enough
+        (lt-ltb p (length index.packages) inside) set (has_nothing set) installed),
   )
 
   first_of_places : p < length index.packages → IsInstallable index p → (set : NumberSet) × IsUnder (length index.packages) set × IsFirst (IsInstallation index p) set

@@ -11,11 +11,11 @@ use Rattle.core_extract.specs.Reduction.{IsWithin, all_of}
 use Rattle.deb_verdict.specs.Health.{IsHealthy, IsInstallation}
 use Rattle.deb_verdict.specs.Closure.{cut, is_kept}
 use Rattle.deb_encode.specs.Play.{places_in_play, positions_of, placed}
-use Rattle.deb_verdict.specs.Gathering.{IsEnough, Follows, none_of}
+use Rattle.deb_verdict.specs.Gathering.{IsEnough, Follows}
 use Rattle.deb_verdict.specs.Encoding.{Describes}
 use Rattle.deb_verdict.specs.Verdicts.{IsFirstInstallation}
 use Rattle.deb_encode.proofs.Members.{members_of_at, at_members_of}
-use Rattle.deb_verdict.proofs.Cutting.{cut_installation, meets_from_healthy}
+use Rattle.deb_verdict.proofs.Cutting.{cut_installation}
 use Rattle.deb_encode.proofs.PositionsOf.{rising_lt, position_in, group_at, same_position}
 use Rattle.deb_verdict.proofs.Answered.{same_test}
 use Rattle.deb_encode.proofs.AddSteps.{below_members}
@@ -75,16 +75,16 @@ abbrev pub kept_one : List Bool
 kept_one = true ∷ []
 
 module _ (index : IndexView) (p : ℕ) (forced free candidates : List ℕ) (clauses : List Clause) (must : ℕ)
-    (follows : Follows index p all_of (members_of forced) none_of)
-    (gathered : IsEnough index (members_of forced) none_of (places_in_play (members_of forced) free))
+    (follows : Follows index p (members_of forced))
+    (gathered : IsEnough index (members_of forced) (places_in_play (members_of forced) free))
     (same : (q : ℕ) → members_of candidates q ≡ members_of free q)
     (rising : IsStrictlyIncreasing candidates) (must_is : slice_get candidates must ≡ Some p)
     (in_group : All (λ clause. clause.group ≡ 0) clauses) (describes : Describes index forced candidates clauses) where
   abbrev IsTrueHere : NumberSet → Type 0
   IsTrueHere = IsTrueSet (length candidates) clauses kept_one must
 
-  enough : IsEnough index (members_of forced) none_of (places_in_play (members_of forced) candidates)
-  enough = subst (IsEnough index (members_of forced) none_of) (fun_ext (λ q. ap (λ b. members_of forced q || b) (sym (same q)))) gathered
+  enough : IsEnough index (members_of forced) (places_in_play (members_of forced) candidates)
+  enough = subst (IsEnough index (members_of forced)) (fun_ext (λ q. ap (λ b. members_of forced q || b) (sym (same q)))) gathered
 
   must_at : (must < length candidates) × (get_or candidates must 0 ≡ p)
   must_at = (slice_get_within candidates must p must_is, get_or_from_slice_get candidates must p 0 must_is)
@@ -93,15 +93,14 @@ module _ (index : IndexView) (p : ℕ) (forced free candidates : List ℕ) (clau
   p_in_play = or_right (members_of forced p) (members_of candidates p) (sym (ap (members_of candidates) must_at.1) ∙ at_members_of candidates must must_at.0)
 
   has_forced : (set : NumberSet) → IsInstallation index p set → IsWithin (members_of forced) set
-  has_forced set installed = (follows set installed.1 (meets_from_healthy index set all_of installed.0)).has_forced
+  has_forced set installed = follows set installed
 
   -- a healthy set with p gives a true set of variables
   beside_true : (known set : NumberSet) → known must ≡ true → IsInstallation index p set → IsTrueHere (pulled_beside forced candidates known set)
   beside_true known set has_must installed =
       let vars : NumberSet = pulled_beside forced candidates known set in
-      let respects = follows set installed.1 (meets_from_healthy index set all_of installed.0) in
-      let part = cut_installation index p (members_of forced) none_of (places_in_play (members_of forced) candidates) enough p_in_play set respects installed in
-      let healthy : IsHealthy index (placed forced candidates vars) = subst (IsHealthy index) (fun_ext (placed_beside forced candidates known set respects.has_forced)) part.0 in
+      let part = cut_installation index p (members_of forced) (places_in_play (members_of forced) candidates) enough p_in_play set (follows set installed) installed in
+      let healthy : IsHealthy index (placed forced candidates vars) = subst (IsHealthy index) (fun_ext (placed_beside forced candidates known set (follows set installed))) part.0 in
       record {
         within = λ var is_in.
             ltb-true var (length candidates)

@@ -10,9 +10,9 @@ use Rattle.deb_index.specs.Meets.{meets_need, group_satisfiers}
 use Rattle.deb_index.specs.Constraints.{has_name, answers}
 use Rattle.deb_index.proofs.MemberLemmas.{member-places_where}
 use Rattle.sat_solve.specs.Sets.{members_of}
-use Rattle.core_extract.specs.Reduction.{IsWithin, all_of}
+use Rattle.core_extract.specs.Reduction.{IsWithin}
 use Rattle.deb_encode.specs.PlaceSets.{with_place}
-use Rattle.deb_verdict.specs.Gathering.{Follows, none_of}
+use Rattle.deb_verdict.specs.Gathering.{Follows}
 use Rattle.deb_verdict.specs.Growing.{KeepsForced, TakesOnly}
 use Rattle.deb_verdict.specs.Growing.TakesOnly.{Same, Took}
 use Rattle.deb_encode.proofs.IndexFacts.{member_named, named_is_place, answers_is_place}
@@ -58,20 +58,15 @@ forced_both index before between after first second = record {
   forced = λ p forced. second.forced p (first.forced p forced);
 }
 
-follows_with : (index : IndexView) (p q : ℕ) (places : List ℕ) → Follows index p all_of (with_one (members_of places) q) none_of → Follows index p all_of (members_of (with_place places q)) none_of
-follows_with index p q places follows set has_p meets =
-    let old = follows set has_p meets in
-    record {
-      has_forced = λ number is_in.
-          elim (with_place_only places q number is_in) [
-            | inl before ↦ old.has_forced number (or_left (members_of places number) (eqb q number) before)
-            | inr here ↦ old.has_forced number (or_right (members_of places number) (eqb q number) (eq-eqb q number here))
-          ];
-      lacks_outs = old.lacks_outs;
-    }
+follows_with : (index : IndexView) (p q : ℕ) (places : List ℕ) → Follows index p (with_one (members_of places) q) → Follows index p (members_of (with_place places q))
+follows_with index p q places follows set installed number is_in =
+    elim (with_place_only places q number is_in) [
+      | inl before ↦ follows set installed number (or_left (members_of places number) (eqb q number) before)
+      | inr here ↦ follows set installed number (or_right (members_of places number) (eqb q number) (eq-eqb q number here))
+    ]
 
 forced_with : (index : IndexView) (places : List ℕ) (q : ℕ) → q < length index.packages
-    → ((p : ℕ) → Follows index p all_of (members_of places) none_of → Follows index p all_of (with_one (members_of places) q) none_of) → KeepsForced index places (with_place places q)
+    → ((p : ℕ) → Follows index p (members_of places) → Follows index p (with_one (members_of places) q)) → KeepsForced index places (with_place places q)
 forced_with index places q is_place follows = record {
   grows = grows_with (length index.packages) places q is_place;
   forced = λ p forced. follows_with index p q places (follows p forced);
@@ -92,8 +87,8 @@ forced_by_need index member j row before after is_place inside is_in row_is (Too
     forced_moved index before after (with_place before only) taken
     (forced_with index before only (answers_is_place index member j only (sym (alone only) ∙ single_has only))
     (λ p forced.
-    last_answer index p all_of (members_of before) none_of forced there.0 member j only refl there.1 is_in
-    (λ other answered. inl (in_single only other (alone other ∙ answered)))))
+    last_answer index p (members_of before) forced there.0 member j only there.1 is_in
+    (λ other answered. in_single only other (alone other ∙ answered))))
 
 -- the only package of an essential name
 pub forced_by_name : (index : IndexView) (number : ℕ) (row before after : List ℕ) → Contains (essential_names index) number → row ≡ places_of index (name_at index number)
@@ -105,8 +100,8 @@ forced_by_name index number row before after named row_is (Took only single take
     forced_moved index before after (with_place before only) taken
     (forced_with index before only (named_is_place index only number (sym (alone only) ∙ single_has only))
     (λ p forced.
-    last_essential index p all_of (members_of before) none_of forced there.0 number only refl there.1
-    (λ other has. inl (in_single only other (alone other ∙ has)))))
+    last_essential index p (members_of before) forced there.0 number only there.1
+    (λ other has. in_single only other (alone other ∙ has))))
 
 pub forced_by_names : (index : IndexView) (list : List ℕ) (number : ℕ) (row before between after : List ℕ) → number < length list → list ≡ essential_names index
     → row ≡ places_of index (name_at index (get_or list number 0)) → KeepsForced index before between → TakesOnly row between after → KeepsForced index before after
@@ -118,12 +113,10 @@ forced_by_names index list number row before between after inside list_is row_is
 -- ---- what is known before p comes, and p
 
 -- of a list with fewer places no more is known
-pub forced_fewer : (index : IndexView) (p : ℕ) (places fewer : List ℕ) → IsWithin (members_of fewer) (members_of places) → Follows index p all_of (members_of places) none_of
-    → Follows index p all_of (members_of fewer) none_of
-forced_fewer index p places fewer within follows set has_p meets =
-    let all = follows set has_p meets in
-    record { has_forced = λ number is_in. all.has_forced number (within number is_in); lacks_outs = all.lacks_outs }
+pub forced_fewer : (index : IndexView) (p : ℕ) (places fewer : List ℕ) → IsWithin (members_of fewer) (members_of places) → Follows index p (members_of places)
+    → Follows index p (members_of fewer)
+forced_fewer index p places fewer within follows set installed number is_in = follows set installed number (within number is_in)
 
-pub forced_start : (index : IndexView) (p : ℕ) (places : List ℕ) → Follows index p all_of (members_of places) none_of → Follows index p all_of (members_of (with_place places p)) none_of
+pub forced_start : (index : IndexView) (p : ℕ) (places : List ℕ) → Follows index p (members_of places) → Follows index p (members_of (with_place places p))
 forced_start index p places follows =
-    follows_with index p p places (one_in index p all_of (members_of places) none_of follows p (λ set has_p meets. has_p))
+    follows_with index p p places (one_in index p (members_of places) follows p (λ set installed. installed.1))

@@ -3,9 +3,9 @@ use Rattle.std.proofs.Common.{◌≡◌, ◌⊎◌, ℕ, ◌+◌, ◌<◌, ◌�
 use Rattle.std.proofs.lemmas.Bool.{false≢true, cases_lt, eqb-true}
 use Rattle.deb_index.specs.Packages.{IndexView, needs_at}
 use Rattle.sat_solve.specs.Sets.{NumberSet, members_of}
-use Rattle.core_extract.specs.Reduction.{IsWithin, all_of}
+use Rattle.core_extract.specs.Reduction.{IsWithin}
 use Rattle.deb_encode.specs.PlaceSets.{with_place, ArePlaces, Grows}
-use Rattle.deb_verdict.specs.Gathering.{Follows, none_of}
+use Rattle.deb_verdict.specs.Gathering.{Follows}
 use Rattle.deb_verdict.specs.Groundwork.{IsMet}
 use Rattle.deb_verdict.specs.Growing.{AreForced, KeepsForced, IsVisited, Visits}
 use Rattle.deb_encode.proofs.Placing.{grows_none, grows_with, grows_keeps, with_place_has, places_empty}
@@ -22,11 +22,11 @@ module _ (index : IndexView) (p : ℕ) (forced row empty extended started : List
       let extends : Grows count empty extended = grows count (subst Within (sym row_is) are.within) in
       subst Are (sym started_is) ((grows_with count extended p is_place).places (extends.places (subst Are (sym empty_is) (places_empty count))))
 
-  pub first_forced : (after : List ℕ) → Follows index p all_of (members_of forced) none_of → row ≡ forced → empty ≡ []
+  pub first_forced : (after : List ℕ) → Follows index p (members_of forced) → row ≡ forced → empty ≡ []
       → ((q : ℕ) → members_of extended q ≡ true → (members_of empty q ≡ true) ⊎ (members_of row q ≡ true)) → started ≡ with_place extended p
       → KeepsForced index started after → AreForced index p after
   first_forced after follows row_is empty_is only started_is keeps =
-      let Starts : List ℕ → Type 0 = λ list. Follows index p all_of (members_of list) none_of in
+      let Starts : List ℕ → Type 0 = λ list. Follows index p (members_of list) in
       let fewer : IsWithin (members_of extended) (members_of forced) = λ q is_in.
       elim (only q is_in) [
         | inl before ↦ absurd (false≢true (sym (ap (λ list. members_of list q) empty_is) ∙ before))

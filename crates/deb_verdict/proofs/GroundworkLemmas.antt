@@ -87,7 +87,7 @@ empty_are_places count places empty =
 none_in_all : (index : IndexView) (places : List ℕ) → places ≡ [] → IsInAll index (members_of places)
 none_in_all index places empty =
     let For : List ℕ → Type 0 = λ list. IsInAll index (members_of list) in
-    subst For (sym empty) (λ p set has_p meets. record { has_forced = λ q never. absurd (false≢true never); lacks_outs = λ q never. absurd (false≢true never) })
+    subst For (sym empty) (λ p set installed q never. absurd (false≢true never))
 
 pub forced_in_all : (index : IndexView) (start between after : List ℕ) → start ≡ [] → KeepsForced index start between → KeepsForced index between after → IsInAll index (members_of after)
 forced_in_all index start between after empty first second p = second.forced p (first.forced p (none_in_all index start empty p))

@@ -5,12 +5,11 @@ use Rattle.deb_index.specs.Packages.{IndexView, needs_at, need_at}
 use Rattle.deb_index.specs.Meets.{group_satisfiers}
 use Rattle.deb_index.specs.Constraints.{answers}
 use Rattle.sat_solve.specs.Sets.{NumberSet}
-use Rattle.core_extract.specs.Reduction.{all_of}
-use Rattle.deb_verdict.specs.Gathering.{Follows, none_of}
+use Rattle.deb_verdict.specs.Gathering.{Follows}
 
 -- whatever package is asked for, these places are in every set with it that meets all constraints
 abbrev pub IsInAll : IndexView → NumberSet → Type 0
-IsInAll index forced = (p : ℕ) → Follows index p all_of forced none_of
+IsInAll index forced = (p : ℕ) → Follows index p forced
 
 -- each need of the place is answered by a place that is in
 abbrev pub IsMet : IndexView → NumberSet → ℕ → Type 0

@@ -3,19 +3,18 @@ use Rattle.std.specs.Prelude.{◌≡◌, ◌⊎◌, ℕ, ◌∷◌, [], true, Li
 use Rattle.deb_index.specs.Packages.{IndexView, essential_names}
 use Rattle.deb_index.specs.Constraints.{has_name, answers}
 use Rattle.sat_solve.specs.Sets.{NumberSet, members_of}
-use Rattle.core_extract.specs.Reduction.{all_of}
-use Rattle.deb_verdict.specs.Gathering.{Follows, none_of}
+use Rattle.deb_verdict.specs.Gathering.{Follows}
 use Rattle.deb_encode.specs.PlaceSets.{with_place, Grows}
 
 -- p is in the list, and each set that contains p and meets all constraints has the whole list
 pub record AreForced (index : IndexView) (p : ℕ) (places : List ℕ) : Type 0 where
   pub start : members_of places p ≡ true
-  pub follows : Follows index p all_of (members_of places) none_of
+  pub follows : Follows index p (members_of places)
 
 -- places came to the list; where all sets that contain p and meet all constraints have what it had, they have all that it has now
 pub record KeepsForced (index : IndexView) (before after : List ℕ) : Type 0 where
   pub grows : Grows (length index.packages) before after
-  pub forced : (p : ℕ) → Follows index p all_of (members_of before) none_of → Follows index p all_of (members_of after) none_of
+  pub forced : (p : ℕ) → Follows index p (members_of before) → Follows index p (members_of after)
 
 -- at most the only place of a row came
 pub data TakesOnly (row before after : List ℕ) : Type 0 where

@@ -5,9 +5,9 @@ ghost use Rattle.std.specs.List.{list_any};
 ghost use Rattle.deb_index.specs.Packages.{needs_at};
 ghost use Rattle.deb_index.specs.Constraints.{answers};
 ghost use Rattle.sat_solve.specs.Sets.{members_of};
-ghost use Rattle.core_extract.specs.Reduction.{IsWithin, all_of};
+ghost use Rattle.core_extract.specs.Reduction.{IsWithin};
 ghost use Rattle.deb_encode.specs.Play.{places_in_play};
-ghost use Rattle.deb_verdict.specs.Gathering.{Follows, IsEnough, none_of};
+ghost use Rattle.deb_verdict.specs.Gathering.{Follows, IsEnough};
 ghost use Rattle.deb_encode.specs.PlaceSets.{ArePlaces};
 ghost use Rattle.deb_verdict.specs.Growing.{AreForced, Brings, BringsEssential, Visits};
 ghost use Rattle.deb_verdict.specs.Unmet.{LeavesUnmet, ListsUnmet, AreUnmet};
@@ -188,7 +188,7 @@ fn gather_candidates(
     requires p { p < length groundwork.now.index.now.packages }
     requires ground { IsWithin (members_of groundwork.now.forced) (members_of forced.now) }
     requires forced { All (λ place. place < length groundwork.now.index.now.packages) forced.now }
-    ensures enough { OnOk result (IsEnough groundwork.now.index.now (members_of forced.now) none_of (places_in_play (members_of forced.now) candidates.new)) }
+    ensures enough { OnOk result (IsEnough groundwork.now.index.now (members_of forced.now) (places_in_play (members_of forced.now) candidates.new)) }
     ensures start { OnOk result (members_of candidates.new p ≡ true) }
     ensures within { OnOk result (All (λ q. q < length groundwork.now.index.now.packages) candidates.new) }
     ensures unmet { OnOk result (AreUnmet groundwork.now.index.now (members_of forced.now) (places_in_play (members_of forced.now) candidates.new) unmet.new.items) }
@@ -215,8 +215,8 @@ pub(crate) fn gather(
     unmet: &mut Vec<UnmetNeed>,
 ) -> Result<(), AllocError>
     requires { p < length groundwork.now.index.now.packages }
-    ensures follows { OnOk result (Follows groundwork.now.index.now p all_of (members_of forced.new) none_of) }
-    ensures enough { OnOk result (IsEnough groundwork.now.index.now (members_of forced.new) none_of (places_in_play (members_of forced.new) candidates.new)) }
+    ensures follows { OnOk result (Follows groundwork.now.index.now p (members_of forced.new)) }
+    ensures enough { OnOk result (IsEnough groundwork.now.index.now (members_of forced.new) (places_in_play (members_of forced.new) candidates.new)) }
     ensures start { OnOk result ((members_of forced.new p ≡ true) × (members_of candidates.new p ≡ true)) }
     ensures ground { OnOk result (IsWithin (members_of groundwork.now.forced) (members_of forced.new)) }
     ensures forced_within { OnOk result (All (λ q. q < length groundwork.now.index.now.packages) forced.new) }
