@@ -130,15 +130,6 @@ module _ (index : IndexView) (forced candidates : List ℕ) where
       let For : ℕ → Type 0 = λ count. AddsBelow group (meaning_of_row place) count before after in
       subst For aparts_are adds
 
--- in other words for the same places
-pub constraint_moved : (group : ℕ) (a b : IndexView) (forced forced_too candidates candidates_too : List ℕ) (constraint : Constraint) (before after : Clauses) → a ≡ b → forced ≡ forced_too → candidates ≡ candidates_too
-    → AddsPlaces group forced candidates (λ set. Holds a set constraint) before after → AddsPlaces group forced_too candidates_too (λ set. Holds b set constraint) before after
-constraint_moved group a b forced forced_too candidates candidates_too constraint before after same_index same_forced same_candidates adds =
-    let Of : IndexView → Type 0 = λ index. AddsPlaces group forced candidates (λ set. Holds index set constraint) before after in
-    let Ins : List ℕ → Type 0 = λ list. AddsPlaces group list candidates (λ set. Holds b set constraint) before after in
-    let Members : List ℕ → Type 0 = λ list. AddsPlaces group forced_too list (λ set. Holds b set constraint) before after in
-    subst Members same_candidates (subst Ins same_forced (subst Of same_index adds))
-
 -- what was added to no clauses is all of the formula
 module _ (group count groups : ℕ) (Means : NumberSet → Type 0) (before after : Clauses) (empty : before ≡ record { vars = count; groups = groups; clauses = [] }) (adds : Adds group Means before after) where
   pub added_vars : after.vars ≡ count
