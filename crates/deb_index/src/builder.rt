@@ -286,7 +286,7 @@ impl Builder {
             return Ok(found);
         }
         for (number, lists) in self.names.lists.iter().enumerate() {
-            if self.is_essential(&lists.places) {
+            if self.is_essential(lists.places.as_slice()) {
                 found.push(number as u32)?;
             }
         }

@@ -9,13 +9,15 @@ ghost use Rattle.deb_index.specs.Tables.{IsSmall, items_of, number_in};
 use crate::package::Package;
 use deb_relation::Atom;
 use indexmap::IndexSet;
+use smallvec::SmallVec;
 use std::alloc::{AllocError, Global};
 
 /// Where a name is found: the places of the packages that have it, and a place and the number of an entry for each that provides it.
+/// Most names have few of either, which lie in the value.
 #[derive(Drop)]
 pub(crate) struct Lists {
-    pub(crate) places: Vec<u32>,
-    pub(crate) provided: Vec<(u32, u32)>,
+    pub(crate) places: SmallVec<u32, 4>,
+    pub(crate) provided: SmallVec<(u32, u32), 2>,
 }
 
 /// The same, lent.
@@ -71,7 +73,7 @@ impl Names {
         ensures { (packages : List PackageView) (entries : List (List ℕ × (ℕ × ℕ))) → IsNaming packages entries self.now
             → result.now ≡ places_where (is_named (slice_index_or (name_texts self.now) number [])) packages }
     {
-        &self.lists[number].places
+        self.lists[number].places.as_slice()
     }
 
     /// The places of the packages that have a name, by its number, where it has one.
@@ -97,8 +99,8 @@ impl Names {
             Some(number) => {
                 let lists = &self.lists[number];
                 Candidates {
-                    named: &lists.places,
-                    provided: &lists.provided,
+                    named: lists.places.as_slice(),
+                    provided: lists.provided.as_slice(),
                 }
             }
             None => Candidates {
@@ -140,9 +142,9 @@ impl Names {
             }
             None => {
                 let number = self.texts.len();
-                let mut places = Vec::new(alloc);
+                let mut places = SmallVec::new(alloc);
                 places.push(place)?;
-                let provided = Vec::new(alloc);
+                let provided = SmallVec::new(alloc);
                 self.insert(alloc, name, Lists { places, provided })?;
                 self.front = self.lists.len();
                 Ok(number)
@@ -161,9 +163,9 @@ impl Names {
                 Ok(())
             }
             None => {
-                let mut provided = Vec::new(alloc);
+                let mut provided = SmallVec::new(alloc);
                 provided.push(entry)?;
-                let places = Vec::new(alloc);
+                let places = SmallVec::new(alloc);
                 self.insert(alloc, name, Lists { places, provided })?;
                 Ok(())
             }

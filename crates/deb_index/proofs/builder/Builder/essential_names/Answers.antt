@@ -42,7 +42,7 @@ loop-number-preserved c =
     let within = subst (λ l. n < length l) c.deref-lists-items.ensures.value c.loop-number-test.true in
     let at = subst (λ l. item ≡ get_or l n item) c.deref-lists-items.ensures.value c.lists-item.is in
     let step = essential-step v named n item within at may in
-    let marked = sym (c.is_essential.ensures ∙ ap (list_any (is_marked v)) c.deref.ensures.value) in
+    let marked = sym (c.is_essential.ensures ∙ ap (list_any (is_marked v)) c.as_slice.ensures) in
     let so_far = places_where (is_essential v) (take n (names v)) in
     elim c.if-is_essential.branch [
       | then-is_essential+in_ok-push w ↦

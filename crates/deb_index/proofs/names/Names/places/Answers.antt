@@ -3,4 +3,4 @@ use Rattle.deb_index.proofs.NameLemmas.{places-at}
 use Rattle.deb_index.proofs.names.Names.places.Goals as goal
 
 pub returns : goal.returns
-returns c = λ packages entries n. c.deref.ensures.value ∙ places-at n c.args.number c.index.result.now c.requires c.index.ensures
+returns c = λ packages entries n. c.as_slice.ensures ∙ places-at n c.args.number c.index.result.now c.requires c.index.ensures
