@@ -1,4 +1,5 @@
 mod AskedLemmas
+mod AtomSteps
 mod CauseKeyLemmas
 mod CauseLaws
 mod CauseOrder

@@ -1,11 +1,18 @@
-use Rattle.std.proofs.Common.{◌≡◌, ◌<◌, ◌∙◌, ap, arith, length, map, take}
+use Rattle.std.proofs.Common.{Bor, ◌≡◌, ◌<◌, ◌∙◌, ap, arith, length, map, take}
 use Rattle.std.proofs.lemmas.List.{take_all}
 use Rattle.std.proofs.lemmas.List.Elements.{All-same}
 use Rattle.std.specs.List.{flat_map}
+use Rattle.deb_relation.specs.declared.atom.Atom.{Atom}
 use Rattle.deb_relation.specs.AtomView.{atom_view}
 use Rattle.deb_report.specs.Causes.{near_places, places_near}
+use Rattle.deb_report.proofs.AtomSteps.{gathered}
 use Rattle.deb_report.proofs.NearLemmas.{near-places, within-places}
 use Rattle.deb_report.proofs.near.near_places.Goals as goal
+
+pub loop-atom-preserved : goal.loop-atom-preserved
+loop-atom-preserved c =
+    gathered (places_near c.args.index.now) (λ (atom : Bor Atom). atom_view atom.now) c.push_near.new.places.items c.loop-atom.places.items (atom_view c.atom-item.result.now)
+    c.args.atoms.now c.loop-atom.atom-index c.atom-item.result c.in_ok-push_near.ensures c.loop-atom.invariant c.loop-atom-test.true (ap (λ (atom : Bor Atom). atom_view atom.now) c.atom-item.is)
 
 pub returns-clause-value : goal.returns-clause-value
 returns-clause-value c =
