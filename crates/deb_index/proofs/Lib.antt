@@ -22,7 +22,7 @@ pub mod NameLemmas
 pub mod ProvidedLemmas
 pub mod BuiltLemmas
 pub mod EssentialLemmas
-pub mod SpanLemmas
+pub mod EndLemmas
 pub mod MergeLemmas
 pub mod RowLemmas
 pub mod PartLemmas

@@ -13,20 +13,15 @@ use Rattle.deb_relation.specs.AtomView.{atom_view}
 use Rattle.deb_relation.specs.Relationship.{AtomText}
 use Rattle.deb_index.specs.Packages.{IndexView, PackageView, places_where}
 use Rattle.deb_index.specs.Meets.{group_satisfiers, meets_need, satisfiers}
-use Rattle.deb_index.specs.Reading.{stanza_limit}
 use Rattle.deb_index.specs.Rows.{answer_row, candidate_count, group_candidates, hit_row, row_limit}
 use Rattle.deb_index.specs.Roles.{row_as}
 use Rattle.deb_index.specs.declared.meets.Role.TheVariants.{Alternative}
-use Rattle.deb_index.proofs.ConstraintLemmas.{where-short}
 
 none-some : (x : List ℕ) → None ≡ Some x → ⊥
 none-some x e = cc
 
 some-same : (x y : List ℕ) → Some x ≡ Some y → x ≡ y
 some-same x y e = cc
-
-pub row-short : (test : PackageView → Bool) (packages : List PackageView) (row : List ℕ) → length packages ≤ stanza_limit → row ≡ places_where test packages → length row < 4294967296
-row-short test packages row few e = omega (arith, few, where-short test packages, ap (λ (l : List ℕ). length l) e)
 
 pub one-atom : (group : List Atom) (a : Atom) → 1 ≤ length group → length group < 2 → a ≡ get_or group 0 a → map atom_view group ≡ atom_view a ∷ []
 one-atom [] a some few at = absurd (omega arith)

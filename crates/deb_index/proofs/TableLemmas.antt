@@ -188,9 +188,6 @@ module _ {T : Type 0} where
   pub table-none : {pairs : List (List ℕ × T)} {ks : List (List ℕ)} {lists : List (List T)} (name : List ℕ) → IsTable pairs ks lists → number_in name ks ≡ None → items_of name pairs ≡ []
   table-none {pairs} {ks} name t e = no-items name pairs (sym (any-first name (map (λ (p : List ℕ × T). p.0) pairs)) ∙ subst (λ l. list_any (bytes_eq name) l ≡ false) t.names_are (none-any name ks e))
 
-  pub table-found : {pairs : List (List ℕ × T)} {ks : List (List ℕ)} {lists : List (List T)} (name : List ℕ) (i : ℕ) (d : List T) → IsTable pairs ks lists → number_in name ks ≡ Some i → get_or lists i d ≡ items_of name pairs
-  table-found {pairs} {ks} name i d t e = ap (λ (l : List (List T)). get_or l i d) t.lists_are ∙ get-there name (λ k. items_of k pairs) ks i d e
-
   -- one more item under a name that is there
   pub put-there : {pairs : List (List ℕ × T)} {ks : List (List ℕ)} {lists : List (List T)} (name : List ℕ) (x : T) (i : ℕ) → IsTable pairs ks lists → number_in name ks ≡ Some i
       → IsTable (pairs ++ (name, x) ∷ []) ks (set lists i (get_or lists i [] ++ x ∷ []))
@@ -227,9 +224,6 @@ module _ {T : Type 0} where
   module _ {V : Type 0} (items : V → List T) where
     listed-at : {pairs : List (List ℕ × T)} {ks : List (List ℕ)} (vs : List V) (name : List ℕ) (i : ℕ) → IsTable pairs ks (map items vs) → number_in name ks ≡ Some i → i < length vs
     listed-at {pairs} {ks} vs name i t e = let a : length (map items vs) ≡ length vs = length-map vs items in let b : length (map (λ k. items_of k pairs) ks) ≡ length ks = length-map ks (λ k. items_of k pairs) in let e' = number-within name ks i e in let s : length (map items vs) ≡ length (map (λ k. items_of k pairs) ks) = ap length t.lists_are in omega arith
-
-    pub found-at : {pairs : List (List ℕ × T)} {ks : List (List ℕ)} (vs : List V) (name : List ℕ) (i : ℕ) (old : V) → IsTable pairs ks (map items vs) → number_in name ks ≡ Some i → old ≡ get_or vs i old → items old ≡ items_of name pairs
-    found-at vs name i old t e at = ap items at ∙ sym (get_or-map items vs i old [] (listed-at vs name i t e)) ∙ table-found name i [] t e
 
     pub put-at : {pairs : List (List ℕ × T)} {ks : List (List ℕ)} (vs : List V) (name : List ℕ) (x : T) (i : ℕ) (old new : V) → IsTable pairs ks (map items vs) → number_in name ks ≡ Some i → old ≡ get_or vs i old → items new ≡ items old ++ x ∷ []
         → IsTable (pairs ++ (name, x) ∷ []) ks (map items (set vs i new))

@@ -1,7 +1,6 @@
 -- Rows of places: those that meet a group or an entry, where few packages come into question.
-use Rattle.std.specs.Prelude.{◌≤◌, ◌+◌, ℕ, nat_le, List, length, sum_by, take, drop, Option, Some, None, if◌then◌else◌}
+use Rattle.std.specs.Prelude.{◌≡◌, ◌≤◌, ◌+◌, ◌-◌, ℕ, Bool, nat_le, List, [], ◌∷◌, length, sum_by, take, drop, Option, Some, None, if◌then◌else◌}
 use Rattle.deb_relation.specs.Relationship.{AtomText}
-use Rattle.deb_index.specs.declared.rows.Span.{Span}
 use Rattle.deb_index.specs.Packages.{IndexView, places_of}
 use Rattle.deb_index.specs.Meets.{group_satisfiers, provided_at, satisfiers}
 
@@ -27,10 +26,13 @@ hit_row index atom = if nat_le (candidate_count index atom) row_limit then Some 
 
 -- ---- how rows are kept
 
--- what lies in a span of some places
-abbrev pub row_in : List ℕ → Span → Option (List ℕ)
-row_in places span = if span.kept then Some (take span.len (drop span.start places)) else None
+-- the rows that lie in some places, by where they end, of which the first begins at a given place; those that are not kept are left out
+abbrev pub rows_from : ℕ → List ℕ → List ℕ → List Bool → List (Option (List ℕ))
+rows_from start places [] kept = []
+rows_from start places (end ∷ ends) [] = []
+rows_from start places (end ∷ ends) (k ∷ kept) = (if k then Some (take (end - start) (drop start places)) else None) ∷ rows_from end places ends kept
 
--- a span lies within so many places
-abbrev pub IsWithin : ℕ → Span → Type 0
-IsWithin count span = span.start + span.len ≤ count
+-- where the rows of so many places end: none before it begins, and the last where the places do
+abbrev pub AreEnds : ℕ → ℕ → List ℕ → Type 0
+AreEnds start count [] = start ≡ count
+AreEnds start count (end ∷ ends) = (start ≤ end) × AreEnds end count ends

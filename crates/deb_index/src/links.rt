@@ -2,7 +2,6 @@
 ghost use Rattle.std.specs.Prelude.{◌≡◌, ◌<◌, ◌≤◌, ◌+◌, ◌++◌, ◌∷◌, [], false, IfOk, OnOk, length, map, sum_by, take};
 ghost use Rattle.deb_relation.specs.AtomView.{atom_view};
 ghost use Rattle.deb_index.specs.Packages.{aparts, needs, package_view};
-ghost use Rattle.deb_index.specs.Reading.{stanza_limit};
 ghost use Rattle.deb_index.specs.Tables.{asked_count, asked_limit};
 
 use crate::lookup::Lookup;
@@ -64,7 +63,6 @@ impl Links {
     // Adds the package at the next place.
     fn add(&mut self, place: u32, finder: &mut Finder) -> Result<(), AllocError>
         requires within { place < length finder.old.memo.packages }
-        requires few { length finder.old.memo.packages ≤ stanza_limit }
         requires few_asked { sum_by asked_count finder.old.memo.packages ≤ asked_limit }
         requires linked { IsLinked finder.old.memo (take place finder.old.memo.packages) self.old }
         ensures index { finder.new.memo ≡ finder.old.memo }
@@ -107,7 +105,6 @@ impl<'t> Finder<'t> {
 
     // Adds the rows of a package's groups.
     fn add_groups(&mut self, asking: &'t Package, rows: &mut Rows) -> Result<(), AllocError>
-        requires few { length self.old.memo.packages ≤ stanza_limit }
         requires few_asked { asked_count (package_view asking.now) ≤ asked_limit }
         ensures index { self.new.memo ≡ self.old.memo }
         ensures rows { OnOk result (rows.new ≡ rows.old ++ map (answer_row self.old.memo) (needs (package_view asking.now))) }
@@ -120,7 +117,6 @@ impl<'t> Finder<'t> {
 
     // Adds the rows of a package's entries.
     fn add_entries(&mut self, asking: &'t Package, rows: &mut Rows) -> Result<(), AllocError>
-        requires few { length self.old.memo.packages ≤ stanza_limit }
         requires few_asked { asked_count (package_view asking.now) ≤ asked_limit }
         ensures index { self.new.memo ≡ self.old.memo }
         ensures rows { OnOk result (rows.new ≡ rows.old ++ map (hit_row self.old.memo) (aparts (package_view asking.now))) }
@@ -133,7 +129,6 @@ impl<'t> Finder<'t> {
 
     // Adds the row of an atom that stands alone in its role.
     fn add_atom(&mut self, role: Role, atom: &'t Atom, rows: &mut Rows) -> Result<(), AllocError>
-        requires { length self.old.memo.packages ≤ stanza_limit }
         ensures index { self.new.memo ≡ self.old.memo }
         ensures row { OnOk result (rows.new ≡ rows.old ++ row_as role self.old.memo (atom_view atom.now) ∷ []) }
     {
@@ -145,7 +140,6 @@ impl<'t> Finder<'t> {
 
     // Adds the row of an atom that is not remembered, and remembers it where one package alone meets it.
     fn find_atom(&mut self, role: Role, atom: &'t Atom, rows: &mut Rows) -> Result<(), AllocError>
-        requires { length self.old.memo.packages ≤ stanza_limit }
         ensures index { self.new.memo ≡ self.old.memo }
         ensures row { OnOk result (rows.new ≡ rows.old ++ row_as role self.old.memo (atom_view atom.now) ∷ []) }
     {
@@ -164,7 +158,6 @@ impl<'t> Finder<'t> {
     }
 
     fn add_entry(&mut self, entry: &'t Atom, rows: &mut Rows) -> Result<(), AllocError>
-        requires { length self.old.memo.packages ≤ stanza_limit }
         ensures index { self.new.memo ≡ self.old.memo }
         ensures row { OnOk result (rows.new ≡ rows.old ++ hit_row self.old.memo (atom_view entry.now) ∷ []) }
     {
@@ -172,7 +165,6 @@ impl<'t> Finder<'t> {
     }
 
     fn add_group(&mut self, group: &'t [Atom], rows: &mut Rows) -> Result<(), AllocError>
-        requires { length self.old.memo.packages ≤ stanza_limit }
         ensures index { self.new.memo ≡ self.old.memo }
         ensures row { OnOk result (rows.new ≡ rows.old ++ answer_row self.old.memo (map atom_view group.now) ∷ []) }
     {

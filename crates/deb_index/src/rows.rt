@@ -1,35 +1,29 @@
 //! Rows of places, one behind the other.
-ghost use Rattle.std.specs.Prelude.{◌≡◌, ◌<◌, ◌^◌, ◌++◌, ◌∷◌, ℕ, List, [], Option, Some, None, OnOk, length, slice_index_or};
+ghost use Rattle.std.specs.Prelude.{◌≡◌, ◌<◌, ◌++◌, ◌∷◌, ℕ, List, [], Option, Some, None, OnOk, length, slice_index_or};
 ghost use Rattle.std.specs.Option.{option_map};
 
 use std::alloc::{AllocError, Global};
 use std::marker::Model;
 
-/// Where a row lies among all places, and whether it is kept: nothing lies there where it is left out.
-#[derive(Clone, Copy)]
-pub(crate) struct Span {
-    pub(crate) start: usize,
-    pub(crate) len: u32,
-    pub(crate) kept: bool,
-}
-
 /// Rows of places by number. Some are left out.
 #[derive(Drop)]
 pub(crate) struct Rows {
-    spans: Vec<Span>,
+    // Where each row ends among the places; it begins where the one before it ends.
+    ends: Vec<usize>,
+    // Whether each row is kept. Nothing lies in one that is left out.
+    kept: Vec<bool>,
     places: Vec<u32>,
 }
 
 impl Model for Rows {
-    ghost use Rattle.std.specs.Prelude.{ℕ, List, Option, length, map};
-    ghost use Rattle.std.specs.List.{AllByRecursion};
-    ghost use Rattle.deb_index.specs.Rows.{IsWithin, row_in};
+    ghost use Rattle.std.specs.Prelude.{◌≡◌, ℕ, List, Option, length};
+    ghost use Rattle.deb_index.specs.Rows.{AreEnds, rows_from};
 
     ghost Value = { List (Option (List ℕ)) };
 
-    ghost view = { λ r. map (row_in r.places.items) r.spans.items };
+    ghost view = { λ r. rows_from 0 r.places.items r.ends.items r.kept.items };
 
-    ghost invariant = { λ r. AllByRecursion (IsWithin (length r.places.items)) r.spans.items };
+    ghost invariant = { λ r. AreEnds 0 (length r.places.items) r.ends.items × (length r.ends.items ≡ length r.kept.items) };
 }
 
 impl Rows {
@@ -37,23 +31,22 @@ impl Rows {
         ensures { result ≡ [] }
     {
         Rows {
-            spans: Vec::new(alloc),
+            ends: Vec::new(alloc),
+            kept: Vec::new(alloc),
             places: Vec::new(alloc),
         }
     }
 
     /// Puts a row down, last.
     pub(crate) fn push(&mut self, row: &[u32]) -> Result<(), AllocError>
-        requires { length row.now < 2 ^ 32 }
         ensures { OnOk result (self.new ≡ self.old ++ Some row.now ∷ []) }
     {
-        let start = self.places.len();
+        // The places come last of what may be refused: none of them lies behind the last end.
+        self.ends.reserve(1)?;
+        self.kept.reserve(1)?;
         self.places.extend_from_slice(row)?;
-        self.spans.push(Span {
-            start,
-            len: row.len() as u32,
-            kept: true,
-        })?;
+        self.ends.push_reserved(self.places.len());
+        self.kept.push_reserved(true);
         Ok(())
     }
 
@@ -61,11 +54,10 @@ impl Rows {
     pub(crate) fn leave_out(&mut self) -> Result<(), AllocError>
         ensures { OnOk result (self.new ≡ self.old ++ None ∷ []) }
     {
-        self.spans.push(Span {
-            start: 0,
-            len: 0,
-            kept: false,
-        })?;
+        self.ends.reserve(1)?;
+        self.kept.reserve(1)?;
+        self.ends.push_reserved(self.places.len());
+        self.kept.push_reserved(false);
         Ok(())
     }
 
@@ -73,7 +65,7 @@ impl Rows {
     pub(crate) fn len(&self) -> usize
         ensures { result ≡ length self.now }
     {
-        self.spans.len()
+        self.ends.len()
     }
 
     /// The row with a number, unless it is left out.
@@ -81,10 +73,19 @@ impl Rows {
         requires { number < length self.now }
         ensures { option_map (λ r. r.now) result ≡ slice_index_or self.now number None }
     {
-        let span = self.spans[number];
-        if !span.kept {
+        if !self.kept[number] {
             return None;
         }
-        Some(&self.places[span.start..span.start + span.len as usize])
+        let start = start_of(&self.ends, number);
+        let end = self.ends[number];
+        Some(&self.places[start..end])
     }
+}
+
+// Where a row begins, by the ends of all rows.
+fn start_of(ends: &[usize], number: usize) -> usize
+    requires { number < length ends.now }
+    ensures { result ≡ slice_index_or (0 ∷ ends.now) number 0 }
+{
+    if number == 0 { 0 } else { ends[number - 1] }
 }

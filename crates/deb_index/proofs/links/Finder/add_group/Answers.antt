@@ -1,13 +1,11 @@
-use Rattle.std.proofs.Common.{◌<◌, ◌≤◌, ◌++◌, ◌∷◌, ◌∙◌, [], ap, subst, sym, refl, map, length, take, arith}
+use Rattle.std.proofs.Common.{◌<◌, ◌++◌, ◌∷◌, ◌∙◌, [], ap, sym, refl, map, length, take, arith}
 use Rattle.std.specs.List.{list_any}
-use Rattle.std.proofs.lemmas.List.{take_all}
 use Rattle.deb_relation.specs.AtomView.{atom_view}
 use Rattle.deb_index.specs.Packages.{IndexView, places_of}
-use Rattle.deb_index.specs.Reading.{stanza_limit}
-use Rattle.deb_index.specs.Meets.{group_satisfiers, meets_need, provided_at}
+use Rattle.deb_index.specs.Meets.{meets_need, provided_at}
 use Rattle.deb_index.specs.Rows.{answer_row}
 use Rattle.deb_index.proofs.LinkLemmas.{on-ok}
-use Rattle.deb_index.proofs.RowLemmas.{count-more, count-past, found-more, group-left, group-of-one, none-found, one-atom, row-short}
+use Rattle.deb_index.proofs.RowLemmas.{count-more, count-past, found-more, group-left, group-of-one, none-found, one-atom}
 use Rattle.deb_index.proofs.links.Finder.add_group.Goals as goal
 
 pub alternatives-init : goal.alternatives-init
@@ -46,15 +44,6 @@ alternatives-preserved c =
       omega (arith, c.alternatives.invariant.3, named, provided, count-more index group i a within c.index-group-number.is),
       omega arith,
     )
-
-pub push-requires : goal.push-requires
-push-requires c =
-    let index = c.lookup-lookup.result.now in
-    let group = c.args.group.now in
-    let all : length group ≤ c.alternatives.number = omega arith in
-    let few = subst (λ (v : IndexView). length v.packages ≤ stanza_limit) (sym c.lookup-lookup.ensures) c.requires in
-    row-short (λ q. list_any (meets_need index.arch q) (map atom_view group)) index.packages _ few
-    (c.deref-2.ensures.value ∙ c.alternatives.invariant.2 ∙ ap (λ l. group_satisfiers index (map atom_view l)) (take_all c.alternatives.number group all))
 
 pub returns-in-len1 : goal.returns-in-len1
 returns-in-len1 c =

@@ -1,14 +1,22 @@
-use Rattle.std.proofs.Common.{◌≡◌, ◌++◌, ◌∷◌, ◌∙◌, [], Some, ap, map, length, arith}
-use Rattle.deb_index.specs.Rows.{row_in}
-use Rattle.deb_index.proofs.SpanLemmas.{kept, rows-push}
+use Rattle.std.proofs.Common.{◌≡◌, ◌++◌, ◌∷◌, ◌∙◌, [], Some, true, ap, length, length-append, arith}
+use Rattle.deb_index.proofs.EndLemmas.{row-put, still-ends}
 use Rattle.deb_index.proofs.rows.Rows.push.Goals as goal
+
+pub invariant_of-self-2 : goal.invariant_of-self-2
+invariant_of-self-2 c =
+    let r = c.self.inside in
+    let more = c.extend_from_slice.new.self in
+    let counted = more.ok in
+    let long = ap length c.in_ok-extend_from_slice.ensures.items in
+    rw (c.push_reserved.ensures.items, c.push_reserved-2.ensures.items, c.reserve.ensures.items, c.reserve-2.ensures.items)
+    (still-ends r.places.items r.ends.items r.kept.items c.self.invariant.0 c.self.invariant.1 c.len.result (length more.items) true (omega arith) (omega (arith, long, length-append r.places.items c.args.row.now)))
 
 pub returns : goal.returns
 returns c =
-    let places = c.self.inside.places.items in
-    let spans = c.self.inside.spans.items in
+    let r = c.self.inside in
     let row = c.args.row.now in
-    let counted = c.self.inside.places.ok in
-    let start : c.len-start.result ≡ length places = omega arith in
-    rw (c.in_ok-push.ensures.items, c.in_ok-extend_from_slice.ensures.items)
-    (ap (λ n. map (row_in (places ++ row)) (spans ++ kept n (length row) ∷ [])) start ∙ rows-push places row spans c.self.invariant ∙ ap (λ l. l ++ Some row ∷ []) c.self.view_is)
+    let counted = c.extend_from_slice.new.self.ok in
+    let long = ap length c.in_ok-extend_from_slice.ensures.items in
+    let end : c.len.result ≡ length (r.places.items ++ row) = omega (arith, long) in
+    rw (c.push_reserved.ensures.items, c.push_reserved-2.ensures.items, c.reserve.ensures.items, c.reserve-2.ensures.items, c.in_ok-extend_from_slice.ensures.items)
+    (row-put r.places.items r.ends.items r.kept.items c.self.invariant.0 c.self.invariant.1 c.len.result row end ∙ ap (λ rows. rows ++ Some row ∷ []) c.self.view_is)
