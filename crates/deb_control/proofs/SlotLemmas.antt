@@ -1,52 +1,113 @@
--- Fields whose slots are taken: a name whose slot is free agrees with none of theirs.
+-- Where fields are looked for by their slots: those that are passed over have other names.
 use Rattle.std.proofs.Common.{arith, ◌≡◌, ℕ, ◌+◌, ◌-◌, ◌<◌, ◌≤◌, Bool, true, false, ◌||◌, List, [], ◌∷◌, length, drop, map, get_or, refl, sym, ap, ◌∙◌}
 use Prim.Native.Nat.{suc, zero}
 use Rattle.std.specs.List.{list_any}
 use Rattle.std.specs.Prelude.{slice_set}
+use Rattle.std.proofs.Math.ListN.{replicate}
 use Rattle.std.specs.Str.{str_to_ascii_lowercase}
 use Rattle.std.proofs.lemmas.Bool.{or_right}
-use Rattle.std.proofs.lemmas.List.{at_drop_all, at_drop_more, get_or-set_same}
+use Rattle.std.proofs.lemmas.List.{at_drop_all, at_drop_more, get_or-set_same, drop-drop, drop-map}
 use Rattle.std.proofs.lemmas.Slice.Eq.{bytes_eq-Decides}
 use Rattle.deb_control.specs.declared.field.Field.{Field}
-use Rattle.deb_control.specs.Fields.{Entry, has_repeat, same_name}
-use Rattle.deb_control.specs.Repeats.{AreTaken, name_slot, slot_in_lower}
+use Rattle.deb_control.specs.Fields.{Entry, has_repeat, field_value, same_name}
+use Rattle.deb_control.specs.Slots.{AreFirsts, name_slot, slot_in_lower}
 use Rattle.deb_control.specs.Stanzas.{entry_of}
 use Rattle.deb_control.proofs.RepeatLemmas.{has_repeat-drop}
 
 -- names that agree have one slot
-pub same_slot : (a b : List ℕ) → same_name a b ≡ true → name_slot a ≡ name_slot b
+same_slot : (a b : List ℕ) → same_name a b ≡ true → name_slot a ≡ name_slot b
 same_slot a b same = ap slot_in_lower ((bytes_eq-Decides (str_to_ascii_lowercase a) (str_to_ascii_lowercase b)).0 same)
 
 pub slot_below : (name : List ℕ) → name_slot name < 64
 slot_below [] = omega arith
 slot_below (b ∷ bs) = grind arith
 
-pub none_agrees : (taken : List Bool) (name : List ℕ) (fields : List Entry) → get_or taken (name_slot name) false ≡ false → AreTaken taken fields
-    → list_any (λ (other : Entry). same_name other.name name) fields ≡ false
-none_agrees taken name [] free are = refl
-none_agrees taken name (f ∷ fs) free are = other (same_name f.name name) refl (none_agrees taken name fs free are.1) where
-  other : (same : Bool) → same_name f.name name ≡ same → list_any (λ (other : Entry). same_name other.name name) fs ≡ false
-      → (same || list_any (λ (other : Entry). same_name other.name name) fs) ≡ false
-  other false is none = none
-  other true is none = sym are.0 ∙ ap (λ (slot : ℕ). get_or taken slot false) (same_slot f.name name is) ∙ free
+-- ---- what is looked for
 
--- what is taken stays so where one slot more is
-more_taken : (taken : List Bool) (slot other : ℕ) → get_or taken other false ≡ true → get_or (slice_set taken slot true) other false ≡ true
-more_taken [] slot other is = is
-more_taken (t ∷ ts) zero zero is = refl
-more_taken (t ∷ ts) zero (suc other) is = is
-more_taken (t ∷ ts) (suc slot) zero is = is
-more_taken (t ∷ ts) (suc slot) (suc other) is = more_taken ts slot other is
+other_name : (firsts : List ℕ) (name : List ℕ) (i : ℕ) (field : Entry) → get_or firsts (name_slot field.name) 0 ≤ i → i < get_or firsts (name_slot name) 0 → same_name field.name name ≡ false
+other_name firsts name i field low high = decided (same_name field.name name) refl where
+  decided : (same : Bool) → same_name field.name name ≡ same → same ≡ false
+  decided false is = refl
+  decided true is =
+      let one : get_or firsts (name_slot field.name) 0 ≡ get_or firsts (name_slot name) 0 = ap (λ (slot : ℕ). get_or firsts slot 0) (same_slot field.name name is) in
+      absurd (omega (arith, one))
 
-still_taken : (taken : List Bool) (slot : ℕ) (fields : List Entry) → AreTaken taken fields → AreTaken (slice_set taken slot true) fields
-still_taken taken slot [] are = are
-still_taken taken slot (f ∷ fs) are = (more_taken taken slot (name_slot f.name) are.0, still_taken taken slot fs are.1)
+module _ (firsts : List ℕ) (name : List ℕ) where
+  abbrev named : List Entry → Bool
+  named fields = list_any (λ (other : Entry). same_name other.name name) fields
 
-pub none_taken : (taken : List Bool) (fields : List Field) (i : ℕ) → length fields ≤ i → AreTaken taken (map entry_of (drop i fields))
-none_taken taken fields i past = rw (at_drop_all (λ fs. map entry_of fs) fields i past) tt
+  pub passed_named : (n i : ℕ) (fields : List Entry) → AreFirsts firsts i fields → (0 < n → i + n ≤ get_or firsts (name_slot name) 0) → named (drop n fields) ≡ named fields
+  passed_named zero i fields are low = refl
+  passed_named (suc n) i [] are low = refl
+  passed_named (suc n) i (field ∷ fields) are low =
+      let before : i + suc n ≤ get_or firsts (name_slot name) 0 = low (omega arith) in
+      rw (other_name firsts name i field are.0 (omega (arith, before))) (passed_named n (i + 1) fields are.1 (λ _. omega (arith, before)))
+
+  pub passed_value : (n i : ℕ) (fields : List Entry) → AreFirsts firsts i fields → (0 < n → i + n ≤ get_or firsts (name_slot name) 0) → field_value (drop n fields) name ≡ field_value fields name
+  unfolding field_value
+  passed_value zero i fields are low = refl
+  passed_value (suc n) i [] are low = refl
+  passed_value (suc n) i (field ∷ fields) are low =
+      let before : i + suc n ≤ get_or firsts (name_slot name) 0 = low (omega arith) in
+      rw (other_name firsts name i field are.0 (omega (arith, before))) (passed_value n (i + 1) fields are.1 (λ _. omega (arith, before)))
+
+  from_place : (fields : List Field) (start place : ℕ) → start ≤ place → map entry_of (drop place fields) ≡ drop (place - start) (map entry_of (drop start fields))
+  from_place fields start place above =
+      let joined : start + (place - start) ≡ place = omega arith in
+      ap (λ (n : ℕ). map entry_of (drop n fields)) (sym joined) ∙ ap (λ (fs : List Field). map entry_of fs) (sym (drop-drop (place - start) start fields)) ∙ sym (drop-map entry_of (place - start) (drop start fields))
+
+  module _ (fields : List Field) (start place : ℕ) (above : start ≤ place) (low : start < place → place ≤ get_or firsts (name_slot name) 0) (are : AreFirsts firsts start (map entry_of (drop start fields))) where
+    small : 0 < place - start → start + (place - start) ≤ get_or firsts (name_slot name) 0
+    small some = let high = low (omega arith) in omega (arith, high)
+
+    pub from_place_named : named (map entry_of (drop place fields)) ≡ named (map entry_of (drop start fields))
+    from_place_named = ap named (from_place fields start place above) ∙ passed_named (place - start) start (map entry_of (drop start fields)) are small
+
+    pub from_place_value : field_value (map entry_of (drop place fields)) name ≡ field_value (map entry_of (drop start fields)) name
+    from_place_value = ap (λ (es : List Entry). field_value es name) (from_place fields start place above) ∙ passed_value (place - start) start (map entry_of (drop start fields)) are small
+
+-- ---- what is put down
+
+abbrev zeros : ℕ → List ℕ
+zeros n = replicate n 0
+
+get_or-zeros : (n slot : ℕ) → get_or (zeros n) slot 0 ≡ 0
+get_or-zeros zero slot = refl
+get_or-zeros (suc n) zero = refl
+get_or-zeros (suc n) (suc slot) = get_or-zeros n slot
+
+-- before place 0 there is no field
+pub zeros_first : (n i : ℕ) (fields : List Entry) → AreFirsts (zeros n) i fields
+zeros_first n i [] = tt
+zeros_first n i (field ∷ fields) = (omega (arith, get_or-zeros n (name_slot field.name)), zeros_first n (i + 1) fields)
+
+pub none_first : (firsts : List ℕ) (fields : List Field) (i : ℕ) → length fields ≤ i → AreFirsts firsts i (map entry_of (drop i fields))
+none_first firsts fields i past = rw (at_drop_all (λ fs. map entry_of fs) fields i past) tt
+
+lower_first : (firsts : List ℕ) (slot other place i : ℕ) → place ≤ i → get_or firsts other 0 ≤ i → get_or (slice_set firsts slot place) other 0 ≤ i
+lower_first [] slot other place i low is = is
+lower_first (f ∷ fs) zero zero place i low is = low
+lower_first (f ∷ fs) zero (suc other) place i low is = is
+lower_first (f ∷ fs) (suc slot) zero place i low is = is
+lower_first (f ∷ fs) (suc slot) (suc other) place i low is = lower_first fs slot other place i low is
+
+still_first : (firsts : List ℕ) (slot place i : ℕ) (fields : List Entry) → place ≤ i → AreFirsts firsts i fields → AreFirsts (slice_set firsts slot place) i fields
+still_first firsts slot place i [] low are = tt
+still_first firsts slot place i (field ∷ fields) low are =
+    (lower_first firsts slot (name_slot field.name) place i low are.0, still_first firsts slot place (i + 1) fields (omega arith) are.1)
+
+pub put_first : (firsts : List ℕ) (slot place : ℕ) (fields : List Field) (field : Field) → place < length fields → field ≡ get_or fields place field → slot ≡ name_slot field.name.now → slot < length firsts
+    → AreFirsts firsts (place + 1) (map entry_of (drop (place + 1) fields)) → AreFirsts (slice_set firsts slot place) place (map entry_of (drop place fields))
+put_first firsts slot place fields field within at is there are =
+    let first = at_drop_more (λ fs. map entry_of fs) fields place field within
+    ∙ ap (λ (f : Field). entry_of f ∷ map entry_of (drop (place + 1) fields)) (sym at) in
+    let own : get_or (slice_set firsts slot place) (name_slot field.name.now) 0 ≡ place = ap (λ (k : ℕ). get_or (slice_set firsts slot place) k 0) (sym is) ∙ get_or-set_same firsts slot place 0 there in
+    rw first (omega (arith, own), still_first firsts slot place (place + 1) (map entry_of (drop (place + 1) fields)) (omega arith) are)
+
+-- ---- names that come twice
 
 -- what repeats from some field on repeats among all
-pub repeats_above : (fields : List Field) (i : ℕ) → has_repeat (map entry_of (drop i fields)) ≡ true → has_repeat (map entry_of fields) ≡ true
+repeats_above : (fields : List Field) (i : ℕ) → has_repeat (map entry_of (drop i fields)) ≡ true → has_repeat (map entry_of fields) ≡ true
 unfolding has_repeat
 repeats_above fields zero is = is
 repeats_above [] (suc i) is = is
@@ -54,43 +115,20 @@ repeats_above (f ∷ fs) (suc i) is = or_right _ _ (repeats_above fs i is)
 
 module _ (fields : List Field) (i : ℕ) (field : Field) where
   -- a field from i on has the name of the one before
-  abbrev agrees : Bool
+  abbrev pub agrees : Bool
   agrees = list_any (λ (other : Entry). same_name other.name field.name.now) (map entry_of (drop i fields))
-
-  -- the same of a field that was read at its index
-  abbrev pub agrees_read : Bool
-  agrees_read = list_any (λ (other : Entry). same_name other.name (get_or fields (i - 1) field).name.now) (map entry_of (drop (i - 1 + 1) fields))
-
-  agrees-read : 0 < i → field ≡ get_or fields (i - 1) field → agrees_read ≡ agrees
-  agrees-read positive at =
-      let next : i - 1 + 1 ≡ i = omega arith in
-      ap (λ (k : ℕ). list_any (λ (other : Entry). same_name other.name (get_or fields (i - 1) field).name.now) (map entry_of (drop k fields))) next
-      ∙ ap (λ (f : Field). list_any (λ (other : Entry). same_name other.name f.name.now) (map entry_of (drop i fields))) (sym at)
 
   step : 0 < i → i ≤ length fields → field ≡ get_or fields (i - 1) field
       → has_repeat (map entry_of (drop (i - 1) fields)) ≡ (agrees || has_repeat (map entry_of (drop i fields)))
   step positive within at =
       let next : i - 1 + 1 ≡ i = omega arith in
-      has_repeat-drop fields (i - 1) field (omega arith) at ∙ ap (λ (k : ℕ). list_any (λ (other : Entry). same_name other.name field.name.now) (map entry_of (drop k fields)) || has_repeat (map entry_of (drop k fields))) next
+      has_repeat-drop fields (i - 1) field (omega arith) at ∙ ap (λ (k : ℕ). list_any (λ other. same_name other.name field.name.now) (map entry_of (drop k fields)) || has_repeat (map entry_of (drop k fields))) next
 
-  pub step_taken : (taken : List Bool) (slot : ℕ) → 0 < i → i ≤ length fields → field ≡ get_or fields (i - 1) field → slot ≡ name_slot (get_or fields (i - 1) field).name.now → slot < length taken
-      → AreTaken taken (map entry_of (drop i fields)) → AreTaken (slice_set taken slot true) (map entry_of (drop (i - 1) fields))
-  step_taken taken slot positive within at is there are =
-      let next : i - 1 + 1 ≡ i = omega arith in
-      let first = at_drop_more (λ fs. map entry_of fs) fields (i - 1) field (omega arith)
-      ∙ ap (λ (f : Field). entry_of f ∷ map entry_of (drop (i - 1 + 1) fields)) (sym at)
-      ∙ ap (λ (k : ℕ). entry_of field ∷ map entry_of (drop k fields)) next in
-      let slot_is = is ∙ ap (λ (f : Field). name_slot f.name.now) (sym at) in
-      let own = ap (λ (k : ℕ). get_or (slice_set taken slot true) k false) (sym slot_is) ∙ get_or-set_same taken slot true false there in
-      rw first (own, still_taken taken slot (map entry_of (drop i fields)) are)
-
-  pub step_found : 0 < i → i ≤ length fields → field ≡ get_or fields (i - 1) field → agrees_read ≡ true → has_repeat (map entry_of fields) ≡ true
+  pub step_found : 0 < i → i ≤ length fields → field ≡ get_or fields (i - 1) field → agrees ≡ true → has_repeat (map entry_of fields) ≡ true
   step_found positive within at found =
-      let is = sym (agrees-read positive at) ∙ found in
-      repeats_above fields (i - 1) (step positive within at ∙ ap (λ (b : Bool). b || has_repeat (map entry_of (drop i fields))) is)
+      repeats_above fields (i - 1) (step positive within at ∙ ap (λ (b : Bool). b || has_repeat (map entry_of (drop i fields))) found)
 
-  pub step_none : 0 < i → i ≤ length fields → field ≡ get_or fields (i - 1) field → agrees_read ≡ false → has_repeat (map entry_of (drop i fields)) ≡ false
+  pub step_none : 0 < i → i ≤ length fields → field ≡ get_or fields (i - 1) field → agrees ≡ false → has_repeat (map entry_of (drop i fields)) ≡ false
       → has_repeat (map entry_of (drop (i - 1) fields)) ≡ false
   step_none positive within at found none =
-      let is = sym (agrees-read positive at) ∙ found in
-      step positive within at ∙ ap (λ (b : Bool). b || has_repeat (map entry_of (drop i fields))) is ∙ none
+      step positive within at ∙ ap (λ (b : Bool). b || has_repeat (map entry_of (drop i fields))) found ∙ none

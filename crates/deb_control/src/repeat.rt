@@ -1,12 +1,13 @@
 //! Whether a stanza repeats a field.
-ghost use Rattle.std.specs.Prelude.{◌≡◌, ◌||◌, length, map, IfOk};
+ghost use Rattle.std.specs.Prelude.{◌≡◌, ◌≤◌, true, length, map, IfOk, MatchOption};
 ghost use Rattle.std.specs.List.{list_any};
 ghost use Rattle.std.specs.Str.{str_to_ascii_lowercase};
 ghost use Rattle.deb_control.specs.Fields.{has_repeat, same_name};
-ghost use Rattle.deb_control.specs.Repeats.{AreTaken, name_slot, slot_count};
+ghost use Rattle.deb_control.specs.Slots.{Tells};
 ghost use Rattle.deb_control.specs.Stanzas.{entry_of};
 
 use crate::field::{Field, is_same_name};
+use crate::slots::Slots;
 use std::alloc::{AllocError, Global};
 use std::collections::BTreeSet;
 
@@ -25,52 +26,24 @@ fn contains_name(fields: &[Field], name: &[u8]) -> bool
     false
 }
 
-/// Names are told apart by so many slots first.
-const SLOT_COUNT: usize = 64;
-
-/// The slot of a name: names that agree when case is ignored have the same one, and few others of a stanza have.
-fn slot_of(name: &[u8]) -> usize
-    ensures { result ≡ name_slot name.now }
-{
-    match name {
-        [] => 0,
-        [first, others @ ..] => {
-            (usize::from(first.to_ascii_lowercase()) + others.len()) % SLOT_COUNT
-        }
-    }
-}
-
-/// Whether one of the fields has the name, of which the slot is known; all that have a slot have taken it.
-fn contains_in_slot(taken: &[bool], slot: usize, fields: &[Field], name: &[u8]) -> bool
-    requires slot { slot ≡ name_slot name.now }
-    requires sized { length taken.now ≡ slot_count }
-    requires taken { AreTaken taken.now (map entry_of fields.now) }
-    ensures { result ≡ list_any (λ other. same_name other.name name.now) (map entry_of fields.now) }
-{
-    if !taken[slot] {
-        return false;
-    }
-    contains_name(fields, name)
-}
-
-/// Whether two fields have one name, where the fields are few.
+/// Where names are looked for in few fields; nothing where two have one name.
 ///
-/// From the last field on: it is compared with those behind it only where one of these has its slot.
-fn is_repeating_few(fields: &[Field]) -> bool
-    ensures { result ≡ has_repeat (map entry_of fields.now) }
+/// From the last field on, each is compared with those behind it that may have its name.
+fn few_slots(fields: &[Field]) -> Option<Slots>
+    requires { length fields.now ≤ 64 }
+    ensures { MatchOption result (has_repeat (map entry_of fields.now) ≡ true) (λ slots. Tells slots.firsts (map entry_of fields.now)) }
 {
-    let mut taken = [false; SLOT_COUNT];
+    let mut slots = Slots::of_none();
     let mut i = fields.len();
     while i > 0 {
-        i -= 1;
-        let name = fields[i].name;
-        let slot = slot_of(name);
-        if contains_in_slot(&taken, slot, &fields[i + 1..], name) {
-            return true;
+        let name = fields[i - 1].name;
+        if contains_name(slots.candidates(fields, i, name), name) {
+            return None;
         }
-        taken[slot] = true;
+        i -= 1;
+        slots.put(fields, i);
     }
-    false
+    Some(slots)
 }
 
 fn lower_case(alloc: Global, name: &[u8]) -> Result<Vec<u8>, AllocError>
@@ -96,12 +69,15 @@ fn is_repeating_many(alloc: Global, fields: &[Field]) -> Result<bool, AllocError
     Ok(false)
 }
 
-/// Whether two fields have one name.
-pub(crate) fn is_repeating(alloc: Global, fields: &[Field]) -> Result<bool, AllocError>
-    ensures { IfOk result (λ found. found ≡ has_repeat (map entry_of fields.now)) }
+/// Where names are looked for in the fields; nothing where two have one name.
+pub(crate) fn slots_of(alloc: Global, fields: &[Field]) -> Result<Option<Slots>, AllocError>
+    ensures { IfOk result (λ found. MatchOption found (has_repeat (map entry_of fields.now) ≡ true) (λ slots. Tells slots.firsts (map entry_of fields.now))) }
 {
-    if fields.len() > FEW_FIELDS {
-        return is_repeating_many(alloc, fields);
+    if fields.len() <= FEW_FIELDS {
+        return Ok(few_slots(fields));
     }
-    Ok(is_repeating_few(fields))
+    if is_repeating_many(alloc, fields)? {
+        return Ok(None);
+    }
+    Ok(Some(Slots::new()))
 }

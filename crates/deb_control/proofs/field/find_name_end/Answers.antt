@@ -1,14 +1,27 @@
-use Rattle.std.proofs.Common.{sym, ◌∙◌}
-use Rattle.deb_control.proofs.FieldLemmas.{name-end, parts-bad, parts-none}
+use Rattle.std.proofs.Common.{◌≡◌, true, false, get_or, rules}
+use Rattle.deb_control.specs.Fields.{is_colon, is_name_byte}
+use Rattle.deb_control.proofs.FieldLemmas.{in-name-none, in-name-more, name-end, parts-bad, parts-none}
 use Rattle.deb_control.proofs.field.find_name_end.Goals as goal
 
-pub returns-then-are_name_bytes-clause-end : goal.returns-then-are_name_bytes-clause-end
-returns-then-are_name_bytes-clause-end c =
-    name-end c.args.line.now c.in-Some.end c.in-Some.ensures (sym c.are_name_bytes.ensures ∙ c.if-are_name_bytes.true)
+pub bytes-init : goal.bytes-init
+bytes-init c = in-name-none c.args.line.now
 
-pub returns-else-are_name_bytes-clause-end : goal.returns-else-are_name_bytes-clause-end
-returns-else-are_name_bytes-clause-end c =
-    parts-bad c.args.line.now c.in-Some.end c.in-Some.ensures (sym c.are_name_bytes.ensures ∙ c.if-are_name_bytes.false)
+pub returns-then-b-eq58-clause-end : goal.returns-then-b-eq58-clause-end
+returns-then-b-eq58-clause-end c =
+    let colon : is_colon (get_or c.args.line.now c.bytes.i 0) ≡ true = search rules in
+    name-end c.args.line.now c.bytes.i c.bytes-test.true c.bytes.invariant colon
 
-pub returns-in-None-clause-end : goal.returns-in-None-clause-end
-returns-in-None-clause-end c = parts-none c.args.line.now c.in-None.ensures
+pub returns-then-not-is_name_byte-clause-end : goal.returns-then-not-is_name_byte-clause-end
+returns-then-not-is_name_byte-clause-end c =
+    let colon : is_colon (get_or c.args.line.now c.bytes.i 0) ≡ false = search rules in
+    let bad : is_name_byte (get_or c.args.line.now c.bytes.i 0) ≡ false = search rules in
+    parts-bad c.args.line.now c.bytes.i c.bytes-test.true c.bytes.invariant colon bad
+
+pub bytes-preserved : goal.bytes-preserved
+bytes-preserved c =
+    let colon : is_colon (get_or c.args.line.now c.bytes.i 0) ≡ false = search rules in
+    let byte : is_name_byte (get_or c.args.line.now c.bytes.i 0) ≡ true = search rules in
+    in-name-more c.args.line.now c.bytes.i c.bytes-test.true c.bytes.invariant colon byte
+
+pub returns-clause-end : goal.returns-clause-end
+returns-clause-end c = parts-none c.args.line.now c.bytes.i c.bytes-test.false c.bytes.invariant

@@ -1,0 +1,5 @@
+use Rattle.deb_control.proofs.FieldLemmas.{IsInName}
+use Rattle.deb_control.proofs.field.find_name_end.Given as goal
+
+abbrev pub invariant-bytes : goal.invariant-bytes
+invariant-bytes l = IsInName l.line l.i

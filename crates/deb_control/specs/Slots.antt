@@ -1,0 +1,26 @@
+-- Slots of names, by which most names are told apart before they are compared.
+use Rattle.std.specs.Prelude.{◌≡◌, ℕ, false, ◌+◌, ◌*◌, ◌%◌, ◌≤◌, List, [], ◌∷◌, length, slice_index_or}
+use Rattle.std.specs.Str.{str_to_ascii_lowercase}
+use Rattle.deb_control.specs.Fields.{Entry, has_repeat}
+
+-- how many slots there are
+abbrev pub slot_count : ℕ
+slot_count = 64
+
+abbrev pub slot_in_lower : List ℕ → ℕ
+slot_in_lower [] = 0
+slot_in_lower (first ∷ others) = (first + 21 * (length others % slot_count)) % slot_count
+
+-- the slot of a name, whatever the case of its letters
+abbrev pub name_slot : List ℕ → ℕ
+name_slot name = slot_in_lower (str_to_ascii_lowercase name)
+
+-- the fields, the first of which stands at place i, come at or behind the places that their slots have
+abbrev pub AreFirsts : List ℕ → ℕ → List Entry → Type 0
+AreFirsts firsts i [] = Unit {0}
+AreFirsts firsts i (field ∷ fields) = (slice_index_or firsts (name_slot field.name) 0 ≤ i) × AreFirsts firsts (i + 1) fields
+
+-- no two of the fields have one name, and they are found from the places that their slots have
+pub record Tells (firsts : List ℕ) (fields : List Entry) : Type 0 where
+  pub once : has_repeat fields ≡ false
+  pub found : AreFirsts firsts 0 fields
