@@ -39,7 +39,7 @@ Status 0: no run ended in a third way. 1: some did; the first of them are shown.
 all could be tried."""
 
 CALLS = {
-    "deb_control": ["next_stanza", "stanzas"],
+    "deb_control_tests": ["next_stanza", "stanzas"],
     "deb_relation_tests": ["parse", "parse_groups", "parse_list", "append_to"],
     "deb_index_tests": ["read", "read_both", "satisfiers", "need_satisfiers", "answers", "constraints"],
     "sat_solve_tests": ["new", "add", "add_to_others", "add_after_restart", "exclude", "solve", "solve_in", "solve_marked"],
