@@ -7,7 +7,7 @@ use Rattle.deb_index.specs.Roles.{row_as}
 
 -- how many atoms are remembered at most
 abbrev pub slot_count : ℕ
-slot_count = 2048
+slot_count = 8192
 
 -- what is remembered of an atom, if anything is, is its row
 abbrev pub IsMet : IndexView → Option Met → Type 0

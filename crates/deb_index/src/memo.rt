@@ -11,7 +11,7 @@ use std::alloc::{AllocError, Global};
 use std::marker::Model;
 
 // How many atoms are remembered at most.
-const SLOT_COUNT: usize = 2048;
+const SLOT_COUNT: usize = 8192;
 
 /// An atom in its role, and the place of the one package that meets it.
 #[derive(Clone, Copy)]
@@ -74,18 +74,13 @@ fn is_same_atom(atom: &Atom, other: &Atom) -> bool
         && is_same_qualifier(&atom.qualifier, &other.qualifier)
 }
 
-// A number that tells most texts apart, by their length and some of their bytes.
+// A number that tells most texts apart.
 fn mix(text: &[u8]) -> usize {
-    match text {
-        [first, .., before, last] => text
-            .len()
-            .wrapping_mul(31)
-            .wrapping_add(usize::from(text[text.len() / 2]).wrapping_mul(5))
-            .wrapping_add(usize::from(*first).wrapping_mul(3))
-            .wrapping_add(usize::from(*before).wrapping_mul(13))
-            .wrapping_add(usize::from(*last).wrapping_mul(7)),
-        _ => text.len(),
+    let mut sum: usize = 0;
+    for byte in text {
+        sum = sum.wrapping_mul(31).wrapping_add(usize::from(*byte));
     }
+    sum
 }
 
 // The slot of an atom.
