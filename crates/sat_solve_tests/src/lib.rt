@@ -1,7 +1,8 @@
 //! Tests of the public calls of `sat_solve`.
 //!
-//! `literals` makes literals and looks at sets. `worked` has worked formulas, `trial` compares many small ones with a trial of all sets,
-//! `exclusions` does both for lists of exclusions and has a long one, `growths` has a test for each call that can want memory.
+//! `literals` makes literals and looks at sets, `scripts` reads clauses and questions from lines of text. `worked` has worked formulas,
+//! `trial` compares many small ones with a trial of all sets, `exclusions` does both for lists of exclusions and has a long one,
+//! `growths` has a test for each call that can want memory.
 #![tactic(auto)]
 
 #[cfg(test)]
@@ -9,6 +10,8 @@ mod exclusions;
 #[cfg(test)]
 mod growths;
 pub mod literals;
+#[cfg(test)]
+mod scripts;
 #[cfg(test)]
 mod trial;
 #[cfg(test)]

@@ -1,123 +1,130 @@
 //! Worked formulas.
 
-ghost use Rattle.std.specs.Prelude.{◌≡◌, ◌<◌, length};
+ghost use Rattle.std.specs.Prelude.{◌≡◌, ◌<◌, ◌+◌, ◌*◌};
 
-use crate::literals::{is_set, lit, not};
+use crate::literals::{lit, not};
+use crate::scripts::follow;
 use sat_solve::{Formula, Workspace};
-use std::alloc::{AllocError, Global};
+use std::alloc::{AllocError, AllocGlobal};
+use std::process::Abort;
 use std::test::Fail;
 
-/// Whether a formula has this first set.
-fn gives(
-    alloc: Global,
-    formula: &Formula,
-    keep: &[bool],
-    must: u32,
-    wanted: &[u32],
-) -> Result<bool, AllocError>
-    requires keep { length keep.now ≡ formula.now.groups }
-    requires must { must < formula.now.vars }
-{
-    let found = formula.solve(alloc, keep, must)?;
-    Ok(is_set(&found, wanted))
-}
-
-/// Whether a formula has no set.
-fn fails(alloc: Global, formula: &Formula, keep: &[bool], must: u32) -> Result<bool, AllocError>
-    requires keep { length keep.now ≡ formula.now.groups }
-    requires must { must < formula.now.vars }
-{
-    let found = formula.solve(alloc, keep, must)?;
-    Ok(found.is_none())
+/// Sees how many variables and groups a formula has, and follows these lines.
+fn expect(
+    rt: &(impl Abort + AllocGlobal),
+    formula: &mut Formula,
+    vars: u32,
+    groups: u32,
+    lines: &str,
+) -> Result<(), Fail> {
+    assert_eq!(rt; formula.vars(), vars);
+    assert_eq!(rt; formula.groups(), groups);
+    follow(rt, formula, lines)
 }
 
 #[test]
 fn three_variables_and_two_groups(rt: HostRuntime) -> Result<(), Fail> {
     let mut formula = Formula::new(rt.alloc(), 3, 2)?;
-    assert_eq!(rt; formula.vars(), 3);
-    assert_eq!(rt; formula.groups(), 2);
-    formula.add(0, &[not(0), lit(1), lit(2)])?;
-    formula.add(1, &[not(2)])?;
-    assert!(rt; gives(rt.alloc(), &formula, &[true, true], 0, &[0, 1])?);
-    assert!(rt; gives(rt.alloc(), &formula, &[true, false], 0, &[0, 2])?);
-    formula.add(1, &[not(1)])?;
-    assert!(rt; fails(rt.alloc(), &formula, &[true, true], 0)?);
-    Ok(())
+    let lines = "
+        0: !0 1 2
+        1: !2
+        11 0 = 0 1
+        10 0 = 0 2
+        1: !1
+        11 0 = none";
+    expect(&rt, &mut formula, 3, 2, lines)
 }
 
 #[test]
 fn a_formula_starts_over(rt: HostRuntime) -> Result<(), Fail> {
     let mut formula = Formula::new(rt.alloc(), 2, 1)?;
-    formula.add(0, &[])?;
-    assert!(rt; fails(rt.alloc(), &formula, &[true], 0)?);
+    follow(&rt, &mut formula, "0:\n 1 0 = none")?;
     formula.restart(3, 2);
-    assert_eq!(rt; formula.vars(), 3);
-    assert_eq!(rt; formula.groups(), 2);
-    assert!(rt; gives(rt.alloc(), &formula, &[true, true], 2, &[2])?);
-    formula.add(1, &[not(2), lit(1)])?;
-    assert!(rt; gives(rt.alloc(), &formula, &[true, true], 2, &[1, 2])?);
-    Ok(())
+    let lines = "
+        11 2 = 2
+        1: !2 1
+        11 2 = 1 2";
+    expect(&rt, &mut formula, 3, 2, lines)
 }
 
 #[test]
 fn an_empty_clause_fails_where_it_is_kept(rt: HostRuntime) -> Result<(), Fail> {
     let mut formula = Formula::new(rt.alloc(), 2, 1)?;
-    formula.add(0, &[])?;
-    assert!(rt; fails(rt.alloc(), &formula, &[true], 0)?);
-    assert!(rt; gives(rt.alloc(), &formula, &[false], 0, &[0])?);
-    Ok(())
+    let lines = "
+        0:
+        1 0 = none
+        0 0 = 0";
+    follow(&rt, &mut formula, lines)
 }
 
 #[test]
 fn two_versions_of_one_name(rt: HostRuntime) -> Result<(), Fail> {
     let mut formula = Formula::new(rt.alloc(), 4, 4)?;
-    formula.add(0, &[not(2), lit(0)])?;
-    formula.add(1, &[not(2), lit(3)])?;
-    formula.add(2, &[not(3), lit(1)])?;
-    formula.add(3, &[not(0), not(1)])?;
-    assert!(rt; fails(rt.alloc(), &formula, &[true, true, true, true], 2)?);
-    assert!(rt; gives(rt.alloc(), &formula, &[true, true, true, true], 3, &[1, 3])?);
-    assert!(rt;
-        gives(
-            rt.alloc(),
-            &formula,
-            &[true, true, true, false],
-            2,
-            &[0, 1, 2, 3]
-        )?
-    );
-    assert!(rt;
-        gives(
-            rt.alloc(),
-            &formula,
-            &[false, true, true, true],
-            2,
-            &[1, 2, 3]
-        )?
-    );
+    let lines = "
+        0: !2 0
+        1: !2 3
+        2: !3 1
+        3: !0 !1
+        1111 2 = none
+        1111 3 = 1 3
+        1110 2 = 0 1 2 3
+        0111 2 = 1 2 3";
+    follow(&rt, &mut formula, lines)
+}
+
+/// Adds that each pigeon has one of three holes.
+fn add_holes(formula: &mut Formula, pigeons: u32) -> Result<(), AllocError>
+    requires pigeons { pigeons < 5 }
+    requires vars { formula.old.vars ≡ 3 * pigeons + 1 }
+    requires groups { formula.old.groups ≡ 1 }
+    ensures vars { formula.new.vars ≡ 3 * pigeons + 1 }
+    ensures groups { formula.new.groups ≡ 1 }
+{
+    for p in 0..pigeons {
+        formula.add(0, &[lit(3 * p), lit(3 * p + 1), lit(3 * p + 2)])?;
+    }
     Ok(())
+}
+
+/// Adds that no two pigeons share a hole.
+fn add_pairs(formula: &mut Formula, pigeons: u32) -> Result<(), AllocError>
+    requires pigeons { pigeons < 5 }
+    requires vars { formula.old.vars ≡ 3 * pigeons + 1 }
+    requires groups { formula.old.groups ≡ 1 }
+{
+    for hole in 0..3 {
+        for p in 0..pigeons {
+            for other in 0..p {
+                formula.add(0, &[not(3 * p + hole), not(3 * other + hole)])?;
+            }
+        }
+    }
+    Ok(())
+}
+
+/// Asks for holes for this many pigeons.
+fn house(rt: &(impl Abort + AllocGlobal), pigeons: u32, question: &str) -> Result<(), Fail>
+    requires { pigeons < 5 }
+{
+    let mut formula = Formula::new(rt.alloc(), 3 * pigeons + 1, 1)?;
+    add_holes(&mut formula, pigeons)?;
+    add_pairs(&mut formula, pigeons)?;
+    follow(rt, &mut formula, question)
 }
 
 #[test]
 fn each_pigeon_has_a_hole(rt: HostRuntime) -> Result<(), Fail> {
-    for pigeons in 3..5 {
-        let must = 3 * pigeons;
-        let mut formula = Formula::new(rt.alloc(), must + 1, 1)?;
-        for p in 0..pigeons {
-            formula.add(0, &[lit(3 * p), lit(3 * p + 1), lit(3 * p + 2)])?;
-        }
-        for hole in 0..3 {
-            for p in 0..pigeons {
-                for other in 0..p {
-                    formula.add(0, &[not(3 * p + hole), not(3 * other + hole)])?;
-                }
-            }
-        }
-        if pigeons == 3 {
-            assert!(rt; gives(rt.alloc(), &formula, &[true], must, &[2, 4, 6, 9])?);
-        } else {
-            assert!(rt; fails(rt.alloc(), &formula, &[true], must)?);
-        }
+    house(&rt, 3, "1 9 = 2 4 6 9")?;
+    house(&rt, 4, "1 12 = none")
+}
+
+/// Adds 30 pairs of which one is in.
+fn add_free_pairs(formula: &mut Formula) -> Result<(), AllocError>
+    requires vars { formula.old.vars ≡ 63 }
+    requires groups { formula.old.groups ≡ 2 }
+{
+    for pair in 0..30 {
+        formula.add(0, &[lit(2 * pair), lit(2 * pair + 1)])?;
     }
     Ok(())
 }
@@ -127,20 +134,29 @@ fn each_pigeon_has_a_hole(rt: HostRuntime) -> Result<(), Fail> {
 #[test]
 fn a_conflict_that_rests_on_few_decisions(rt: HostRuntime) -> Result<(), Fail> {
     let mut formula = Formula::new(rt.alloc(), 63, 2)?;
-    let mut odd = Vec::new(rt.alloc());
-    for pair in 0..30 {
-        formula.add(0, &[lit(2 * pair), lit(2 * pair + 1)])?;
-        odd.push(2 * pair + 1)?;
-    }
-    odd.push(62)?;
-    formula.add(1, &[lit(60), lit(61)])?;
-    formula.add(1, &[lit(60), not(61)])?;
-    formula.add(1, &[not(60), lit(61)])?;
-    formula.add(1, &[not(60), not(61)])?;
-    let both = formula.solve(rt.alloc(), &[true, true], 62)?;
-    assert!(rt; both.is_none());
-    let pairs = formula.solve(rt.alloc(), &[true, false], 62)?;
-    assert!(rt; is_set(&pairs, &odd));
+    add_free_pairs(&mut formula)?;
+    let lines = "
+        1: 60 61
+        1: 60 !61
+        1: !60 61
+        1: !60 !61
+        11 62 = none
+        10 62 = 1 3 5 7 9 11 13 15 17 19 21 23 25 27 29 31 33 35 37 39 41 43 45 47 49 51 53 55 57 59 62";
+    follow(&rt, &mut formula, lines)
+}
+
+/// Sees that no set has variable 3, and that the first of the three groups is not marked.
+fn expect_marks(
+    rt: &(impl Abort + AllocGlobal),
+    formula: &Formula,
+    workspace: &mut Workspace,
+    marks: &mut Vec<bool>,
+) -> Result<(), Fail> {
+    assert_eq!(rt; formula.vars(), 4);
+    assert_eq!(rt; formula.groups(), 3);
+    let found = formula.solve_marked(rt.alloc(), workspace, &[true, true, true], 3, marks)?;
+    assert!(rt; found.is_none());
+    assert!(rt; marks.as_slice() == [false, true, true].as_slice());
     Ok(())
 }
 
@@ -148,19 +164,12 @@ fn a_conflict_that_rests_on_few_decisions(rt: HostRuntime) -> Result<(), Fail> {
 #[test]
 fn a_group_that_the_refutation_does_without(rt: HostRuntime) -> Result<(), Fail> {
     let mut formula = Formula::new(rt.alloc(), 4, 3)?;
-    formula.add(0, &[lit(0), lit(1)])?;
-    formula.add(1, &[not(3), lit(2)])?;
-    formula.add(2, &[not(2)])?;
+    let lines = "
+        0: 0 1
+        1: !3 2
+        2: !2";
+    follow(&rt, &mut formula, lines)?;
     let mut workspace = Workspace::new(rt.alloc());
     let mut marks = Vec::new(rt.alloc());
-    let none = formula.solve_marked(
-        rt.alloc(),
-        &mut workspace,
-        &[true, true, true],
-        3,
-        &mut marks,
-    )?;
-    assert!(rt; none.is_none());
-    assert!(rt; marks.as_slice() == [false, true, true].as_slice());
-    Ok(())
+    expect_marks(&rt, &formula, &mut workspace, &mut marks)
 }

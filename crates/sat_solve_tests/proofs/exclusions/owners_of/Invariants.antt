@@ -1,8 +1,5 @@
 use Rattle.std.proofs.Common.{◌<◌, All}
-use Rattle.sat_solve_tests.proofs.exclusions.exclude_some.Given as goal
-
-abbrev pub invariant-listed : goal.invariant-listed
-invariant-listed l = All (λ var. var < 5) l.list.items
+use Rattle.sat_solve_tests.proofs.exclusions.owners_of.Given as goal
 
 abbrev pub invariant-owning : goal.invariant-owning
 invariant-owning l = record {
