@@ -24,7 +24,7 @@ fn an_owner_excludes_the_others(rt: HostRuntime) -> Result<(), Fail> {
         0: !1 3
         0: !0 1
         11 0 = none";
-    follow(&rt, &mut formula, lines)
+    follow(rt.alloc(), &mut formula, lines)
 }
 
 fn owner(var: u32) -> Owner
@@ -45,7 +45,7 @@ fn many_owners_are_in(rt: HostRuntime) -> Result<(), Fail> {
         1 6 = 0 1 2 6
         0: 5
         1 6 = none";
-    follow(&rt, &mut formula, lines)
+    follow(rt.alloc(), &mut formula, lines)
 }
 
 /// Adds a clause that wants one of these variables.
@@ -90,7 +90,7 @@ fn twenty_thousand_in_one_list(rt: HostRuntime) -> Result<(), Fail> {
         1 10000 = 10000
         0: 0
         1 20000 = none";
-    follow(&rt, &mut formula, lines)
+    follow(rt.alloc(), &mut formula, lines)
 }
 
 /// The clause that two variables are not both in.

@@ -1,10 +1,12 @@
 //! One test for each call that can want memory; bench/growths runs them with each growth refused in turn.
+//!
+//! Each then gives the error, once it has seen that the call left everything fit for a second try.
 
 ghost use Rattle.std.specs.Prelude.{◌≡◌, ◌<◌, IfOk};
 
 use crate::literals::{is_set, lit, not};
 use sat_solve::{Formula, Owner, Workspace};
-use std::alloc::{AllocError, AllocGlobal, Global};
+use std::alloc::{AllocError, Global};
 use std::process::Abort;
 use std::test::Fail;
 
@@ -36,7 +38,7 @@ fn is_answer(found: &Option<Vec<u32>>, wanted: Option<&[u32]>) -> bool {
 }
 
 /// Whether the first set with variable 0 is this one, or there is none.
-fn solves(
+fn solves_once(
     alloc: Global,
     formula: &Formula,
     keep: [bool; 2],
@@ -49,30 +51,25 @@ fn solves(
     Ok(is_answer(&found, wanted))
 }
 
-/// Solves with variable 0, and once more where memory was refused.
-fn expect_solved(
-    rt: &(impl Abort + AllocGlobal),
+/// As `solves_once`. Where memory was refused, the formula is asked once more, and has to answer so, before the error is given.
+fn solves(
+    alloc: Global,
     formula: &Formula,
     keep: [bool; 2],
     wanted: Option<&[u32]>,
-) -> Result<(), Fail>
+) -> Result<bool, AllocError>
     requires vars { 0 < formula.now.vars }
     requires groups { formula.now.groups ≡ 2 }
 {
-    match solves(rt.alloc(), formula, keep, wanted) {
-        Ok(right) => {
-            assert!(rt; right);
-            Ok(())
-        }
-        Err(AllocError) => {
-            assert!(rt; solves(rt.alloc(), formula, keep, wanted)?);
-            Err(Fail::new("out of memory"))
-        }
+    let first = solves_once(alloc, formula, keep, wanted);
+    if first.is_err() && !solves_once(alloc, formula, keep, wanted)? {
+        return Ok(false);
     }
+    first
 }
 
-/// As `solves`, in the buffers that an earlier solve left.
-fn solves_in(
+/// As `solves_once`, in the buffers that an earlier solve left.
+fn solves_once_in(
     alloc: Global,
     formula: &Formula,
     workspace: &mut Workspace,
@@ -86,59 +83,51 @@ fn solves_in(
     Ok(is_answer(&found, wanted))
 }
 
-/// As `expect_solved`, in the buffers that an earlier solve left.
-fn expect_solved_in(
-    rt: &(impl Abort + AllocGlobal),
+/// As `solves`, in the buffers that an earlier solve left.
+fn solves_in(
+    alloc: Global,
     formula: &Formula,
     workspace: &mut Workspace,
     keep: [bool; 2],
     wanted: Option<&[u32]>,
-) -> Result<(), Fail>
+) -> Result<bool, AllocError>
     requires vars { 0 < formula.now.vars }
     requires groups { formula.now.groups ≡ 2 }
 {
-    match solves_in(rt.alloc(), formula, workspace, keep, wanted) {
-        Ok(right) => {
-            assert!(rt; right);
-            Ok(())
-        }
-        Err(AllocError) => {
-            assert!(rt; solves_in(rt.alloc(), formula, workspace, keep, wanted)?);
-            Err(Fail::new("out of memory"))
-        }
+    let first = solves_once_in(alloc, formula, workspace, keep, wanted);
+    if first.is_err() && !solves_once_in(alloc, formula, workspace, keep, wanted)? {
+        return Ok(false);
     }
-}
-
-/// Sees that a formula of three variables and two groups has no clause.
-fn expect_empty(rt: &(impl Abort + AllocGlobal), formula: &Formula) -> Result<(), Fail> {
-    assert_eq!(rt; formula.vars(), 3);
-    assert_eq!(rt; formula.groups(), 2);
-    expect_solved(rt, formula, [true, true], Some(&[0]))
+    first
 }
 
 #[test]
 fn of_new(rt: HostRuntime) -> Result<(), Fail> {
-    match Formula::new(rt.alloc(), 3, 2) {
-        Ok(formula) => expect_empty(&rt, &formula),
-        Err(AllocError) => Err(Fail::new("out of memory")),
-    }
+    let formula = Formula::new(rt.alloc(), 3, 2)?;
+    let right = solves(rt.alloc(), &formula, [true, true], Some(&[0]))?;
+    assert!(rt; right && formula.vars() == 3 && formula.groups() == 2);
+    Ok(())
 }
 
 /// Adds the first clause of a formula of three variables and two groups.
-fn add_first(rt: &(impl Abort + AllocGlobal), formula: &mut Formula) -> Result<(), Fail>
+fn add_first(alloc: Global, formula: &mut Formula) -> Result<bool, AllocError>
     requires vars { formula.old.vars ≡ 3 }
     requires groups { formula.old.groups ≡ 2 }
 {
     match formula.add(0, &[not(0), lit(1), lit(2)]) {
         Ok(()) => {
             formula.add(1, &[not(2)])?;
-            expect_solved(rt, formula, [true, true], Some(&[0, 1]))
+            solves(alloc, formula, [true, true], Some(&[0, 1]))
         }
         Err(AllocError) => {
-            expect_solved(rt, formula, [true, true], Some(&[0]))?;
+            let without = solves(alloc, formula, [true, true], Some(&[0]))?;
             formula.add(0, &[not(0), lit(1), lit(2)])?;
-            expect_solved(rt, formula, [true, true], Some(&[0, 2]))?;
-            Err(Fail::new("out of memory"))
+            let with = solves(alloc, formula, [true, true], Some(&[0, 2]))?;
+            if without && with {
+                Err(AllocError)
+            } else {
+                Ok(false)
+            }
         }
     }
 }
@@ -147,21 +136,26 @@ fn add_first(rt: &(impl Abort + AllocGlobal), formula: &mut Formula) -> Result<(
 #[test]
 fn of_add(rt: HostRuntime) -> Result<(), Fail> {
     let mut formula = Formula::new(rt.alloc(), 3, 2)?;
-    add_first(&rt, &mut formula)
+    assert!(rt; add_first(rt.alloc(), &mut formula)?);
+    Ok(())
 }
 
 /// Adds a third clause.
-fn add_third(rt: &(impl Abort + AllocGlobal), formula: &mut Formula) -> Result<(), Fail>
+fn add_third(alloc: Global, formula: &mut Formula) -> Result<bool, AllocError>
     requires vars { formula.old.vars ≡ 3 }
     requires groups { formula.old.groups ≡ 2 }
 {
     match formula.add(1, &[not(1)]) {
-        Ok(()) => expect_solved(rt, formula, [true, true], None),
+        Ok(()) => solves(alloc, formula, [true, true], None),
         Err(AllocError) => {
-            expect_solved(rt, formula, [true, true], Some(&[0, 1]))?;
+            let without = solves(alloc, formula, [true, true], Some(&[0, 1]))?;
             formula.add(1, &[not(1)])?;
-            expect_solved(rt, formula, [true, true], None)?;
-            Err(Fail::new("out of memory"))
+            let with = solves(alloc, formula, [true, true], None)?;
+            if without && with {
+                Err(AllocError)
+            } else {
+                Ok(false)
+            }
         }
     }
 }
@@ -170,19 +164,25 @@ fn add_third(rt: &(impl Abort + AllocGlobal), formula: &mut Formula) -> Result<(
 #[test]
 fn of_add_to_others(rt: HostRuntime) -> Result<(), Fail> {
     let mut formula = formula(rt.alloc())?;
-    add_third(&rt, &mut formula)
+    assert!(rt; add_third(rt.alloc(), &mut formula)?);
+    Ok(())
 }
 
 /// Starts a formula over, and adds a clause that is longer than those before.
-fn add_after_restart(rt: &(impl Abort + AllocGlobal), formula: &mut Formula) -> Result<(), Fail> {
+fn add_after_restart(alloc: Global, formula: &mut Formula) -> Result<bool, AllocError> {
     formula.restart(5, 2);
-    match formula.add(1, &[not(0), lit(4), lit(3), lit(2), lit(1), lit(4)]) {
-        Ok(()) => expect_solved(rt, formula, [true, true], Some(&[0, 4])),
+    let clause = [not(0), lit(4), lit(3), lit(2), lit(1), lit(4)];
+    match formula.add(1, &clause) {
+        Ok(()) => solves(alloc, formula, [true, true], Some(&[0, 4])),
         Err(AllocError) => {
-            expect_solved(rt, formula, [true, true], Some(&[0]))?;
-            formula.add(1, &[not(0), lit(4), lit(3), lit(2), lit(1), lit(4)])?;
-            expect_solved(rt, formula, [true, true], Some(&[0, 4]))?;
-            Err(Fail::new("out of memory"))
+            let without = solves(alloc, formula, [true, true], Some(&[0]))?;
+            formula.add(1, &clause)?;
+            let with = solves(alloc, formula, [true, true], Some(&[0, 4]))?;
+            if without && with {
+                Err(AllocError)
+            } else {
+                Ok(false)
+            }
         }
     }
 }
@@ -191,25 +191,31 @@ fn add_after_restart(rt: &(impl Abort + AllocGlobal), formula: &mut Formula) -> 
 #[test]
 fn of_add_after_restart(rt: HostRuntime) -> Result<(), Fail> {
     let mut formula = formula(rt.alloc())?;
-    add_after_restart(&rt, &mut formula)
+    assert!(rt; add_after_restart(rt.alloc(), &mut formula)?);
+    Ok(())
 }
 
 /// Excludes 0 and 1 from each other in each of the groups.
-fn exclude_both(rt: &(impl Abort + AllocGlobal), formula: &mut Formula) -> Result<(), Fail>
+fn exclude_both(alloc: Global, formula: &mut Formula) -> Result<bool, AllocError>
     requires vars { formula.old.vars ≡ 3 }
     requires groups { formula.old.groups ≡ 2 }
 {
     let owners = [Owner { group: 1, var: 0 }, Owner { group: 0, var: 1 }];
     match formula.exclude(&owners, &[0, 1]) {
         Ok(()) => {
-            expect_solved(rt, formula, [true, true], None)?;
-            expect_solved(rt, formula, [true, false], Some(&[0, 2]))
+            let both = solves(alloc, formula, [true, true], None)?;
+            let one = solves(alloc, formula, [true, false], Some(&[0, 2]))?;
+            Ok(both && one)
         }
         Err(AllocError) => {
-            expect_solved(rt, formula, [true, true], Some(&[0, 1]))?;
+            let without = solves(alloc, formula, [true, true], Some(&[0, 1]))?;
             formula.exclude(&owners, &[0, 1])?;
-            expect_solved(rt, formula, [true, true], None)?;
-            Err(Fail::new("out of memory"))
+            let with = solves(alloc, formula, [true, true], None)?;
+            if without && with {
+                Err(AllocError)
+            } else {
+                Ok(false)
+            }
         }
     }
 }
@@ -218,39 +224,43 @@ fn exclude_both(rt: &(impl Abort + AllocGlobal), formula: &mut Formula) -> Resul
 #[test]
 fn of_exclude(rt: HostRuntime) -> Result<(), Fail> {
     let mut formula = formula(rt.alloc())?;
-    exclude_both(&rt, &mut formula)
+    assert!(rt; exclude_both(rt.alloc(), &mut formula)?);
+    Ok(())
 }
 
 /// Solves with both groups and with one, and with a third clause.
-fn solve_each(rt: &(impl Abort + AllocGlobal), formula: &mut Formula) -> Result<(), Fail>
+fn solves_each(alloc: Global, formula: &mut Formula) -> Result<bool, AllocError>
     requires vars { formula.old.vars ≡ 3 }
     requires groups { formula.old.groups ≡ 2 }
 {
-    expect_solved(rt, formula, [true, true], Some(&[0, 1]))?;
-    expect_solved(rt, formula, [true, false], Some(&[0, 2]))?;
+    let both = solves(alloc, formula, [true, true], Some(&[0, 1]))?;
+    let one = solves(alloc, formula, [true, false], Some(&[0, 2]))?;
     formula.add(1, &[not(1)])?;
-    expect_solved(rt, formula, [true, true], None)
+    let none = solves(alloc, formula, [true, true], None)?;
+    Ok(both && one && none)
 }
 
 #[test]
 fn of_solve(rt: HostRuntime) -> Result<(), Fail> {
     let mut formula = formula(rt.alloc())?;
-    solve_each(&rt, &mut formula)
+    assert!(rt; solves_each(rt.alloc(), &mut formula)?);
+    Ok(())
 }
 
-/// As `solve_each`, in one workspace.
-fn solve_each_in(
-    rt: &(impl Abort + AllocGlobal),
+/// As `solves_each`, in one workspace.
+fn solves_each_in(
+    alloc: Global,
     formula: &mut Formula,
     workspace: &mut Workspace,
-) -> Result<(), Fail>
+) -> Result<bool, AllocError>
     requires vars { formula.old.vars ≡ 3 }
     requires groups { formula.old.groups ≡ 2 }
 {
-    expect_solved_in(rt, formula, workspace, [true, true], Some(&[0, 1]))?;
-    expect_solved_in(rt, formula, workspace, [true, false], Some(&[0, 2]))?;
+    let both = solves_in(alloc, formula, workspace, [true, true], Some(&[0, 1]))?;
+    let one = solves_in(alloc, formula, workspace, [true, false], Some(&[0, 2]))?;
     formula.add(1, &[not(1)])?;
-    expect_solved_in(rt, formula, workspace, [true, true], None)
+    let none = solves_in(alloc, formula, workspace, [true, true], None)?;
+    Ok(both && one && none)
 }
 
 /// A workspace that was refused memory serves the next solve.
@@ -258,11 +268,12 @@ fn solve_each_in(
 fn of_solve_in(rt: HostRuntime) -> Result<(), Fail> {
     let mut formula = formula(rt.alloc())?;
     let mut workspace = Workspace::new(rt.alloc());
-    solve_each_in(&rt, &mut formula, &mut workspace)
+    assert!(rt; solves_each_in(rt.alloc(), &mut formula, &mut workspace)?);
+    Ok(())
 }
 
 /// Whether there is no set, and both groups are marked.
-fn marks_both(
+fn marks_once(
     alloc: Global,
     formula: &Formula,
     workspace: &mut Workspace,
@@ -276,26 +287,21 @@ fn marks_both(
     Ok(found.is_none() && marks.as_slice() == keep.as_slice())
 }
 
-/// Sees that both groups are marked, the second time where memory was refused.
-fn expect_both_marked(
-    rt: &(impl Abort + AllocGlobal),
+/// As `marks_once`, and once more where memory was refused.
+fn marks_both(
+    alloc: Global,
     formula: &Formula,
     workspace: &mut Workspace,
     marks: &mut Vec<bool>,
-) -> Result<(), Fail>
+) -> Result<bool, AllocError>
     requires vars { 0 < formula.now.vars }
     requires groups { formula.now.groups ≡ 2 }
 {
-    match marks_both(rt.alloc(), formula, workspace, marks) {
-        Ok(right) => {
-            assert!(rt; right);
-            Ok(())
-        }
-        Err(AllocError) => {
-            assert!(rt; marks_both(rt.alloc(), formula, workspace, marks)?);
-            Err(Fail::new("out of memory"))
-        }
+    let first = marks_once(alloc, formula, workspace, marks);
+    if first.is_err() && !marks_once(alloc, formula, workspace, marks)? {
+        return Ok(false);
     }
+    first
 }
 
 /// Each group alone admits a set, so both are marked.
@@ -304,5 +310,6 @@ fn of_solve_marked(rt: HostRuntime) -> Result<(), Fail> {
     let formula = refuted(rt.alloc())?;
     let mut workspace = Workspace::new(rt.alloc());
     let mut marks = Vec::new(rt.alloc());
-    expect_both_marked(&rt, &formula, &mut workspace, &mut marks)
+    assert!(rt; marks_both(rt.alloc(), &formula, &mut workspace, &mut marks)?);
+    Ok(())
 }

@@ -8,59 +8,50 @@ ghost use Rattle.std.specs.Prelude.{◌<◌, All, IfOk};
 
 use crate::literals::{lit, not};
 use sat_solve::{Formula, Lit};
-use std::alloc::{AllocError, AllocGlobal, Global};
+use std::alloc::{AllocError, Global};
 use std::num::ParseIntError;
-use std::process::Abort;
 use std::test::Fail;
 
 /// Adds the clauses of these lines to a formula and sees that it answers their questions so, in their order.
-pub fn follow(
-    rt: &(impl Abort + AllocGlobal),
-    formula: &mut Formula,
-    lines: &str,
-) -> Result<(), Fail> {
+pub fn follow(alloc: Global, formula: &mut Formula, lines: &str) -> Result<(), Fail> {
     for line in lines.lines() {
-        follow_line(rt, formula, line)?;
+        follow_line(alloc, formula, line)?;
     }
     Ok(())
 }
 
-fn follow_line(
-    rt: &(impl Abort + AllocGlobal),
-    formula: &mut Formula,
-    line: &str,
-) -> Result<(), Fail> {
+fn follow_line(alloc: Global, formula: &mut Formula, line: &str) -> Result<(), Fail> {
     if let Some((group, literals)) = line.split_once(':') {
-        add(rt, formula, group.trim().parse::<u32>()?, literals)
+        add(alloc, formula, group.trim().parse::<u32>()?, literals)
     } else if let Some((question, answer)) = line.split_once('=') {
-        ask(rt, formula, question.trim(), answer.trim())
-    } else {
-        assert_eq!(rt; line.trim(), "");
+        ask(alloc, formula, question.trim(), answer.trim())
+    } else if line.trim().is_empty() {
         Ok(())
+    } else {
+        Err(Fail::new("a line of no clause and no question"))
     }
 }
 
 /// Adds a clause of these literals to a group.
-fn add(
-    rt: &(impl Abort + AllocGlobal),
-    formula: &mut Formula,
-    group: u32,
-    literals: &str,
-) -> Result<(), Fail> {
-    assert!(rt; group < formula.groups());
-    let clause = clause_of(rt, literals, formula.vars())?;
+fn add(alloc: Global, formula: &mut Formula, group: u32, literals: &str) -> Result<(), Fail> {
+    let clause = clause_of(alloc, literals, formula.vars())?;
+    if group >= formula.groups() {
+        return Err(Fail::new("a group that the formula lacks"));
+    }
     formula.add(group, &clause)?;
     Ok(())
 }
 
 /// The literals of a text, each of a variable below this one.
-fn clause_of(rt: &(impl Abort + AllocGlobal), literals: &str, vars: u32) -> Result<Vec<Lit>, Fail>
+fn clause_of(alloc: Global, literals: &str, vars: u32) -> Result<Vec<Lit>, Fail>
     ensures { IfOk result (λ clause. All (λ literal. literal.var < vars) clause.items) }
 {
-    let mut clause = Vec::new(rt.alloc());
+    let mut clause = Vec::new(alloc);
     'words: for word in literals.split_whitespace() {
         let literal = literal_of(word)?;
-        assert!(rt; literal.var < vars);
+        if literal.var >= vars {
+            return Err(Fail::new("a variable that the formula lacks"));
+        }
         clause.push(literal)?;
     }
     Ok(clause)
@@ -74,17 +65,15 @@ fn literal_of(word: &str) -> Result<Lit, ParseIntError> {
 }
 
 /// Sees that a formula answers a question so.
-fn ask(
-    rt: &(impl Abort + AllocGlobal),
-    formula: &Formula,
-    question: &str,
-    answer: &str,
-) -> Result<(), Fail> {
+fn ask(alloc: Global, formula: &Formula, question: &str, answer: &str) -> Result<(), Fail> {
     let (kept, must) = question.split_once(' ').unwrap_or((question, ""));
-    let keep = marks_of(rt.alloc(), kept)?;
-    let right = answers(rt, formula, &keep, must.parse::<u32>()?, answer)?;
-    assert!(rt; right, "{question} = {answer}");
-    Ok(())
+    let must = must.parse::<u32>()?;
+    let keep = marks_of(alloc, kept)?;
+    if answers(alloc, formula, &keep, must, answer)? {
+        Ok(())
+    } else {
+        Err(Fail::new(format_args!("not so: {question} = {answer}")))
+    }
 }
 
 /// The marks of a text, a `1` for each that is set.
@@ -96,17 +85,18 @@ fn marks_of(alloc: Global, text: &str) -> Result<Vec<bool>, AllocError> {
     Ok(marks)
 }
 
-/// Whether a formula has the first set that is written, or none.
+/// Whether a formula can be asked so, and has the first set that is written, or none.
 fn answers(
-    rt: &(impl Abort + AllocGlobal),
+    alloc: Global,
     formula: &Formula,
     keep: &[bool],
     must: u32,
     answer: &str,
 ) -> Result<bool, AllocError> {
-    assert_eq!(rt; keep.len(), formula.groups() as usize);
-    assert!(rt; must < formula.vars());
-    match formula.solve(rt.alloc(), keep, must)? {
+    if keep.len() != formula.groups() as usize || must >= formula.vars() {
+        return Ok(false);
+    }
+    match formula.solve(alloc, keep, must)? {
         Some(members) => Ok(are_written(&members, answer)),
         None => Ok(answer == "none"),
     }

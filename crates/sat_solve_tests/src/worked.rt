@@ -5,21 +5,22 @@ ghost use Rattle.std.specs.Prelude.{◌≡◌, ◌<◌, ◌+◌, ◌*◌};
 use crate::literals::{lit, not};
 use crate::scripts::follow;
 use sat_solve::{Formula, Workspace};
-use std::alloc::{AllocError, AllocGlobal};
+use std::alloc::{AllocError, Global};
 use std::process::Abort;
 use std::test::Fail;
 
 /// Sees how many variables and groups a formula has, and follows these lines.
 fn expect(
-    rt: &(impl Abort + AllocGlobal),
+    alloc: Global,
     formula: &mut Formula,
     vars: u32,
     groups: u32,
     lines: &str,
 ) -> Result<(), Fail> {
-    assert_eq!(rt; formula.vars(), vars);
-    assert_eq!(rt; formula.groups(), groups);
-    follow(rt, formula, lines)
+    if formula.vars() != vars || formula.groups() != groups {
+        return Err(Fail::new("another number of variables or groups"));
+    }
+    follow(alloc, formula, lines)
 }
 
 #[test]
@@ -32,19 +33,19 @@ fn three_variables_and_two_groups(rt: HostRuntime) -> Result<(), Fail> {
         10 0 = 0 2
         1: !1
         11 0 = none";
-    expect(&rt, &mut formula, 3, 2, lines)
+    expect(rt.alloc(), &mut formula, 3, 2, lines)
 }
 
 #[test]
 fn a_formula_starts_over(rt: HostRuntime) -> Result<(), Fail> {
     let mut formula = Formula::new(rt.alloc(), 2, 1)?;
-    follow(&rt, &mut formula, "0:\n 1 0 = none")?;
+    follow(rt.alloc(), &mut formula, "0:\n 1 0 = none")?;
     formula.restart(3, 2);
     let lines = "
         11 2 = 2
         1: !2 1
         11 2 = 1 2";
-    expect(&rt, &mut formula, 3, 2, lines)
+    expect(rt.alloc(), &mut formula, 3, 2, lines)
 }
 
 #[test]
@@ -54,7 +55,7 @@ fn an_empty_clause_fails_where_it_is_kept(rt: HostRuntime) -> Result<(), Fail> {
         0:
         1 0 = none
         0 0 = 0";
-    follow(&rt, &mut formula, lines)
+    follow(rt.alloc(), &mut formula, lines)
 }
 
 #[test]
@@ -69,7 +70,7 @@ fn two_versions_of_one_name(rt: HostRuntime) -> Result<(), Fail> {
         1111 3 = 1 3
         1110 2 = 0 1 2 3
         0111 2 = 1 2 3";
-    follow(&rt, &mut formula, lines)
+    follow(rt.alloc(), &mut formula, lines)
 }
 
 /// Adds that each pigeon has one of three holes.
@@ -103,19 +104,19 @@ fn add_pairs(formula: &mut Formula, pigeons: u32) -> Result<(), AllocError>
 }
 
 /// Asks for holes for this many pigeons.
-fn house(rt: &(impl Abort + AllocGlobal), pigeons: u32, question: &str) -> Result<(), Fail>
+fn house(alloc: Global, pigeons: u32, question: &str) -> Result<(), Fail>
     requires { pigeons < 5 }
 {
-    let mut formula = Formula::new(rt.alloc(), 3 * pigeons + 1, 1)?;
+    let mut formula = Formula::new(alloc, 3 * pigeons + 1, 1)?;
     add_holes(&mut formula, pigeons)?;
     add_pairs(&mut formula, pigeons)?;
-    follow(rt, &mut formula, question)
+    follow(alloc, &mut formula, question)
 }
 
 #[test]
 fn each_pigeon_has_a_hole(rt: HostRuntime) -> Result<(), Fail> {
-    house(&rt, 3, "1 9 = 2 4 6 9")?;
-    house(&rt, 4, "1 12 = none")
+    house(rt.alloc(), 3, "1 9 = 2 4 6 9")?;
+    house(rt.alloc(), 4, "1 12 = none")
 }
 
 /// Adds 30 pairs of which one is in.
@@ -142,22 +143,22 @@ fn a_conflict_that_rests_on_few_decisions(rt: HostRuntime) -> Result<(), Fail> {
         1: !60 !61
         11 62 = none
         10 62 = 1 3 5 7 9 11 13 15 17 19 21 23 25 27 29 31 33 35 37 39 41 43 45 47 49 51 53 55 57 59 62";
-    follow(&rt, &mut formula, lines)
+    follow(rt.alloc(), &mut formula, lines)
 }
 
-/// Sees that no set has variable 3, and that the first of the three groups is not marked.
-fn expect_marks(
-    rt: &(impl Abort + AllocGlobal),
+/// Whether a formula of four variables and three groups has no set with variable 3, and these groups are marked.
+fn is_marked(
+    alloc: Global,
     formula: &Formula,
     workspace: &mut Workspace,
     marks: &mut Vec<bool>,
-) -> Result<(), Fail> {
-    assert_eq!(rt; formula.vars(), 4);
-    assert_eq!(rt; formula.groups(), 3);
-    let found = formula.solve_marked(rt.alloc(), workspace, &[true, true, true], 3, marks)?;
-    assert!(rt; found.is_none());
-    assert!(rt; marks.as_slice() == [false, true, true].as_slice());
-    Ok(())
+    wanted: [bool; 3],
+) -> Result<bool, AllocError> {
+    if formula.vars() != 4 || formula.groups() != 3 {
+        return Ok(false);
+    }
+    let found = formula.solve_marked(alloc, workspace, &[true, true, true], 3, marks)?;
+    Ok(found.is_none() && marks.as_slice() == wanted.as_slice())
 }
 
 /// The pairs are in no refutation, so their group is not marked.
@@ -168,8 +169,11 @@ fn a_group_that_the_refutation_does_without(rt: HostRuntime) -> Result<(), Fail>
         0: 0 1
         1: !3 2
         2: !2";
-    follow(&rt, &mut formula, lines)?;
+    follow(rt.alloc(), &mut formula, lines)?;
     let mut workspace = Workspace::new(rt.alloc());
     let mut marks = Vec::new(rt.alloc());
-    expect_marks(&rt, &formula, &mut workspace, &mut marks)
+    let wanted = [false, true, true];
+    let right = is_marked(rt.alloc(), &formula, &mut workspace, &mut marks, wanted)?;
+    assert!(rt; right);
+    Ok(())
 }
