@@ -1,20 +1,21 @@
 //! A foreground and a background.
 
-use crate::faults::REFUSED;
+use crate::faults::{REFUSED, fault_of_both};
 use crate::reading::{read, read_both};
-use crate::rows::is_row;
+use crate::showing::{Part, expect_shown_both, shown, shown_both};
 use crate::texts::{COPY, SPELLED, TWICE, VERSIONED, copies};
-use deb_index::{BothError, Constraint, Index, IndexError};
+use deb_index::{BothError, IndexError};
+use std::alloc::Global;
 use std::process::Abort;
 use std::test::Fail;
 
-pub const NEEDING: &str = "Package: a
+pub const NEEDING: &[u8] = b"Package: a
 Version: 1
 Architecture: all
 Depends: b
 ";
 
-pub const NEEDED: &str = "Package: b
+pub const NEEDED: &[u8] = b"Package: b
 Version: 1
 Architecture: all
 Depends: c
@@ -24,9 +25,9 @@ Version: 2
 Architecture: all
 ";
 
-const ONE: &str = "Package: a\nVersion: 1\nArchitecture: amd64";
+const ONE: &[u8] = b"Package: a\nVersion: 1\nArchitecture: amd64";
 
-const AGAIN: &str = "Package: a
+const AGAIN: &[u8] = b"Package: a
 Version: 1
 Architecture: all
 
@@ -35,180 +36,199 @@ Version: 1
 Architecture: all
 ";
 
-const CONFLICTING: &str = "Package: x
+const CONFLICTING: &[u8] = b"Package: x
 Version: 1
 Architecture: all
 Conflicts: base
 ";
 
-const BASE: &str = "Package: base
+const BASE: &[u8] = b"Package: base
 Version: 1
 Architecture: all
 Essential: yes
 ";
 
-const LAST: &str = "Package: last
+const LAST: &[u8] = b"Package: last
 Version: 1
 Architecture: all
 Depends: v
 ";
 
-/// What is counted: packages, those of the foreground, stanzas, skipped ones and duplicates.
-pub fn expect_counted(rt: &impl Abort, index: &Index, counts: [u32; 5]) {
-    let counted = [
-        index.len(),
-        index.foreground(),
-        index.stanzas(),
-        index.skipped(),
-        index.duplicates(),
-    ];
-    assert_eq!(rt; counted, counts);
-}
+/// What is seen of `NEEDING` over `NEEDED`: behind the foreground's package those of the background that it may use.
+pub const USED: [Part; 5] = [
+    Part::Counts,
+    Part::Foreground,
+    Part::Packages,
+    Part::Name("b"),
+    Part::AnswerRows,
+];
 
-/// The foreground's package and, behind it, those of the background that it may use.
-pub fn expect_used(rt: &impl Abort, index: &Index) {
-    expect_counted(rt, index, [3, 1, 3, 0, 0]);
-    assert!(rt; index.len() == 3);
-    assert!(rt; index.package(0).name.as_slice() == b"a".as_slice());
-    assert!(rt; index.package(1).version.text() == b"1".as_slice());
-    assert!(rt; index.package(2).version.text() == b"2".as_slice());
-    assert!(rt; index.places_of(b"b") == [1, 2].as_slice());
-    assert!(rt; index.need_count(0) == 1);
-    assert!(rt; is_row(index.answer_row(0, 0), &[1, 2]));
-    assert!(rt; index.need_count(1) == 1);
-    assert!(rt; is_row(index.answer_row(1, 0), &[]));
-}
+pub const USED_SHOWN: &str = "packages 3, stanzas 3, skipped 0, duplicates 0
+foreground 1
+0: a 1 all, name 0, versions [0], marked false
+1: b 1 all, name 1, versions [1, 2], marked false
+2: b 2 all, name 1, versions [1, 2], marked false
+b: number Some(1), places [1, 2], provided []
+need 0 0: Some([1, 2])
+need 1 0: Some([])
+";
 
 #[test]
 fn a_background_that_is_used(rt: HostRuntime) -> Result<(), Fail> {
-    let index = read_both(rt.alloc(), NEEDING.as_bytes(), NEEDED.as_bytes(), true)?;
-    expect_used(&rt, &index);
-    drop(index);
-    Ok(())
-}
-
-fn expect_first_kept(rt: &impl Abort, index: &Index) {
-    expect_counted(rt, index, [2, 1, 3, 0, 1]);
-    assert!(rt; index.len() == 2);
-    assert!(rt; index.package(0).architecture.as_slice() == b"amd64".as_slice());
-    assert!(rt; index.name_count() == 2);
-    assert!(rt; index.name_number(b"a") == Some(0));
-    assert!(rt; index.name_number(b"zz") == Some(1));
-    assert!(rt; index.places_of(b"zz") == [1].as_slice());
+    expect_shown_both(&rt, NEEDING, NEEDED, &USED, USED_SHOWN)
 }
 
 #[test]
 fn a_duplicate_in_the_background(rt: HostRuntime) -> Result<(), Fail> {
-    let index = read_both(rt.alloc(), ONE.as_bytes(), AGAIN.as_bytes(), true)?;
-    expect_first_kept(&rt, &index);
-    drop(index);
-    Ok(())
+    expect_shown_both(
+        &rt,
+        ONE,
+        AGAIN,
+        &[
+            Part::Counts,
+            Part::Foreground,
+            Part::Packages,
+            Part::Names,
+            Part::Name("a"),
+            Part::Name("zz"),
+        ],
+        "packages 2, stanzas 3, skipped 0, duplicates 1
+foreground 1
+0: a 1 amd64, name 0, versions [0], marked false
+1: zz 1 all, name 1, versions [1], marked false
+name 0: a, places [0]
+name 1: zz, places [1]
+a: number Some(0), places [0], provided []
+zz: number Some(1), places [1], provided []
+",
+    )
 }
 
 #[test]
 fn counts_of_both(rt: HostRuntime) -> Result<(), Fail> {
-    for (text, background, counts) in [
-        ("", "", [0, 0, 0, 0, 0]),
-        (ONE, "", [1, 1, 1, 0, 0]),
-        ("", AGAIN, [2, 0, 2, 0, 0]),
-        (AGAIN, ONE, [2, 2, 3, 0, 1]),
-        (ONE, SPELLED, [3, 1, 5, 1, 1]),
-        (SPELLED, SPELLED, [2, 2, 8, 2, 4]),
-        (VERSIONED, TWICE, [6, 3, 6, 0, 0]),
-    ] {
-        let index = read_both(rt.alloc(), text.as_bytes(), background.as_bytes(), true)?;
-        expect_counted(&rt, &index, counts);
-        drop(index);
+    let cases: [(&[u8], &[u8], &str); 7] = [
+        (
+            b"",
+            b"",
+            "packages 0, stanzas 0, skipped 0, duplicates 0\nforeground 0\n",
+        ),
+        (
+            ONE,
+            b"",
+            "packages 1, stanzas 1, skipped 0, duplicates 0\nforeground 1\n",
+        ),
+        (
+            b"",
+            AGAIN,
+            "packages 2, stanzas 2, skipped 0, duplicates 0\nforeground 0\n",
+        ),
+        (
+            AGAIN,
+            ONE,
+            "packages 2, stanzas 3, skipped 0, duplicates 1\nforeground 2\n",
+        ),
+        (
+            ONE,
+            SPELLED,
+            "packages 3, stanzas 5, skipped 1, duplicates 1\nforeground 1\n",
+        ),
+        (
+            SPELLED,
+            SPELLED,
+            "packages 2, stanzas 8, skipped 2, duplicates 4\nforeground 2\n",
+        ),
+        (
+            VERSIONED,
+            TWICE,
+            "packages 6, stanzas 6, skipped 0, duplicates 0\nforeground 3\n",
+        ),
+    ];
+    for (text, background, wanted) in cases {
+        expect_shown_both(
+            &rt,
+            text,
+            background,
+            &[Part::Counts, Part::Foreground],
+            wanted,
+        )?;
     }
-    Ok(())
-}
-
-fn expect_essential(
-    rt: &(impl Abort + AllocGlobal),
-    index: &Index,
-    names: &[u32],
-    wanted: &[Constraint],
-) -> Result<(), Fail> {
-    assert!(rt; index.essential_names() == names);
-    let found = index.constraints(rt.alloc())?;
-    assert!(rt; found.as_slice() == wanted);
     Ok(())
 }
 
 #[test]
 fn an_essential_name_of_the_background(rt: HostRuntime) -> Result<(), Fail> {
-    use Constraint::{Apart, Essential, Only};
-    let (text, background) = (CONFLICTING.as_bytes(), BASE.as_bytes());
-    let index = read_both(rt.alloc(), text, background, true)?;
-    let all = [Essential(1), Apart(0, 0), Only(0), Only(1)];
-    let outcome = expect_essential(&rt, &index, &[1], &all);
-    drop(index);
-    outcome?;
-    let index = read_both(rt.alloc(), text, background, false)?;
-    let outcome = expect_essential(&rt, &index, &[], &[Apart(0, 0), Only(0), Only(1)]);
-    drop(index);
-    outcome
+    for (essential, wanted) in [
+        (
+            true,
+            "essential [1]\n[Essential(1), Apart(0, 0), Only(0), Only(1)]\n",
+        ),
+        (false, "essential []\n[Apart(0, 0), Only(0), Only(1)]\n"),
+    ] {
+        let parts = [Part::EssentialNames, Part::Constraints];
+        let found = shown_both(rt.alloc(), CONFLICTING, BASE, essential, &parts)?;
+        assert_eq!(rt; found.as_str(), wanted);
+    }
+    Ok(())
 }
 
 /// A package of one text asks for a name that those of the other provide.
-fn expect_providers(rt: &impl Abort, index: &Index, place: u32, number: u32, places: &[u32]) {
-    assert!(rt; index.len() == 4);
-    assert!(rt; place < index.len());
-    assert!(rt; index.name_number(b"last") == Some(number));
-    assert!(rt; index.need_count(place) == 1);
-    assert!(rt; is_row(index.answer_row(place, 0), places));
-}
-
 #[test]
 fn providers_of_the_other_text(rt: HostRuntime) -> Result<(), Fail> {
-    let index = read_both(rt.alloc(), TWICE.as_bytes(), LAST.as_bytes(), true)?;
-    expect_providers(&rt, &index, 3, 2, &[0, 1, 2]);
-    drop(index);
-    let index = read_both(rt.alloc(), LAST.as_bytes(), TWICE.as_bytes(), true)?;
-    expect_providers(&rt, &index, 0, 0, &[1, 2, 3]);
-    drop(index);
-    Ok(())
+    let parts = [Part::Counts, Part::Name("last"), Part::AnswerRows];
+    expect_shown_both(
+        &rt,
+        TWICE,
+        LAST,
+        &parts,
+        "packages 4, stanzas 4, skipped 0, duplicates 0
+last: number Some(2), places [3], provided []
+need 3 0: Some([0, 1, 2])
+",
+    )?;
+    expect_shown_both(
+        &rt,
+        LAST,
+        TWICE,
+        &parts,
+        "packages 4, stanzas 4, skipped 0, duplicates 0
+last: number Some(0), places [0], provided []
+need 0 0: Some([1, 2, 3])
+",
+    )
 }
 
-/// Two indexes of the same stanzas.
-fn expect_same(rt: &(impl Abort + AllocGlobal), index: &Index, other: &Index) -> Result<(), Fail> {
-    assert_eq!(rt; index.len(), other.len());
-    assert_eq!(rt; index.stanzas(), other.stanzas());
-    assert_eq!(rt; index.skipped(), other.skipped());
-    assert_eq!(rt; index.duplicates(), other.duplicates());
-    assert_eq!(rt; index.name_count(), other.name_count());
-    for place in 0..index.len() {
-        assert!(rt; place < other.len());
-        let (one, two) = (index.package(place), other.package(place));
-        assert!(rt; one.name.as_slice() == two.name.as_slice());
-        assert!(rt; one.version.text() == two.version.text());
-        assert!(rt; index.places_of(one.name.as_slice()) == other.places_of(two.name.as_slice()));
-    }
-    let constraints = index.constraints(rt.alloc())?;
-    let others = other.constraints(rt.alloc())?;
-    assert!(rt; constraints.as_slice() == others.as_slice());
-    Ok(())
+fn len_of(alloc: Global, text: &[u8]) -> Result<u32, IndexError> {
+    let index = read(alloc, text, true)?;
+    let len = index.len();
+    drop(index);
+    Ok(len)
 }
+
+fn foreground_of(alloc: Global, text: &[u8], background: &[u8]) -> Result<u32, BothError> {
+    let index = read_both(alloc, text, background, true)?;
+    let foreground = index.foreground();
+    drop(index);
+    Ok(foreground)
+}
+
+/// What indexes of the same stanzas have in common.
+const COMMON: [Part; 4] = [Part::Counts, Part::Packages, Part::Names, Part::Constraints];
 
 fn expect_cut(
     rt: &(impl Abort + AllocGlobal),
     text: &[u8],
     background: &[u8],
-    whole: &Index,
+    whole: &str,
 ) -> Result<(), Fail> {
-    let fore = read(rt.alloc(), text, true)?;
-    let foreground = fore.len();
-    drop(fore);
-    let index = read_both(rt.alloc(), text, background, true)?;
-    let outcome = expect_same(rt, &index, whole);
-    assert_eq!(rt; index.foreground(), foreground);
-    drop(index);
-    outcome
+    expect_shown_both(rt, text, background, &COMMON, whole)?;
+    let foreground = foreground_of(rt.alloc(), text, background)?;
+    assert_eq!(rt; foreground, len_of(rt.alloc(), text)?);
+    Ok(())
 }
 
 /// Wherever a text is cut between two stanzas, its parts have the index of the whole.
 fn expect_cuts(rt: &(impl Abort + AllocGlobal), text: &[u8]) -> Result<(), Fail> {
-    let whole = read(rt.alloc(), text, true)?;
+    let whole = shown(rt.alloc(), text, true, &COMMON)?;
     expect_cut(rt, text, b"", &whole)?;
     expect_cut(rt, b"", text, &whole)?;
     let mut is_cut = false;
@@ -225,20 +245,22 @@ fn expect_cuts(rt: &(impl Abort + AllocGlobal), text: &[u8]) -> Result<(), Fail>
 #[test]
 fn cut_in_two(rt: HostRuntime) -> Result<(), Fail> {
     for text in [VERSIONED, SPELLED, TWICE] {
-        expect_cuts(&rt, text.as_bytes())?;
+        expect_cuts(&rt, text)?;
     }
     Ok(())
 }
 
 #[test]
 fn faults_of_both(rt: HostRuntime) {
+    let backgrounds: [&[u8]; 3] = [b"", AGAIN, b" x"];
+    let foregrounds: [&[u8]; 2] = [b"", VERSIONED];
     for (text, fault) in REFUSED {
-        for background in ["", AGAIN, " x"] {
-            let found = read_both(rt.alloc(), text.as_bytes(), background.as_bytes(), true).err();
+        for background in backgrounds {
+            let found = fault_of_both(rt.alloc(), text, background);
             assert!(rt; found == Some(BothError::Fore(fault)));
         }
-        for fore in ["", VERSIONED] {
-            let found = read_both(rt.alloc(), fore.as_bytes(), text.as_bytes(), true).err();
+        for foreground in foregrounds {
+            let found = fault_of_both(rt.alloc(), foreground, text);
             assert!(rt; found == Some(BothError::Back(fault)));
         }
     }
@@ -249,26 +271,28 @@ const NEXT: &[u8] = b"Package: b\nVersion: 1\nArchitecture: all\n";
 const NEXT_TWO: &[u8] =
     b"Package: b\nVersion: 1\nArchitecture: all\n\nPackage: c\nVersion: 1\nArchitecture: all\n";
 
-fn expect_too_many(rt: &(impl Abort + AllocGlobal), text: &[u8], background: &[u8], stanza: u64) {
-    let found = read_both(rt.alloc(), text, background, true).err();
+fn is_too_many(alloc: Global, text: &[u8], background: &[u8], stanza: u64) -> bool {
     let fault = IndexError::TooManyStanzas { stanza };
-    assert!(rt; found == Some(BothError::Back(fault)));
+    fault_of_both(alloc, text, background) == Some(BothError::Back(fault))
 }
 
 #[test]
 fn a_stanza_too_many_in_the_background(rt: HostRuntime) -> Result<(), Fail> {
     let mut text = copies(rt.alloc(), 4_194_303)?;
-    expect_too_many(&rt, &text, NEXT_TWO, 2);
+    assert!(rt; is_too_many(rt.alloc(), &text, NEXT_TWO, 2));
     text.extend_from_slice(COPY)?;
-    expect_too_many(&rt, &text, NEXT, 1);
+    assert!(rt; is_too_many(rt.alloc(), &text, NEXT, 1));
     Ok(())
 }
 
 #[test]
 fn as_many_stanzas_as_may_be_in_both(rt: HostRuntime) -> Result<(), Fail> {
     let text = copies(rt.alloc(), 4_194_303)?;
-    let index = read_both(rt.alloc(), &text, NEXT, true)?;
-    expect_counted(&rt, &index, [2, 1, 4_194_304, 0, 4_194_302]);
-    drop(index);
-    Ok(())
+    expect_shown_both(
+        &rt,
+        &text,
+        NEXT,
+        &[Part::Counts, Part::Foreground],
+        "packages 2, stanzas 4194304, skipped 0, duplicates 4194302\nforeground 1\n",
+    )
 }

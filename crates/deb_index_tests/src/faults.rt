@@ -1,51 +1,51 @@
 //! Texts that are refused, with their faults.
 
-use crate::reading::read;
-use deb_index::{IndexError, RelField};
-use std::process::Abort;
+use crate::reading::{read, read_both};
+use deb_index::{BothError, IndexError, RelField};
+use std::alloc::Global;
 
-pub const REFUSED: [(&str, IndexError); 10] = [
-    (" x", IndexError::BadLine { stanza: 1 }),
+pub const REFUSED: [(&[u8], IndexError); 10] = [
+    (b" x", IndexError::BadLine { stanza: 1 }),
     (
-        "Package: a\nVersion: 1\nArchitecture: all\nDepends: b (>=",
+        b"Package: a\nVersion: 1\nArchitecture: all\nDepends: b (>=",
         IndexError::BadRelation {
             stanza: 1,
             field: RelField::Depends,
         },
     ),
     (
-        "Package: a!\nArchitecture: all\n",
+        b"Package: a!\nArchitecture: all\n",
         IndexError::MissingField { stanza: 1 },
     ),
     (
-        "Package: a\nPackage: b\nno colon here",
+        b"Package: a\nPackage: b\nno colon here",
         IndexError::BadLine { stanza: 1 },
     ),
     (
-        "Package: a!\nArchitecture: all\n\n x",
+        b"Package: a!\nArchitecture: all\n\n x",
         IndexError::MissingField { stanza: 1 },
     ),
     (
-        "Package: a\nVersion: 1\nArchitecture: all\nProvides: v (>= 1)\n",
+        b"Package: a\nVersion: 1\nArchitecture: all\nProvides: v (>= 1)\n",
         IndexError::BadRelation {
             stanza: 1,
             field: RelField::Provides,
         },
     ),
     (
-        "Package: a\nVersion: 1_2\nArchitecture: all\n",
+        b"Package: a\nVersion: 1_2\nArchitecture: all\n",
         IndexError::BadVersion { stanza: 1 },
     ),
     (
-        "Package: a!\nVersion: 1\nArchitecture: all\n",
+        b"Package: a!\nVersion: 1\nArchitecture: all\n",
         IndexError::BadName { stanza: 1 },
     ),
     (
-        "Package: a\nVersion: 1\nArchitecture: all\npackage: a\n",
+        b"Package: a\nVersion: 1\nArchitecture: all\npackage: a\n",
         IndexError::RepeatedField { stanza: 1 },
     ),
     (
-        "Package: a\nVersion: 1\nArchitecture: all\n\nPackage: b\nVersion: 1\nArchitecture: i386\n\nPackage: a\nVersion: 1\nArchitecture: all\nBreaks: b |\n",
+        b"Package: a\nVersion: 1\nArchitecture: all\n\nPackage: b\nVersion: 1\nArchitecture: i386\n\nPackage: a\nVersion: 1\nArchitecture: all\nBreaks: b |\n",
         IndexError::BadRelation {
             stanza: 3,
             field: RelField::Breaks,
@@ -53,9 +53,17 @@ pub const REFUSED: [(&str, IndexError); 10] = [
     ),
 ];
 
+pub fn fault_of(alloc: Global, text: &[u8]) -> Option<IndexError> {
+    read(alloc, text, true).err()
+}
+
+pub fn fault_of_both(alloc: Global, text: &[u8], background: &[u8]) -> Option<BothError> {
+    read_both(alloc, text, background, true).err()
+}
+
 #[test]
 fn refusals(rt: HostRuntime) {
     for (text, fault) in REFUSED {
-        assert!(rt; read(rt.alloc(), text.as_bytes(), true).err() == Some(fault));
+        assert!(rt; fault_of(rt.alloc(), text) == Some(fault));
     }
 }

@@ -1,62 +1,35 @@
 //! One test for each call that can want memory; bench/growths runs them with each growth refused in turn.
 
-use crate::backgrounds::{NEEDED, NEEDING, expect_used};
+use crate::backgrounds::{NEEDED, NEEDING, USED, USED_SHOWN};
 use crate::needs::MARKED;
-use crate::reading::{read, read_both};
+use crate::reading::read;
 use crate::rows::{SHARED, providers};
+use crate::showing::{Part, expect_shown, expect_shown_both};
 use crate::texts::VERSIONED;
-use deb_index::{BothError, Constraint, Index, IndexError};
+use deb_index::{Constraint, Index};
 use deb_relation::{Atom, parse_list};
 use std::alloc::AllocError;
 use std::process::Abort;
 use std::test::Fail;
 
-fn expect_named(rt: &impl Abort, index: &Index, place: u32, name: &[u8], version: &[u8]) {
-    assert!(rt; place < index.len());
-    assert!(rt; index.package(place).name.as_slice() == name);
-    assert!(rt; index.package(place).version.text() == version);
-}
-
-fn expect_versioned(rt: &impl Abort, index: &Index) {
-    assert_eq!(rt; index.len(), 3);
-    assert_eq!(rt; index.stanzas(), 3);
-    assert_eq!(rt; index.skipped(), 0);
-    assert_eq!(rt; index.duplicates(), 0);
-    expect_named(rt, index, 0, b"foo", b"1");
-    expect_named(rt, index, 1, b"bar", b"0.9");
-    expect_named(rt, index, 2, b"bar-plus", b"1");
-    assert!(rt; index.provides_of(b"bar") == [(2, 0)].as_slice());
-    assert!(rt; index.places_of(b"bar") == [1].as_slice());
-}
-
 #[test]
 fn of_read(rt: HostRuntime) -> Result<(), Fail> {
-    match read(rt.alloc(), VERSIONED.as_bytes(), true) {
-        Ok(index) => {
-            expect_versioned(&rt, &index);
-            drop(index);
-            Ok(())
-        }
-        Err(fault) => {
-            assert!(rt; fault == IndexError::Memory);
-            Err(Fail::new("out of memory"))
-        }
-    }
+    expect_shown(
+        &rt,
+        VERSIONED,
+        &[Part::Counts, Part::Packages, Part::Name("bar")],
+        "packages 3, stanzas 3, skipped 0, duplicates 0
+0: foo 1 all, name 0, versions [0], marked false
+1: bar 0.9 all, name 1, versions [1], marked false
+2: bar-plus 1 all, name 2, versions [2], marked false
+bar: number Some(1), places [1], provided [(2, 0)]
+",
+    )
 }
 
 #[test]
 fn of_read_both(rt: HostRuntime) -> Result<(), Fail> {
-    match read_both(rt.alloc(), NEEDING.as_bytes(), NEEDED.as_bytes(), true) {
-        Ok(index) => {
-            expect_used(&rt, &index);
-            drop(index);
-            Ok(())
-        }
-        Err(fault) => {
-            assert!(rt; fault == BothError::Memory);
-            Err(Fail::new("out of memory"))
-        }
-    }
+    expect_shown_both(&rt, NEEDING, NEEDED, &USED, USED_SHOWN)
 }
 
 /// The call that was refused memory may be made again.
@@ -91,7 +64,7 @@ fn expect_bounded(rt: &(impl Abort + AllocGlobal), index: &Index) -> Result<(), 
 
 #[test]
 fn of_satisfiers(rt: HostRuntime) -> Result<(), Fail> {
-    let index = read(rt.alloc(), VERSIONED.as_bytes(), true)?;
+    let index = read(rt.alloc(), VERSIONED, true)?;
     let outcome = expect_bounded(&rt, &index);
     drop(index);
     outcome
@@ -115,7 +88,7 @@ fn expect_needed(rt: &(impl Abort + AllocGlobal), index: &Index) -> Result<(), F
 
 #[test]
 fn of_need_satisfiers(rt: HostRuntime) -> Result<(), Fail> {
-    let index = read(rt.alloc(), MARKED.as_bytes(), true)?;
+    let index = read(rt.alloc(), MARKED, true)?;
     let outcome = expect_needed(&rt, &index);
     drop(index);
     outcome

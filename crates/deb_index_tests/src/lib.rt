@@ -1,8 +1,8 @@
 //! Tests of the public calls of `deb_index`.
 //!
-//! `reading` makes an index of a text, or of a text and a background; `texts` has texts that several tests read. `examples` has worked
-//! examples, `satisfiers`, `needs` and `rows` have what meets an atom, `positions` the places of constraints in their list, `backgrounds` indexes of two
-//! texts, `faults` and `limits` what is refused, `growths` a test for each call that can want memory.
+//! `reading` makes an index of a text, or of a text and a background; `showing` prints what is to be seen of one, which most tests compare with one text;
+//! `texts` has texts that several tests read. `examples` has worked examples, `satisfiers`, `needs` and `rows` have what meets an atom, `positions` the places
+//! of constraints in their list, `backgrounds` indexes of two texts, `faults` and `limits` what is refused, `growths` a test for each call that can want memory.
 #![tactic(auto)]
 
 #[cfg(test)]
@@ -24,5 +24,7 @@ pub mod reading;
 mod rows;
 #[cfg(test)]
 mod satisfiers;
+#[cfg(test)]
+mod showing;
 #[cfg(test)]
 mod texts;

@@ -1,13 +1,9 @@
 //! Alternatives with the qualifier `any`, and the mark that they ask for.
 
-use crate::reading::read;
-use crate::rows::is_row;
-use deb_index::Index;
-use deb_relation::parse_list;
-use std::process::Abort;
+use crate::showing::{Part, expect_shown};
 use std::test::Fail;
 
-const UNMARKED: &str = "Package: a
+const UNMARKED: &[u8] = b"Package: a
 Version: 1
 Architecture: all
 Depends: python3:any
@@ -26,7 +22,7 @@ Version: 1
 Architecture: all
 ";
 
-pub const MARKED: &str = "Package: a
+pub const MARKED: &[u8] = b"Package: a
 Version: 1
 Architecture: all
 Depends: python3:any
@@ -46,7 +42,7 @@ Version: 1
 Architecture: all
 ";
 
-const PROVIDED: &str = "Package: a
+const PROVIDED: &[u8] = b"Package: a
 Version: 1
 Architecture: all
 Depends: v:any
@@ -70,103 +66,73 @@ Depends: p
 Conflicts: v:any
 ";
 
-/// An atom is met by the packages at these places, and as an alternative by those.
-fn expect_met(
-    rt: &(impl Abort + AllocGlobal),
-    index: &Index,
-    atom: &[u8],
-    met: [bool; 4],
-    met_as_need: [bool; 4],
-) -> Result<(), Fail> {
-    let atoms = parse_list(rt.alloc(), atom)?;
-    assert!(rt; atoms.len() == 1);
-    assert!(rt; index.len() == 4);
-    for place in 0..index.len() {
-        assert!(rt; index.meets(place, &atoms[0]) == met[place as usize]);
-        assert!(rt; index.meets_need(place, &atoms[0]) == met_as_need[place as usize]);
-    }
-    Ok(())
-}
-
-/// These are the places of the packages that meet an atom, and of those that meet it as an alternative.
-fn expect_found(
-    rt: &(impl Abort + AllocGlobal),
-    index: &Index,
-    atom: &[u8],
-    places: &[u32],
-    places_as_need: &[u32],
-) -> Result<(), Fail> {
-    let atoms = parse_list(rt.alloc(), atom)?;
-    assert!(rt; atoms.len() == 1);
-    let found = index.satisfiers(rt.alloc(), &atoms[0])?;
-    assert!(rt; found.as_slice() == places);
-    let needed = index.need_satisfiers(rt.alloc(), &atoms[0])?;
-    assert!(rt; needed.as_slice() == places_as_need);
-    Ok(())
-}
-
-fn expect_interpreter(
-    rt: &(impl Abort + AllocGlobal),
-    index: &Index,
-    marked: bool,
-) -> Result<(), Fail> {
-    let needed: &[u32] = if marked { &[2] } else { &[] };
-    let met = [false, false, true, false];
-    expect_met(
-        rt,
-        index,
-        b"python3:any",
-        met,
-        [false, false, marked, false],
-    )?;
-    expect_met(rt, index, b"python3", met, met)?;
-    expect_found(rt, index, b"python3:any", &[2], needed)?;
-    expect_found(rt, index, b"python3:amd64", &[2], &[2])?;
-    expect_found(rt, index, b"n:i386", &[], &[])
-}
+const INTERPRETERS: &[&str] = &["python3:any", "python3", "python3:amd64", "n:i386"];
 
 #[test]
 fn an_interpreter_of_any_architecture(rt: HostRuntime) -> Result<(), Fail> {
-    for (text, marked) in [(UNMARKED, false), (MARKED, true)] {
-        let index = read(rt.alloc(), text.as_bytes(), true)?;
-        let outcome = expect_interpreter(&rt, &index, marked);
-        drop(index);
-        outcome?;
-    }
-    Ok(())
+    let parts = [
+        Part::Counts,
+        Part::Satisfiers(INTERPRETERS),
+        Part::NeedSatisfiers(INTERPRETERS),
+    ];
+    expect_shown(
+        &rt,
+        UNMARKED,
+        &parts,
+        "packages 4, stanzas 4, skipped 0, duplicates 0
+python3:any: [2]
+python3: [2]
+python3:amd64: [2]
+n:i386: []
+python3:any in a group: []
+python3 in a group: [2]
+python3:amd64 in a group: [2]
+n:i386 in a group: []
+",
+    )?;
+    expect_shown(
+        &rt,
+        MARKED,
+        &parts,
+        "packages 4, stanzas 4, skipped 0, duplicates 0
+python3:any: [2]
+python3: [2]
+python3:amd64: [2]
+n:i386: []
+python3:any in a group: [2]
+python3 in a group: [2]
+python3:amd64 in a group: [2]
+n:i386 in a group: []
+",
+    )
 }
 
-fn expect_rows(rt: &impl Abort, index: &Index) {
-    assert!(rt; index.len() == 4);
-    assert!(rt; index.need_count(0) == 1);
-    assert!(rt; is_row(index.answer_row(0, 0), &[1]));
-    assert!(rt; index.need_count(3) == 1);
-    assert!(rt; is_row(index.answer_row(3, 0), &[2]));
-    assert!(rt; index.apart_count(3) == 1);
-    assert!(rt; is_row(index.hit_row(3, 0), &[1, 2]));
-}
-
-fn expect_providers(rt: &(impl Abort + AllocGlobal), index: &Index) -> Result<(), Fail> {
-    let met = [false, true, true, false];
-    expect_met(rt, index, b"v:any", met, [false, true, false, false])?;
-    expect_met(rt, index, b"v", met, met)?;
-    expect_found(rt, index, b"v:any", &[1, 2], &[1])?;
-    expect_found(rt, index, b"v:amd64", &[1, 2], &[1, 2])?;
-    expect_rows(rt, index);
-    Ok(())
-}
+const PROVIDERS: &[&str] = &["v:any", "v", "v:amd64"];
 
 #[test]
 fn providers_with_and_without_the_mark(rt: HostRuntime) -> Result<(), Fail> {
-    let index = read(rt.alloc(), PROVIDED.as_bytes(), true)?;
-    let outcome = expect_providers(&rt, &index);
-    drop(index);
-    outcome
-}
-
-fn expect_mark(rt: &impl Abort, index: &Index, allowed: bool) {
-    assert!(rt; index.len() == 1);
-    assert!(rt; index.package(0).multi_arch_allowed == allowed);
+    expect_shown(
+        &rt,
+        PROVIDED,
+        &[
+            Part::Counts,
+            Part::Satisfiers(PROVIDERS),
+            Part::NeedSatisfiers(PROVIDERS),
+            Part::AnswerRows,
+            Part::HitRows,
+        ],
+        "packages 4, stanzas 4, skipped 0, duplicates 0
+v:any: [1, 2]
+v: [1, 2]
+v:amd64: [1, 2]
+v:any in a group: [1]
+v in a group: [1, 2]
+v:amd64 in a group: [1, 2]
+need 0 0: Some([1])
+need 3 0: Some([2])
+apart 3 0: Some([1, 2])
+",
+    )
 }
 
 #[test]
@@ -185,11 +151,14 @@ fn values_of_the_mark(rt: HostRuntime) -> Result<(), Fail> {
         (b"Multi-Arch: ", false),
         (b"MultiArch: allowed", false),
     ] {
+        let wanted = if allowed {
+            "0: v 1 all, name 0, versions [0], marked true\n"
+        } else {
+            "0: v 1 all, name 0, versions [0], marked false\n"
+        };
         let mut text = Vec::from_slice(rt.alloc(), field)?;
         text.extend_from_slice(b"\nPackage: v\nVersion: 1\nArchitecture: all\n")?;
-        let index = read(rt.alloc(), &text, true)?;
-        expect_mark(&rt, &index, allowed);
-        drop(index);
+        expect_shown(&rt, &text, &[Part::Packages], wanted)?;
     }
     Ok(())
 }

@@ -4,11 +4,12 @@ ghost use Rattle.std.specs.Prelude.{◌≡◌, ◌<◌, ◌^◌, length};
 ghost use Rattle.deb_index.specs.Constraints.{constraints_of};
 
 use crate::reading::read;
+use crate::showing::{Part, expect_shown};
 use deb_index::{Constraint, Index};
 use std::process::Abort;
 use std::test::Fail;
 
-const SEVERAL: &str = "Package: a
+const SEVERAL: &[u8] = b"Package: a
 Version: 1
 Architecture: all
 Pre-Depends: b
@@ -37,24 +38,24 @@ Architecture: all
 Essential: yes
 ";
 
-fn expect_position(rt: &impl Abort, index: &Index, constraint: Constraint, position: u32) {
+/// Whether a constraint's own call gives this position.
+fn is_at(index: &Index, constraint: Constraint, position: u32) -> bool {
     match constraint {
         Constraint::Essential(name) => {
-            assert!(rt; index.essential_names().get(position as usize) == Some(&name));
+            index.essential_names().get(position as usize) == Some(&name)
         }
         Constraint::Need(place, number) => {
-            assert!(rt; place < index.len());
-            assert!(rt; number < index.need_count(place));
-            assert!(rt; index.need_position(place, number) == position);
+            place < index.len()
+                && number < index.need_count(place)
+                && index.need_position(place, number) == position
         }
         Constraint::Apart(place, number) => {
-            assert!(rt; place < index.len());
-            assert!(rt; number < index.apart_count(place));
-            assert!(rt; index.apart_position(place, number) == position);
+            place < index.len()
+                && number < index.apart_count(place)
+                && index.apart_position(place, number) == position
         }
         Constraint::Only(name) => {
-            assert!(rt; name < index.name_count());
-            assert!(rt; index.only_position(name) == position);
+            name < index.name_count() && index.only_position(name) == position
         }
     }
 }
@@ -67,54 +68,44 @@ fn expect_positions(rt: &impl Abort, index: &Index, constraints: &[Constraint])
         let position = number as u32;
         let constraint = index.constraint_at(position);
         assert!(rt; constraint == constraints[number]);
-        expect_position(rt, index, constraint, position);
+        assert!(rt; is_at(index, constraint, position));
     }
 }
 
 fn expect_listed(rt: &(impl Abort + AllocGlobal), index: &Index) -> Result<(), Fail> {
     let constraints = index.constraints(rt.alloc())?;
-    let listed = [
-        Constraint::Essential(1),
-        Constraint::Essential(3),
-        Constraint::Need(0, 0),
-        Constraint::Need(0, 1),
-        Constraint::Need(0, 2),
-        Constraint::Apart(0, 0),
-        Constraint::Apart(2, 0),
-        Constraint::Apart(2, 1),
-        Constraint::Apart(2, 2),
-        Constraint::Need(3, 0),
-        Constraint::Only(0),
-        Constraint::Only(1),
-        Constraint::Only(2),
-        Constraint::Only(3),
-    ];
-    assert!(rt; constraints.as_slice() == listed.as_slice());
+    assert_eq!(rt; constraints.len(), 14);
     expect_positions(rt, index, &constraints);
     Ok(())
 }
 
 #[test]
 fn each_constraint_at_its_position(rt: HostRuntime) -> Result<(), Fail> {
-    let index = read(rt.alloc(), SEVERAL.as_bytes(), true)?;
+    expect_shown(
+        &rt,
+        SEVERAL,
+        &[Part::Constraints],
+        "[Essential(1), Essential(3), Need(0, 0), Need(0, 1), Need(0, 2), Apart(0, 0), Apart(2, 0), Apart(2, 1), Apart(2, 2), \
+Need(3, 0), Only(0), Only(1), Only(2), Only(3)]
+",
+    )?;
+    let index = read(rt.alloc(), SEVERAL, true)?;
     let outcome = expect_listed(&rt, &index);
     drop(index);
     outcome
 }
 
-fn expect_names(rt: &impl Abort, index: &Index) {
-    assert!(rt; index.len() == 5);
-    assert!(rt; index.name_of(0) == 0);
-    assert!(rt; index.name_of(1) == 1);
-    assert!(rt; index.name_of(2) == 2);
-    assert!(rt; index.name_of(3) == 1);
-    assert!(rt; index.name_of(4) == 3);
-}
-
 #[test]
 fn names_of_places(rt: HostRuntime) -> Result<(), Fail> {
-    let index = read(rt.alloc(), SEVERAL.as_bytes(), true)?;
-    expect_names(&rt, &index);
-    drop(index);
-    Ok(())
+    expect_shown(
+        &rt,
+        SEVERAL,
+        &[Part::Packages],
+        "0: a 1 all, name 0, versions [0], marked false
+1: b 1 all, name 1, versions [1, 3], marked false
+2: c 1 all, name 2, versions [2], marked false
+3: b 2 all, name 1, versions [1, 3], marked false
+4: d 1 all, name 3, versions [4], marked false
+",
+    )
 }

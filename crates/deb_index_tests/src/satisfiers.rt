@@ -1,14 +1,10 @@
 //! The packages that meet an atom, by the tables and by each package asked in turn.
 
-use crate::reading::read;
+use crate::showing::{Part, expect_shown};
 use crate::texts::{TWICE, VERSIONED};
-use deb_index::Index;
-use deb_relation::{Atom, parse_list};
-use std::alloc::{AllocError, Global};
-use std::process::Abort;
 use std::test::Fail;
 
-const UNVERSIONED: &str = "Package: foo
+const UNVERSIONED: &[u8] = b"Package: foo
 Version: 1
 Architecture: all
 Depends: bar (>= 1.0)
@@ -23,7 +19,7 @@ Architecture: all
 Provides: bar
 ";
 
-const MAIL_AGENTS: &str = "Package: m1
+const MAIL_AGENTS: &[u8] = b"Package: m1
 Version: 1
 Architecture: all
 Provides: mail-agent
@@ -41,7 +37,7 @@ Architecture: all
 Depends: m1, m2
 ";
 
-const PROVIDED: &str = "Package: v
+const PROVIDED: &[u8] = b"Package: v
 Version: 1
 Architecture: all
 Provides: v (= 2), v
@@ -52,132 +48,96 @@ Architecture: all
 Provides: v
 ";
 
-/// The places of the packages that meet an atom, each package asked in turn.
-fn asked_in_turn(alloc: Global, index: &Index, atom: &Atom) -> Result<Vec<u32>, AllocError> {
-    let mut found = Vec::new(alloc);
-    for place in 0..index.len() {
-        if index.meets(place, atom) {
-            found.push(place)?;
-        }
-    }
-    Ok(found)
-}
-
-/// Each atom is met at the places beside it, by the tables and by the packages in turn.
-fn expect_satisfiers(
-    rt: &(impl Abort + AllocGlobal),
-    index: &Index,
-    cases: &[(&[u8], &[u32])],
-) -> Result<(), Fail> {
-    for (atom, places) in cases {
-        let atoms = parse_list(rt.alloc(), atom)?;
-        assert!(rt; atoms.len() == 1);
-        let found = index.satisfiers(rt.alloc(), &atoms[0])?;
-        assert!(rt; found.as_slice() == *places);
-        let compared = asked_in_turn(rt.alloc(), index, &atoms[0])?;
-        assert!(rt; compared.as_slice() == *places);
-    }
-    Ok(())
-}
-
-fn expect_satisfiers_in(
-    rt: &(impl Abort + AllocGlobal),
-    text: &str,
-    cases: &[(&[u8], &[u32])],
-) -> Result<(), Fail> {
-    let index = read(rt.alloc(), text.as_bytes(), true)?;
-    let outcome = expect_satisfiers(rt, &index, cases);
-    drop(index);
-    outcome
-}
-
 #[test]
 fn versioned_provides(rt: HostRuntime) -> Result<(), Fail> {
-    expect_satisfiers_in(
+    expect_shown(
         &rt,
         VERSIONED,
-        &[
-            (b"bar (>= 1.0)", &[2]),
-            (b"bar", &[1, 2]),
-            (b"bar (<< 1.0)", &[1]),
-            (b"Bar", &[]),
-        ],
+        &[Part::Satisfiers(&["bar (>= 1.0)", "bar", "bar (<< 1.0)", "Bar"])],
+        "bar (>= 1.0): [2]
+bar: [1, 2]
+bar (<< 1.0): [1]
+Bar: []
+",
     )?;
-    expect_satisfiers_in(
+    expect_shown(
         &rt,
         UNVERSIONED,
-        &[(b"bar (>= 1.0)", &[]), (b"bar", &[1, 2])],
-    )
-}
-
-fn expect_several_provides(rt: &(impl Abort + AllocGlobal), index: &Index) -> Result<(), Fail> {
-    assert!(rt; index.provides_of(b"v") == [(0, 0), (0, 1), (1, 1), (1, 2)].as_slice());
-    assert!(rt; index.provides_of(b"w") == [].as_slice());
-    assert!(rt; index.places_of(b"v") == [0, 2].as_slice());
-    expect_satisfiers(
-        rt,
-        index,
-        &[
-            (b"v", &[0, 1, 2]),
-            (b"v:any", &[0, 1, 2]),
-            (b"v:amd64 (>> 2)", &[1, 2]),
-            (b"v (= 1)", &[0]),
-            (b"v (= 2)", &[0]),
-            (b"v (= 6)", &[]),
-            (b"v:all", &[]),
-            (b"v:i386", &[]),
-            (b"x", &[1]),
-            (b"V", &[]),
-        ],
+        &[Part::Satisfiers(&["bar (>= 1.0)", "bar"])],
+        "bar (>= 1.0): []\nbar: [1, 2]\n",
     )
 }
 
 #[test]
 fn several_provides(rt: HostRuntime) -> Result<(), Fail> {
-    let index = read(rt.alloc(), TWICE.as_bytes(), true)?;
-    let outcome = expect_several_provides(&rt, &index);
-    drop(index);
-    outcome
-}
-
-fn expect_provided_twice(rt: &(impl Abort + AllocGlobal), index: &Index) -> Result<(), Fail> {
-    assert!(rt; index.provides_of(b"v") == [(0, 0), (0, 1), (1, 0)].as_slice());
-    assert!(rt; index.provides_of(b"w") == [].as_slice());
-    expect_satisfiers(
-        rt,
-        index,
+    expect_shown(
+        &rt,
+        TWICE,
         &[
-            (b"v", &[0, 1]),
-            (b"v (= 1)", &[0]),
-            (b"v (= 2)", &[0]),
-            (b"v (= 3)", &[]),
-            (b"v:i386", &[]),
+            Part::Name("v"),
+            Part::Name("w"),
+            Part::Satisfiers(&[
+                "v",
+                "v:any",
+                "v:amd64 (>> 2)",
+                "v (= 1)",
+                "v (= 2)",
+                "v (= 6)",
+                "v:all",
+                "v:i386",
+                "x",
+                "V",
+            ]),
         ],
+        "v: number Some(0), places [0, 2], provided [(0, 0), (0, 1), (1, 1), (1, 2)]
+w: number Some(1), places [1], provided []
+v: [0, 1, 2]
+v:any: [0, 1, 2]
+v:amd64 (>> 2): [1, 2]
+v (= 1): [0]
+v (= 2): [0]
+v (= 6): []
+v:all: []
+v:i386: []
+x: [1]
+V: []
+",
     )
 }
 
 #[test]
 fn provided_twice(rt: HostRuntime) -> Result<(), Fail> {
-    let index = read(rt.alloc(), PROVIDED.as_bytes(), true)?;
-    let outcome = expect_provided_twice(&rt, &index);
-    drop(index);
-    outcome
-}
-
-fn expect_mail_agents(rt: &(impl Abort + AllocGlobal), index: &Index) -> Result<(), Fail> {
-    assert!(rt; index.provides_of(b"mail-agent") == [(0, 0), (1, 0)].as_slice());
-    assert!(rt; index.places_of(b"mail-agent") == [].as_slice());
-    expect_satisfiers(
-        rt,
-        index,
-        &[(b"mail-agent", &[0, 1]), (b"mail-agent (= 1)", &[])],
+    expect_shown(
+        &rt,
+        PROVIDED,
+        &[
+            Part::Name("v"),
+            Part::Name("w"),
+            Part::Satisfiers(&["v", "v (= 1)", "v (= 2)", "v (= 3)", "v:i386"]),
+        ],
+        "v: number Some(0), places [0], provided [(0, 0), (0, 1), (1, 0)]
+w: number Some(1), places [1], provided []
+v: [0, 1]
+v (= 1): [0]
+v (= 2): [0]
+v (= 3): []
+v:i386: []
+",
     )
 }
 
 #[test]
 fn mail_agents(rt: HostRuntime) -> Result<(), Fail> {
-    let index = read(rt.alloc(), MAIL_AGENTS.as_bytes(), true)?;
-    let outcome = expect_mail_agents(&rt, &index);
-    drop(index);
-    outcome
+    expect_shown(
+        &rt,
+        MAIL_AGENTS,
+        &[
+            Part::Name("mail-agent"),
+            Part::Satisfiers(&["mail-agent", "mail-agent (= 1)"]),
+        ],
+        "mail-agent: number None, places [], provided [(0, 0), (1, 0)]
+mail-agent: [0, 1]
+mail-agent (= 1): []
+",
+    )
 }

@@ -2,7 +2,7 @@
 
 use std::alloc::{AllocError, Global};
 
-pub const VERSIONED: &str = "Package: foo
+pub const VERSIONED: &[u8] = b"Package: foo
 Version: 1
 Architecture: all
 Depends: bar (>= 1.0)
@@ -17,7 +17,7 @@ Architecture: all
 Provides: bar (= 1.0)
 ";
 
-pub const SPELLED: &str = "Package: a
+pub const SPELLED: &[u8] = b"Package: a
 Version: 1.0
 Architecture: amd64
 
@@ -35,7 +35,7 @@ Version: 1.00
 Architecture: amd64
 ";
 
-pub const TWICE: &str = "Package: v
+pub const TWICE: &[u8] = b"Package: v
 Version: 1
 Architecture: all
 Provides: v (= 2), v

@@ -1,0 +1,335 @@
+//! What is to be seen of an index, printed, so that a test compares one text.
+
+use crate::reading::{read, read_both};
+use deb_index::Index;
+use deb_relation::{Atom, parse_list};
+use std::alloc::{AllocError, Global};
+use std::process::Abort;
+use std::str::from_utf8;
+use std::test::Fail;
+
+/// A part of what is to be seen of an index.
+#[derive(Clone, Copy)]
+pub enum Part {
+    /// How many packages, stanzas, skipped ones and duplicates there are.
+    Counts,
+    /// How many packages are the foreground's.
+    Foreground,
+    Architecture,
+    /// Each package, with its own architecture, the number of its name, the places of its versions, and its mark.
+    Packages,
+    /// The names of packages by their numbers, each with its places.
+    Names,
+    /// The number of a name, the places of its packages, and the entries that provide it.
+    Name(&'static str),
+    EssentialNames,
+    Constraints,
+    /// How many groups and entries the fields of a package have, and the names in each.
+    Groups,
+    /// The row of each group, and whether it has other places than each package asked in turn.
+    AnswerRows,
+    /// The row of each entry, and whether it has other places than those that `satisfiers` finds.
+    HitRows,
+    /// How long the row of each group and of each entry is, and its first place.
+    RowEnds,
+    /// The answers to each group, and whether they are others than each package asked in turn. The lent list is filled before, and lent again for each group.
+    Answers,
+    /// The same, with the number of answers and the first in place of them all.
+    AnswerEnds,
+    /// Those who meet each of these atoms: as they are found, and each package asked in turn.
+    Satisfiers(&'static [&'static str]),
+    /// Those who meet each of these atoms as an alternative of a group, in the same way.
+    NeedSatisfiers(&'static [&'static str]),
+}
+
+fn text_of(bytes: &[u8]) -> &str {
+    from_utf8(bytes).unwrap_or("no UTF-8")
+}
+
+fn append_counts(out: &mut String, index: &Index) -> Result<(), AllocError> {
+    write!(
+        out,
+        "packages {}, stanzas {}, skipped {}, duplicates {}\n",
+        index.len(),
+        index.stanzas(),
+        index.skipped(),
+        index.duplicates()
+    )
+}
+
+fn append_packages(out: &mut String, index: &Index) -> Result<(), AllocError> {
+    for place in 0..index.len() {
+        let package = index.package(place);
+        write!(
+            out,
+            "{place}: {} {} {}",
+            text_of(package.name.as_slice()),
+            text_of(package.version.text()),
+            text_of(package.architecture.as_slice())
+        )?;
+        write!(
+            out,
+            ", name {}, versions {:?}, marked {}\n",
+            index.name_of(place),
+            index.versions_of(place),
+            package.multi_arch_allowed
+        )?;
+    }
+    Ok(())
+}
+
+fn append_names(out: &mut String, index: &Index) -> Result<(), AllocError> {
+    for number in 0..index.name_count() {
+        let (name, places) = (index.name_text(number), index.places_named(number));
+        write!(out, "name {number}: {}, places {places:?}\n", text_of(name))?;
+    }
+    Ok(())
+}
+
+fn append_name(out: &mut String, index: &Index, name: &str) -> Result<(), AllocError> {
+    write!(
+        out,
+        "{name}: number {:?}, places {:?}, provided {:?}\n",
+        index.name_number(name.as_bytes()),
+        index.places_of(name.as_bytes()),
+        index.provides_of(name.as_bytes())
+    )
+}
+
+fn append_constraints(out: &mut String, index: &Index) -> Result<(), AllocError> {
+    let constraints = index.constraints(*out.allocator())?;
+    write!(out, "{:?}\n", constraints.as_slice())
+}
+
+fn append_atom_names(out: &mut String, atoms: &[Atom]) -> Result<(), AllocError> {
+    for atom in atoms {
+        write!(out, " {}", text_of(atom.name.as_slice()))?;
+    }
+    out.push('\n')
+}
+
+fn append_groups(out: &mut String, index: &Index) -> Result<(), AllocError> {
+    for place in 0..index.len() {
+        let package = index.package(place);
+        write!(
+            out,
+            "{place}: Pre-Depends {}, Depends {}, Conflicts {}, Breaks {}\n",
+            package.pre_depends.len(),
+            package.depends.len(),
+            package.conflicts.len(),
+            package.breaks.len()
+        )?;
+        for number in 0..index.need_count(place) {
+            write!(out, "need {place} {number}:")?;
+            append_atom_names(out, index.need(place, number))?;
+        }
+        for number in 0..index.apart_count(place) {
+            let name = text_of(index.apart(place, number).name.as_slice());
+            write!(out, "apart {place} {number}: {name}\n")?;
+        }
+    }
+    Ok(())
+}
+
+/// The places of the packages that meet one of the atoms, each package asked in turn.
+fn met_in_turn(
+    alloc: Global,
+    index: &Index,
+    atoms: &[Atom],
+    as_need: bool,
+) -> Result<Vec<u32>, AllocError> {
+    let mut found = Vec::new(alloc);
+    for place in 0..index.len() {
+        for atom in atoms {
+            let meets = if as_need {
+                index.meets_need(place, atom)
+            } else {
+                index.meets(place, atom)
+            };
+            if meets {
+                found.push(place)?;
+                break;
+            }
+        }
+    }
+    Ok(found)
+}
+
+/// Adds what is remarked of places that had to be others.
+fn append_remark(out: &mut String, found: &[u32], wanted: &[u32]) -> Result<(), AllocError> {
+    if found == wanted {
+        out.push('\n')
+    } else {
+        write!(out, ", but {wanted:?}\n")
+    }
+}
+
+fn append_answer_rows(out: &mut String, index: &Index) -> Result<(), AllocError> {
+    let alloc = *out.allocator();
+    for place in 0..index.len() {
+        for number in 0..index.need_count(place) {
+            let row = index.answer_row(place, number);
+            write!(out, "need {place} {number}: {row:?}")?;
+            let asked = met_in_turn(alloc, index, index.need(place, number), true)?;
+            append_remark(out, row.unwrap_or(&asked), &asked)?;
+        }
+    }
+    Ok(())
+}
+
+fn append_hit_rows(out: &mut String, index: &Index) -> Result<(), AllocError> {
+    let alloc = *out.allocator();
+    for place in 0..index.len() {
+        for number in 0..index.apart_count(place) {
+            let row = index.hit_row(place, number);
+            write!(out, "apart {place} {number}: {row:?}")?;
+            let found = index.satisfiers(alloc, index.apart(place, number))?;
+            append_remark(out, row.unwrap_or(&found), &found)?;
+        }
+    }
+    Ok(())
+}
+
+fn append_ends(out: &mut String, places: Option<&[u32]>) -> Result<(), AllocError> {
+    match places {
+        Some(places) => write!(out, " {} from {:?}", places.len(), places.first()),
+        None => out.push_str(" none"),
+    }
+}
+
+fn append_row_ends(out: &mut String, index: &Index) -> Result<(), AllocError> {
+    for place in 0..index.len() {
+        for number in 0..index.need_count(place) {
+            write!(out, "need {place} {number}:")?;
+            append_ends(out, index.answer_row(place, number))?;
+            out.push('\n')?;
+        }
+        for number in 0..index.apart_count(place) {
+            write!(out, "apart {place} {number}:")?;
+            append_ends(out, index.hit_row(place, number))?;
+            out.push('\n')?;
+        }
+    }
+    Ok(())
+}
+
+fn append_answers(out: &mut String, index: &Index, whole: bool) -> Result<(), AllocError> {
+    let alloc = *out.allocator();
+    let mut lent = Vec::from_slice(alloc, &[9, 8])?;
+    for place in 0..index.len() {
+        for number in 0..index.need_count(place) {
+            let asked = met_in_turn(alloc, index, index.need(place, number), true)?;
+            let answers = index.answers(place, number, &mut lent)?;
+            write!(out, "answers {place} {number}:")?;
+            if whole {
+                write!(out, " {answers:?}")?;
+            } else {
+                append_ends(out, Some(answers))?;
+            }
+            append_remark(out, answers, &asked)?;
+        }
+    }
+    Ok(())
+}
+
+fn append_met(
+    out: &mut String,
+    index: &Index,
+    atoms: &[&'static str],
+    as_need: bool,
+) -> Result<(), AllocError> {
+    let alloc = *out.allocator();
+    for text in atoms {
+        let Ok(list) = parse_list(alloc, text.as_bytes()) else {
+            return write!(out, "{text}: no list\n");
+        };
+        for atom in &list {
+            let found = if as_need {
+                index.need_satisfiers(alloc, atom)?
+            } else {
+                index.satisfiers(alloc, atom)?
+            };
+            let kind = if as_need { " in a group" } else { "" };
+            write!(out, "{text}{kind}: {:?}", found.as_slice())?;
+            let asked = met_in_turn(alloc, index, &list, as_need)?;
+            append_remark(out, &found, &asked)?;
+        }
+    }
+    Ok(())
+}
+
+fn append_part(out: &mut String, index: &Index, part: Part) -> Result<(), AllocError> {
+    match part {
+        Part::Counts => append_counts(out, index),
+        Part::Foreground => write!(out, "foreground {}\n", index.foreground()),
+        Part::Architecture => write!(out, "architecture {}\n", text_of(index.arch())),
+        Part::Packages => append_packages(out, index),
+        Part::Names => append_names(out, index),
+        Part::Name(name) => append_name(out, index, name),
+        Part::EssentialNames => write!(out, "essential {:?}\n", index.essential_names()),
+        Part::Constraints => append_constraints(out, index),
+        Part::Groups => append_groups(out, index),
+        Part::AnswerRows => append_answer_rows(out, index),
+        Part::HitRows => append_hit_rows(out, index),
+        Part::RowEnds => append_row_ends(out, index),
+        Part::Answers => append_answers(out, index, true),
+        Part::AnswerEnds => append_answers(out, index, false),
+        Part::Satisfiers(atoms) => append_met(out, index, atoms, false),
+        Part::NeedSatisfiers(atoms) => append_met(out, index, atoms, true),
+    }
+}
+
+fn shown_of(alloc: Global, index: &Index, parts: &[Part]) -> Result<String, AllocError> {
+    let mut out = String::new(alloc);
+    for part in parts {
+        append_part(&mut out, index, *part)?;
+    }
+    Ok(out)
+}
+
+/// What is to be seen of a text's index.
+pub fn shown(alloc: Global, text: &[u8], essential: bool, parts: &[Part]) -> Result<String, Fail> {
+    let index = read(alloc, text, essential)?;
+    let out = shown_of(alloc, &index, parts);
+    drop(index);
+    Ok(out?)
+}
+
+/// What is to be seen of the index of a text and a background.
+pub fn shown_both(
+    alloc: Global,
+    text: &[u8],
+    background: &[u8],
+    essential: bool,
+    parts: &[Part],
+) -> Result<String, Fail> {
+    let index = read_both(alloc, text, background, essential)?;
+    let out = shown_of(alloc, &index, parts);
+    drop(index);
+    Ok(out?)
+}
+
+/// The parts of a text's index, where the essential names count, are these.
+pub fn expect_shown(
+    rt: &(impl Abort + AllocGlobal),
+    text: &[u8],
+    parts: &[Part],
+    wanted: &str,
+) -> Result<(), Fail> {
+    let found = shown(rt.alloc(), text, true, parts)?;
+    assert_eq!(rt; found.as_str(), wanted);
+    Ok(())
+}
+
+/// The parts of the index of a text and a background, where the essential names count, are these.
+pub fn expect_shown_both(
+    rt: &(impl Abort + AllocGlobal),
+    text: &[u8],
+    background: &[u8],
+    parts: &[Part],
+    wanted: &str,
+) -> Result<(), Fail> {
+    let found = shown_both(rt.alloc(), text, background, true, parts)?;
+    assert_eq!(rt; found.as_str(), wanted);
+    Ok(())
+}
