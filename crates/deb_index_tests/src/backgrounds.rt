@@ -69,8 +69,8 @@ foreground 1
 1: b 1 all, name 1, versions [1, 2], marked false
 2: b 2 all, name 1, versions [1, 2], marked false
 b: number Some(1), places [1, 2], provided []
-need 0 0: Some([1, 2])
-need 1 0: Some([])
+need 0 0: [1, 2]
+need 1 0: []
 ";
 
 #[test]
@@ -182,7 +182,7 @@ fn providers_of_the_other_text(rt: HostRuntime) -> Result<(), Fail> {
         &parts,
         "packages 4, stanzas 4, skipped 0, duplicates 0
 last: number Some(2), places [3], provided []
-need 3 0: Some([0, 1, 2])
+need 3 0: [0, 1, 2]
 ",
     )?;
     expect_shown_both(
@@ -192,7 +192,7 @@ need 3 0: Some([0, 1, 2])
         &parts,
         "packages 4, stanzas 4, skipped 0, duplicates 0
 last: number Some(0), places [0], provided []
-need 0 0: Some([1, 2, 3])
+need 0 0: [1, 2, 3]
 ",
     )
 }

@@ -105,7 +105,7 @@ fn fields_in_order(rt: HostRuntime) -> Result<(), Fail> {
         &rt,
         MIXED,
         &[Part::Groups],
-        "0: Pre-Depends 2, Depends 1, Conflicts 1, Breaks 1
+        "Pre-Depends 2, Depends 1, Conflicts 1, Breaks 1
 need 0 0: e1
 need 0 1: e2
 need 0 2: d1 d2

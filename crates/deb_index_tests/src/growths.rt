@@ -8,7 +8,7 @@ use crate::showing::{Part, expect_shown, expect_shown_both};
 use crate::texts::VERSIONED;
 use deb_index::{Constraint, Index};
 use deb_relation::{Atom, parse_list};
-use std::alloc::AllocError;
+use std::alloc::{AllocError, Global};
 use std::process::Abort;
 use std::test::Fail;
 
@@ -32,31 +32,38 @@ fn of_read_both(rt: HostRuntime) -> Result<(), Fail> {
     expect_shown_both(&rt, NEEDING, NEEDED, &USED, USED_SHOWN)
 }
 
+fn met(alloc: Global, index: &Index, atom: &Atom, as_need: bool) -> Result<Vec<u32>, AllocError> {
+    if as_need {
+        index.need_satisfiers(alloc, atom)
+    } else {
+        index.satisfiers(alloc, atom)
+    }
+}
+
 /// The call that was refused memory may be made again.
-fn expect_satisfiers(
+fn expect_met(
     rt: &(impl Abort + AllocGlobal),
     index: &Index,
     atom: &Atom,
+    as_need: bool,
     places: &[u32],
 ) -> Result<(), Fail> {
-    match index.satisfiers(rt.alloc(), atom) {
-        Ok(found) => {
-            assert!(rt; found.as_slice() == places);
-            Ok(())
-        }
-        Err(AllocError) => {
-            let again = index.satisfiers(rt.alloc(), atom)?;
-            assert!(rt; again.as_slice() == places);
-            Err(Fail::new("out of memory"))
-        }
+    let (found, refused) = match met(rt.alloc(), index, atom, as_need) {
+        Ok(found) => (found, false),
+        Err(AllocError) => (met(rt.alloc(), index, atom, as_need)?, true),
+    };
+    assert!(rt; found.as_slice() == places);
+    if refused {
+        return Err(Fail::new("out of memory"));
     }
+    Ok(())
 }
 
 fn expect_bounded(rt: &(impl Abort + AllocGlobal), index: &Index) -> Result<(), Fail> {
     let atoms = parse_list(rt.alloc(), b"bar (>= 1.0), bar")?;
     assert!(rt; atoms.len() == 2);
-    expect_satisfiers(rt, index, &atoms[0], &[2])?;
-    expect_satisfiers(rt, index, &atoms[1], &[1, 2])?;
+    expect_met(rt, index, &atoms[0], false, &[2])?;
+    expect_met(rt, index, &atoms[1], false, &[1, 2])?;
     assert!(rt; index.len() == 3);
     assert!(rt; !index.meets(1, &atoms[0]));
     Ok(())
@@ -73,17 +80,7 @@ fn of_satisfiers(rt: HostRuntime) -> Result<(), Fail> {
 fn expect_needed(rt: &(impl Abort + AllocGlobal), index: &Index) -> Result<(), Fail> {
     let atoms = parse_list(rt.alloc(), b"python3:any")?;
     assert!(rt; atoms.len() == 1);
-    match index.need_satisfiers(rt.alloc(), &atoms[0]) {
-        Ok(found) => {
-            assert!(rt; found.as_slice() == [2].as_slice());
-            Ok(())
-        }
-        Err(AllocError) => {
-            let again = index.need_satisfiers(rt.alloc(), &atoms[0])?;
-            assert!(rt; again.as_slice() == [2].as_slice());
-            Err(Fail::new("out of memory"))
-        }
-    }
+    expect_met(rt, index, &atoms[0], true, &[2])
 }
 
 #[test]

@@ -128,9 +128,9 @@ v:amd64: [1, 2]
 v:any in a group: [1]
 v in a group: [1, 2]
 v:amd64 in a group: [1, 2]
-need 0 0: Some([1])
-need 3 0: Some([2])
-apart 3 0: Some([1, 2])
+need 0 0: [1]
+need 3 0: [2]
+apart 3 0: [1, 2]
 ",
     )
 }

@@ -37,17 +37,17 @@ fn rows_of_groups(rt: HostRuntime) -> Result<(), Fail> {
         &rt,
         MIXED,
         &[Part::AnswerRows],
-        "need 0 0: Some([0, 1, 2, 3])
-need 0 1: Some([0])
-need 0 2: Some([0, 1, 2, 3])
-need 0 3: Some([0, 1, 2])
-need 0 4: Some([])
-need 0 5: Some([1])
-need 0 6: Some([0])
-need 0 7: Some([1])
-need 1 0: Some([0])
-need 3 0: Some([0, 1, 3])
-need 3 1: Some([0, 1, 2])
+        "need 0 0: [0, 1, 2, 3]
+need 0 1: [0]
+need 0 2: [0, 1, 2, 3]
+need 0 3: [0, 1, 2]
+need 0 4: []
+need 0 5: [1]
+need 0 6: [0]
+need 0 7: [1]
+need 1 0: [0]
+need 3 0: [0, 1, 3]
+need 3 1: [0, 1, 2]
 ",
     )
 }
@@ -79,12 +79,12 @@ fn rows_of_entries(rt: HostRuntime) -> Result<(), Fail> {
         &rt,
         MIXED,
         &[Part::HitRows],
-        "apart 0 0: Some([0])
-apart 0 1: Some([0, 1, 2])
-apart 0 2: Some([1])
-apart 0 3: Some([])
-apart 3 0: Some([2])
-apart 3 1: Some([1, 3])
+        "apart 0 0: [0]
+apart 0 1: [0, 1, 2]
+apart 0 2: [1]
+apart 0 3: []
+apart 3 0: [2]
+apart 3 1: [1, 3]
 ",
     )
 }
@@ -167,7 +167,12 @@ apart 0 0: 63 from Some(1)
         ),
     ] {
         let text = providers(rt.alloc(), ALONE_AND_BESIDE, count)?;
-        expect_shown(&rt, &text, &[Part::Counts, Part::RowEnds], wanted)?;
+        expect_shown(
+            &rt,
+            &text,
+            &[Part::Counts, Part::AnswerRowEnds, Part::HitRowEnds],
+            wanted,
+        )?;
     }
     Ok(())
 }
@@ -178,7 +183,7 @@ fn answers_of_long_groups(rt: HostRuntime) -> Result<(), Fail> {
     expect_shown(
         &rt,
         &text,
-        &[Part::Counts, Part::RowEnds, Part::AnswerEnds],
+        &[Part::Counts, Part::AnswerRowEnds, Part::AnswerEnds],
         "packages 71, stanzas 71, skipped 0, duplicates 0
 need 0 0: none
 need 0 1: none

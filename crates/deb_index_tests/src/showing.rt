@@ -1,7 +1,9 @@
 //! What is to be seen of an index, printed, so that a test compares one text.
 
+ghost use Rattle.std.specs.Prelude.{◌<◌, length};
+
 use crate::reading::{read, read_both};
-use deb_index::Index;
+use deb_index::{Index, Package};
 use deb_relation::{Atom, parse_list};
 use std::alloc::{AllocError, Global};
 use std::process::Abort;
@@ -26,19 +28,19 @@ pub enum Part {
     Constraints,
     /// How many groups and entries the fields of a package have, and the names in each.
     Groups,
-    /// The row of each group, and whether it has other places than each package asked in turn.
+    /// The row of each group, which has to have the places of the packages that answer it, each asked in turn.
     AnswerRows,
-    /// The row of each entry, and whether it has other places than those that `satisfiers` finds.
+    /// The same, with the number of places and the first in place of them all.
+    AnswerRowEnds,
+    /// The row of each entry, which has to have the places that `satisfiers` finds.
     HitRows,
-    /// How long the row of each group and of each entry is, and its first place.
-    RowEnds,
-    /// The answers to each group, and whether they are others than each package asked in turn. The lent list is filled before, and lent again for each group.
+    HitRowEnds,
+    /// The answers to each group, compared as its row is. The lent list is filled before, and lent again for each group.
     Answers,
-    /// The same, with the number of answers and the first in place of them all.
     AnswerEnds,
-    /// Those who meet each of these atoms: as they are found, and each package asked in turn.
+    /// The places that meet each of these atoms, which have to be those of the packages that do, each asked in turn.
     Satisfiers(&'static [&'static str]),
-    /// Those who meet each of these atoms as an alternative of a group, in the same way.
+    /// Those that meet each of these atoms as an alternative of a group, in the same way.
     NeedSatisfiers(&'static [&'static str]),
 }
 
@@ -101,6 +103,17 @@ fn append_constraints(out: &mut String, index: &Index) -> Result<(), AllocError>
     write!(out, "{:?}\n", constraints.as_slice())
 }
 
+fn append_field_counts(out: &mut String, package: &Package) -> Result<(), AllocError> {
+    write!(
+        out,
+        "Pre-Depends {}, Depends {}, Conflicts {}, Breaks {}\n",
+        package.pre_depends.len(),
+        package.depends.len(),
+        package.conflicts.len(),
+        package.breaks.len()
+    )
+}
+
 fn append_atom_names(out: &mut String, atoms: &[Atom]) -> Result<(), AllocError> {
     for atom in atoms {
         write!(out, " {}", text_of(atom.name.as_slice()))?;
@@ -108,25 +121,31 @@ fn append_atom_names(out: &mut String, atoms: &[Atom]) -> Result<(), AllocError>
     out.push('\n')
 }
 
+fn append_need_names(out: &mut String, index: &Index, place: u32) -> Result<(), AllocError>
+    requires { place < length index.now.packages }
+{
+    for number in 0..index.need_count(place) {
+        write!(out, "need {place} {number}:")?;
+        append_atom_names(out, index.need(place, number))?;
+    }
+    Ok(())
+}
+
+fn append_apart_names(out: &mut String, index: &Index, place: u32) -> Result<(), AllocError>
+    requires { place < length index.now.packages }
+{
+    for number in 0..index.apart_count(place) {
+        let name = text_of(index.apart(place, number).name.as_slice());
+        write!(out, "apart {place} {number}: {name}\n")?;
+    }
+    Ok(())
+}
+
 fn append_groups(out: &mut String, index: &Index) -> Result<(), AllocError> {
     for place in 0..index.len() {
-        let package = index.package(place);
-        write!(
-            out,
-            "{place}: Pre-Depends {}, Depends {}, Conflicts {}, Breaks {}\n",
-            package.pre_depends.len(),
-            package.depends.len(),
-            package.conflicts.len(),
-            package.breaks.len()
-        )?;
-        for number in 0..index.need_count(place) {
-            write!(out, "need {place} {number}:")?;
-            append_atom_names(out, index.need(place, number))?;
-        }
-        for number in 0..index.apart_count(place) {
-            let name = text_of(index.apart(place, number).name.as_slice());
-            write!(out, "apart {place} {number}: {name}\n")?;
-        }
+        append_field_counts(out, index.package(place))?;
+        append_need_names(out, index, place)?;
+        append_apart_names(out, index, place)?;
     }
     Ok(())
 }
@@ -155,59 +174,45 @@ fn met_in_turn(
     Ok(found)
 }
 
-/// Adds what is remarked of places that had to be others.
-fn append_remark(out: &mut String, found: &[u32], wanted: &[u32]) -> Result<(), AllocError> {
-    if found == wanted {
+/// Adds a row, whole or by its ends, and what it had to be where it is another.
+fn append_row(
+    out: &mut String,
+    row: Option<&[u32]>,
+    whole: bool,
+    wanted: &[u32],
+) -> Result<(), AllocError> {
+    let Some(places) = row else {
+        return out.push_str(" none\n");
+    };
+    if whole {
+        write!(out, " {places:?}")?;
+    } else {
+        write!(out, " {} from {:?}", places.len(), places.first())?;
+    }
+    if places == wanted {
         out.push('\n')
     } else {
         write!(out, ", but {wanted:?}\n")
     }
 }
 
-fn append_answer_rows(out: &mut String, index: &Index) -> Result<(), AllocError> {
-    let alloc = *out.allocator();
-    for place in 0..index.len() {
-        for number in 0..index.need_count(place) {
-            let row = index.answer_row(place, number);
-            write!(out, "need {place} {number}: {row:?}")?;
-            let asked = met_in_turn(alloc, index, index.need(place, number), true)?;
-            append_remark(out, row.unwrap_or(&asked), &asked)?;
-        }
-    }
-    Ok(())
-}
-
-fn append_hit_rows(out: &mut String, index: &Index) -> Result<(), AllocError> {
-    let alloc = *out.allocator();
-    for place in 0..index.len() {
-        for number in 0..index.apart_count(place) {
-            let row = index.hit_row(place, number);
-            write!(out, "apart {place} {number}: {row:?}")?;
-            let found = index.satisfiers(alloc, index.apart(place, number))?;
-            append_remark(out, row.unwrap_or(&found), &found)?;
-        }
-    }
-    Ok(())
-}
-
-fn append_ends(out: &mut String, places: Option<&[u32]>) -> Result<(), AllocError> {
-    match places {
-        Some(places) => write!(out, " {} from {:?}", places.len(), places.first()),
-        None => out.push_str(" none"),
-    }
-}
-
-fn append_row_ends(out: &mut String, index: &Index) -> Result<(), AllocError> {
+fn append_answer_rows(out: &mut String, index: &Index, whole: bool) -> Result<(), AllocError> {
     for place in 0..index.len() {
         for number in 0..index.need_count(place) {
             write!(out, "need {place} {number}:")?;
-            append_ends(out, index.answer_row(place, number))?;
-            out.push('\n')?;
+            let asked = met_in_turn(*out.allocator(), index, index.need(place, number), true)?;
+            append_row(out, index.answer_row(place, number), whole, &asked)?;
         }
+    }
+    Ok(())
+}
+
+fn append_hit_rows(out: &mut String, index: &Index, whole: bool) -> Result<(), AllocError> {
+    for place in 0..index.len() {
         for number in 0..index.apart_count(place) {
             write!(out, "apart {place} {number}:")?;
-            append_ends(out, index.hit_row(place, number))?;
-            out.push('\n')?;
+            let found = index.satisfiers(*out.allocator(), index.apart(place, number))?;
+            append_row(out, index.hit_row(place, number), whole, &found)?;
         }
     }
     Ok(())
@@ -218,15 +223,10 @@ fn append_answers(out: &mut String, index: &Index, whole: bool) -> Result<(), Al
     let mut lent = Vec::from_slice(alloc, &[9, 8])?;
     for place in 0..index.len() {
         for number in 0..index.need_count(place) {
+            write!(out, "answers {place} {number}:")?;
             let asked = met_in_turn(alloc, index, index.need(place, number), true)?;
             let answers = index.answers(place, number, &mut lent)?;
-            write!(out, "answers {place} {number}:")?;
-            if whole {
-                write!(out, " {answers:?}")?;
-            } else {
-                append_ends(out, Some(answers))?;
-            }
-            append_remark(out, answers, &asked)?;
+            append_row(out, Some(answers), whole, &asked)?;
         }
     }
     Ok(())
@@ -250,9 +250,9 @@ fn append_met(
                 index.satisfiers(alloc, atom)?
             };
             let kind = if as_need { " in a group" } else { "" };
-            write!(out, "{text}{kind}: {:?}", found.as_slice())?;
+            write!(out, "{text}{kind}:")?;
             let asked = met_in_turn(alloc, index, &list, as_need)?;
-            append_remark(out, &found, &asked)?;
+            append_row(out, Some(&found), true, &asked)?;
         }
     }
     Ok(())
@@ -269,9 +269,10 @@ fn append_part(out: &mut String, index: &Index, part: Part) -> Result<(), AllocE
         Part::EssentialNames => write!(out, "essential {:?}\n", index.essential_names()),
         Part::Constraints => append_constraints(out, index),
         Part::Groups => append_groups(out, index),
-        Part::AnswerRows => append_answer_rows(out, index),
-        Part::HitRows => append_hit_rows(out, index),
-        Part::RowEnds => append_row_ends(out, index),
+        Part::AnswerRows => append_answer_rows(out, index, true),
+        Part::AnswerRowEnds => append_answer_rows(out, index, false),
+        Part::HitRows => append_hit_rows(out, index, true),
+        Part::HitRowEnds => append_hit_rows(out, index, false),
         Part::Answers => append_answers(out, index, true),
         Part::AnswerEnds => append_answers(out, index, false),
         Part::Satisfiers(atoms) => append_met(out, index, atoms, false),
