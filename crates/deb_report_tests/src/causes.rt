@@ -1,28 +1,16 @@
 //! The block of causes.
 
-use crate::reporting::{named, report_on};
-use deb_index::Index;
-use deb_report::{Config, Show};
-use std::process::Abort;
+use crate::asking::{Asked, USUAL, expect_end};
+use deb_report::Show;
 use std::test::Fail;
 
-/// Whether the report on a text ends with this.
-fn expect_end(
-    rt: &(impl Abort + AllocGlobal),
-    text: &[u8],
-    config: &Config,
-    end: &str,
-) -> Result<(), Fail> {
-    if text.len() > 2_000 {
-        return Err("a longer text".into());
-    }
-    let index = Index::read(rt.alloc(), text, "amd64", true)?;
-    let text = report_on(rt.alloc(), &index, config)?;
-    assert!(rt; text.as_slice().ends_with(end.as_bytes()), "{end}");
-    Ok(())
-}
+/// What is asked where the report is to end with the causes.
+const CAUSES: Asked<'static> = Asked {
+    causes: true,
+    ..USUAL
+};
 
-const CHAIN: &[u8] = b"Package: a
+const CHAIN: &str = "Package: a
 Version: 1
 Architecture: all
 Depends: b
@@ -53,26 +41,32 @@ causes:
 
 #[test]
 fn one_cause_for_whatever_is_shown(rt: HostRuntime) -> Result<(), Fail> {
-    let mut config = Config::usual(rt.alloc())?;
-    config.causes = true;
     for explain in [true, false] {
-        config.explain = explain;
         for show in [Show::All, Show::Failures, Show::Successes] {
-            config.show = show;
-            expect_end(&rt, CHAIN, &config, CHAIN_CAUSES)?;
+            let asked = Asked {
+                explain,
+                show,
+                ..CAUSES
+            };
+            expect_end(&rt, CHAIN, &asked, CHAIN_CAUSES)?;
         }
     }
-    config.causes = false;
-    expect_end(&rt, CHAIN, &config, "asked: 3\nbroken: 2\n")
+    let without = Asked {
+        explain: false,
+        show: Show::Successes,
+        ..USUAL
+    };
+    expect_end(&rt, CHAIN, &without, "asked: 3\nbroken: 2\n")
 }
 
 /// The second of the packages alone, and a package that isn't broken.
 #[test]
 fn only_asked_packages_have_causes(rt: HostRuntime) -> Result<(), Fail> {
-    let mut config = Config::usual(rt.alloc())?;
-    config.causes = true;
-    config.only = Some(named(rt.alloc(), &[b"b", b"c"])?);
-    let one = "asked: 2
+    let two = Asked {
+        only: Some(&[b"b", b"c"]),
+        ..CAUSES
+    };
+    let one_cause = "asked: 2
 broken: 1
 causes:
  -
@@ -84,21 +78,22 @@ causes:
   broken:
    - b 1
 ";
-    expect_end(&rt, CHAIN, &config, one)?;
-    config.only = Some(named(rt.alloc(), &[b"c"])?);
-    expect_end(&rt, CHAIN, &config, "asked: 1\nbroken: 0\ncauses:\n")
+    expect_end(&rt, CHAIN, &two, one_cause)?;
+    let one = Asked {
+        only: Some(&[b"c"]),
+        ..CAUSES
+    };
+    expect_end(&rt, CHAIN, &one, "asked: 1\nbroken: 0\ncauses:\n")
 }
 
 #[test]
 fn no_causes_where_none_is_broken(rt: HostRuntime) -> Result<(), Fail> {
-    let mut config = Config::usual(rt.alloc())?;
-    config.causes = true;
-    expect_end(&rt, b"", &config, "asked: 0\nbroken: 0\ncauses:\n")
+    expect_end(&rt, "", &CAUSES, "asked: 0\nbroken: 0\ncauses:\n")
 }
 
 /// An essential package, one that conflicts with it, one that needs two versions of a name at once, and one of whose alternatives none is
 /// there as it is asked for. The last breaks a package behind it, so that its cause goes first.
-const KINDS: &[u8] = b"Package: e
+const KINDS: &str = "Package: e
 Version: 1
 Architecture: all
 Essential: yes
@@ -177,7 +172,5 @@ causes:
 
 #[test]
 fn causes_of_each_kind(rt: HostRuntime) -> Result<(), Fail> {
-    let mut config = Config::usual(rt.alloc())?;
-    config.causes = true;
-    expect_end(&rt, KINDS, &config, KINDS_CAUSES)
+    expect_end(&rt, KINDS, &CAUSES, KINDS_CAUSES)
 }

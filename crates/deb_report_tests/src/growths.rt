@@ -1,9 +1,11 @@
 //! One test for each call that can want memory; bench/growths runs them with each growth refused in turn.
 
-use crate::reporting::{named, verdicts_of};
-use deb_index::{Index, TEXT_LIMIT};
-use deb_report::{AskedFault, Config, Format, Show, asked_places, report};
-use std::alloc::AllocError;
+use crate::asking::{
+    Answer, Asked, USUAL, expect_places, expect_report, expect_report_on, on_index,
+};
+use deb_index::Index;
+use deb_report::{Config, Format, Show};
+use std::alloc::Global;
 use std::process::Abort;
 use std::test::Fail;
 
@@ -23,20 +25,16 @@ fn is_usual(config: &Config) -> bool {
 
 #[test]
 fn of_usual(rt: HostRuntime) -> Result<(), Fail> {
-    match Config::usual(rt.alloc()) {
-        Ok(config) => {
-            assert!(rt; is_usual(&config));
-            Ok(())
-        }
-        Err(AllocError) => Err(Fail::new("out of memory")),
-    }
+    let config = Config::usual(rt.alloc())?;
+    assert!(rt; is_usual(&config));
+    Ok(())
 }
 
-const ONE: &[u8] = b"Package: a
+const ONE: &str = "Package: a
 Version: 1
 Architecture: amd64";
 
-const TWO_NEEDED: &[u8] = b"Package: a
+const TWO_NEEDED: &str = "Package: a
 Version: 1
 Architecture: all
 Depends: b, c
@@ -51,48 +49,25 @@ Version: 1
 Architecture: all
 ";
 
-/// The places of the listed names, or the name that is unknown.
-fn expect_asked(
-    rt: &(impl Abort + AllocGlobal),
-    index: &Index,
-    names: &[&[u8]],
-    places: &[u32],
-    unknown: &[u8],
-) -> Result<(), Fail> {
-    let mut config = Config::usual(rt.alloc())?;
-    config.only = Some(named(rt.alloc(), names)?);
-    match asked_places(rt.alloc(), index, &config) {
-        Ok(asked) => {
-            assert!(rt; unknown.is_empty());
-            assert_eq!(rt; asked.as_slice(), places);
-        }
-        Err(AskedFault::Unknown { name }) => assert_eq!(rt; name.as_slice(), unknown),
-        Err(AskedFault::Memory) => return Err(Fail::new("out of memory")),
-    }
-    Ok(())
-}
-
-/// The same of the index of a text.
-fn expect_asked_of(
-    rt: &(impl Abort + AllocGlobal),
-    text: &[u8],
-    names: &[&[u8]],
-    places: &[u32],
-    unknown: &[u8],
-) -> Result<(), Fail> {
-    assert!(rt; text.len() <= TEXT_LIMIT);
-    let index = Index::read(rt.alloc(), text, "amd64", true)?;
-    expect_asked(rt, &index, names, places, unknown)
-}
-
 /// Two of three names, one of them twice, and a name that is unknown.
 #[test]
 fn of_asked_places(rt: HostRuntime) -> Result<(), Fail> {
-    expect_asked_of(&rt, TWO_NEEDED, &[b"b", b"a", b"b"], &[0, 1], b"")?;
-    expect_asked_of(&rt, ONE, &[b"zz"], &[], b"zz")
+    on_index(rt.alloc(), TWO_NEEDED, |index| {
+        let twice: &[&[u8]] = &[b"b", b"a", b"b"];
+        expect_places(&rt, rt.alloc(), index, Some(twice), Answer::Places(&[0, 1]))
+    })?;
+    on_index(rt.alloc(), ONE, |index| {
+        expect_places(
+            &rt,
+            rt.alloc(),
+            index,
+            Some(&[b"zz"]),
+            Answer::Unknown(b"zz"),
+        )
+    })
 }
 
-const CHAIN: &[u8] = b"Package: a
+const CHAIN: &str = "Package: a
 Version: 1
 Architecture: all
 Depends: b
@@ -144,41 +119,6 @@ asked: 3
 broken: 2
 ";
 
-/// The report on all three packages.
-fn expect_text(
-    rt: &(impl Abort + AllocGlobal),
-    index: &Index,
-    show: Show,
-    format: Format,
-    wanted: &str,
-) -> Result<(), Fail> {
-    let mut config = Config::usual(rt.alloc())?;
-    config.show = show;
-    config.format = format;
-    let asked = asked_places(rt.alloc(), index, &config)?;
-    let asked = asked.as_slice();
-    let verdicts = verdicts_of(rt.alloc(), index, asked)?;
-    match report(rt.alloc(), index, asked, verdicts.as_slice(), &config) {
-        Ok(text) => {
-            assert_eq!(rt; text.as_slice(), wanted.as_bytes());
-            Ok(())
-        }
-        Err(AllocError) => Err(Fail::new("out of memory")),
-    }
-}
-
-/// The same in lines, with these blocks.
-fn expect_shown(
-    rt: &(impl Abort + AllocGlobal),
-    index: &Index,
-    show: Show,
-    broken: &str,
-    ok: &str,
-) -> Result<(), Fail> {
-    let wanted = format!(in rt.alloc(); "{CHAIN_HEAD}{broken}{ok}{CHAIN_TAIL}")?;
-    expect_text(rt, index, show, Format::Text, wanted.as_str())
-}
-
 const CHAIN_CAUSES: &str = "causes:
  -
   packages: 2
@@ -194,53 +134,46 @@ const CHAIN_CAUSES: &str = "causes:
 /// The package that isn't broken, and the causes of the others.
 #[test]
 fn of_report_with_causes(rt: HostRuntime) -> Result<(), Fail> {
-    let index = Index::read(rt.alloc(), CHAIN, "amd64", true)?;
-    let outcome = expect_successes_with_causes(&rt, &index);
-    drop(index);
-    outcome
+    let asked = Asked {
+        show: Show::Successes,
+        causes: true,
+        ..USUAL
+    };
+    expect_report(
+        &rt,
+        CHAIN,
+        &asked,
+        &[CHAIN_HEAD, CHAIN_OK, CHAIN_TAIL, CHAIN_CAUSES],
+    )
 }
 
-fn expect_successes_with_causes(
-    rt: &(impl Abort + AllocGlobal),
+fn expect_shown(
+    rt: &impl Abort,
+    alloc: Global,
     index: &Index,
+    show: Show,
+    blocks: &[&str],
 ) -> Result<(), Fail> {
-    let mut config = Config::usual(rt.alloc())?;
-    config.show = Show::Successes;
-    config.causes = true;
-    expect_causes(rt, index, &config)
+    expect_report_on(rt, alloc, index, &Asked { show, ..USUAL }, blocks)
 }
 
-fn expect_causes(
-    rt: &(impl Abort + AllocGlobal),
-    index: &Index,
-    config: &Config,
-) -> Result<(), Fail> {
-    let asked = asked_places(rt.alloc(), index, config)?;
-    let asked = asked.as_slice();
-    let verdicts = verdicts_of(rt.alloc(), index, asked)?;
-    let wanted = format!(in rt.alloc(); "{CHAIN_HEAD}{CHAIN_OK}{CHAIN_TAIL}{CHAIN_CAUSES}")?;
-    match report(rt.alloc(), index, asked, verdicts.as_slice(), config) {
-        Ok(text) => {
-            assert_eq!(rt; text.as_slice(), wanted.as_bytes());
-            Ok(())
-        }
-        Err(AllocError) => Err(Fail::new("out of memory")),
-    }
+fn expect_each_shown(rt: &impl Abort, alloc: Global, index: &Index) -> Result<(), Fail> {
+    let failures = [CHAIN_HEAD, CHAIN_BROKEN, CHAIN_TAIL];
+    expect_shown(rt, alloc, index, Show::Failures, &failures)?;
+    let successes = [CHAIN_HEAD, CHAIN_OK, CHAIN_TAIL];
+    expect_shown(rt, alloc, index, Show::Successes, &successes)?;
+    let all = [CHAIN_HEAD, CHAIN_BROKEN, CHAIN_OK, CHAIN_TAIL];
+    expect_shown(rt, alloc, index, Show::All, &all)
 }
 
 /// Broken packages alone, the others alone, and all.
 #[test]
 fn of_report(rt: HostRuntime) -> Result<(), Fail> {
-    let index = Index::read(rt.alloc(), CHAIN, "amd64", true)?;
-    let outcome = expect_each_shown(&rt, &index);
-    drop(index);
-    outcome
-}
-
-fn expect_each_shown(rt: &(impl Abort + AllocGlobal), index: &Index) -> Result<(), Fail> {
-    expect_shown(rt, index, Show::Failures, CHAIN_BROKEN, "")?;
-    expect_shown(rt, index, Show::Successes, "", CHAIN_OK)?;
-    expect_shown(rt, index, Show::All, CHAIN_BROKEN, CHAIN_OK)
+    on_index(
+        rt.alloc(),
+        CHAIN,
+        |index| expect_each_shown(&rt, rt.alloc(), index),
+    )
 }
 
 const CHAIN_DOCUMENT: &str = r#"{"architecture":"amd64","report":[
@@ -253,8 +186,9 @@ const CHAIN_DOCUMENT: &str = r#"{"architecture":"amd64","report":[
 /// All packages, in JSON.
 #[test]
 fn of_json_report(rt: HostRuntime) -> Result<(), Fail> {
-    let index = Index::read(rt.alloc(), CHAIN, "amd64", true)?;
-    let outcome = expect_text(&rt, &index, Show::All, Format::Json, CHAIN_DOCUMENT);
-    drop(index);
-    outcome
+    let asked = Asked {
+        format: Format::Json,
+        ..USUAL
+    };
+    expect_report(&rt, CHAIN, &asked, &[CHAIN_DOCUMENT])
 }

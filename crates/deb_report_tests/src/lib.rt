@@ -1,9 +1,12 @@
 //! Tests of the public calls of `deb_report`.
 //!
-//! `reporting` makes the report on what is asked of an index. `parts` has the asked places and the report, each by itself, `causes` the block of
-//! causes, `growths` a test for each call that can want memory.
+//! `reporting` makes the report on what is asked of an index, `asking` compares what is asked of the index of a text with what is expected.
+//! `parts` has the asked places and the report, each by itself, `causes` the block of causes, `growths` a test for each call that can want
+//! memory.
 #![tactic(auto)]
 
+#[cfg(test)]
+mod asking;
 #[cfg(test)]
 mod causes;
 #[cfg(test)]
