@@ -1,106 +1,105 @@
 //! What is expected of the packages of an index, and whether it is found.
+//!
+//! It is a text with a line for each answer: the place of a package, and its verdict or its closure as `found` writes them.
 
-use crate::reading::read;
-use deb_index::{Constraint, Index};
+ghost use Rattle.std.specs.Prelude.{◌<◌, length};
+
+use crate::lent::on_index;
+use deb_index::Index;
 use deb_verdict::{Verdict, closure, verdict};
-use std::alloc::Global;
+use std::alloc::{AllocError, AllocGlobal, Global};
 use std::process::Abort;
 use std::test::Fail;
 
-/// What is expected of the package at a place: its set, its core or its closure.
-#[derive(Clone, Copy)]
-pub enum Expected<'a> {
-    Set(u32, &'a [u32]),
-    Core(u32, &'a [Constraint]),
-    Closure(u32, &'a [u32]),
-}
-
-pub fn is_found(found: &Verdict, wanted: &[u32]) -> bool {
+/// A verdict as `set [0, 2]` or `core [Need(0, 1)]`.
+pub fn written(alloc: Global, found: &Verdict) -> Result<String, AllocError> {
     match found {
-        Verdict::Ok(places) => places.as_slice() == wanted,
-        Verdict::Broken(_) => false,
+        Verdict::Ok(places) => format!(in alloc; "set {places:?}"),
+        Verdict::Broken(core) => format!(in alloc; "core {core:?}"),
     }
 }
 
-pub fn is_broken(found: &Verdict, wanted: &[Constraint]) -> bool {
-    match found {
-        Verdict::Ok(_) => false,
-        Verdict::Broken(core) => core.as_slice() == wanted,
-    }
-}
-
-fn expect_set(
-    rt: &impl Abort,
-    alloc: Global,
-    index: &Index,
-    p: u32,
-    wanted: &[u32],
-) -> Result<(), Fail> {
-    assert!(rt; p < index.len());
+/// The verdict of a package, as it is written.
+pub fn found_verdict(alloc: Global, index: &Index, p: u32) -> Result<String, AllocError>
+    requires { p < length index.now.packages }
+{
     let found = verdict(alloc, index, p)?;
-    assert!(rt; is_found(&found, wanted));
-    Ok(())
+    written(alloc, &found)
 }
 
-fn expect_core(
-    rt: &impl Abort,
-    alloc: Global,
-    index: &Index,
-    p: u32,
-    wanted: &[Constraint],
-) -> Result<(), Fail> {
-    assert!(rt; p < index.len());
-    let found = verdict(alloc, index, p)?;
-    assert!(rt; is_broken(&found, wanted));
-    Ok(())
-}
-
-fn expect_closure(
-    rt: &impl Abort,
-    alloc: Global,
-    index: &Index,
-    p: u32,
-    wanted: &[u32],
-) -> Result<(), Fail> {
-    assert!(rt; p < index.len());
+/// A closure as `closure [0, 1, 2]`.
+fn found_closure(alloc: Global, index: &Index, p: u32) -> Result<String, AllocError>
+    requires { p < length index.now.packages }
+{
     let members = closure(alloc, index, p)?;
-    assert!(rt; members.as_slice() == wanted);
-    Ok(())
+    format!(in alloc; "closure {members:?}")
 }
 
-fn expect_one(
-    rt: &impl Abort,
-    alloc: Global,
-    index: &Index,
-    expected: &Expected<'_>,
-) -> Result<(), Fail> {
-    match *expected {
-        Expected::Set(p, wanted) => expect_set(rt, alloc, index, p, wanted),
-        Expected::Core(p, wanted) => expect_core(rt, alloc, index, p, wanted),
-        Expected::Closure(p, wanted) => expect_closure(rt, alloc, index, p, wanted),
+/// What is found of a package: its closure where a closure is expected, else its verdict.
+fn found(alloc: Global, index: &Index, p: u32, wanted: &str) -> Result<String, AllocError>
+    requires { p < length index.now.packages }
+{
+    if wanted.starts_with("closure ") {
+        found_closure(alloc, index, p)
+    } else {
+        found_verdict(alloc, index, p)
     }
 }
 
-fn expect_each(
-    rt: &impl Abort,
-    alloc: Global,
+/// The place that a line begins with, and the answer that is expected there.
+fn parts(line: &str) -> Option<(u32, &str)> {
+    let (place, wanted) = line.split_once(' ')?;
+    let place = place.parse::<u32>().ok()?;
+    Some((place, wanted))
+}
+
+/// Compares what is found of the package at a place with what is expected.
+pub fn compare(rt: &impl Abort, p: u32, found: &str, wanted: &str) {
+    assert_eq!(rt; found, wanted, "place {p}");
+}
+
+fn expect_answer(
+    rt: &(impl Abort + AllocGlobal),
     index: &Index,
-    expected: &[Expected<'_>],
+    p: u32,
+    wanted: &str,
 ) -> Result<(), Fail> {
-    for one in expected {
-        expect_one(rt, alloc, index, one)?;
+    assert!(rt; p < index.len());
+    let found = found(rt.alloc(), index, p, wanted)?;
+    compare(rt, p, &found, wanted);
+    Ok(())
+}
+
+fn expect_line(rt: &(impl Abort + AllocGlobal), index: &Index, line: &str) -> Result<(), Fail> {
+    match parts(line) {
+        Some((p, wanted)) => expect_answer(rt, index, p, wanted),
+        None => Err(Fail::new("a line without a place")),
+    }
+}
+
+/// Compares what is found in an index with what is expected.
+pub fn expect_lines(
+    rt: &(impl Abort + AllocGlobal),
+    index: &Index,
+    expected: &str,
+) -> Result<(), Fail> {
+    for line in expected.lines() {
+        expect_line(rt, index, line)?;
     }
     Ok(())
 }
 
-/// Compares what is found in the index of a text with what is expected of its packages.
+/// The same of the index of a text.
 pub fn expect(
-    rt: &impl Abort,
-    alloc: Global,
-    text: &[u8],
+    rt: &(impl Abort + AllocGlobal),
+    text: &str,
     essential: bool,
-    expected: &[Expected<'_>],
+    expected: &str,
 ) -> Result<(), Fail> {
-    let index = read(alloc, text, essential)?;
-    expect_each(rt, alloc, &index, expected)
+    on_index(
+        rt.alloc(),
+        text,
+        essential,
+        |index| expect_lines(rt, index, expected),
+    )
 }

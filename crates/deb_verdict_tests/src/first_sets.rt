@@ -1,12 +1,11 @@
 //! First healthy sets where several answer a need, compared with answers that were found by hand.
 
-use crate::expected::{Expected, expect};
-use deb_index::Constraint;
+use crate::expected::expect;
 use std::test::Fail;
 
 #[test]
 fn alternatives_of_an_essential_package(rt: HostRuntime) -> Result<(), Fail> {
-    let text = b"Package: a
+    let text = "Package: a
 Version: 1
 Architecture: all
 Depends: b | c
@@ -39,21 +38,20 @@ Package: h
 Version: 1
 Architecture: all
 ";
-    let expected = [
-        Expected::Set(0, &[0, 2, 4]),
-        Expected::Set(1, &[1, 4, 5, 6]),
-        Expected::Set(2, &[2, 4, 6]),
-        Expected::Set(3, &[3, 4, 6]),
-        Expected::Set(4, &[4, 6]),
-        Expected::Closure(0, &[0, 1, 2, 3, 4, 5, 6]),
-        Expected::Closure(3, &[0, 1, 2, 3, 4, 5, 6]),
-    ];
-    expect(&rt, rt.alloc(), text, true, &expected)
+    let expected = "0 set [0, 2, 4]
+1 set [1, 4, 5, 6]
+2 set [2, 4, 6]
+3 set [3, 4, 6]
+4 set [4, 6]
+0 closure [0, 1, 2, 3, 4, 5, 6]
+3 closure [0, 1, 2, 3, 4, 5, 6]
+";
+    expect(&rt, text, true, expected)
 }
 
 #[test]
 fn all_versions_of_an_essential_name(rt: HostRuntime) -> Result<(), Fail> {
-    let text = b"Package: a
+    let text = "Package: a
 Version: 1
 Architecture: all
 
@@ -75,20 +73,19 @@ Package: c
 Version: 1
 Architecture: all
 ";
-    let expected = [
-        Expected::Set(0, &[0, 2]),
-        Expected::Set(1, &[1, 4]),
-        Expected::Set(2, &[2]),
-        Expected::Set(3, &[2, 3]),
-        Expected::Closure(0, &[0, 1, 2, 3, 4]),
-        Expected::Closure(2, &[1, 2, 3, 4]),
-    ];
-    expect(&rt, rt.alloc(), text, true, &expected)
+    let expected = "0 set [0, 2]
+1 set [1, 4]
+2 set [2]
+3 set [2, 3]
+0 closure [0, 1, 2, 3, 4]
+2 closure [1, 2, 3, 4]
+";
+    expect(&rt, text, true, expected)
 }
 
 #[test]
 fn needs_with_one_answer(rt: HostRuntime) -> Result<(), Fail> {
-    let text = b"Package: a
+    let text = "Package: a
 Version: 1
 Architecture: all
 Depends: b, c | d
@@ -127,21 +124,20 @@ Version: 1
 Architecture: all
 Depends: d
 ";
-    let expected = [
-        Expected::Set(0, &[0, 1, 2, 4, 5, 6]),
-        Expected::Set(2, &[1, 2, 4, 5, 6]),
-        Expected::Set(3, &[3, 5, 7]),
-        Expected::Set(5, &[5, 6]),
-        Expected::Set(7, &[3, 5, 7]),
-        Expected::Closure(0, &[0, 1, 2, 3, 4, 5, 6, 7]),
-        Expected::Closure(7, &[3, 5, 6, 7]),
-    ];
-    expect(&rt, rt.alloc(), text, true, &expected)
+    let expected = "0 set [0, 1, 2, 4, 5, 6]
+2 set [1, 2, 4, 5, 6]
+3 set [3, 5, 7]
+5 set [5, 6]
+7 set [3, 5, 7]
+0 closure [0, 1, 2, 3, 4, 5, 6, 7]
+7 closure [3, 5, 6, 7]
+";
+    expect(&rt, text, true, expected)
 }
 
 #[test]
 fn what_essential_packages_need(rt: HostRuntime) -> Result<(), Fail> {
-    let text = b"Package: e
+    let text = "Package: e
 Version: 1
 Architecture: all
 Essential: yes
@@ -172,22 +168,21 @@ Package: n
 Version: 2
 Architecture: all
 ";
-    let expected = [
-        Expected::Set(0, &[0, 1]),
-        Expected::Set(1, &[0, 1]),
-        Expected::Core(2, &[Constraint::Need(2, 1), Constraint::Apart(3, 0)]),
-        Expected::Set(3, &[0, 1, 3]),
-        Expected::Core(4, &[Constraint::Need(4, 0)]),
-        Expected::Set(5, &[0, 1, 5]),
-        Expected::Closure(0, &[0, 1, 2, 3, 5]),
-        Expected::Closure(4, &[0, 1, 2, 3, 4, 5]),
-    ];
-    expect(&rt, rt.alloc(), text, true, &expected)
+    let expected = "0 set [0, 1]
+1 set [0, 1]
+2 core [Need(2, 1), Apart(3, 0)]
+3 set [0, 1, 3]
+4 core [Need(4, 0)]
+5 set [0, 1, 5]
+0 closure [0, 1, 2, 3, 5]
+4 closure [0, 1, 2, 3, 4, 5]
+";
+    expect(&rt, text, true, expected)
 }
 
 #[test]
 fn answers_that_cannot_be_had(rt: HostRuntime) -> Result<(), Fail> {
-    let text = b"Package: a
+    let text = "Package: a
 Version: 2
 Architecture: all
 Depends: c
@@ -213,20 +208,19 @@ Version: 1
 Architecture: all
 Provides: c, d
 ";
-    let expected = [
-        Expected::Set(0, &[0, 4]),
-        Expected::Set(1, &[1, 4]),
-        Expected::Set(2, &[2]),
-        Expected::Core(3, &[Constraint::Need(3, 0)]),
-        Expected::Closure(0, &[0, 2, 3, 4]),
-        Expected::Closure(1, &[1, 3, 4]),
-    ];
-    expect(&rt, rt.alloc(), text, true, &expected)
+    let expected = "0 set [0, 4]
+1 set [1, 4]
+2 set [2]
+3 core [Need(3, 0)]
+0 closure [0, 2, 3, 4]
+1 closure [1, 3, 4]
+";
+    expect(&rt, text, true, expected)
 }
 
 #[test]
 fn hopeless_alternative_beside_a_good_one(rt: HostRuntime) -> Result<(), Fail> {
-    let text = b"Package: a
+    let text = "Package: a
 Version: 1
 Architecture: all
 Depends: b | d
@@ -245,11 +239,10 @@ Package: d
 Version: 1
 Architecture: all
 ";
-    let expected = [
-        Expected::Set(0, &[0, 3]),
-        Expected::Core(1, &[Constraint::Need(1, 0), Constraint::Need(2, 0)]),
-        Expected::Core(2, &[Constraint::Need(2, 0)]),
-        Expected::Closure(0, &[0, 1, 2, 3]),
-    ];
-    expect(&rt, rt.alloc(), text, true, &expected)
+    let expected = "0 set [0, 3]
+1 core [Need(1, 0), Need(2, 0)]
+2 core [Need(2, 0)]
+0 closure [0, 1, 2, 3]
+";
+    expect(&rt, text, true, expected)
 }

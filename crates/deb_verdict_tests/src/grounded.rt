@@ -1,9 +1,11 @@
-//! An index with its groundwork, and the verdicts over it.
+//! The groundwork of an index, and the verdicts over it.
 
 ghost use Rattle.std.specs.Prelude.{◌≡◌, ◌<◌, length};
 
+use crate::expected::{compare, written};
+use crate::lent::on_index;
 use deb_index::Index;
-use deb_verdict::{Groundwork, Verdict, Workspace, verdict_in};
+use deb_verdict::{Groundwork, Workspace, verdict_in};
 use std::alloc::{AllocError, Global};
 use std::process::Abort;
 use std::test::Fail;
@@ -23,27 +25,73 @@ impl<'a> Grounded<'a> {
         Ok(Grounded { index, groundwork })
     }
 
-    /// The verdict of the package at a place of the index. The error is want of memory.
+    /// The verdict of the package at a place of the index, as it is written. The error is want of memory.
     pub fn find(
         &self,
         alloc: Global,
         workspace: &mut Workspace,
         p: u32,
-    ) -> Result<Verdict, AllocError>
+    ) -> Result<String, AllocError>
         requires { p < length self.now.index.now.packages }
     {
-        verdict_in(alloc, workspace, &self.groundwork, p)
+        let found = verdict_in(alloc, workspace, &self.groundwork, p)?;
+        written(alloc, &found)
     }
 
-    /// The same, where the index has such a place; an error, too, where it has none.
-    pub fn verdict(
+    /// Compares the verdict of the package at a place with what is expected.
+    pub fn expect(
         &self,
         rt: &impl Abort,
         alloc: Global,
         workspace: &mut Workspace,
         p: u32,
-    ) -> Result<Verdict, Fail> {
+        wanted: &str,
+    ) -> Result<(), Fail> {
         assert!(rt; p < self.index.len());
-        Ok(self.find(alloc, workspace, p)?)
+        let found = self.find(alloc, workspace, p)?;
+        compare(rt, p, &found, wanted);
+        Ok(())
     }
+}
+
+/// Makes the groundwork of an index, and lends it to what asks for verdicts.
+pub fn on_groundwork<F>(alloc: Global, index: &Index, ask: F) -> Result<(), Fail>
+where
+    F: FnOnce(&Grounded<'_>) -> Result<(), Fail> + Drop,
+    requires { F.IsAlwaysCallable ask }
+{
+    let grounded = Grounded::new(alloc, index)?;
+    ask(&grounded)
+}
+
+/// Makes the groundwork of the index of a text, and lends it.
+pub fn on_ground<F>(alloc: Global, text: &str, ask: F) -> Result<(), Fail>
+where
+    F: FnOnce(&Grounded<'_>) -> Result<(), Fail> + Drop,
+    requires { F.IsAlwaysCallable ask }
+{
+    on_index(alloc, text, true, |index| on_groundwork(alloc, index, ask))
+}
+
+/// Makes a workspace, and lends it.
+pub fn on_workspace<F>(alloc: Global, ask: F) -> Result<(), Fail>
+where
+    F: FnOnce(&mut Workspace) -> Result<(), Fail> + Drop,
+    requires { F.IsAlwaysCallable ask }
+{
+    let mut workspace = Workspace::new(alloc)?;
+    ask(&mut workspace)
+}
+
+/// Makes a workspace and the groundworks of the indexes of two texts, and lends them.
+pub fn on_two<F>(alloc: Global, first: &str, second: &str, ask: F) -> Result<(), Fail>
+where
+    F: FnOnce(&mut Workspace, &Grounded<'_>, &Grounded<'_>) -> Result<(), Fail> + Drop,
+    requires { F.IsAlwaysCallable ask }
+{
+    on_ground(alloc, first, |first| {
+        on_ground(alloc, second, |second| {
+            on_workspace(alloc, |workspace| ask(workspace, first, second))
+        })
+    })
 }

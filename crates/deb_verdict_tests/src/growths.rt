@@ -1,15 +1,15 @@
 //! One test for each call that can want memory; bench/growths runs them with each growth refused in turn.
 
-use crate::expected::{is_broken, is_found};
-use crate::grounded::Grounded;
-use crate::reading::read;
-use deb_index::{Constraint, Index};
-use deb_verdict::{Workspace, closure, find_installable, verdict};
-use std::alloc::{AllocGlobal, Global};
+use crate::expected::{compare, expect, expect_lines};
+use crate::grounded::{Grounded, on_ground, on_two, on_workspace};
+use crate::installable::expect_marks;
+use crate::lent::on_index;
+use deb_verdict::Workspace;
+use std::alloc::Global;
 use std::process::Abort;
 use std::test::Fail;
 
-const ESSENTIAL_CONFLICT: &[u8] = b"Package: base
+const ESSENTIAL_CONFLICT: &str = "Package: base
 Version: 1
 Architecture: all
 Essential: yes
@@ -20,7 +20,7 @@ Architecture: all
 Conflicts: base
 ";
 
-const MISSING_FURTHER_DOWN: &[u8] = b"Package: a
+const MISSING_FURTHER_DOWN: &str = "Package: a
 Version: 1
 Architecture: all
 Depends: b
@@ -35,13 +35,13 @@ Version: 1
 Architecture: all
 ";
 
-const TWO_MISSING: &[u8] = b"Package: a
+const TWO_MISSING: &str = "Package: a
 Version: 1
 Architecture: all
 Depends: x, y
 ";
 
-const ALTERNATIVES: &[u8] = b"Package: a
+const ALTERNATIVES: &str = "Package: a
 Version: 1
 Architecture: all
 Depends: b | c
@@ -55,186 +55,83 @@ Version: 1
 Architecture: all
 ";
 
-fn expect_closure(
-    rt: &impl Abort,
-    alloc: Global,
-    index: &Index,
-    p: u32,
-    wanted: &[u32],
-) -> Result<(), Fail> {
-    assert!(rt; p < index.len());
-    match closure(alloc, index, p) {
-        Ok(members) => {
-            assert!(rt; members.as_slice() == wanted);
-            Ok(())
-        }
-        Err(_) => Err(Fail::new("out of memory")),
-    }
-}
-
-fn expect_chain(rt: &(impl Abort + AllocGlobal)) -> Result<(), Fail> {
-    let chain = read(rt.alloc(), MISSING_FURTHER_DOWN, true)?;
-    expect_closure(rt, rt.alloc(), &chain, 0, &[0, 1])
-}
-
-fn expect_conflict(rt: &(impl Abort + AllocGlobal)) -> Result<(), Fail> {
-    let conflict = read(rt.alloc(), ESSENTIAL_CONFLICT, true)?;
-    expect_closure(rt, rt.alloc(), &conflict, 1, &[0, 1])
-}
-
 #[test]
 fn of_closure(rt: HostRuntime) -> Result<(), Fail> {
-    expect_conflict(&rt)?;
-    expect_chain(&rt)
-}
-
-fn expect_verdict(rt: &impl Abort, alloc: Global, index: &Index) -> Result<(), Fail> {
-    assert!(rt; index.len() == 1);
-    match verdict(alloc, index, 0) {
-        Ok(found) => {
-            assert!(rt; is_broken(&found, &[Constraint::Need(0, 1)]));
-            Ok(())
-        }
-        Err(_) => Err(Fail::new("out of memory")),
-    }
+    expect(&rt, ESSENTIAL_CONFLICT, true, "1 closure [0, 1]")?;
+    expect(&rt, MISSING_FURTHER_DOWN, true, "0 closure [0, 1]")
 }
 
 #[test]
 fn of_verdict(rt: HostRuntime) -> Result<(), Fail> {
-    let index = read(rt.alloc(), TWO_MISSING, true)?;
-    expect_verdict(&rt, rt.alloc(), &index)
+    on_index(rt.alloc(), TWO_MISSING, true, |index| {
+        assert_eq!(rt; index.len(), 1);
+        expect_lines(&rt, index, "0 core [Need(0, 1)]")
+    })
 }
 
-/// The verdicts in a workspace. After a refusal the same workspace serves: what was left in it changes no answer.
-fn expect_broken_in(
+/// The verdict of the first package in a workspace. After a refusal the same workspace serves: what was left in it changes no answer.
+fn expect_again(
     rt: &impl Abort,
     alloc: Global,
     workspace: &mut Workspace,
     grounded: &Grounded<'_>,
+    wanted: &str,
 ) -> Result<(), Fail> {
-    assert!(rt; grounded.index.len() == 1);
-    let wanted = [Constraint::Need(0, 1)];
+    assert!(rt; grounded.index.len() > 0);
     match grounded.find(alloc, workspace, 0) {
         Ok(found) => {
-            assert!(rt; is_broken(&found, &wanted));
+            compare(rt, 0, &found, wanted);
             Ok(())
         }
         Err(_) => {
-            let again = grounded.find(alloc, workspace, 0)?;
-            assert!(rt; is_broken(&again, &wanted));
+            grounded.expect(rt, alloc, workspace, 0, wanted)?;
             Err(Fail::new("out of memory"))
         }
     }
 }
 
-fn expect_found_in(
+fn expect_both(
     rt: &impl Abort,
     alloc: Global,
     workspace: &mut Workspace,
-    grounded: &Grounded<'_>,
-) -> Result<(), Fail> {
-    assert!(rt; grounded.index.len() == 3);
-    match grounded.find(alloc, workspace, 0) {
-        Ok(found) => {
-            assert!(rt; is_found(&found, &[0, 2]));
-            Ok(())
-        }
-        Err(_) => {
-            let again = grounded.find(alloc, workspace, 0)?;
-            assert!(rt; is_found(&again, &[0, 2]));
-            Err(Fail::new("out of memory"))
-        }
-    }
-}
-
-fn expect_both_in_one(
-    rt: &impl Abort,
-    alloc: Global,
     broken: &Grounded<'_>,
     found: &Grounded<'_>,
 ) -> Result<(), Fail> {
-    let mut workspace = Workspace::new(alloc)?;
-    expect_broken_in(rt, alloc, &mut workspace, broken)?;
-    expect_found_in(rt, alloc, &mut workspace, found)
-}
-
-fn on_both_groundworks(
-    rt: &impl Abort,
-    alloc: Global,
-    broken: &Grounded<'_>,
-    alternatives: &Index,
-) -> Result<(), Fail> {
-    let found = Grounded::new(alloc, alternatives)?;
-    expect_both_in_one(rt, alloc, broken, &found)
-}
-
-fn on_one_groundwork(
-    rt: &impl Abort,
-    alloc: Global,
-    two_missing: &Index,
-    alternatives: &Index,
-) -> Result<(), Fail> {
-    let broken = Grounded::new(alloc, two_missing)?;
-    on_both_groundworks(rt, alloc, &broken, alternatives)
-}
-
-fn beside_alternatives(rt: &(impl Abort + AllocGlobal), two_missing: &Index) -> Result<(), Fail> {
-    let alternatives = read(rt.alloc(), ALTERNATIVES, true)?;
-    on_one_groundwork(rt, rt.alloc(), two_missing, &alternatives)
+    assert!(rt; broken.index.len() == 1 && found.index.len() == 3);
+    expect_again(rt, alloc, workspace, broken, "core [Need(0, 1)]")?;
+    expect_again(rt, alloc, workspace, found, "set [0, 2]")
 }
 
 #[test]
 fn of_verdict_in(rt: HostRuntime) -> Result<(), Fail> {
-    let two_missing = read(rt.alloc(), TWO_MISSING, true)?;
-    beside_alternatives(&rt, &two_missing)
+    on_two(
+        rt.alloc(),
+        TWO_MISSING,
+        ALTERNATIVES,
+        |workspace, broken, found| { expect_both(&rt, rt.alloc(), workspace, broken, found) },
+    )
 }
 
 /// The essential package that a groundwork knows of decides the verdict over it.
-fn expect_conflict_over(
-    rt: &impl Abort,
-    alloc: Global,
-    grounded: &Grounded<'_>,
-) -> Result<(), Fail> {
-    let mut workspace = Workspace::new(alloc)?;
-    let found = grounded.verdict(rt, alloc, &mut workspace, 1)?;
-    assert!(rt; is_broken(&found, &[Constraint::Essential(0), Constraint::Apart(1, 0)]));
-    Ok(())
-}
-
-fn expect_groundwork(rt: &impl Abort, alloc: Global, index: &Index) -> Result<(), Fail> {
-    match Grounded::new(alloc, index) {
-        Ok(grounded) => expect_conflict_over(rt, alloc, &grounded),
-        Err(_) => Err(Fail::new("out of memory")),
-    }
+fn expect_conflict(rt: &impl Abort, alloc: Global, grounded: &Grounded<'_>) -> Result<(), Fail> {
+    on_workspace(alloc, |workspace| {
+        grounded.expect(rt, alloc, workspace, 1, "core [Essential(0), Apart(1, 0)]")
+    })
 }
 
 #[test]
 fn of_groundwork(rt: HostRuntime) -> Result<(), Fail> {
-    let index = read(rt.alloc(), ESSENTIAL_CONFLICT, true)?;
-    expect_groundwork(&rt, rt.alloc(), &index)
-}
-
-fn expect_installable(rt: &impl Abort, alloc: Global, index: &Index) -> Result<(), Fail> {
-    assert!(rt; index.len() == 3);
-    match find_installable(alloc, index, &[0, 1, 2]) {
-        Ok(marks) => {
-            assert!(rt; marks.as_slice() == [true, true, true].as_slice());
-            Ok(())
-        }
-        Err(_) => Err(Fail::new("out of memory")),
-    }
+    on_ground(rt.alloc(), ESSENTIAL_CONFLICT, |grounded| {
+        expect_conflict(&rt, rt.alloc(), grounded)
+    })
 }
 
 #[test]
 fn of_find_installable(rt: HostRuntime) -> Result<(), Fail> {
-    let index = read(rt.alloc(), ALTERNATIVES, true)?;
-    expect_installable(&rt, rt.alloc(), &index)
+    expect_marks(&rt, ALTERNATIVES, &[0, 1, 2], &[true, true, true])
 }
 
 #[test]
 fn of_workspace(rt: HostRuntime) -> Result<(), Fail> {
-    match Workspace::new(rt.alloc()) {
-        Ok(_) => Ok(()),
-        Err(_) => Err(Fail::new("out of memory")),
-    }
+    on_workspace(rt.alloc(), |_| Ok(()))
 }

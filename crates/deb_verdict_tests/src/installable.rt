@@ -2,10 +2,10 @@
 
 ghost use Rattle.std.specs.Prelude.{◌<◌, All, IfOk, length};
 
-use crate::reading::read;
+use crate::lent::on_index;
 use deb_index::Index;
 use deb_verdict::find_installable;
-use std::alloc::Global;
+use std::alloc::{AllocGlobal, Global};
 use std::process::Abort;
 use std::test::Fail;
 
@@ -21,51 +21,34 @@ fn places(rt: &impl Abort, alloc: Global, index: &Index, asked: &[u32]) -> Resul
     Ok(places)
 }
 
-/// Which places are asked of, and which are expected to be marked.
-#[derive(Clone, Copy)]
-struct Marked<'a> {
-    asked: &'a [u32],
-    wanted: &'a [bool],
-}
-
-fn expect_one(
+fn expect_marks_of(
     rt: &impl Abort,
     alloc: Global,
     index: &Index,
-    marked: &Marked<'_>,
+    asked: &[u32],
+    wanted: &[bool],
 ) -> Result<(), Fail> {
-    let places = places(rt, alloc, index, marked.asked)?;
+    let places = places(rt, alloc, index, asked)?;
     let marks = find_installable(alloc, index, &places)?;
-    assert!(rt; marks.as_slice() == marked.wanted);
+    assert_eq!(rt; marks.as_slice(), wanted);
     Ok(())
 }
 
-fn expect_each(
-    rt: &impl Abort,
-    alloc: Global,
-    index: &Index,
-    expected: &[Marked<'_>],
+/// Compares which packages of a text are marked, where some places are asked for, with what is expected.
+pub fn expect_marks(
+    rt: &(impl Abort + AllocGlobal),
+    text: &str,
+    asked: &[u32],
+    wanted: &[bool],
 ) -> Result<(), Fail> {
-    for one in expected {
-        expect_one(rt, alloc, index, one)?;
-    }
-    Ok(())
-}
-
-/// Compares what is marked in the index of a text with what is expected.
-fn expect_marks(
-    rt: &impl Abort,
-    alloc: Global,
-    text: &[u8],
-    expected: &[Marked<'_>],
-) -> Result<(), Fail> {
-    let index = read(alloc, text, true)?;
-    expect_each(rt, alloc, &index, expected)
+    on_index(rt.alloc(), text, true, |index| {
+        expect_marks_of(rt, rt.alloc(), index, asked, wanted)
+    })
 }
 
 #[test]
 fn packages_apart_in_two_sets(rt: HostRuntime) -> Result<(), Fail> {
-    let text = b"Package: a
+    let text = "Package: a
 Version: 1
 Architecture: all
 Conflicts: b
@@ -84,16 +67,12 @@ Version: 1
 Architecture: all
 Depends: b
 ";
-    let expected = [Marked {
-        asked: &[0, 1, 2, 3],
-        wanted: &[true, true, false, true],
-    }];
-    expect_marks(&rt, rt.alloc(), text, &expected)
+    expect_marks(&rt, text, &[0, 1, 2, 3], &[true, true, false, true])
 }
 
 #[test]
 fn versions_of_one_name_in_two_sets(rt: HostRuntime) -> Result<(), Fail> {
-    let text = b"Package: a
+    let text = "Package: a
 Version: 1
 Architecture: all
 
@@ -111,16 +90,12 @@ Version: 1
 Architecture: all
 Depends: b, a (<< 2)
 ";
-    let expected = [Marked {
-        asked: &[0, 1, 2, 3],
-        wanted: &[true, true, true, false],
-    }];
-    expect_marks(&rt, rt.alloc(), text, &expected)
+    expect_marks(&rt, text, &[0, 1, 2, 3], &[true, true, true, false])
 }
 
 #[test]
 fn those_that_are_asked_and_what_they_need(rt: HostRuntime) -> Result<(), Fail> {
-    let text = b"Package: a
+    let text = "Package: a
 Version: 1
 Architecture: all
 Depends: absent | c
@@ -133,22 +108,13 @@ Package: c
 Version: 1
 Architecture: all
 ";
-    let expected = [
-        Marked {
-            asked: &[0],
-            wanted: &[true, false, true],
-        },
-        Marked {
-            asked: &[],
-            wanted: &[false, false, false],
-        },
-    ];
-    expect_marks(&rt, rt.alloc(), text, &expected)
+    expect_marks(&rt, text, &[0], &[true, false, true])?;
+    expect_marks(&rt, text, &[], &[false, false, false])
 }
 
 #[test]
 fn second_answer_where_the_first_leads_nowhere(rt: HostRuntime) -> Result<(), Fail> {
-    let text = b"Package: a
+    let text = "Package: a
 Version: 1
 Architecture: all
 Depends: b | d
@@ -167,16 +133,12 @@ Package: d
 Version: 1
 Architecture: all
 ";
-    let expected = [Marked {
-        asked: &[0, 1, 2, 3],
-        wanted: &[true, true, true, true],
-    }];
-    expect_marks(&rt, rt.alloc(), text, &expected)
+    expect_marks(&rt, text, &[0, 1, 2, 3], &[true, true, true, true])
 }
 
 #[test]
 fn essential_package_is_in_each_set(rt: HostRuntime) -> Result<(), Fail> {
-    let text = b"Package: a
+    let text = "Package: a
 Version: 1
 Architecture: all
 Conflicts: e
@@ -190,16 +152,12 @@ Package: f
 Version: 1
 Architecture: all
 ";
-    let expected = [Marked {
-        asked: &[0, 2],
-        wanted: &[false, true, true],
-    }];
-    expect_marks(&rt, rt.alloc(), text, &expected)
+    expect_marks(&rt, text, &[0, 2], &[false, true, true])
 }
 
 #[test]
 fn no_set_without_an_essential_package(rt: HostRuntime) -> Result<(), Fail> {
-    let text = b"Package: a
+    let text = "Package: a
 Version: 1
 Architecture: all
 
@@ -209,9 +167,5 @@ Architecture: all
 Essential: yes
 Depends: absent
 ";
-    let expected = [Marked {
-        asked: &[0, 1],
-        wanted: &[false, false],
-    }];
-    expect_marks(&rt, rt.alloc(), text, &expected)
+    expect_marks(&rt, text, &[0, 1], &[false, false])
 }

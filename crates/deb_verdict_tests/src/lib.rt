@@ -1,9 +1,9 @@
 //! Verdicts of small indexes, compared with answers that were found by hand or by trying all sets.
 //!
-//! `reading` makes an index of a text, `expected` says what is expected of its packages, `grounded` has an index with its groundwork.
-//! `verdicts`, `first_sets`, `cores` and `qualifiers` have worked examples, `installable` those of the packages that are marked as
-//! installable; `workspaces` asks for verdicts by turns in one workspace, `comparison` tries all sets of places and of constraints on
-//! generated indexes, and `growths` has a test for each call that can want memory.
+//! `reading` makes an index of a text and `lent` lends it, `expected` compares what is found with what is expected, `grounded` has an index
+//! with its groundwork. `verdicts`, `first_sets`, `cores` and `qualifiers` have worked examples, `installable` those of the packages that are
+//! marked as installable; `workspaces` asks for verdicts by turns in one workspace; `comparison` compares what is found in the indexes of
+//! `generated` with what `trial` comes to, and `growths` has a test for each call that can want memory.
 #![tactic(auto)]
 
 #[cfg(test)]
@@ -15,14 +15,20 @@ mod expected;
 #[cfg(test)]
 mod first_sets;
 #[cfg(test)]
+mod generated;
+#[cfg(test)]
 mod grounded;
 #[cfg(test)]
 mod growths;
 #[cfg(test)]
 mod installable;
 #[cfg(test)]
+mod lent;
+#[cfg(test)]
 mod qualifiers;
 pub mod reading;
+#[cfg(test)]
+mod trial;
 #[cfg(test)]
 mod verdicts;
 #[cfg(test)]

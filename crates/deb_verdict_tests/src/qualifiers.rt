@@ -1,13 +1,12 @@
 //! Verdicts and closures of indexes with the qualifier `any`, compared with answers that were found by hand.
 
-use crate::expected::{Expected, expect};
-use deb_index::Constraint;
+use crate::expected::expect;
 use std::alloc::{AllocError, Global};
 use std::test::Fail;
 
 #[test]
 fn any_is_not_met_without_the_mark(rt: HostRuntime) -> Result<(), Fail> {
-    let text = b"Package: a
+    let text = "Package: a
 Version: 1
 Architecture: all
 Depends: python3:any
@@ -25,20 +24,19 @@ Package: n
 Version: 1
 Architecture: all
 ";
-    let expected = [
-        Expected::Core(0, &[Constraint::Need(0, 0)]),
-        Expected::Core(1, &[Constraint::Need(1, 0)]),
-        Expected::Set(2, &[2]),
-        Expected::Set(3, &[3]),
-        Expected::Closure(0, &[0]),
-        Expected::Closure(1, &[1]),
-    ];
-    expect(&rt, rt.alloc(), text, true, &expected)
+    let expected = "0 core [Need(0, 0)]
+1 core [Need(1, 0)]
+2 set [2]
+3 set [3]
+0 closure [0]
+1 closure [1]
+";
+    expect(&rt, text, true, expected)
 }
 
 #[test]
 fn any_is_met_by_the_mark(rt: HostRuntime) -> Result<(), Fail> {
-    let text = b"Package: a
+    let text = "Package: a
 Version: 1
 Architecture: all
 Depends: python3:any
@@ -57,20 +55,19 @@ Package: n
 Version: 1
 Architecture: all
 ";
-    let expected = [
-        Expected::Set(0, &[0, 2]),
-        Expected::Core(1, &[Constraint::Need(1, 0)]),
-        Expected::Set(2, &[2]),
-        Expected::Set(3, &[3]),
-        Expected::Closure(0, &[0, 2]),
-        Expected::Closure(1, &[1]),
-    ];
-    expect(&rt, rt.alloc(), text, true, &expected)
+    let expected = "0 set [0, 2]
+1 core [Need(1, 0)]
+2 set [2]
+3 set [3]
+0 closure [0, 2]
+1 closure [1]
+";
+    expect(&rt, text, true, expected)
 }
 
 #[test]
 fn any_of_providers(rt: HostRuntime) -> Result<(), Fail> {
-    let text = b"Package: a
+    let text = "Package: a
 Version: 1
 Architecture: all
 Depends: v:any
@@ -93,18 +90,17 @@ Architecture: all
 Depends: p
 Conflicts: v:any
 ";
-    let expected = [
-        Expected::Set(0, &[0, 1]),
-        Expected::Set(1, &[1]),
-        Expected::Set(2, &[2]),
-        Expected::Core(3, &[Constraint::Need(3, 0), Constraint::Apart(3, 0)]),
-        Expected::Closure(0, &[0, 1]),
-        Expected::Closure(3, &[2, 3]),
-    ];
-    expect(&rt, rt.alloc(), text, true, &expected)
+    let expected = "0 set [0, 1]
+1 set [1]
+2 set [2]
+3 core [Need(3, 0), Apart(3, 0)]
+0 closure [0, 1]
+3 closure [2, 3]
+";
+    expect(&rt, text, true, expected)
 }
 
-const MARKED_IN_CONFLICT: &[u8] = b"Package: a
+const MARKED_IN_CONFLICT: &str = "Package: a
 Version: 1
 Architecture: all
 Depends: v:any, b
@@ -135,27 +131,25 @@ Depends: v, b
 /// Of the two that provide `v` the marked one alone answers `v:any`, and it keeps `b` out; without `any` the other one does.
 #[test]
 fn marked_package_in_conflict(rt: HostRuntime) -> Result<(), Fail> {
-    let expected = [
-        Expected::Core(
-            0,
-            &[
-                Constraint::Need(0, 0),
-                Constraint::Need(0, 1),
-                Constraint::Apart(1, 0),
-            ],
-        ),
-        Expected::Closure(0, &[0, 1, 3]),
-        Expected::Set(4, &[2, 3, 4]),
-        Expected::Closure(4, &[1, 2, 3, 4]),
-    ];
-    expect(&rt, rt.alloc(), MARKED_IN_CONFLICT, true, &expected)
+    let expected = "0 core [Need(0, 0), Need(0, 1), Apart(1, 0)]
+0 closure [0, 1, 3]
+4 set [2, 3, 4]
+4 closure [1, 2, 3, 4]
+";
+    expect(&rt, MARKED_IN_CONFLICT, true, expected)
 }
 
-/// The text of `a` and `c`, which need `v` with `any`, of 70 packages that provide it, every tenth of them marked, and of what these need.
-fn many_providers(alloc: Global) -> Result<String, AllocError> {
-    let mut text = String::new(alloc);
-    text.push_str(
-        "Package: a
+/// A package that provides `v`; with the mark it needs `y`, and without it provides `u`, too.
+fn add_provider(text: &mut String, number: u32, is_marked: bool) -> Result<(), AllocError> {
+    write!(text, "Package: x{number}\nVersion: 1\nArchitecture: all\n")?;
+    text.push_str(if is_marked {
+        "Provides: v\nDepends: y\nMulti-Arch: allowed\n\n"
+    } else {
+        "Provides: v, u\n\n"
+    })
+}
+
+const MANY_PROVIDERS_HEAD: &str = "Package: a
 Version: 1
 Architecture: all
 Depends: u:any | v:any
@@ -166,18 +160,20 @@ Architecture: all
 Depends: v:any
 Conflicts: y
 
-",
-    )?;
+";
+
+fn add_many_providers(text: &mut String) -> Result<(), AllocError> {
+    text.push_str(MANY_PROVIDERS_HEAD)?;
     for number in 0..70 {
-        let head = format!(in alloc; "Package: x{number}\nVersion: 1\nArchitecture: all\n")?;
-        text.push_str(&head)?;
-        text.push_str(if number % 10 == 9 {
-            "Provides: v\nDepends: y\nMulti-Arch: allowed\n\n"
-        } else {
-            "Provides: v, u\n\n"
-        })?;
+        add_provider(text, number, number % 10 == 9)?;
     }
-    text.push_str("Package: y\nVersion: 1\nArchitecture: all\n")?;
+    text.push_str("Package: y\nVersion: 1\nArchitecture: all\n")
+}
+
+/// The text of `a` and `c`, which need `v` with `any`, of 70 packages that provide it, every tenth of them marked, and of what these need.
+fn many_providers(alloc: Global) -> Result<String, AllocError> {
+    let mut text = String::new(alloc);
+    add_many_providers(&mut text)?;
     Ok(text)
 }
 
@@ -185,23 +181,9 @@ Conflicts: y
 #[test]
 fn any_of_more_than_64_providers(rt: HostRuntime) -> Result<(), Fail> {
     let text = many_providers(rt.alloc())?;
-    let expected = [
-        Expected::Set(0, &[0, 71, 72]),
-        Expected::Closure(0, &[0, 11, 21, 31, 41, 51, 61, 71, 72]),
-        Expected::Core(
-            1,
-            &[
-                Constraint::Need(1, 0),
-                Constraint::Apart(1, 0),
-                Constraint::Need(11, 0),
-                Constraint::Need(21, 0),
-                Constraint::Need(31, 0),
-                Constraint::Need(41, 0),
-                Constraint::Need(51, 0),
-                Constraint::Need(61, 0),
-                Constraint::Need(71, 0),
-            ],
-        ),
-    ];
-    expect(&rt, rt.alloc(), text.as_bytes(), true, &expected)
+    let expected = "0 set [0, 71, 72]
+0 closure [0, 11, 21, 31, 41, 51, 61, 71, 72]
+1 core [Need(1, 0), Apart(1, 0), Need(11, 0), Need(21, 0), Need(31, 0), Need(41, 0), Need(51, 0), Need(61, 0), Need(71, 0)]
+";
+    expect(&rt, &text, true, expected)
 }

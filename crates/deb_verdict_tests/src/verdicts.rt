@@ -1,12 +1,11 @@
 //! Verdicts and closures of small indexes, compared with answers that were found by hand.
 
-use crate::expected::{Expected, expect};
-use deb_index::Constraint;
+use crate::expected::expect;
 use std::test::Fail;
 
 #[test]
 fn alternatives(rt: HostRuntime) -> Result<(), Fail> {
-    let text = b"Package: a
+    let text = "Package: a
 Version: 1
 Architecture: all
 Depends: b | c
@@ -19,30 +18,30 @@ Package: c
 Version: 1
 Architecture: all
 ";
-    let expected = [
-        Expected::Set(0, &[0, 2]),
-        Expected::Set(1, &[1]),
-        Expected::Set(2, &[2]),
-        Expected::Closure(0, &[0, 1, 2]),
-        Expected::Closure(2, &[2]),
-    ];
-    expect(&rt, rt.alloc(), text, true, &expected)
+    let expected = "0 set [0, 2]
+1 set [1]
+2 set [2]
+0 closure [0, 1, 2]
+2 closure [2]
+";
+    expect(&rt, text, true, expected)
 }
 
 #[test]
 fn first_core_lacks_the_earlier(rt: HostRuntime) -> Result<(), Fail> {
-    let text = b"Package: a
+    let text = "Package: a
 Version: 1
 Architecture: all
 Depends: x, y
 ";
-    let expected = [Expected::Core(0, &[Constraint::Need(0, 1)])];
-    expect(&rt, rt.alloc(), text, true, &expected)
+    let expected = "0 core [Need(0, 1)]
+";
+    expect(&rt, text, true, expected)
 }
 
 #[test]
 fn missing_further_down(rt: HostRuntime) -> Result<(), Fail> {
-    let text = b"Package: a
+    let text = "Package: a
 Version: 1
 Architecture: all
 Depends: b
@@ -56,18 +55,17 @@ Package: c
 Version: 1
 Architecture: all
 ";
-    let expected = [
-        Expected::Core(0, &[Constraint::Need(0, 0), Constraint::Need(1, 0)]),
-        Expected::Core(1, &[Constraint::Need(1, 0)]),
-        Expected::Set(2, &[2]),
-        Expected::Closure(0, &[0, 1]),
-    ];
-    expect(&rt, rt.alloc(), text, true, &expected)
+    let expected = "0 core [Need(0, 0), Need(1, 0)]
+1 core [Need(1, 0)]
+2 set [2]
+0 closure [0, 1]
+";
+    expect(&rt, text, true, expected)
 }
 
 #[test]
 fn mail_agents(rt: HostRuntime) -> Result<(), Fail> {
-    let text = b"Package: m1
+    let text = "Package: m1
 Version: 1
 Architecture: all
 Provides: mail-agent
@@ -84,24 +82,16 @@ Version: 1
 Architecture: all
 Depends: m1, m2
 ";
-    let expected = [
-        Expected::Set(0, &[0]),
-        Expected::Set(1, &[1]),
-        Expected::Core(
-            2,
-            &[
-                Constraint::Apart(1, 0),
-                Constraint::Need(2, 0),
-                Constraint::Need(2, 1),
-            ],
-        ),
-    ];
-    expect(&rt, rt.alloc(), text, true, &expected)
+    let expected = "0 set [0]
+1 set [1]
+2 core [Apart(1, 0), Need(2, 0), Need(2, 1)]
+";
+    expect(&rt, text, true, expected)
 }
 
 #[test]
 fn conflict_between_dependencies(rt: HostRuntime) -> Result<(), Fail> {
-    let text = b"Package: a
+    let text = "Package: a
 Version: 1
 Architecture: all
 Depends: b, c
@@ -115,24 +105,16 @@ Package: c
 Version: 1
 Architecture: all
 ";
-    let expected = [
-        Expected::Core(
-            0,
-            &[
-                Constraint::Need(0, 0),
-                Constraint::Need(0, 1),
-                Constraint::Apart(1, 0),
-            ],
-        ),
-        Expected::Set(1, &[1]),
-        Expected::Set(2, &[2]),
-    ];
-    expect(&rt, rt.alloc(), text, true, &expected)
+    let expected = "0 core [Need(0, 0), Need(0, 1), Apart(1, 0)]
+1 set [1]
+2 set [2]
+";
+    expect(&rt, text, true, expected)
 }
 
 #[test]
 fn versioned_provides(rt: HostRuntime) -> Result<(), Fail> {
-    let text = b"Package: foo
+    let text = "Package: foo
 Version: 1
 Architecture: all
 Depends: bar (>= 1.0)
@@ -146,17 +128,16 @@ Version: 1
 Architecture: all
 Provides: bar (= 1.0)
 ";
-    let expected = [
-        Expected::Set(0, &[0, 2]),
-        Expected::Set(1, &[1]),
-        Expected::Set(2, &[2]),
-    ];
-    expect(&rt, rt.alloc(), text, true, &expected)
+    let expected = "0 set [0, 2]
+1 set [1]
+2 set [2]
+";
+    expect(&rt, text, true, expected)
 }
 
 #[test]
 fn unversioned_provides(rt: HostRuntime) -> Result<(), Fail> {
-    let text = b"Package: foo
+    let text = "Package: foo
 Version: 1
 Architecture: all
 Depends: bar (>= 1.0)
@@ -170,17 +151,16 @@ Version: 1
 Architecture: all
 Provides: bar
 ";
-    let expected = [
-        Expected::Core(0, &[Constraint::Need(0, 0)]),
-        Expected::Set(1, &[1]),
-        Expected::Set(2, &[2]),
-    ];
-    expect(&rt, rt.alloc(), text, true, &expected)
+    let expected = "0 core [Need(0, 0)]
+1 set [1]
+2 set [2]
+";
+    expect(&rt, text, true, expected)
 }
 
 #[test]
 fn two_versions(rt: HostRuntime) -> Result<(), Fail> {
-    let text = b"Package: n
+    let text = "Package: n
 Version: 1
 Architecture: all
 
@@ -198,26 +178,17 @@ Version: 1
 Architecture: all
 Depends: n (= 2)
 ";
-    let expected = [
-        Expected::Set(0, &[0]),
-        Expected::Set(1, &[1]),
-        Expected::Core(
-            2,
-            &[
-                Constraint::Need(2, 0),
-                Constraint::Need(2, 1),
-                Constraint::Need(3, 0),
-                Constraint::Only(0),
-            ],
-        ),
-        Expected::Set(3, &[1, 3]),
-    ];
-    expect(&rt, rt.alloc(), text, true, &expected)
+    let expected = "0 set [0]
+1 set [1]
+2 core [Need(2, 0), Need(2, 1), Need(3, 0), Only(0)]
+3 set [1, 3]
+";
+    expect(&rt, text, true, expected)
 }
 
 #[test]
 fn essential_conflict(rt: HostRuntime) -> Result<(), Fail> {
-    let text = b"Package: base
+    let text = "Package: base
 Version: 1
 Architecture: all
 Essential: yes
@@ -227,19 +198,20 @@ Version: 1
 Architecture: all
 Conflicts: base
 ";
-    let expected = [
-        Expected::Set(0, &[0]),
-        Expected::Core(1, &[Constraint::Essential(0), Constraint::Apart(1, 0)]),
-        Expected::Closure(1, &[0, 1]),
-    ];
-    expect(&rt, rt.alloc(), text, true, &expected)?;
-    let without = [Expected::Set(1, &[1]), Expected::Closure(1, &[1])];
-    expect(&rt, rt.alloc(), text, false, &without)
+    let expected = "0 set [0]
+1 core [Essential(0), Apart(1, 0)]
+1 closure [0, 1]
+";
+    expect(&rt, text, true, expected)?;
+    let without = "1 set [1]
+1 closure [1]
+";
+    expect(&rt, text, false, without)
 }
 
 #[test]
 fn essential_packages_in_conflict(rt: HostRuntime) -> Result<(), Fail> {
-    let text = b"Package: e1
+    let text = "Package: e1
 Version: 1
 Architecture: all
 Essential: yes
@@ -254,35 +226,27 @@ Package: z
 Version: 1
 Architecture: all
 ";
-    let expected = [
-        Expected::Core(0, &[Constraint::Essential(1), Constraint::Apart(0, 0)]),
-        Expected::Core(1, &[Constraint::Essential(0), Constraint::Apart(0, 0)]),
-        Expected::Core(
-            2,
-            &[
-                Constraint::Essential(0),
-                Constraint::Essential(1),
-                Constraint::Apart(0, 0),
-            ],
-        ),
-    ];
-    expect(&rt, rt.alloc(), text, true, &expected)
+    let expected = "0 core [Essential(1), Apart(0, 0)]
+1 core [Essential(0), Apart(0, 0)]
+2 core [Essential(0), Essential(1), Apart(0, 0)]
+";
+    expect(&rt, text, true, expected)
 }
 
 #[test]
 fn own_dependency(rt: HostRuntime) -> Result<(), Fail> {
-    let text = b"Package: s
+    let text = "Package: s
 Version: 1
 Architecture: all
 Depends: s, v
 Provides: v
 ";
-    expect(&rt, rt.alloc(), text, true, &[Expected::Set(0, &[0])])
+    expect(&rt, text, true, "0 set [0]")
 }
 
 #[test]
 fn pre_depends_and_breaks(rt: HostRuntime) -> Result<(), Fail> {
-    let text = b"Package: a
+    let text = "Package: a
 Version: 1
 Architecture: all
 Depends: c
@@ -297,17 +261,9 @@ Version: 1
 Architecture: all
 Breaks: b (<< 2)
 ";
-    let expected = [
-        Expected::Core(
-            0,
-            &[
-                Constraint::Need(0, 0),
-                Constraint::Need(0, 1),
-                Constraint::Apart(2, 0),
-            ],
-        ),
-        Expected::Set(2, &[2]),
-        Expected::Closure(0, &[0, 1, 2]),
-    ];
-    expect(&rt, rt.alloc(), text, true, &expected)
+    let expected = "0 core [Need(0, 0), Need(0, 1), Apart(2, 0)]
+2 set [2]
+0 closure [0, 1, 2]
+";
+    expect(&rt, text, true, expected)
 }
