@@ -2,13 +2,14 @@
 
 ghost use Rattle.std.specs.Prelude.{◌≡◌, ◌<◌, ◌≤◌, IfOk, false};
 
-use crate::devices::{Held, sink_of, source_of};
+use crate::devices::{Feed, Held, sink_of, source_of};
 use crate::runs::{EMPTY, run_alone};
 use crate::whole_texts::told_by;
 use debcheck::{Config, RunFault, Summary, fault_line, read_all, status, write_fault};
 use std::alloc::{AllocError, Global};
 use std::process::Abort;
 use std::test::Fail;
+use std::thread::Threads;
 
 /// Three bytes where three are allowed, one more, and a reader that fails.
 #[test]
@@ -37,7 +38,16 @@ fn expect_read(
     let mut reader = source_of(text.as_bytes(), 1);
     reader.fails = fails;
     let outcome = read_all(rt.alloc(), &mut reader, 3);
-    let told = told_by(&outcome);
+    expect_told(rt, &reader, told_by(&outcome), wanted, reads)
+}
+
+fn expect_told(
+    rt: &impl Abort,
+    reader: &Feed<'_>,
+    told: &[u8],
+    wanted: &str,
+    reads: u32,
+) -> Result<(), Fail> {
     if told == b"no memory".as_slice() {
         assert!(rt; !reader.failed);
         return Err(Fail::new("out of memory"));
@@ -99,20 +109,33 @@ fn expect_report(
 #[test]
 fn of_run(rt: HostRuntime) -> Result<(), Fail> {
     let config = config_with(rt.alloc(), 2)?;
-    let mut output = sink_with_room(rt.alloc(), 1, 0)?;
-    let mut nothing = source_of(b"", 1);
-    let outcome = run_alone(&rt, &config, &mut nothing, &mut output);
-    expect_report(&rt, &output, &outcome, EMPTY, 0)
+    expect_run(&rt, &config, 0)
 }
 
 /// The same, and the writer fails at its fifth call.
 #[test]
 fn of_run_with_a_failing_writer(rt: HostRuntime) -> Result<(), Fail> {
     let config = config_with(rt.alloc(), 2)?;
-    let mut output = sink_with_room(rt.alloc(), 1, 5)?;
+    expect_run(&rt, &config, 5)
+}
+
+/// What a run comes to whose writer fails at this call, which count from 1.
+fn expect_run(
+    rt: &(impl Abort + Threads + Sync + AllocGlobal),
+    config: &Config,
+    fails_at: u32,
+) -> Result<(), Fail>
+    requires workers { (0 < config.now.workers) × (config.now.workers ≤ 64) }
+    requires chunk { 0 < config.now.chunk }
+{
+    let mut output = sink_with_room(rt.alloc(), 1, fails_at)?;
     let mut nothing = source_of(b"", 1);
-    let outcome = run_alone(&rt, &config, &mut nothing, &mut output);
-    expect_front(&rt, &output, &outcome)
+    let outcome = run_alone(rt, config, &mut nothing, &mut output);
+    if fails_at > 0 {
+        expect_front(rt, &output, &outcome)
+    } else {
+        expect_report(rt, &output, &outcome, EMPTY, 0)
+    }
 }
 
 /// The writer failed behind four bytes, or nothing was written.
@@ -128,10 +151,19 @@ fn expect_front(
     Ok(())
 }
 
+fn unknown_package(alloc: Global) -> Result<RunFault, AllocError> {
+    let name = Vec::from_slice(alloc, b"zz")?;
+    Ok(RunFault::UnknownAsked { name })
+}
+
 #[test]
 fn of_fault_line(rt: HostRuntime) -> Result<(), Fail> {
-    let name = Vec::from_slice(rt.alloc(), b"zz")?;
-    match fault_line(rt.alloc(), &RunFault::UnknownAsked { name }) {
+    let fault = unknown_package(rt.alloc())?;
+    expect_line(&rt, &fault)
+}
+
+fn expect_line(rt: &(impl Abort + AllocGlobal), fault: &RunFault) -> Result<(), Fail> {
+    match fault_line(rt.alloc(), fault) {
         Ok(line) => {
             let wanted = b"debcheck: unknown package zz\n";
             assert_eq!(rt; line.as_slice(), wanted.as_slice());
@@ -144,10 +176,14 @@ fn of_fault_line(rt: HostRuntime) -> Result<(), Fail> {
 /// A fault whose line finds no memory is told as want of memory.
 #[test]
 fn of_write_fault(rt: HostRuntime) -> Result<(), Fail> {
-    let name = Vec::from_slice(rt.alloc(), b"zz")?;
+    let fault = unknown_package(rt.alloc())?;
     let mut errors = sink_with_room(rt.alloc(), 7, 0)?;
-    let told = write_fault(rt.alloc(), &mut errors, &RunFault::UnknownAsked { name });
-    assert!(rt; told.is_ok());
+    let written = write_fault(rt.alloc(), &mut errors, &fault).is_ok();
+    expect_errors(&rt, &errors, written)
+}
+
+fn expect_errors(rt: &impl Abort, errors: &Held, written: bool) -> Result<(), Fail> {
+    assert!(rt; written);
     assert!(rt; errors.flushed);
     if errors.bytes.as_slice() == b"debcheck: unknown package zz\n".as_slice() {
         return Ok(());

@@ -35,11 +35,86 @@ pub fn run_alone(
     )
 }
 
-/// The run came to a report with these numbers.
-fn expect_numbers(rt: &impl Abort, outcome: &Result<Summary, RunFault>, wanted: Summary) {
+/// A run writes this report, and comes to these numbers.
+fn expect_run(
+    rt: &(impl Abort + Threads + Sync + AllocGlobal),
+    config: &Config,
+    mut reader: Feed<'_>,
+    mut output: Held,
+    report: &[u8],
+    wanted: Summary,
+)
+    requires workers { (0 < config.now.workers) × (config.now.workers ≤ 64) }
+    requires chunk { 0 < config.now.chunk }
+    requires reader { reader.failed ≡ false }
+    requires output { output.failed ≡ false }
+{
+    let outcome = run_alone(rt, config, &mut reader, &mut output);
+    expect_report(rt, &output, &outcome, report, wanted);
+}
+
+fn expect_report(
+    rt: &impl Abort,
+    output: &Held,
+    outcome: &Result<Summary, RunFault>,
+    report: &[u8],
+    wanted: Summary,
+) {
+    assert_eq!(rt; output.bytes.as_slice(), report);
+    assert!(rt; output.flushed);
+    assert_eq!(rt; status(outcome), u8::from(wanted.broken > 0));
     match outcome {
         Ok(summary) => assert_eq!(rt; *summary, wanted),
         Err(_) => assert!(rt; false, "a report"),
+    }
+}
+
+/// A run without a report stops with these bytes written, and comes to this.
+fn expect_stop(
+    rt: &(impl Abort + Threads + Sync + AllocGlobal),
+    config: &Config,
+    mut reader: Feed<'_>,
+    mut output: Held,
+    written: &[u8],
+    wanted: &str,
+)
+    requires workers { (0 < config.now.workers) × (config.now.workers ≤ 64) }
+    requires chunk { 0 < config.now.chunk }
+    requires reader { reader.failed ≡ false }
+    requires output { output.failed ≡ false }
+{
+    let outcome = run_alone(rt, config, &mut reader, &mut output);
+    expect_fault(rt, &output, &outcome, written, wanted);
+}
+
+fn expect_fault(
+    rt: &impl Abort,
+    output: &Held,
+    outcome: &Result<Summary, RunFault>,
+    written: &[u8],
+    wanted: &str,
+) {
+    assert_eq!(rt; output.bytes.as_slice(), written);
+    assert_eq!(rt; told_by(outcome), wanted.as_bytes());
+}
+
+/// The name that no package has, or words for what a run came to.
+fn told_by(outcome: &Result<Summary, RunFault>) -> &[u8] {
+    match outcome {
+        Err(RunFault::UnknownAsked { name }) => name.as_slice(),
+        Err(RunFault::Index(fault)) => told_of(fault),
+        _ => match status(outcome) {
+            67 => b"status 67",
+            68 => b"status 68",
+            _ => b"another status",
+        },
+    }
+}
+
+fn told_of(fault: &IndexError) -> &'static [u8] {
+    match fault {
+        IndexError::BadLine { stanza: 1 } => b"bad line in stanza 1",
+        _ => b"another fault of the text",
     }
 }
 
@@ -77,21 +152,23 @@ pub const EMPTY: &[u8] =
 #[test]
 fn an_empty_text_has_a_report_of_seven_lines(rt: HostRuntime) -> Result<(), Fail> {
     let config = by_two(rt.alloc())?;
-    let mut output = sink_of(rt.alloc(), 1, 0, false);
-    let outcome = run_alone(&rt, &config, &mut source_of(b"", 1), &mut output);
-    assert_eq!(rt; output.bytes.as_slice(), EMPTY);
-    assert!(rt; output.flushed);
-    expect_numbers(&rt, &outcome, numbers(0, 0, 0));
+    let output = sink_of(rt.alloc(), 1, 0, false);
+    expect_run(
+        &rt,
+        &config,
+        source_of(b"", 1),
+        output,
+        EMPTY,
+        numbers(0, 0, 0),
+    );
     Ok(())
 }
 
 #[test]
 fn a_failing_writer_has_the_front_of_a_report(rt: HostRuntime) -> Result<(), Fail> {
     let config = by_two(rt.alloc())?;
-    let mut fifth = sink_of(rt.alloc(), 1, 5, false);
-    let refused = run_alone(&rt, &config, &mut source_of(b"", 1), &mut fifth);
-    assert_eq!(rt; fifth.bytes.as_slice(), b"arch".as_slice());
-    assert_eq!(rt; status(&refused), 68);
+    let fifth = sink_of(rt.alloc(), 1, 5, false);
+    expect_stop(&rt, &config, source_of(b"", 1), fifth, b"arch", "status 68");
     Ok(())
 }
 
@@ -104,10 +181,16 @@ const ALTERNATIVES_REPORT: &[u8] =
 #[test]
 fn alternatives(rt: HostRuntime) -> Result<(), Fail> {
     let config = by_two(rt.alloc())?;
-    let mut output = sink_of(rt.alloc(), 50, 0, false);
-    let outcome = run_alone(&rt, &config, &mut source_of(ALTERNATIVES, 11), &mut output);
-    assert_eq!(rt; output.bytes.as_slice(), ALTERNATIVES_REPORT);
-    expect_numbers(&rt, &outcome, numbers(3, 3, 0));
+    let reader = source_of(ALTERNATIVES, 11);
+    let output = sink_of(rt.alloc(), 50, 0, false);
+    expect_run(
+        &rt,
+        &config,
+        reader,
+        output,
+        ALTERNATIVES_REPORT,
+        numbers(3, 3, 0),
+    );
     Ok(())
 }
 
@@ -121,10 +204,16 @@ const CHAIN_FAILURES: &[u8] =
 fn failures_alone_with_their_reasons(rt: HostRuntime) -> Result<(), Fail> {
     let mut config = by_two(rt.alloc())?;
     config.show = Show::Failures;
-    let mut output = sink_of(rt.alloc(), 50, 0, false);
-    let outcome = run_alone(&rt, &config, &mut source_of(CHAIN, 1000), &mut output);
-    assert_eq!(rt; output.bytes.as_slice(), CHAIN_FAILURES);
-    assert_eq!(rt; status(&outcome), 1);
+    let reader = source_of(CHAIN, 1000);
+    let output = sink_of(rt.alloc(), 50, 0, false);
+    expect_run(
+        &rt,
+        &config,
+        reader,
+        output,
+        CHAIN_FAILURES,
+        numbers(3, 3, 2),
+    );
     Ok(())
 }
 
@@ -137,68 +226,47 @@ fn named(alloc: Global, names: &[&[u8]]) -> Result<Vec<Vec<u8>>, AllocError> {
     Ok(list)
 }
 
+/// Names that are asked, without explanations, else by two.
+fn by_two_of(alloc: Global, names: &[&[u8]]) -> Result<Config, AllocError>
+    ensures workers { IfOk result (λ config. config.workers ≡ 2) }
+    ensures chunk { IfOk result (λ config. config.chunk ≡ 1) }
+{
+    let only = named(alloc, names)?;
+    let mut config = by_two(alloc)?;
+    config.explain = false;
+    config.only = Some(only);
+    Ok(config)
+}
+
 const TWO_SHOWN: &[u8] =
     b"architecture: amd64\nreport:\n -\n  package: a\n  version: 1\n  architecture: all\n  status: broken\n -\n  package: c\n  version: 1\n  architecture: all\n  status: ok\nstanzas: 3\nskipped: 0\nduplicates: 0\nasked: 2\nbroken: 1\n";
 
 #[test]
 fn named_packages_in_the_order_of_the_index(rt: HostRuntime) -> Result<(), Fail> {
-    let mut config = by_two(rt.alloc())?;
-    config.explain = false;
-    config.only = Some(named(rt.alloc(), &[b"c", b"a", b"c"])?);
-    let mut output = sink_of(rt.alloc(), 50, 0, false);
-    let outcome = run_alone(&rt, &config, &mut source_of(CHAIN, 1000), &mut output);
-    assert_eq!(rt; output.bytes.as_slice(), TWO_SHOWN);
-    expect_numbers(&rt, &outcome, numbers(3, 2, 1));
+    let config = by_two_of(rt.alloc(), &[b"c", b"a", b"c"])?;
+    let reader = source_of(CHAIN, 1000);
+    let output = sink_of(rt.alloc(), 50, 0, false);
+    expect_run(&rt, &config, reader, output, TWO_SHOWN, numbers(3, 2, 1));
     Ok(())
-}
-
-/// The name that no package has; nothing where the run came to something else.
-fn unknown_name(outcome: &Result<Summary, RunFault>) -> &[u8] {
-    match outcome {
-        Err(RunFault::UnknownAsked { name }) => name.as_slice(),
-        _ => b"",
-    }
 }
 
 #[test]
 fn the_first_unknown_name_is_told(rt: HostRuntime) -> Result<(), Fail> {
-    let mut config = by_two(rt.alloc())?;
-    config.explain = false;
-    config.only = Some(named(rt.alloc(), &[b"a", b"zz", b"yy"])?);
-    let mut nothing = sink_of(rt.alloc(), 50, 0, false);
-    let refused = run_alone(&rt, &config, &mut source_of(CHAIN, 1000), &mut nothing);
-    assert!(rt; nothing.bytes.is_empty());
-    assert_eq!(rt; unknown_name(&refused), b"zz".as_slice());
+    let config = by_two_of(rt.alloc(), &[b"a", b"zz", b"yy"])?;
+    let nothing = sink_of(rt.alloc(), 50, 0, false);
+    expect_stop(&rt, &config, source_of(CHAIN, 1000), nothing, b"", "zz");
     Ok(())
-}
-
-/// The stanza with a bad line; none where the run came to something else.
-fn bad_line(outcome: &Result<Summary, RunFault>) -> Option<u64> {
-    match outcome {
-        Err(RunFault::Index(fault)) => stanza_of(fault),
-        _ => None,
-    }
-}
-
-fn stanza_of(fault: &IndexError) -> Option<u64> {
-    match fault {
-        IndexError::BadLine { stanza } => Some(*stanza),
-        _ => None,
-    }
 }
 
 #[test]
 fn faults_of_the_text_and_the_reader(rt: HostRuntime) -> Result<(), Fail> {
     let config = by_two(rt.alloc())?;
-    let mut output = sink_of(rt.alloc(), 50, 0, false);
-    let refused = run_alone(&rt, &config, &mut source_of(b" x", 1), &mut output);
-    assert_eq!(rt; bad_line(&refused), Some(1));
+    let told = "bad line in stanza 1";
+    let output = sink_of(rt.alloc(), 50, 0, false);
+    expect_stop(&rt, &config, source_of(b" x", 1), output, b"", told);
     let mut broken = source_of(b" x", 1);
     broken.fails = true;
-    let mut nothing = sink_of(rt.alloc(), 50, 0, false);
-    let unread = run_alone(&rt, &config, &mut broken, &mut nothing);
-    assert_eq!(rt; status(&unread), 67);
-    assert!(rt; output.bytes.is_empty());
-    assert!(rt; nothing.bytes.is_empty());
+    let output = sink_of(rt.alloc(), 50, 0, false);
+    expect_stop(&rt, &config, broken, output, b"", "status 67");
     Ok(())
 }

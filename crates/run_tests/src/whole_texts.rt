@@ -2,7 +2,7 @@
 
 use crate::devices::{Feed, Held, sink_of, source_of};
 use debcheck::{RunFault, read_all, write_fault};
-use std::process::Abort;
+use std::alloc::Global;
 
 /// The bytes that were read, or words for the fault.
 pub fn told_by(outcome: &Result<Vec<u8>, RunFault>) -> &[u8] {
@@ -15,40 +15,40 @@ pub fn told_by(outcome: &Result<Vec<u8>, RunFault>) -> &[u8] {
     }
 }
 
-/// What reading to the end with this limit comes to.
-fn expect_read(rt: &(impl Abort + AllocGlobal), reader: &mut Feed<'_>, limit: u8, wanted: &str) {
-    let outcome = read_all(rt.alloc(), reader, usize::from(limit));
-    assert_eq!(rt; told_by(&outcome), wanted.as_bytes());
+/// Whether reading to the end with this limit comes to these bytes, or these words for the fault.
+fn reads(alloc: Global, reader: &mut Feed<'_>, limit: u8, wanted: &[u8]) -> bool {
+    let outcome = read_all(alloc, reader, usize::from(limit));
+    told_by(&outcome) == wanted
 }
 
 #[test]
 fn reads_within_a_limit(rt: HostRuntime) {
+    let alloc = rt.alloc();
     for step in [1, 2, 1000] {
         let mut three = source_of(b"abc", step);
-        expect_read(&rt, &mut three, 3, "abc");
+        assert!(rt; reads(alloc, &mut three, 3, b"abc"));
         assert!(rt; three.reads <= 4);
-        expect_read(&rt, &mut source_of(b"abcd", step), 3, "too long");
+        assert!(rt; reads(alloc, &mut source_of(b"abcd", step), 3, b"too long"));
     }
-    expect_read(&rt, &mut source_of(b"", 1), 0, "");
+    assert!(rt; reads(alloc, &mut source_of(b"", 1), 0, b""));
     let mut broken = source_of(b"abc", 1);
     broken.fails = true;
-    expect_read(&rt, &mut broken, 3, "failed");
+    assert!(rt; reads(alloc, &mut broken, 3, b"failed"));
     assert_eq!(rt; broken.reads, 1);
 }
 
-/// The line of a fault is written to the sink, and flushed, or the sink fails with this front of the line in it.
-fn expect_written(rt: &(impl Abort + AllocGlobal), mut sink: Held, fine: bool, wanted: &str) {
-    let written = write_fault(rt.alloc(), &mut sink, &RunFault::Memory);
-    assert!(rt; written.is_ok() == fine);
-    assert!(rt; sink.flushed == fine);
-    assert_eq!(rt; sink.bytes.as_slice(), wanted.as_bytes());
+/// Whether the line of a fault is written to the sink, and flushed, or the sink fails with this front of the line in it.
+fn writes(alloc: Global, mut sink: Held, fine: bool, wanted: &[u8]) -> bool {
+    let written = write_fault(alloc, &mut sink, &RunFault::Memory).is_ok();
+    written == fine && sink.flushed == fine && sink.bytes.as_slice() == wanted
 }
 
 #[test]
 fn writes_a_whole_text_or_says_so(rt: HostRuntime) {
-    let line = "debcheck: out of memory\n";
-    expect_written(&rt, sink_of(rt.alloc(), 1, 0, false), true, line);
-    expect_written(&rt, sink_of(rt.alloc(), 1, 5, false), false, "debc");
-    expect_written(&rt, sink_of(rt.alloc(), 0, 0, false), false, "");
-    expect_written(&rt, sink_of(rt.alloc(), 9, 0, true), false, line);
+    let alloc = rt.alloc();
+    let line = b"debcheck: out of memory\n";
+    assert!(rt; writes(alloc, sink_of(alloc, 1, 0, false), true, line));
+    assert!(rt; writes(alloc, sink_of(alloc, 1, 5, false), false, b"debc"));
+    assert!(rt; writes(alloc, sink_of(alloc, 0, 0, false), false, b""));
+    assert!(rt; writes(alloc, sink_of(alloc, 9, 0, true), false, line));
 }
