@@ -1,53 +1,30 @@
 //! Each option, and words that are none.
 
-use crate::asking::{background_of, config_of, is_plain, refuses};
+use crate::asking::{background_of, config_of, refuses_each, refuses_values, sides_of};
+use crate::values::names_architecture;
 use debcheck::{Config, Format, Show};
 use std::process::Abort;
 use std::test::Fail;
 
 #[test]
 fn an_architecture_is_enough(rt: HostRuntime) -> Result<(), Fail> {
-    let config = config_of(rt.alloc(), &["--arch", "amd64"])?;
-    assert!(rt; config.arch.as_str() == "amd64");
-    assert!(rt; is_plain(&config));
-    let attached = config_of(rt.alloc(), &["--arch=kfreebsd-i386"])?;
-    assert!(rt; attached.arch.as_str() == "kfreebsd-i386");
-    Ok(())
+    sets(&rt, "|--arch|amd64", "none")?;
+    names_architecture(&rt, "|--arch=kfreebsd-i386", "kfreebsd-i386")
 }
 
 #[test]
 fn no_words_ask_for_explanations(rt: HostRuntime) -> Result<(), Fail> {
-    let mut config = config_of(rt.alloc(), &[])?;
-    assert!(rt; config.arch.as_str() == "amd64");
-    assert!(rt; config.explain);
-    config.explain = false;
-    assert!(rt; is_plain(&config));
-    Ok(())
+    sets(&rt, "", "--explain")
 }
+
+const ALL_OPTIONS: &str =
+    "|--checkonly|b,a+1.x_y,b|--ignore-essential|--explain|--failures|--chunk|1000000|--workers=64|--arch|i386|--quiet|--format|json|--bg|main/Packages|--causes";
 
 #[test]
 fn a_line_of_all_options(rt: HostRuntime) -> Result<(), Fail> {
-    let line = [
-        "--checkonly",
-        "b,a+1.x_y,b",
-        "--ignore-essential",
-        "--explain",
-        "--failures",
-        "--chunk",
-        "1000000",
-        "--workers=64",
-        "--arch",
-        "i386",
-        "--quiet",
-        "--format",
-        "json",
-        "--bg",
-        "main/Packages",
-        "--causes",
-    ];
-    let config = config_of(rt.alloc(), &line)?;
+    let config = config_of(rt.alloc(), ALL_OPTIONS)?;
     expect_all_options(&rt, &config);
-    expect_names(&rt, &config, &[b"b", b"a+1.x_y", b"b"]);
+    expect_names(&rt, &config, "b|a+1.x_y|b");
     Ok(())
 }
 
@@ -65,12 +42,12 @@ fn expect_all_options(rt: &impl Abort, config: &Config) {
 }
 
 /// These names are asked, in this order.
-fn expect_names(rt: &impl Abort, config: &Config, wanted: &[&[u8]]) {
+fn expect_names(rt: &impl Abort, config: &Config, wanted: &str) {
     match &config.only {
         Some(names) => {
-            assert_eq!(rt; names.len(), wanted.len());
-            for (place, name) in names.iter().enumerate() {
-                assert_eq!(rt; name.as_slice(), wanted.get(place).copied().unwrap_or(b""));
+            assert_eq!(rt; names.len(), wanted.split('|').count());
+            for (name, other) in names.iter().zip(wanted.split('|')) {
+                assert_eq!(rt; name.as_slice(), other.as_bytes());
             }
         }
         None => assert!(rt; false, "names"),
@@ -78,12 +55,16 @@ fn expect_names(rt: &impl Abort, config: &Config, wanted: &[&[u8]]) {
 }
 
 /// The line asks for what the option says, and else for what is usual.
-fn sets(rt: &(impl Abort + AllocGlobal), line: &[&str], option: &str) -> Result<(), Fail> {
+fn sets(rt: &(impl Abort + AllocGlobal), line: &str, option: &str) -> Result<(), Fail> {
     let config = config_of(rt.alloc(), line)?;
-    assert!(rt; config.arch.as_str() == "amd64");
-    assert!(rt; has_numbers_and_names(&config, option), "{line:?}");
-    assert!(rt; has_choices(&config, option), "{line:?}");
+    expect_set(rt, line, &config, option);
     Ok(())
+}
+
+fn expect_set(rt: &impl Abort, line: &str, config: &Config, option: &str) {
+    assert!(rt; config.arch.as_str() == "amd64");
+    assert!(rt; has_numbers_and_names(config, option), "{line}");
+    assert!(rt; has_choices(config, option), "{line}");
 }
 
 /// Names are asked, or a background, by the option alone; the workers and the chunk are the usual ones.
@@ -116,123 +97,118 @@ fn shown_by(option: &str) -> Show {
     Show::All
 }
 
+/// Lines, and the option whose setting is not the usual one.
+const ONE_OPTION: &str = "|--arch|amd64|--explain => --explain
+|--arch|amd64|--ignore-essential => --ignore-essential
+|--arch|amd64|--failures => --failures
+|--arch|amd64|--successes => --successes
+|--successes|--arch|amd64|--failures => none
+|--arch|amd64|--checkonly|zz => --checkonly
+|--arch|amd64|--causes => --causes
+|--arch|amd64|--quiet => --quiet
+|--arch|amd64|--bg|f => --bg
+|--arch|amd64|--format|json => --format
+|--arch|amd64|--format=text => none";
+
 #[test]
 fn each_option_by_itself(rt: HostRuntime) -> Result<(), Fail> {
-    for option in [
-        "--explain",
-        "--ignore-essential",
-        "--failures",
-        "--successes",
-    ] {
-        sets(&rt, &["--arch", "amd64", option], option)?;
+    for row in ONE_OPTION.lines() {
+        let (line, option) = sides_of(row)?;
+        sets(&rt, line, option)?;
     }
-    let both = ["--successes", "--arch", "amd64", "--failures"];
-    sets(&rt, &both, "none")?;
-    sets(
-        &rt,
-        &["--arch", "amd64", "--checkonly", "zz"],
-        "--checkonly",
-    )
-}
-
-#[test]
-fn each_later_option_by_itself(rt: HostRuntime) -> Result<(), Fail> {
-    for option in ["--causes", "--quiet"] {
-        sets(&rt, &["--arch", "amd64", option], option)?;
-    }
-    sets(&rt, &["--arch", "amd64", "--bg", "f"], "--bg")?;
-    sets(&rt, &["--arch", "amd64", "--format", "json"], "--format")?;
-    sets(&rt, &["--arch", "amd64", "--format=text"], "none")
-}
-
-fn names_background(
-    rt: &(impl Abort + AllocGlobal),
-    line: &[&str],
-    name: &str,
-) -> Result<(), Fail> {
-    let config = config_of(rt.alloc(), line)?;
-    assert!(rt; config.bg.is_some());
-    assert!(rt; background_of(&config) == name);
     Ok(())
 }
 
-/// Lines with no background or a wrong one, and parts of what is said of them.
-const NO_BACKGROUNDS: [(&[&str], &[&str]); 6] = [
-    (&["--arch", "amd64", "--bg"], &["--bg"]),
-    (&["--arch", "amd64", "--bg", ""], &["--bg", "--help"]),
-    (&["--arch", "amd64", "--bg="], &["--bg", "--help"]),
-    (&["--bg", "--arch", "amd64"], &["--bg"]),
-    (&["--bg", "f"], &["--arch"]),
-    (&["--bg", "f", "--arch", "amd64", "--bg", "g"], &["--bg"]),
-];
+fn names_background(rt: &(impl Abort + AllocGlobal), line: &str, name: &str) -> Result<(), Fail> {
+    let config = config_of(rt.alloc(), line)?;
+    expect_background(rt, &config, name);
+    Ok(())
+}
+
+fn expect_background(rt: &impl Abort, config: &Config, name: &str) {
+    assert!(rt; config.bg.is_some());
+    assert!(rt; background_of(config) == name);
+}
+
+/// Lines, and the name of the background.
+const BACKGROUNDS: &str = "|--bg|f|--arch|amd64 => f
+|--bg|-|--arch|amd64 => -
+|--bg|main/Packages|--arch|amd64 => main/Packages
+|--bg|a b|--arch|amd64 => a b
+|--bg|ä|--arch|amd64 => ä
+|--bg|.|--arch|amd64 => .
+|--arch|amd64|--bg=-x=y => -x=y";
+
+/// Lines with no background or a wrong one.
+const NO_BACKGROUNDS: &str = "|--arch|amd64|--bg => |--bg
+|--arch|amd64|--bg| => |--bg|--help
+|--arch|amd64|--bg= => |--bg|--help
+|--bg|--arch|amd64 => |--bg
+|--bg|f => |--arch
+|--bg|f|--arch|amd64|--bg|g => |--bg";
 
 #[test]
 fn a_background_is_named_once(rt: HostRuntime) -> Result<(), Fail> {
-    for name in ["f", "-", "main/Packages", "a b", "ä", "."] {
-        names_background(&rt, &["--bg", name, "--arch", "amd64"], name)?;
+    for row in BACKGROUNDS.lines() {
+        let (line, name) = sides_of(row)?;
+        names_background(&rt, line, name)?;
     }
-    names_background(&rt, &["--arch", "amd64", "--bg=-x=y"], "-x=y")?;
-    for (line, parts) in NO_BACKGROUNDS {
-        refuses(&rt, line, parts)?;
-    }
-    Ok(())
+    refuses_each(&rt, NO_BACKGROUNDS)
 }
+
+/// No value, or two.
+const NO_FORMATS: &str = "|--arch|amd64|--format= => |--format
+|--arch|amd64|--format => |--format
+|--arch|amd64|--format=json|--format=json => |--format";
 
 #[test]
 fn a_report_is_text_or_json(rt: HostRuntime) -> Result<(), Fail> {
-    for word in ["", "Text", "JSON", "yaml", "text,json", " json", "jsonl"] {
-        let line = ["--arch", "amd64", "--format", word];
-        refuses(&rt, &line, &["--format", "text or json", "--help"])?;
-    }
-    refuses(&rt, &["--arch", "amd64", "--format="], &["--format"])?;
-    refuses(&rt, &["--arch", "amd64", "--format"], &["--format"])?;
-    let twice = ["--arch", "amd64", "--format=json", "--format=json"];
-    refuses(&rt, &twice, &["--format"])
+    let values = "/Text/JSON/yaml/text,json/ json/jsonl";
+    let parts = "|--format|text or json|--help";
+    refuses_values(&rt, "|--arch|amd64|--format|", values, parts)?;
+    refuses_each(&rt, NO_FORMATS)
 }
+
+/// An option twice, or with a value.
+const NO_VALUES: &str = "|--arch|amd64|--explain|--explain => |--explain
+|--arch|amd64|--explain=yes => |--explain
+|--arch|amd64|--failures|--failures => |--failures
+|--arch|amd64|--failures=yes => |--failures
+|--arch|amd64|--successes|--successes => |--successes
+|--arch|amd64|--successes=yes => |--successes
+|--arch|amd64|--causes|--causes => |--causes
+|--arch|amd64|--causes=yes => |--causes
+|--arch|amd64|--ignore-essential|--ignore-essential => |--ignore-essential
+|--arch|amd64|--ignore-essential=yes => |--ignore-essential
+|--arch|amd64|--quiet|--quiet => |--quiet
+|--arch|amd64|--quiet=yes => |--quiet";
 
 #[test]
 fn an_option_without_a_value_comes_once(rt: HostRuntime) -> Result<(), Fail> {
-    for word in [
-        "--explain",
-        "--failures",
-        "--successes",
-        "--causes",
-        "--ignore-essential",
-        "--quiet",
-    ] {
-        refuses(&rt, &["--arch", "amd64", word, word], &[word])?;
-        let valued = format!(in rt.alloc(); "{word}=yes")?;
-        refuses(&rt, &["--arch", "amd64", valued.as_str()], &[word])?;
-    }
-    Ok(())
+    refuses_each(&rt, NO_VALUES)
 }
 
-/// Lines with a wrong word, and a part of what is said of them.
-const OTHER_WORDS: [(&[&str], &str); 18] = [
-    (&["--arch", "amd64", "--frobnicate"], "--frobnicate"),
-    (&["--arch", "amd64", "--explai"], "--explai"),
-    (&["--arch", "amd64", "-h"], "-h"),
-    (&["-h"], "-h"),
-    (&["-e", "--arch", "amd64"], "-e"),
-    (&["--arch", "amd64", "Packages"], "Packages"),
-    (&["--arch", "amd64", "--", "--explain"], "--explain"),
-    (&["--arch", "amd64", "-V"], "-V"),
-    (&["--arch", "amd64", "--explain=yes"], "--explain"),
-    (&["help"], "help"),
-    (&[""], "--help"),
-    (&["--arch"], "--arch"),
-    (&["--workers"], "--workers"),
-    (&["--chunk"], "--chunk"),
-    (&["--checkonly"], "--checkonly"),
-    (&["--bg"], "--bg"),
-    (&["--format"], "--format"),
-    (&["--arch", "amd64", "--workers"], "--workers"),
-];
+/// Lines with a wrong word.
+const OTHER_WORDS: &str = "|--arch|amd64|--frobnicate => |--frobnicate
+|--arch|amd64|--explai => |--explai
+|--arch|amd64|-h => |-h
+|-h => |-h
+|-e|--arch|amd64 => |-e
+|--arch|amd64|Packages => |Packages
+|--arch|amd64|--|--explain => |--explain
+|--arch|amd64|-V => |-V
+|--arch|amd64|--explain=yes => |--explain
+|help => |help
+| => |--help
+|--arch => |--arch
+|--workers => |--workers
+|--chunk => |--chunk
+|--checkonly => |--checkonly
+|--bg => |--bg
+|--format => |--format
+|--arch|amd64|--workers => |--workers";
 
 #[test]
 fn other_words_are_refused(rt: HostRuntime) -> Result<(), Fail> {
-    for (line, part) in OTHER_WORDS {
-        refuses(&rt, line, &[part])?;
-    }
-    Ok(())
+    refuses_each(&rt, OTHER_WORDS)
 }

@@ -1,134 +1,107 @@
 //! The values of options: numbers, architectures and names.
 
-use crate::asking::{config_of, refuses};
+use crate::asking::{config_of, refuses, refuses_each, refuses_values, sides_of};
+use debcheck::Config;
 use std::alloc::Global;
 use std::process::Abort;
 use std::test::Fail;
 
 /// The numbers of workers and of packages that a worker takes at once.
-fn counts_of(alloc: Global, line: &[&str]) -> Result<(u32, u32), Fail> {
+fn counts_of(alloc: Global, line: &str) -> Result<(u32, u32), Fail> {
     let config = config_of(alloc, line)?;
     Ok((config.workers, config.chunk))
 }
 
+/// Lines, and both numbers.
+const COUNTS: [(&str, u32, u32); 6] = [
+    ("|--arch|amd64|--workers|1", 1, 64),
+    ("|--arch|amd64|--workers|64", 64, 64),
+    ("|--arch|amd64|--workers|007", 7, 64),
+    ("|--arch|amd64|--chunk|1", 4, 1),
+    ("|--arch|amd64|--chunk|1000000", 4, 1_000_000),
+    ("|--arch|amd64|--chunk|00064", 4, 64),
+];
+
 #[test]
 fn numbers_within_their_ranges(rt: HostRuntime) -> Result<(), Fail> {
-    for (word, count) in [("1", 1), ("64", 64), ("007", 7)] {
-        let (workers, _) = counts_of(rt.alloc(), &["--arch", "amd64", "--workers", word])?;
-        assert_eq!(rt; workers, count);
-    }
-    for (word, count) in [("1", 1), ("1000000", 1_000_000), ("00064", 64)] {
-        let (_, chunk) = counts_of(rt.alloc(), &["--arch", "amd64", "--chunk", word])?;
-        assert_eq!(rt; chunk, count);
+    for (line, workers, chunk) in COUNTS {
+        assert_eq!(rt; counts_of(rt.alloc(), line)?, (workers, chunk), "{line}");
     }
     Ok(())
 }
 
-const LONG: &str = "100000000000000000000000000004";
+const NO_WORKERS: &str = "0/65/+4/ 4/4 /four/4x//1e1/4294967300/100000000000000000000000000004";
 
-const NO_WORKERS: [&str; 11] = [
-    "0",
-    "65",
-    "+4",
-    " 4",
-    "4 ",
-    "four",
-    "4x",
-    "",
-    "1e1",
-    "4294967300",
-    LONG,
-];
-
-const NO_CHUNKS: [&str; 8] = ["0", "1000001", "+64", " 64", "sixty", "64.0", "", LONG];
+const NO_CHUNKS: &str = "0/1000001/+64/ 64/sixty/64.0//100000000000000000000000000004";
 
 #[test]
 fn other_numbers_are_refused(rt: HostRuntime) -> Result<(), Fail> {
-    for word in NO_WORKERS {
-        let line = ["--arch", "amd64", "--workers", word];
-        refuses(&rt, &line, &["--workers", "1 to 64", "--help"])?;
-    }
-    for word in NO_CHUNKS {
-        let line = ["--arch", "amd64", "--chunk", word];
-        refuses(&rt, &line, &["--chunk", "1 to 1000000", "--help"])?;
-    }
-    let attached = ["--arch", "amd64", "--workers=-1"];
-    refuses(&rt, &attached, &["--workers", "1 to 64"])?;
-    refuses(&rt, &["--arch", "amd64", "--workers", "-1"], &["-1"])
+    let parts = "|--workers|1 to 64|--help";
+    refuses_values(&rt, "|--arch|amd64|--workers|", NO_WORKERS, parts)?;
+    let parts = "|--chunk|1 to 1000000|--help";
+    refuses_values(&rt, "|--arch|amd64|--chunk|", NO_CHUNKS, parts)?;
+    refuses(&rt, "|--arch|amd64|--workers=-1", "|--workers|1 to 64")?;
+    refuses(&rt, "|--arch|amd64|--workers|-1", "|-1")
 }
 
-fn names_architecture(
+/// The line asks for this architecture, and for no explanations.
+pub fn names_architecture(
     rt: &(impl Abort + AllocGlobal),
-    line: &[&str],
+    line: &str,
     name: &str,
 ) -> Result<(), Fail> {
     let config = config_of(rt.alloc(), line)?;
+    expect_architecture(rt, &config, name);
+    Ok(())
+}
+
+fn expect_architecture(rt: &impl Abort, config: &Config, name: &str) {
     assert!(rt; config.arch.as_str() == name);
     assert!(rt; !config.explain);
-    Ok(())
 }
 
+/// Lines, and the architecture.
+const ARCHITECTURES: &str = "|--arch|a => a
+|--arch|AMD64 => AMD64
+|--arch|x32 => x32
+|--arch|musl-linux-arm64 => musl-linux-arm64
+|--arch|- => -
+|--arch|ALL => ALL
+|--arch|anything => anything
+|--arch|0 => 0
+|--arch=-x => -x
+|--arch=--explain => --explain";
+
+/// Some of them stand behind a hyphen, and so are attached to the option.
 #[test]
 fn an_architecture_has_its_form(rt: HostRuntime) -> Result<(), Fail> {
-    for word in [
-        "a",
-        "AMD64",
-        "x32",
-        "musl-linux-arm64",
-        "-",
-        "ALL",
-        "anything",
-        "0",
-    ] {
-        names_architecture(&rt, &["--arch", word], word)?;
+    for row in ARCHITECTURES.lines() {
+        let (line, name) = sides_of(row)?;
+        names_architecture(&rt, line, name)?;
     }
-    for word in [
-        "all",
-        "any",
-        "",
-        "amd 64",
-        "amd64,i386",
-        "linux_any",
-        "amd64\n",
-        "ä",
-    ] {
-        refuses(
-            &rt,
-            &["--arch", word],
-            &["--arch", "neither all nor any", "--help"],
-        )?;
-    }
-    for line in [["--arch=all"], ["--arch=any"], ["--arch="]] {
-        refuses(&rt, &line, &["--arch", "neither all nor any"])?;
-    }
-    refuses(&rt, &["--workers", "2"], &["--arch"])?;
-    Ok(())
+    let values = "all/any//amd 64/amd64,i386/linux_any/amd64\n/ä";
+    let parts = "|--arch|neither all nor any|--help";
+    refuses_values(&rt, "|--arch|", values, parts)?;
+    refuses_each(&rt, NO_ARCHITECTURES)
 }
 
-#[test]
-fn a_value_after_a_hyphen_is_attached(rt: HostRuntime) -> Result<(), Fail> {
-    names_architecture(&rt, &["--arch=-x"], "-x")?;
-    names_architecture(&rt, &["--arch=--explain"], "--explain")?;
-    refuses(&rt, &["--arch", "-x"], &["-x"])?;
-    refuses(&rt, &["--arch", "--explain"], &["--arch"])?;
-    Ok(())
-}
+/// Attached, absent, or behind a hyphen.
+const NO_ARCHITECTURES: &str = "|--arch=all => |--arch|neither all nor any
+|--arch=any => |--arch|neither all nor any
+|--arch= => |--arch|neither all nor any
+|--workers|2 => |--arch
+|--arch|-x => |-x
+|--arch|--explain => |--arch";
+
+/// Lists with a wrong name, and the list among what is said of them.
+const NO_NAMES: &str = "|--arch|amd64|--checkonly| => |--checkonly||package names
+|--arch|amd64|--checkonly|a! => |--checkonly|a!|package names
+|--arch|amd64|--checkonly|a,,b => |--checkonly|a,,b|package names";
 
 #[test]
 fn listed_names_are_names_of_packages(rt: HostRuntime) -> Result<(), Fail> {
-    for list in [
-        "", ",", "a,,b", "a,", ",a", "a!", "a, b", "-a", "+", "a,b c", "ä",
-    ] {
-        let line = format!(in rt.alloc(); "--checkonly={list}")?;
-        refuses(
-            &rt,
-            &["--arch", "amd64", line.as_str()],
-            &["--checkonly", "package names", "--help"],
-        )?;
-    }
-    for list in ["", "a!", "a,,b"] {
-        let line = ["--arch", "amd64", "--checkonly", list];
-        refuses(&rt, &line, &["--checkonly", list, "package names"])?;
-    }
-    Ok(())
+    let values = "/,/a,,b/a,/,a/a!/a, b/-a/+/a,b c/ä";
+    let parts = "|--checkonly|package names|--help";
+    refuses_values(&rt, "|--arch|amd64|--checkonly=", values, parts)?;
+    refuses_each(&rt, NO_NAMES)
 }
