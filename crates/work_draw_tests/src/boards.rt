@@ -13,45 +13,35 @@ use work_draw::{Board, Drawer, new_board};
 pub fn expect_three_numbers(rt: &impl Abort, board: Board, mut drawer: Drawer)
     requires { drawer.board ≡ board }
 {
-    assert_eq!(rt; drawer.spare(), 63);
-    assert_eq!(rt; drawer.held(), 1);
-    assert!(rt; !drawer.is_done());
-    assert_eq!(rt; board.draw(&mut drawer), Some(0));
-    assert_eq!(rt; board.draw(&mut drawer), Some(1));
-    assert_eq!(rt; board.draw(&mut drawer), Some(2));
-    assert_eq!(rt; board.draw(&mut drawer), None);
-    assert_eq!(rt; board.draw(&mut drawer), None);
-    assert!(rt; drawer.is_done());
-    assert!(rt; board.close(drawer));
+    let opened = (drawer.spare(), drawer.held(), drawer.is_done());
+    let (first, second) = (board.draw(&mut drawer), board.draw(&mut drawer));
+    let (third, fourth) = (board.draw(&mut drawer), board.draw(&mut drawer));
+    let fifth = board.draw(&mut drawer);
+    let done = drawer.is_done();
+    let closed = board.close(drawer);
+    assert_eq!(rt; opened, (63, 1, false));
+    assert_eq!(rt; (first, second, third), (Some(0), Some(1), Some(2)));
+    assert_eq!(rt; (fourth, fifth), (None, None));
+    assert!(rt; done && closed);
 }
 
 /// A board of no numbers closes after one draw.
 pub fn expect_no_number(rt: &impl Abort, board: Board, mut drawer: Drawer)
     requires { drawer.board ≡ board }
 {
-    assert_eq!(rt; board.draw(&mut drawer), None);
-    assert!(rt; board.close(drawer));
-}
-
-#[test]
-fn deals_three_numbers(rt: HostRuntime) -> Result<(), Fail> {
-    let (board, drawer) = new_board(rt.alloc(), 3)?;
-    expect_three_numbers(&rt, board, drawer);
-    Ok(())
-}
-
-#[test]
-fn closes_an_empty_board(rt: HostRuntime) -> Result<(), Fail> {
-    let (board, drawer) = new_board(rt.alloc(), 0)?;
-    expect_no_number(&rt, board, drawer);
-    Ok(())
+    let first = board.draw(&mut drawer);
+    let closed = board.close(drawer);
+    assert_eq!(rt; first, None);
+    assert!(rt; closed);
 }
 
 #[test]
 fn does_not_close_before_the_end(rt: HostRuntime) -> Result<(), Fail> {
     let (board, mut drawer) = new_board(rt.alloc(), 3)?;
-    assert_eq!(rt; board.draw(&mut drawer), Some(0));
-    assert!(rt; !board.close(drawer));
+    let first = board.draw(&mut drawer);
+    let closed = board.close(drawer);
+    assert_eq!(rt; first, Some(0));
+    assert!(rt; !closed);
     Ok(())
 }
 
@@ -64,8 +54,10 @@ fn does_not_close_without_all_drawers(rt: HostRuntime) -> Result<(), Fail> {
     board.draw(&mut drawer);
     board.draw(&mut drawer);
     board.draw(&mut drawer);
-    assert!(rt; drawer.is_done());
-    assert!(rt; !board.close(drawer));
+    let done = drawer.is_done();
+    let closed = board.close(drawer);
+    assert!(rt; done);
+    assert!(rt; !closed);
     Ok(())
 }
 
@@ -114,19 +106,21 @@ pub fn expect_each_number_once(
     );
     let (other, mut numbers) = first?;
     let (drawer, mut more) = second?;
+    let mut drawer = board.join(drawer, other);
+    let last = board.draw(&mut drawer);
+    let held = drawer.held();
+    let closed = board.close(drawer);
+    expect_closed(rt, last, held, closed);
     numbers.append(&mut more)?;
     numbers.sort()?;
-    let mut drawer = board.join(drawer, other);
-    assert_eq!(rt; board.draw(&mut drawer), None);
-    assert_eq!(rt; drawer.held(), 2);
-    assert!(rt; board.close(drawer));
     expect_each_below_a_thousand(rt, &numbers)
 }
 
-#[test]
-fn two_threads_draw_each_number_once(rt: HostRuntime) -> Result<(), Fail> {
-    let (board, drawer) = new_board(rt.alloc(), 1000)?;
-    expect_each_number_once(&rt, board, drawer)
+/// Two drawers found no number left, and the board was closed by both.
+fn expect_closed(rt: &impl Abort, last: Option<u32>, held: u32, closed: bool) {
+    assert_eq!(rt; last, None);
+    assert_eq!(rt; held, 2);
+    assert!(rt; closed);
 }
 
 /// Splits a drawer into halves, and these again, until nothing of them is spare. One is handed back, the others are added.
@@ -169,12 +163,11 @@ fn draw_from_each(
 }
 
 /// The first ten of 64 draws took the numbers in their order.
-fn expect_ten_in_order(rt: &impl Abort, drawn: &[Option<u32>]) -> Result<(), Fail> {
+fn expect_ten_in_order(rt: &impl Abort, drawn: &[Option<u32>]) {
     assert_eq!(rt; drawn.len(), 64);
     for (at, number) in drawn.iter().enumerate() {
         assert_eq!(rt; *number, if at < 10 { Some(at as u32) } else { None });
     }
-    Ok(())
 }
 
 #[test]
@@ -182,11 +175,13 @@ fn sixty_four_drawers_draw_once_each(rt: HostRuntime) -> Result<(), Fail> {
     let (board, drawer) = new_board(rt.alloc(), 10)?;
     let mut others = Vec::new(rt.alloc());
     let first = split_up(&board, drawer, &mut others)?;
-    assert_eq!(rt; others.len(), 63);
+    let count = others.len();
     let (whole, drawn) = draw_from_each(rt.alloc(), &board, first, others)?;
-    assert_eq!(rt; whole.spare(), 0);
-    assert_eq!(rt; whole.held(), 64);
-    assert!(rt; whole.is_done());
-    assert!(rt; board.close(whole));
-    expect_ten_in_order(&rt, &drawn)
+    let parts = (whole.spare(), whole.held(), whole.is_done());
+    let closed = board.close(whole);
+    expect_ten_in_order(&rt, &drawn);
+    assert_eq!(rt; count, 63);
+    assert_eq!(rt; parts, (0, 64, true));
+    assert!(rt; closed);
+    Ok(())
 }

@@ -3,7 +3,6 @@
 use crate::examples::{check_places, three_packages};
 use crate::pieces::are_sets;
 use deb_index::Index;
-use deb_verdict::Verdict;
 use std::process::Abort;
 use std::sync::atomic::{AtomicBool, AtomicU32, Ordering};
 use std::test::Fail;
@@ -113,16 +112,16 @@ impl Gate for Meeting {
     }
 }
 
-/// The verdicts of three packages, by two workers and one package to a chunk.
-fn verdicts_of_three<G: Gate + Sync>(
+/// Whether three packages have their sets, by two workers and one package to a chunk.
+fn have_their_sets<G: Gate + Sync>(
     rt: &(impl Threads + Sync + AllocGlobal),
     index: &Index,
     gate: &G,
-) -> Result<Vec<Verdict>, Fail> {
+) -> Result<bool, Fail> {
     let asked = [0u32, 1, 2];
     check_places(index, &asked)?;
     let found = check_all(rt, rt.alloc(), index, &asked, 2, 1, gate)?;
-    Ok(found)
+    Ok(are_sets(&found, &[&[0, 2], &[1], &[2]]))
 }
 
 fn expect_two_workers_to_meet(
@@ -132,9 +131,8 @@ fn expect_two_workers_to_meet(
     let gate = Meeting {
         tally: Tally::new(),
     };
-    let found = verdicts_of_three(rt, index, &gate)?;
-    assert!(rt; are_sets(&found, &[&[0, 2], &[1], &[2]]));
-    assert!(rt; gate.tally.is_complete());
+    let fine = have_their_sets(rt, index, &gate)?;
+    assert!(rt; fine && gate.tally.is_complete());
     Ok(())
 }
 
@@ -179,12 +177,8 @@ fn expect_all_with_one_held_back(
         held,
         tally: Tally::new(),
     };
-    let found = verdicts_of_three(rt, index, &gate)?;
-    assert!(rt;
-        are_sets(&found, &[&[0, 2], &[1], &[2]]),
-        "with {held} held back"
-    );
-    assert!(rt; gate.tally.is_complete(), "with {held} held back");
+    let fine = have_their_sets(rt, index, &gate)?;
+    assert!(rt; fine && gate.tally.is_complete(), "with {held} held back");
     Ok(())
 }
 

@@ -6,6 +6,8 @@ use crate::examples::{check_places, three_packages};
 use crate::gates::Tally;
 use crate::pieces::{are_sets, expect_both_pieces, expect_piece, piece_of};
 use deb_index::Index;
+use deb_verdict::Verdict;
+use std::alloc::AllocError;
 use std::process::Abort;
 use std::test::Fail;
 use std::thread::Threads;
@@ -13,20 +15,25 @@ use work_draw::{
     Board, Drawer, Drawn, OpenGate, Piece, check_all, crew, draw_pieces, gather, new_board,
 };
 
+fn deal_three_numbers(rt: &(impl Abort + AllocGlobal)) -> Result<(), Fail> {
+    let (board, drawer) = new_board(rt.alloc(), 3)?;
+    expect_three_numbers(rt, board, drawer);
+    Ok(())
+}
+
+fn deal_no_number(rt: &(impl Abort + AllocGlobal)) -> Result<(), Fail> {
+    let (board, drawer) = new_board(rt.alloc(), 0)?;
+    expect_no_number(rt, board, drawer);
+    Ok(())
+}
+
+/// A board of three numbers, one of none, and one of a thousand that two threads share.
 #[test]
 fn of_new_board(rt: HostRuntime) -> Result<(), Fail> {
-    match new_board(rt.alloc(), 3) {
-        Ok((board, drawer)) => expect_three_numbers(&rt, board, drawer),
-        Err(_) => return Err(Fail::new("out of memory")),
-    }
-    match new_board(rt.alloc(), 0) {
-        Ok((board, drawer)) => expect_no_number(&rt, board, drawer),
-        Err(_) => return Err(Fail::new("out of memory")),
-    }
-    match new_board(rt.alloc(), 1000) {
-        Ok((board, drawer)) => expect_each_number_once(&rt, board, drawer),
-        Err(_) => Err(Fail::new("out of memory")),
-    }
+    deal_three_numbers(&rt)?;
+    deal_no_number(&rt)?;
+    let (board, drawer) = new_board(rt.alloc(), 1000)?;
+    expect_each_number_once(&rt, board, drawer)
 }
 
 /// The pieces came in the other order.
@@ -36,10 +43,8 @@ fn of_gather(rt: HostRuntime) -> Result<(), Fail> {
     let mut pieces = Vec::new(alloc);
     pieces.push(piece_of(alloc, 1, &[1])?)?;
     pieces.push(piece_of(alloc, 0, &[0])?)?;
-    match gather(alloc, 2, pieces) {
-        Ok(found) => assert!(rt; are_sets(&found, &[&[0], &[1]])),
-        Err(_) => return Err(Fail::new("out of memory")),
-    }
+    let found = gather(alloc, 2, pieces)?;
+    assert!(rt; are_sets(&found, &[&[0], &[1]]));
     Ok(())
 }
 
@@ -48,21 +53,18 @@ const ONE_PACKAGE: &[u8] = b"Package: a
 Version: 1
 Architecture: amd64";
 
-/// The sets that two workers find, with one place to a chunk.
-fn expect_sets(
-    rt: &(impl Abort + Threads + Sync + AllocGlobal),
+/// Whether two workers find these sets, with one place to a chunk.
+fn finds_sets(
+    rt: &(impl Threads + Sync + AllocGlobal),
     index: &Index,
     asked: &[u32],
     wanted: &[&[u32]],
-) -> Result<(), Fail>
+) -> Result<bool, Fail>
     requires { length asked.now < 2 ^ 32 }
 {
     check_places(index, asked)?;
-    match check_all(rt, rt.alloc(), index, asked, 2, 1, &OpenGate) {
-        Ok(found) => assert!(rt; are_sets(&found, wanted)),
-        Err(_) => return Err(Fail::new("out of memory")),
-    }
-    Ok(())
+    let found = check_all(rt, rt.alloc(), index, asked, 2, 1, &OpenGate)?;
+    Ok(are_sets(&found, wanted))
 }
 
 /// A place has a verdict as often as it is asked, and no place has none.
@@ -78,8 +80,9 @@ fn expect_sets_of_one(
     rt: &(impl Abort + Threads + Sync + AllocGlobal),
     index: &Index,
 ) -> Result<(), Fail> {
-    expect_sets(rt, index, &[0, 0], &[&[0], &[0]])?;
-    expect_sets(rt, index, &[], &[])
+    assert!(rt; finds_sets(rt, index, &[0, 0], &[&[0], &[0]])?);
+    assert!(rt; finds_sets(rt, index, &[], &[])?);
+    Ok(())
 }
 
 fn expect_chunks_in_order(
@@ -90,10 +93,18 @@ fn expect_chunks_in_order(
     check_places(index, &asked)?;
     let gate = Tally::new();
     let answer = check_all(rt, rt.alloc(), index, &asked, 2, 1, &gate);
+    expect_answer(rt, &gate, &answer)
+}
+
+fn expect_answer(
+    rt: &impl Abort,
+    gate: &Tally,
+    answer: &Result<Vec<Verdict>, AllocError>,
+) -> Result<(), Fail> {
     assert!(rt; gate.is_in_order());
     match answer {
         Ok(found) => {
-            assert!(rt; are_sets(&found, &[&[0, 2], &[1], &[2]]));
+            assert!(rt; are_sets(found, &[&[0, 2], &[1], &[2]]));
             assert!(rt; gate.is_complete());
             Ok(())
         }
@@ -123,6 +134,15 @@ fn expect_pieces_from(rt: &impl Abort, pieces: &[Piece], first: u32) -> Result<(
     Ok(())
 }
 
+/// What is left of a worker's board: the parts of its drawer, whether that found the end, the next number, and whether it closed the board.
+#[derive(Clone, Copy)]
+struct Left {
+    parts: (u32, u32),
+    done: bool,
+    next: Option<u32>,
+    closed: bool,
+}
+
 /// A worker that was refused memory lacks at most the piece of its last number; one that wasn't has all and is done.
 fn expect_drawn(rt: &impl Abort, board: Board, drawn: Drawn, first: u32) -> Result<(), Fail>
     requires board { drawn.drawer.board ≡ board }
@@ -133,17 +153,37 @@ fn expect_drawn(rt: &impl Abort, board: Board, drawn: Drawn, first: u32) -> Resu
         pieces,
         refused,
     } = drawn;
-    assert_eq!(rt; drawer.spare(), 63);
-    assert_eq!(rt; drawer.held(), 1);
-    expect_pieces_from(rt, &pieces, first)?;
+    let parts = (drawer.spare(), drawer.held());
+    let done = drawer.is_done();
+    let next = board.draw(&mut drawer);
+    let closed = board.close(drawer);
+    let left = Left {
+        parts,
+        done,
+        next,
+        closed,
+    };
+    expect_pieces_and_rest(rt, &pieces, refused, left, first)
+}
+
+fn expect_pieces_and_rest(
+    rt: &impl Abort,
+    pieces: &[Piece],
+    refused: bool,
+    left: Left,
+    first: u32,
+) -> Result<(), Fail>
+    requires { first ≤ 1 }
+{
+    assert_eq!(rt; left.parts, (63, 1));
+    expect_pieces_from(rt, pieces, first)?;
     if refused {
-        let next = board.draw(&mut drawer).unwrap_or(2);
+        let next = left.next.unwrap_or(2);
         assert!(rt; next as usize <= first as usize + pieces.len() + 1);
         return Err(Fail::new("out of memory"));
     }
     assert_eq!(rt; pieces.len() + first as usize, 2);
-    assert!(rt; drawer.is_done());
-    assert!(rt; board.close(drawer));
+    assert!(rt; left.done && left.next.is_none() && left.closed);
     Ok(())
 }
 
@@ -158,10 +198,14 @@ fn expect_pieces_of_a_worker(
     check_places(index, &asked)?;
     let (board, mut drawer) = new_board(rt.alloc(), 2)?;
     if first > 0 {
-        assert_eq!(rt; board.draw(&mut drawer), Some(0));
+        expect_first(rt, board.draw(&mut drawer));
     }
     let drawn = draw_pieces(rt.alloc(), index, &asked, 2, &board, drawer, &OpenGate);
     expect_drawn(rt, board, drawn, first)
+}
+
+fn expect_first(rt: &impl Abort, drawn: Option<u32>) {
+    assert_eq!(rt; drawn, Some(0));
 }
 
 /// A worker makes a piece of each number that it draws, and none of one that its drawer had before.
@@ -182,10 +226,11 @@ fn expect_pieces_from_each(rt: &(impl Abort + AllocGlobal), index: &Index) -> Re
 fn expect_all_drawn_by_two(rt: &impl Abort, board: Board, drawer: Drawer)
     requires { drawer.board ≡ board }
 {
-    assert_eq!(rt; drawer.spare(), 62);
-    assert_eq!(rt; drawer.held(), 2);
-    assert!(rt; drawer.is_done());
-    assert!(rt; board.close(drawer));
+    let parts = (drawer.spare(), drawer.held());
+    let done = drawer.is_done();
+    let closed = board.close(drawer);
+    assert_eq!(rt; parts, (62, 2));
+    assert!(rt; done && closed);
 }
 
 fn expect_pieces_of_two_workers(
@@ -196,14 +241,10 @@ fn expect_pieces_of_two_workers(
     let asked = [0u32, 1, 2];
     check_places(index, &asked)?;
     let (board, drawer) = new_board(alloc, 2)?;
-    match crew(rt, alloc, index, &asked, 2, &board, drawer, 2, &OpenGate) {
-        Ok((drawer, mut pieces)) => {
-            expect_all_drawn_by_two(rt, board, drawer);
-            pieces.sort_unstable_by_key(|piece| piece.number);
-            expect_both_pieces(rt, &pieces)
-        }
-        Err(_) => Err(Fail::new("out of memory")),
-    }
+    let (drawer, mut pieces) = crew(rt, alloc, index, &asked, 2, &board, drawer, 2, &OpenGate)?;
+    expect_all_drawn_by_two(rt, board, drawer);
+    pieces.sort_unstable_by_key(|piece| piece.number);
+    expect_both_pieces(rt, &pieces)
 }
 
 /// Two workers make the same pieces, in either order.
