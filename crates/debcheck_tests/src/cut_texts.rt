@@ -1,8 +1,22 @@
 //! A text cut behind each of its bytes.
 
-use crate::example::{EXPLAINED, outcome_of};
-use crate::relations::{ALTERNATIVES, EMPTY_REPORT};
+use crate::example::{EXPLAINED, Example, gives};
+use crate::relations::EMPTY_REPORT;
 use std::test::Fail;
+
+const ALTERNATIVES: &str = "Package: a
+Version: 1
+Architecture: all
+Depends: b | c
+
+Package: b
+Version: 1
+Architecture: all
+
+Package: c
+Version: 1
+Architecture: all
+";
 
 const SKIPPED: &str = "architecture: amd64
 report:
@@ -61,29 +75,35 @@ asked: 1
 broken: 1
 ";
 
-/// The report, or the line of the fault, and the status.
-fn wanted(len: usize) -> (&'static str, &'static str, u8) {
+/// The answer, and its status.
+fn wanted(len: usize) -> (&'static str, u8) {
     match len {
-        0 => (EMPTY_REPORT, "", 0),
-        1..=7 | 12..=18 | 23..=34 | 41..=47 => ("", "debcheck: stanza 1: bad line\n", 65),
-        8..=11 | 19..=22 | 35 | 36 => ("", "debcheck: stanza 1: missing field\n", 65),
-        37 | 38 => (SKIPPED, "", 0),
-        39 | 40 | 48 | 49 => (INSTALLABLE, "", 0),
-        50 | 51 => (WITHOUT_B, "", 1),
-        52 | 53 => ("", "debcheck: stanza 1: bad relation in Depends\n", 65),
-        54..=56 => (WITHOUT_B_AND_C, "", 1),
-        _ => ("", "debcheck: stanza 2: bad line\n", 65),
+        0 => (EMPTY_REPORT, 0),
+        1..=7 | 12..=18 | 23..=34 | 41..=47 => ("debcheck: stanza 1: bad line\n", 65),
+        8..=11 | 19..=22 | 35 | 36 => ("debcheck: stanza 1: missing field\n", 65),
+        37 | 38 => (SKIPPED, 0),
+        39 | 40 | 48 | 49 => (INSTALLABLE, 0),
+        50 | 51 => (WITHOUT_B, 1),
+        52 | 53 => ("debcheck: stanza 1: bad relation in Depends\n", 65),
+        54..=56 => (WITHOUT_B_AND_C, 1),
+        _ => ("debcheck: stanza 2: bad line\n", 65),
     }
 }
 
 #[test]
 fn each_cut_has_its_answer(rt: HostRuntime) -> Result<(), Fail> {
     for len in 0..58 {
-        let front = ALTERNATIVES.get(..len).ok_or("the text is longer")?;
-        let (report, fault, status) = wanted(len);
-        let found = outcome_of(&rt, rt.alloc(), EXPLAINED, front)?;
+        let (answer, status) = wanted(len);
+        let example = Example {
+            name: "",
+            status,
+            words: EXPLAINED,
+            text: ALTERNATIVES.get(..len).ok_or("the text is longer")?,
+            background: None,
+            answer,
+        };
         assert!(rt;
-            found.is(report, fault, status),
+            gives(&rt, rt.alloc(), EXPLAINED, &example)?,
             "the report, the fault or the status of {len} bytes"
         );
     }

@@ -11,15 +11,48 @@ use work_draw::OpenGate;
 /// The words that ask for amd64 and for explanations.
 pub const EXPLAINED: &str = "--arch amd64 --explain";
 
-/// The words of a command line, a text, and the report or the line of the fault that a run gives.
-pub struct Example {
-    pub name: &'static str,
-    /// With white space between them.
-    pub words: &'static str,
-    pub text: &'static str,
-    pub report: &'static str,
-    pub fault: &'static str,
+/// What stands between two examples of a document.
+pub const NEXT: &str = "\n====\n";
+
+/// What stands between two parts of an example.
+const PART: &str = "\n----\n";
+
+/// The words of a command line, one text or two, and the answer of a run.
+#[derive(Clone, Copy)]
+pub struct Example<'a> {
+    pub name: &'a str,
     pub status: u8,
+    /// With white space between them.
+    pub words: &'a str,
+    pub text: &'a str,
+    /// The second text, where there is one.
+    pub background: Option<&'a str>,
+    /// The report, or the line of the fault under a status above 1.
+    pub answer: &'a str,
+}
+
+impl<'a> Example<'a> {
+    /// Reads `NAME gives STATUS under WORDS`, the text, perhaps a second text, and the answer, with `PART` between each two.
+    ///
+    /// A document keeps each text byte by byte: one that ends with a line feed has an empty line behind it.
+    pub fn read(told: &'a str) -> Option<Example<'a>> {
+        let (head, texts) = told.split_once(PART)?;
+        let (name, asked) = head.split_once(" gives ")?;
+        let (status, words) = asked.split_once(" under ")?;
+        let (text, rest) = texts.split_once(PART)?;
+        let (background, answer) = match rest.split_once(PART) {
+            Some((background, answer)) => (Some(background), answer),
+            None => (None, rest),
+        };
+        Some(Example {
+            name,
+            status: status.parse::<u8>().ok()?,
+            words,
+            text,
+            background,
+            answer,
+        })
+    }
 }
 
 /// What a run wrote, the line of its fault, and its status.
@@ -38,6 +71,15 @@ impl Outcome {
             && self.status == status
             && self.writer.flushes == usize::from(fault.is_empty())
             && (self.writer.writes == 0) == report.is_empty()
+    }
+
+    /// Whether this is the answer of the example.
+    pub fn answers(&self, example: &Example<'_>) -> bool {
+        if example.status > 1 {
+            self.is("", example.answer, example.status)
+        } else {
+            self.is(example.answer, "", example.status)
+        }
     }
 }
 
@@ -155,4 +197,44 @@ pub fn outcome_of<R: Threads + Sync>(
         &mut reader,
         Kept::new(alloc, 100, Trouble::Never),
     )
+}
+
+/// A run under these words on this text, with this background.
+fn outcome_of_both<R: Threads + Sync>(
+    rt: &R,
+    alloc: Global,
+    words: &str,
+    text: &str,
+    background: &str,
+) -> Result<Outcome, Fail> {
+    let mut reader = Std::new(text.as_bytes());
+    let mut second = Std::new(background.as_bytes());
+    let writer = Kept::new(alloc, 100, Trouble::Never);
+    outcome_behind(rt, alloc, words, &mut reader, &mut second, writer)
+}
+
+/// Whether a run on the texts of the example gives its answer under these words, which may say more than its own.
+pub fn gives<R: Threads + Sync>(
+    rt: &R,
+    alloc: Global,
+    words: &str,
+    example: &Example<'_>,
+) -> Result<bool, Fail> {
+    let found = match example.background {
+        Some(background) => outcome_of_both(rt, alloc, words, example.text, background)?,
+        None => outcome_of(rt, alloc, words, example.text)?,
+    };
+    Ok(found.answers(example))
+}
+
+/// Whether the answer comes from so many workers too, each of which takes so many packages at once.
+pub fn gives_by<R: Threads + Sync>(
+    rt: &R,
+    alloc: Global,
+    workers: u32,
+    chunk: u32,
+    example: &Example<'_>,
+) -> Result<bool, Fail> {
+    let words = format!(in alloc; "{} --workers {workers} --chunk {chunk}", example.words)?;
+    gives(rt, alloc, words.as_str(), example)
 }

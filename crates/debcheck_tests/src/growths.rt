@@ -4,7 +4,7 @@ ghost use Rattle.std.specs.Prelude.{◌≡◌, ◌<◌, ◌≤◌, IfOk, false};
 
 use crate::devices::{Endless, Kept, Trouble};
 use crate::{backgrounds, sample};
-use debcheck::{Config, RunFault, Std, run, status};
+use debcheck::{Config, RunFault, Std, Summary, run, status};
 use std::alloc::{AllocError, Global};
 use std::process::Abort;
 use std::sync::atomic::{AtomicU32, Ordering};
@@ -80,37 +80,61 @@ fn writer_with_room(alloc: Global) -> Result<Kept, AllocError>
     Ok(writer)
 }
 
-/// The sample in three chunks: no chunk begins twice or ends without a beginning, and all three end where there is a report.
-/// Where memory was refused nothing was written.
-fn expect_sample(rt: &(impl Abort + Threads + Sync + AllocGlobal), workers: u32) -> Result<(), Fail>
-    requires { (0 < workers) × (workers ≤ 64) }
+/// This report was written, or nothing where memory was refused.
+fn expect_report(
+    rt: &impl Abort,
+    output: &Kept,
+    outcome: &Result<Summary, RunFault>,
+    report: &str,
+    code: u8,
+) -> Result<(), Fail> {
+    if matches!(outcome, Err(RunFault::Memory)) {
+        assert!(rt; output.writes == 0 && output.bytes.is_empty());
+        assert_eq!(rt; status(outcome), 69);
+        return Err(Fail::new("out of memory"));
+    }
+    assert!(rt; output.bytes.as_slice() == report.as_bytes() && output.flushes == 1);
+    assert_eq!(rt; status(outcome), code);
+    Ok(())
+}
+
+/// Nothing was read from the second reader, and the chunks were told of in order: all three, where there is a report.
+fn expect_in_order(rt: &impl Abort, unread: &Endless, tally: &Tally, has_report: bool) {
+    assert_eq!(rt; unread.reads, 0);
+    assert!(rt; tally.has_at_least(u32::from(has_report)));
+}
+
+fn expect_sample_under(
+    rt: &(impl Abort + Threads + Sync + AllocGlobal),
+    config: &Config,
+    tally: &Tally,
+) -> Result<(), Fail>
+    requires workers { (0 < config.now.workers) × (config.now.workers ≤ 64) }
+    requires chunk { 0 < config.now.chunk }
 {
-    let config = config_with(rt.alloc(), workers)?;
     let mut output = writer_with_room(rt.alloc())?;
-    let mut text = Std::new(sample::TEXT.as_bytes());
-    let tally = Tally::new();
+    let mut text = Std::new(sample::text().as_bytes());
     let mut unread = Endless::new();
     let outcome = run(
         rt,
         rt.alloc(),
-        &config,
+        config,
         &mut text,
         &mut unread,
         &mut output,
-        &tally,
+        tally,
     );
-    assert_eq!(rt; unread.reads, 0);
-    assert!(rt; tally.has_at_least(u32::from(outcome.is_ok())));
-    if matches!(&outcome, Err(RunFault::Memory)) {
-        assert_eq!(rt; output.writes, 0);
-        assert!(rt; output.bytes.is_empty());
-        assert_eq!(rt; status(&outcome), 69);
-        return Err(Fail::new("out of memory"));
-    }
-    assert_eq!(rt; output.bytes.as_slice(), sample::REPORT.as_bytes());
-    assert_eq!(rt; output.flushes, 1);
-    assert_eq!(rt; status(&outcome), 1);
-    Ok(())
+    expect_in_order(rt, &unread, tally, outcome.is_ok());
+    expect_report(rt, &output, &outcome, sample::report(), 1)
+}
+
+/// The sample in three chunks: no chunk begins twice or ends without a beginning, and all three end where there is a report.
+fn expect_sample(rt: &(impl Abort + Threads + Sync + AllocGlobal), workers: u32) -> Result<(), Fail>
+    requires { (0 < workers) × (workers ≤ 64) }
+{
+    let config = config_with(rt.alloc(), workers)?;
+    let tally = Tally::new();
+    expect_sample_under(rt, &config, &tally)
 }
 
 #[test]
@@ -123,34 +147,32 @@ fn of_run_with_two_workers(rt: HostRuntime) -> Result<(), Fail> {
     expect_sample(&rt, 2)
 }
 
-/// One package that needs one of the background, in one chunk, by two workers.
-#[test]
-fn of_run_with_a_background(rt: HostRuntime) -> Result<(), Fail> {
-    let mut config = config_with(rt.alloc(), 2)?;
-    config.bg = Some(String::from_str(rt.alloc(), "background")?);
+fn expect_background(
+    rt: &(impl Abort + Threads + Sync + AllocGlobal),
+    config: &Config,
+) -> Result<(), Fail>
+    requires workers { (0 < config.now.workers) × (config.now.workers ≤ 64) }
+    requires chunk { 0 < config.now.chunk }
+{
     let mut output = writer_with_room(rt.alloc())?;
     let mut text = Std::new(backgrounds::NEEDS_ONE.as_bytes());
     let mut background = Std::new(backgrounds::HAS_TWO.as_bytes());
     let outcome = run(
-        &rt,
+        rt,
         rt.alloc(),
-        &config,
+        config,
         &mut text,
         &mut background,
         &mut output,
         &OpenGate,
     );
-    if matches!(&outcome, Err(RunFault::Memory)) {
-        assert_eq!(rt; output.writes, 0);
-        assert!(rt; output.bytes.is_empty());
-        assert_eq!(rt; status(&outcome), 69);
-        return Err(Fail::new("out of memory"));
-    }
-    assert_eq!(rt;
-        output.bytes.as_slice(),
-        backgrounds::NEEDS_ONE_REPORT.as_bytes()
-    );
-    assert_eq!(rt; output.flushes, 1);
-    assert_eq!(rt; status(&outcome), 0);
-    Ok(())
+    expect_report(rt, &output, &outcome, backgrounds::NEEDS_ONE_REPORT, 0)
+}
+
+/// One package that needs one of the background, in one chunk, by two workers.
+#[test]
+fn of_run_with_a_background(rt: HostRuntime) -> Result<(), Fail> {
+    let mut config = config_with(rt.alloc(), 2)?;
+    config.bg = Some(String::from_str(rt.alloc(), "background")?);
+    expect_background(&rt, &config)
 }

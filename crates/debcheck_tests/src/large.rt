@@ -1,7 +1,7 @@
 //! A group of 10,000 alternatives, a package with 20,000 groups, and many line feeds.
 
 use crate::devices::{Feeds, Kept, Trouble};
-use crate::example::{EXPLAINED, outcome_of, outcome_on};
+use crate::example::{EXPLAINED, Example, gives, outcome_on};
 use crate::relations::EMPTY_REPORT;
 use std::alloc::{AllocError, Global};
 use std::process::Abort;
@@ -73,41 +73,62 @@ broken: {broken}
     )
 }
 
-fn expect<R: Abort + Threads + Sync>(
+/// The report on the asked package of a text.
+fn expect<'a, R: Abort + Threads + Sync>(
     rt: &R,
     alloc: Global,
-    words: &str,
-    text: &str,
-    report: &str,
+    words: &'a str,
+    text: &'a str,
+    report: &'a str,
     status: u8,
 ) -> Result<(), Fail> {
-    let found = outcome_of(rt, alloc, words, text)?;
-    assert!(rt; found.is(report, "", status));
+    let example = Example {
+        name: "",
+        status,
+        words,
+        text,
+        background: None,
+        answer: report,
+    };
+    assert!(rt; gives(rt, alloc, words, &example)?);
     Ok(())
 }
 
 /// The package alone.
-fn expect_no_alternative<R: Abort + Threads + Sync>(rt: &R, alloc: Global) -> Result<(), Fail> {
+fn text_alone(alloc: Global) -> Result<String, AllocError> {
     let group = alternatives(alloc)?;
-    let group = group.as_str();
-    let text = stanza_of(alloc, "a", group)?;
+    stanza_of(alloc, "a", group.as_str())
+}
+
+fn report_alone(alloc: Global) -> Result<String, AllocError> {
+    let group = alternatives(alloc)?;
     let explained = format!(in alloc;
         "broken
   reasons:
    - missing: a 1 Depends: {group}
 "
     )?;
-    let report = report_of(alloc, "a", explained.as_str(), 1, 1)?;
+    report_of(alloc, "a", explained.as_str(), 1, 1)
+}
+
+fn expect_no_alternative<R: Abort + Threads + Sync>(rt: &R, alloc: Global) -> Result<(), Fail> {
+    let text = text_alone(alloc)?;
+    let report = report_alone(alloc)?;
     let words = "--arch amd64 --explain --checkonly a";
     expect(rt, alloc, words, text.as_str(), report.as_str(), 1)
 }
 
 /// The package, and each of its alternatives.
-fn expect_last_alternative<R: Abort + Threads + Sync>(rt: &R, alloc: Global) -> Result<(), Fail> {
-    let mut text = stanza_of(alloc, "a", alternatives(alloc)?.as_str())?;
+fn text_with_alternatives(alloc: Global) -> Result<String, AllocError> {
+    let mut text = text_alone(alloc)?;
     for number in 0..10_000 {
         push_stanza(&mut text, 'n', number)?;
     }
+    Ok(text)
+}
+
+fn expect_last_alternative<R: Abort + Threads + Sync>(rt: &R, alloc: Global) -> Result<(), Fail> {
+    let text = text_with_alternatives(alloc)?;
     let explained = "ok
   installation-set:
    - a 1
@@ -124,16 +145,39 @@ fn one_group_of_many_alternatives(rt: HostRuntime) -> Result<(), Fail> {
     expect_last_alternative(&rt, rt.alloc())
 }
 
-#[test]
-fn many_groups_of_two_alternatives(rt: HostRuntime) -> Result<(), Fail> {
-    let mut text = stanza_of(rt.alloc(), "p", groups(rt.alloc())?.as_str())?;
-    let mut explained = String::from_str(rt.alloc(), "ok\n  installation-set:\n   - p 1\n")?;
+/// A package with many groups, and both alternatives of each.
+fn text_with_groups(alloc: Global) -> Result<String, AllocError> {
+    let mut text = text_of_groups(alloc)?;
     for number in 0..20_000 {
         push_stanza(&mut text, 'x', number)?;
         push_stanza(&mut text, 'y', number)?;
+    }
+    Ok(text)
+}
+
+fn text_of_groups(alloc: Global) -> Result<String, AllocError> {
+    let field = groups(alloc)?;
+    stanza_of(alloc, "p", field.as_str())
+}
+
+/// The last alternative of each group is in the set.
+fn set_of_groups(alloc: Global) -> Result<String, AllocError> {
+    let mut explained = String::from_str(alloc, "ok\n  installation-set:\n   - p 1\n")?;
+    for number in 0..20_000 {
         write!(explained, "   - y{number} 1\n")?;
     }
-    let report = report_of(rt.alloc(), "p", explained.as_str(), 40_001, 0)?;
+    Ok(explained)
+}
+
+fn report_of_groups(alloc: Global) -> Result<String, AllocError> {
+    let explained = set_of_groups(alloc)?;
+    report_of(alloc, "p", explained.as_str(), 40_001, 0)
+}
+
+#[test]
+fn many_groups_of_two_alternatives(rt: HostRuntime) -> Result<(), Fail> {
+    let text = text_with_groups(rt.alloc())?;
+    let report = report_of_groups(rt.alloc())?;
     let words = "--arch amd64 --explain --checkonly p";
     expect(&rt, rt.alloc(), words, text.as_str(), report.as_str(), 0)
 }

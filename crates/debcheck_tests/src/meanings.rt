@@ -1,23 +1,8 @@
 //! Texts about essential names, fields and duplicates, and what is written of them with explanations for amd64.
 
-use crate::example::{EXPLAINED, Example};
-
-pub const ESSENTIAL_CONFLICT: &str = "Package: base
-Version: 1
-Architecture: all
-Essential: yes
-
-Package: x
-Version: 1
-Architecture: all
-Conflicts: base
-";
-
-pub const EXAMPLES: [Example; 6] = [
-    Example {
-        name: "unversioned_provides",
-        words: EXPLAINED,
-        text: "Package: foo
+pub const EXAMPLES: &str = "unversioned_provides gives 1 under --arch amd64 --explain
+----
+Package: foo
 Version: 1
 Architecture: all
 Depends: bar (>= 1.0)
@@ -30,8 +15,9 @@ Package: bar-plus
 Version: 1
 Architecture: all
 Provides: bar
-",
-        report: "architecture: amd64
+
+----
+architecture: amd64
 report:
  -
   package: foo
@@ -59,15 +45,22 @@ skipped: 0
 duplicates: 0
 asked: 3
 broken: 1
-",
-        fault: "",
-        status: 1,
-    },
-    Example {
-        name: "essential_conflict",
-        words: EXPLAINED,
-        text: ESSENTIAL_CONFLICT,
-        report: "architecture: amd64
+
+====
+essential_conflict gives 1 under --arch amd64 --explain
+----
+Package: base
+Version: 1
+Architecture: all
+Essential: yes
+
+Package: x
+Version: 1
+Architecture: all
+Conflicts: base
+
+----
+architecture: amd64
 report:
  -
   package: base
@@ -89,14 +82,11 @@ skipped: 0
 duplicates: 0
 asked: 2
 broken: 1
-",
-        fault: "",
-        status: 1,
-    },
-    Example {
-        name: "essential_names_apart",
-        words: EXPLAINED,
-        text: "Package: e1
+
+====
+essential_names_apart gives 1 under --arch amd64 --explain
+----
+Package: e1
 Version: 1
 Architecture: all
 Essential: yes
@@ -110,8 +100,9 @@ Essential: yes
 Package: z
 Version: 1
 Architecture: all
-",
-        report: "architecture: amd64
+
+----
+architecture: amd64
 report:
  -
   package: e1
@@ -143,14 +134,11 @@ skipped: 0
 duplicates: 0
 asked: 3
 broken: 3
-",
-        fault: "",
-        status: 1,
-    },
-    Example {
-        name: "folded_field_and_comment",
-        words: EXPLAINED,
-        text: "Package: a
+
+====
+folded_field_and_comment gives 0 under --arch amd64 --explain
+----
+Package: a
 Version: 1
 Architecture: all
 DEPENDS: b,
@@ -165,8 +153,9 @@ Architecture: all
 Package: c
 Version: 2
 Architecture: all
-",
-        report: "architecture: amd64
+
+----
+architecture: amd64
 report:
  -
   package: a
@@ -196,14 +185,11 @@ skipped: 0
 duplicates: 0
 asked: 3
 broken: 0
-",
-        fault: "",
-        status: 0,
-    },
-    Example {
-        name: "duplicates_and_skipped",
-        words: EXPLAINED,
-        text: "Package: a
+
+====
+duplicates_and_skipped gives 0 under --arch amd64 --explain
+----
+Package: a
 Version: 1.0
 Architecture: amd64
 
@@ -219,8 +205,9 @@ Depends: b (
 Package: a
 Version: 1.00
 Architecture: amd64
-",
-        report: "architecture: amd64
+
+----
+architecture: amd64
 report:
  -
   package: a
@@ -241,20 +228,18 @@ skipped: 1
 duplicates: 1
 asked: 2
 broken: 0
-",
-        fault: "",
-        status: 0,
-    },
-    Example {
-        name: "own_dependencies",
-        words: EXPLAINED,
-        text: "Package: s
+
+====
+own_dependencies gives 0 under --arch amd64 --explain
+----
+Package: s
 Version: 1
 Architecture: all
 Depends: s, v
 Provides: v
-",
-        report: "architecture: amd64
+
+----
+architecture: amd64
 report:
  -
   package: s
@@ -268,8 +253,4 @@ skipped: 0
 duplicates: 0
 asked: 1
 broken: 0
-",
-        fault: "",
-        status: 0,
-    },
-];
+";

@@ -1,12 +1,8 @@
 //! Texts about architecture qualifiers and `Multi-Arch`, and what is written of them with explanations for amd64.
 
-use crate::example::{EXPLAINED, Example};
-
-pub const EXAMPLES: [Example; 3] = [
-    Example {
-        name: "any_of_an_unmarked_package",
-        words: EXPLAINED,
-        text: "Package: a
+pub const EXAMPLES: &str = "any_of_an_unmarked_package gives 1 under --arch amd64 --explain
+----
+Package: a
 Version: 1
 Architecture: all
 Depends: python3:any
@@ -23,8 +19,9 @@ Architecture: all
 Package: n
 Version: 1
 Architecture: all
-",
-        report: "architecture: amd64
+
+----
+architecture: amd64
 report:
  -
   package: a
@@ -59,14 +56,11 @@ skipped: 0
 duplicates: 0
 asked: 4
 broken: 2
-",
-        fault: "",
-        status: 1,
-    },
-    Example {
-        name: "any_of_a_marked_package",
-        words: EXPLAINED,
-        text: "Package: a
+
+====
+any_of_a_marked_package gives 1 under --arch amd64 --explain
+----
+Package: a
 Version: 1
 Architecture: all
 Depends: python3:any
@@ -84,8 +78,9 @@ Multi-Arch: allowed
 Package: n
 Version: 1
 Architecture: all
-",
-        report: "architecture: amd64
+
+----
+architecture: amd64
 report:
  -
   package: a
@@ -121,14 +116,11 @@ skipped: 0
 duplicates: 0
 asked: 4
 broken: 1
-",
-        fault: "",
-        status: 1,
-    },
-    Example {
-        name: "any_of_provided_names",
-        words: EXPLAINED,
-        text: "Package: a
+
+====
+any_of_provided_names gives 1 under --arch amd64 --explain
+----
+Package: a
 Version: 1
 Architecture: all
 Depends: v:any
@@ -150,8 +142,9 @@ Version: 1
 Architecture: all
 Depends: p
 Conflicts: v:any
-",
-        report: "architecture: amd64
+
+----
+architecture: amd64
 report:
  -
   package: a
@@ -188,8 +181,4 @@ skipped: 0
 duplicates: 0
 asked: 4
 broken: 1
-",
-        fault: "",
-        status: 1,
-    },
-];
+";

@@ -1,7 +1,5 @@
 //! Texts about dependencies and conflicts, and what is written of them with explanations for amd64.
 
-use crate::example::{EXPLAINED, Example};
-
 /// The report on no stanza.
 pub const EMPTY_REPORT: &str = "architecture: amd64
 report:
@@ -12,68 +10,26 @@ asked: 0
 broken: 0
 ";
 
-pub const ONE_PACKAGE: &str = "Package: a
-Version: 1
-Architecture: amd64";
+pub const EXAMPLES: &str = "empty_input gives 0 under --arch amd64 --explain
+----
 
-pub const MISSING_DEPENDENCY: &str = "Package: a
-Version: 1
-Architecture: all
-Depends: b
+----
+architecture: amd64
+report:
+stanzas: 0
+skipped: 0
+duplicates: 0
+asked: 0
+broken: 0
 
-Package: b
+====
+one_package_without_last_line_feed gives 0 under --arch amd64 --explain
+----
+Package: a
 Version: 1
-Architecture: all
-Depends: c (>= 2)
-
-Package: c
-Version: 1
-Architecture: all
-";
-
-pub const ALTERNATIVES: &str = "Package: a
-Version: 1
-Architecture: all
-Depends: b | c
-
-Package: b
-Version: 1
-Architecture: all
-
-Package: c
-Version: 1
-Architecture: all
-";
-
-pub const CONFLICT_BETWEEN_DEPENDENCIES: &str = "Package: a
-Version: 1
-Architecture: all
-Depends: b, c
-
-Package: b
-Version: 1
-Architecture: all
-Conflicts: c
-
-Package: c
-Version: 1
-Architecture: all
-";
-
-pub const EXAMPLES: [Example; 9] = [
-    Example {
-        name: "empty_input",
-        words: EXPLAINED,
-        text: "",
-        report: EMPTY_REPORT,
-        fault: "",
-        status: 0,
-    },
-    Example {
-        name: "one_package_without_last_line_feed",
-        words: EXPLAINED,
-        text: ONE_PACKAGE,
-        report: "architecture: amd64
+Architecture: amd64
+----
+architecture: amd64
 report:
  -
   package: a
@@ -87,15 +43,26 @@ skipped: 0
 duplicates: 0
 asked: 1
 broken: 0
-",
-        fault: "",
-        status: 0,
-    },
-    Example {
-        name: "missing_dependency",
-        words: EXPLAINED,
-        text: MISSING_DEPENDENCY,
-        report: "architecture: amd64
+
+====
+missing_dependency gives 1 under --arch amd64 --explain
+----
+Package: a
+Version: 1
+Architecture: all
+Depends: b
+
+Package: b
+Version: 1
+Architecture: all
+Depends: c (>= 2)
+
+Package: c
+Version: 1
+Architecture: all
+
+----
+architecture: amd64
 report:
  -
   package: a
@@ -124,15 +91,25 @@ skipped: 0
 duplicates: 0
 asked: 3
 broken: 2
-",
-        fault: "",
-        status: 1,
-    },
-    Example {
-        name: "alternatives",
-        words: EXPLAINED,
-        text: ALTERNATIVES,
-        report: "architecture: amd64
+
+====
+alternatives gives 0 under --arch amd64 --explain
+----
+Package: a
+Version: 1
+Architecture: all
+Depends: b | c
+
+Package: b
+Version: 1
+Architecture: all
+
+Package: c
+Version: 1
+Architecture: all
+
+----
+architecture: amd64
 report:
  -
   package: a
@@ -161,19 +138,17 @@ skipped: 0
 duplicates: 0
 asked: 3
 broken: 0
-",
-        fault: "",
-        status: 0,
-    },
-    Example {
-        name: "first_core_lacks_the_earlier",
-        words: EXPLAINED,
-        text: "Package: a
+
+====
+first_core_lacks_the_earlier gives 1 under --arch amd64 --explain
+----
+Package: a
 Version: 1
 Architecture: all
 Depends: x, y
-",
-        report: "architecture: amd64
+
+----
+architecture: amd64
 report:
  -
   package: a
@@ -187,15 +162,26 @@ skipped: 0
 duplicates: 0
 asked: 1
 broken: 1
-",
-        fault: "",
-        status: 1,
-    },
-    Example {
-        name: "conflict_between_dependencies",
-        words: EXPLAINED,
-        text: CONFLICT_BETWEEN_DEPENDENCIES,
-        report: "architecture: amd64
+
+====
+conflict_between_dependencies gives 1 under --arch amd64 --explain
+----
+Package: a
+Version: 1
+Architecture: all
+Depends: b, c
+
+Package: b
+Version: 1
+Architecture: all
+Conflicts: c
+
+Package: c
+Version: 1
+Architecture: all
+
+----
+architecture: amd64
 report:
  -
   package: a
@@ -225,14 +211,11 @@ skipped: 0
 duplicates: 0
 asked: 3
 broken: 1
-",
-        fault: "",
-        status: 1,
-    },
-    Example {
-        name: "mail_agents",
-        words: EXPLAINED,
-        text: "Package: m1
+
+====
+mail_agents gives 1 under --arch amd64 --explain
+----
+Package: m1
 Version: 1
 Architecture: all
 Provides: mail-agent
@@ -248,8 +231,9 @@ Package: u
 Version: 1
 Architecture: all
 Depends: m1, m2
-",
-        report: "architecture: amd64
+
+----
+architecture: amd64
 report:
  -
   package: m1
@@ -279,14 +263,11 @@ skipped: 0
 duplicates: 0
 asked: 3
 broken: 1
-",
-        fault: "",
-        status: 1,
-    },
-    Example {
-        name: "two_versions",
-        words: EXPLAINED,
-        text: "Package: n
+
+====
+two_versions gives 1 under --arch amd64 --explain
+----
+Package: n
 Version: 1
 Architecture: all
 
@@ -303,8 +284,9 @@ Package: b
 Version: 1
 Architecture: all
 Depends: n (= 2)
-",
-        report: "architecture: amd64
+
+----
+architecture: amd64
 report:
  -
   package: n
@@ -343,14 +325,11 @@ skipped: 0
 duplicates: 0
 asked: 4
 broken: 1
-",
-        fault: "",
-        status: 1,
-    },
-    Example {
-        name: "versioned_provides",
-        words: EXPLAINED,
-        text: "Package: foo
+
+====
+versioned_provides gives 0 under --arch amd64 --explain
+----
+Package: foo
 Version: 1
 Architecture: all
 Depends: bar (>= 1.0)
@@ -363,8 +342,9 @@ Package: bar-plus
 Version: 1
 Architecture: all
 Provides: bar (= 1.0)
-",
-        report: "architecture: amd64
+
+----
+architecture: amd64
 report:
  -
   package: foo
@@ -393,8 +373,4 @@ skipped: 0
 duplicates: 0
 asked: 3
 broken: 0
-",
-        fault: "",
-        status: 0,
-    },
-];
+";

@@ -1,15 +1,12 @@
 //! Texts under words that ask for less or for more than the usual settings, and what is written of them.
 
-use crate::example::Example;
-use crate::meanings::ESSENTIAL_CONFLICT;
-use crate::relations::{CONFLICT_BETWEEN_DEPENDENCIES, MISSING_DEPENDENCY, ONE_PACKAGE};
-
-pub const EXAMPLES: [Example; 7] = [
-    Example {
-        name: "without_explanations",
-        words: "--arch amd64",
-        text: ONE_PACKAGE,
-        report: "architecture: amd64
+pub const EXAMPLES: &str = "without_explanations gives 0 under --arch amd64
+----
+Package: a
+Version: 1
+Architecture: amd64
+----
+architecture: amd64
 report:
  -
   package: a
@@ -21,15 +18,22 @@ skipped: 0
 duplicates: 0
 asked: 1
 broken: 0
-",
-        fault: "",
-        status: 0,
-    },
-    Example {
-        name: "essential_names_ignored",
-        words: "--arch amd64 --explain --ignore-essential",
-        text: ESSENTIAL_CONFLICT,
-        report: "architecture: amd64
+
+====
+essential_names_ignored gives 0 under --arch amd64 --explain --ignore-essential
+----
+Package: base
+Version: 1
+Architecture: all
+Essential: yes
+
+Package: x
+Version: 1
+Architecture: all
+Conflicts: base
+
+----
+architecture: amd64
 report:
  -
   package: base
@@ -50,24 +54,35 @@ skipped: 0
 duplicates: 0
 asked: 2
 broken: 0
-",
-        fault: "",
-        status: 0,
-    },
-    Example {
-        name: "unknown_name",
-        words: "--arch amd64 --explain --checkonly zz",
-        text: ONE_PACKAGE,
-        report: "",
-        fault: "debcheck: unknown package zz
-",
-        status: 66,
-    },
-    Example {
-        name: "names_in_the_order_of_the_index",
-        words: "--arch amd64 --explain --checkonly b,a,b",
-        text: CONFLICT_BETWEEN_DEPENDENCIES,
-        report: "architecture: amd64
+
+====
+unknown_name gives 66 under --arch amd64 --explain --checkonly zz
+----
+Package: a
+Version: 1
+Architecture: amd64
+----
+debcheck: unknown package zz
+
+====
+names_in_the_order_of_the_index gives 1 under --arch amd64 --explain --checkonly b,a,b
+----
+Package: a
+Version: 1
+Architecture: all
+Depends: b, c
+
+Package: b
+Version: 1
+Architecture: all
+Conflicts: c
+
+Package: c
+Version: 1
+Architecture: all
+
+----
+architecture: amd64
 report:
  -
   package: a
@@ -90,15 +105,26 @@ skipped: 0
 duplicates: 0
 asked: 2
 broken: 1
-",
-        fault: "",
-        status: 1,
-    },
-    Example {
-        name: "failures",
-        words: "--arch amd64 --explain --failures",
-        text: MISSING_DEPENDENCY,
-        report: "architecture: amd64
+
+====
+failures gives 1 under --arch amd64 --explain --failures
+----
+Package: a
+Version: 1
+Architecture: all
+Depends: b
+
+Package: b
+Version: 1
+Architecture: all
+Depends: c (>= 2)
+
+Package: c
+Version: 1
+Architecture: all
+
+----
+architecture: amd64
 report:
  -
   package: a
@@ -120,15 +146,26 @@ skipped: 0
 duplicates: 0
 asked: 3
 broken: 2
-",
-        fault: "",
-        status: 1,
-    },
-    Example {
-        name: "successes",
-        words: "--arch amd64 --explain --successes",
-        text: MISSING_DEPENDENCY,
-        report: "architecture: amd64
+
+====
+successes gives 1 under --arch amd64 --explain --successes
+----
+Package: a
+Version: 1
+Architecture: all
+Depends: b
+
+Package: b
+Version: 1
+Architecture: all
+Depends: c (>= 2)
+
+Package: c
+Version: 1
+Architecture: all
+
+----
+architecture: amd64
 report:
  -
   package: c
@@ -142,15 +179,26 @@ skipped: 0
 duplicates: 0
 asked: 3
 broken: 2
-",
-        fault: "",
-        status: 1,
-    },
-    Example {
-        name: "failures_and_successes",
-        words: "--arch amd64 --explain --failures --successes",
-        text: MISSING_DEPENDENCY,
-        report: "architecture: amd64
+
+====
+failures_and_successes gives 1 under --arch amd64 --explain --failures --successes
+----
+Package: a
+Version: 1
+Architecture: all
+Depends: b
+
+Package: b
+Version: 1
+Architecture: all
+Depends: c (>= 2)
+
+Package: c
+Version: 1
+Architecture: all
+
+----
+architecture: amd64
 report:
  -
   package: a
@@ -179,8 +227,4 @@ skipped: 0
 duplicates: 0
 asked: 3
 broken: 2
-",
-        fault: "",
-        status: 1,
-    },
-];
+";

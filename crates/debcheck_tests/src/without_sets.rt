@@ -1,6 +1,6 @@
 //! A report that tells no set is the same bytes, whether a set of its packages was looked for or not.
 
-use crate::example::outcome_of;
+use crate::example::{Example, gives_by};
 use std::process::Abort;
 use std::test::Fail;
 use std::thread::Threads;
@@ -99,17 +99,24 @@ asked: 6
 broken: 2
 ";
 
-fn expect<R: Abort + Threads + Sync + AllocGlobal>(
+/// The report on the text is the same by one worker and by three, which take one package at once or all.
+fn expect<'a, R: Abort + Threads + Sync + AllocGlobal>(
     rt: &R,
-    words: &str,
-    report: &str,
+    words: &'a str,
+    report: &'a str,
 ) -> Result<(), Fail> {
+    let example = Example {
+        name: "",
+        status: 1,
+        words,
+        text: TEXT,
+        background: None,
+        answer: report,
+    };
     for workers in [1, 3] {
         for chunk in [1, 64] {
-            let line = format!(in rt.alloc(); "{words} --workers {workers} --chunk {chunk}")?;
-            let found = outcome_of(rt, rt.alloc(), line.as_str(), TEXT)?;
             assert!(rt;
-                found.is(report, "", 1),
+                gives_by(rt, rt.alloc(), workers, chunk, &example)?,
                 "{words}, {workers} workers, chunks of {chunk}"
             );
         }
@@ -117,12 +124,9 @@ fn expect<R: Abort + Threads + Sync + AllocGlobal>(
     Ok(())
 }
 
+/// Failures with their reasons, and blocks without explanations.
 #[test]
-fn failures_with_their_reasons(rt: HostRuntime) -> Result<(), Fail> {
-    expect(&rt, "--arch amd64 --explain --failures", FAILURES)
-}
-
-#[test]
-fn blocks_without_explanations(rt: HostRuntime) -> Result<(), Fail> {
+fn reports_that_tell_no_set(rt: HostRuntime) -> Result<(), Fail> {
+    expect(&rt, "--arch amd64 --explain --failures", FAILURES)?;
     expect(&rt, "--arch amd64", UNEXPLAINED)
 }
