@@ -25,7 +25,7 @@ fn expect_outcome(
     before: &str,
     what: &str,
 ) -> Result<(), Fail> {
-    assert!(rt; status(outcome) == code);
+    assert_eq!(rt; status(outcome), code);
     match outcome {
         Err(fault) => expect_line(rt, fault, before, what),
         Ok(_) => Err(Fail::new("no fault")),
@@ -60,8 +60,8 @@ fn expect_fine(rt: &impl Abort, written: bool) {
 }
 
 fn expect_both(rt: &impl Abort, line: &[u8], errors: &Held, wanted: &[u8]) {
-    assert!(rt; line == wanted);
-    assert!(rt; errors.bytes.as_slice() == wanted);
+    assert_eq!(rt; line, wanted);
+    assert_eq!(rt; errors.bytes.as_slice(), wanted);
 }
 
 /// The faults of a stanza, and what is said of each.

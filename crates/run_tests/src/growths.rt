@@ -52,8 +52,8 @@ fn expect_told(
         assert!(rt; !reader.failed);
         return Err(Fail::new("out of memory"));
     }
-    assert!(rt; told == wanted.as_bytes());
-    assert!(rt; reader.reads == reads);
+    assert_eq!(rt; told, wanted.as_bytes());
+    assert_eq!(rt; reader.reads, reads);
     Ok(())
 }
 
@@ -87,15 +87,15 @@ fn expect_report(
 ) -> Result<(), Fail> {
     match outcome {
         Ok(_) => {
-            assert!(rt; output.bytes.as_slice() == wanted);
+            assert_eq!(rt; output.bytes.as_slice(), wanted);
             assert!(rt; output.flushed);
-            assert!(rt; status(outcome) == code);
+            assert_eq!(rt; status(outcome), code);
             Ok(())
         }
         Err(RunFault::Memory) => {
-            assert!(rt; output.calls == 0);
+            assert_eq!(rt; output.calls, 0);
             assert!(rt; output.bytes.is_empty());
-            assert!(rt; status(outcome) == 69);
+            assert_eq!(rt; status(outcome), 69);
             Err(Fail::new("out of memory"))
         }
         Err(_) => {
@@ -147,7 +147,7 @@ fn expect_front(
     if status(outcome) != 68 {
         return expect_report(rt, output, outcome, b"no report", 68);
     }
-    assert!(rt; output.bytes.as_slice() == b"arch".as_slice());
+    assert_eq!(rt; output.bytes.as_slice(), b"arch".as_slice());
     Ok(())
 }
 
@@ -166,7 +166,7 @@ fn expect_line(rt: &(impl Abort + AllocGlobal), fault: &RunFault) -> Result<(), 
     match fault_line(rt.alloc(), fault) {
         Ok(line) => {
             let wanted = b"debcheck: unknown package zz\n";
-            assert!(rt; line.as_slice() == wanted.as_slice());
+            assert_eq!(rt; line.as_slice(), wanted.as_slice());
             Ok(())
         }
         Err(AllocError) => Err(Fail::new("out of memory")),
@@ -189,6 +189,6 @@ fn expect_errors(rt: &impl Abort, errors: &Held, written: bool) -> Result<(), Fa
         return Ok(());
     }
     let wanted = b"debcheck: out of memory\n";
-    assert!(rt; errors.bytes.as_slice() == wanted.as_slice());
+    assert_eq!(rt; errors.bytes.as_slice(), wanted.as_slice());
     Err(Fail::new("out of memory"))
 }

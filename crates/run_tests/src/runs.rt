@@ -60,11 +60,11 @@ fn expect_report(
     report: &[u8],
     wanted: Summary,
 ) {
-    assert!(rt; output.bytes.as_slice() == report);
+    assert_eq!(rt; output.bytes.as_slice(), report);
     assert!(rt; output.flushed);
-    assert!(rt; status(outcome) == u8::from(wanted.broken > 0));
+    assert_eq!(rt; status(outcome), u8::from(wanted.broken > 0));
     match outcome {
-        Ok(summary) => assert!(rt; *summary == wanted),
+        Ok(summary) => assert_eq!(rt; *summary, wanted),
         Err(_) => assert!(rt; false, "a report"),
     }
 }
@@ -94,8 +94,8 @@ fn expect_fault(
     written: &[u8],
     wanted: &str,
 ) {
-    assert!(rt; output.bytes.as_slice() == written);
-    assert!(rt; told_by(outcome) == wanted.as_bytes());
+    assert_eq!(rt; output.bytes.as_slice(), written);
+    assert_eq!(rt; told_by(outcome), wanted.as_bytes());
 }
 
 /// The name that no package has, or words for what a run came to.
@@ -131,8 +131,8 @@ fn numbers(stanzas: u32, asked: u32, broken: u32) -> Summary {
 
 #[test]
 fn status_tells_whether_some_are_broken(rt: HostRuntime) {
-    assert!(rt; status(&Ok(numbers(3, 3, 0))) == 0);
-    assert!(rt; status(&Ok(numbers(3, 3, 2))) == 1);
+    assert_eq!(rt; status(&Ok(numbers(3, 3, 0))), 0);
+    assert_eq!(rt; status(&Ok(numbers(3, 3, 2))), 1);
 }
 
 /// Two workers with chunks of one, else as usual.

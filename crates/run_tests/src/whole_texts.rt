@@ -34,7 +34,7 @@ fn reads_within_a_limit(rt: HostRuntime) {
     let mut broken = source_of(b"abc", 1);
     broken.fails = true;
     assert!(rt; reads(alloc, &mut broken, 3, b"failed"));
-    assert!(rt; broken.reads == 1);
+    assert_eq!(rt; broken.reads, 1);
 }
 
 /// Whether the line of a fault is written to the sink, and flushed, or the sink fails with this front of the line in it.
