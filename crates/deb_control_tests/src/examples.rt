@@ -72,17 +72,33 @@ fn refusals(rt: HostRuntime) {
     );
 }
 
-/// `ab`, `b` and `A1` have one slot, so these names are compared.
+/// `ab`, `v` and `A1` have one slot, so these names are compared.
 #[test]
 fn names_of_one_slot(rt: HostRuntime) {
     expect_outcomes(
         &rt,
         &[
-            (b"ab: 1\nb: 2\nA1: 3\n", Outcome::Stanzas(1)),
-            (b"ab: 1\nb: 2\nAB: 3\n", Outcome::Repeated(1)),
-            (b"b: 1\nab: 2\nB: 3\n", Outcome::Repeated(1)),
+            (b"ab: 1\nv: 2\nA1: 3\n", Outcome::Stanzas(1)),
+            (b"ab: 1\nv: 2\nAB: 3\n", Outcome::Repeated(1)),
+            (b"v: 1\nab: 2\nV: 3\n", Outcome::Repeated(1)),
         ],
     );
+}
+
+fn has_values_of_one_slot(found: &[Stanza]) -> bool {
+    found.len() == 1
+        && has_value(&found[0], "ab", Some("1"))
+        && has_value(&found[0], "V", Some("2"))
+        && has_value(&found[0], "a1", Some("3"))
+        && has_value(&found[0], "Ax", None)
+}
+
+/// Each is found behind those of its slot. `Ax`, which has that slot, too, is absent.
+#[test]
+fn values_of_one_slot(rt: HostRuntime) -> Result<(), Fail> {
+    let found = stanzas(rt.alloc(), b"ab: 1\nv: 2\nA1: 3\n")?;
+    assert!(rt; has_values_of_one_slot(&found));
+    Ok(())
 }
 
 #[test]
@@ -150,6 +166,18 @@ fn many_fields(rt: &impl AllocGlobal) -> Result<Vec<u8>, AllocError> {
         }
     }
     Ok(text)
+}
+
+fn has_last_of_many(found: &[Stanza]) -> bool {
+    found.len() == 1 && has_value(&found[0], "JT", Some("v")) && has_value(&found[0], "JU", None)
+}
+
+#[test]
+fn values_of_many(rt: HostRuntime) -> Result<(), Fail> {
+    let text = many_fields(&rt)?;
+    let found = stanzas(rt.alloc(), &text)?;
+    assert!(rt; has_last_of_many(&found));
+    Ok(())
 }
 
 #[test]
