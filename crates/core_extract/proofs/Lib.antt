@@ -1,4 +1,3 @@
 pub mod Cores
 pub mod Kept
-pub mod ListMembers
 pub mod NextOf

@@ -7,6 +7,7 @@ use Rattle.deb_control.specs.Fields.{Entry, has_repeat}
 abbrev pub slot_count : ℕ
 slot_count = 64
 
+-- the slot of a name in small letters
 abbrev pub slot_in_lower : List ℕ → ℕ
 slot_in_lower [] = 0
 slot_in_lower (first ∷ others) = (first + 21 * (length others % slot_count)) % slot_count

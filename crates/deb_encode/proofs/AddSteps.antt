@@ -9,7 +9,7 @@ use Rattle.deb_index.proofs.MemberLemmas.{below-places_where}
 use Rattle.sat_solve.specs.Sets.{members_of}
 use Rattle.sat_solve.specs.Clauses.{Clauses}
 use Rattle.deb_encode.specs.Play.{AddsPlaces, TellsPlaces}
-use Rattle.deb_encode.proofs.Members.{at_members_of}
+use Rattle.sat_solve.proofs.ListMembers.{at_members_of}
 use Rattle.deb_encode.proofs.AddLemmas.{tells_more}
 
 -- ---- lists

@@ -14,7 +14,7 @@ use Rattle.deb_encode.specs.Adding.{Adds}
 use Rattle.deb_encode.specs.Play.{positions_of, placed, AddsPlaces}
 use Rattle.deb_encode.specs.Exclusions.{AreNumbersOf}
 use Rattle.deb_encode.specs.Standings.{AreApart, HasOneOf}
-use Rattle.deb_encode.proofs.Members.{members_of_at, at_members_of}
+use Rattle.sat_solve.proofs.ListMembers.{members_of_at, at_members_of}
 use Rattle.deb_encode.proofs.AddLemmas.{adds_none, adds_as, in_push, front_in, last_in}
 use Rattle.deb_encode.proofs.PositionsOf.{position_in, group_at, one_group}
 

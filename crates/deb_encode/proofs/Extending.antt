@@ -4,7 +4,7 @@ use Rattle.std.proofs.lemmas.Bool.{false≢true, or_cases, eqb-true}
 use Rattle.std.proofs.lemmas.List.{take_more}
 use Rattle.sat_solve.specs.Sets.{members_of}
 use Rattle.sat_solve.proofs.MembersLemmas.{members_of_push}
-use Rattle.deb_encode.proofs.Members.{at_members_of}
+use Rattle.sat_solve.proofs.ListMembers.{at_members_of}
 use Rattle.deb_encode.specs.PlaceSets.{with_place, Grows}
 use Rattle.deb_encode.proofs.AddSteps.{take_whole}
 use Rattle.deb_encode.proofs.Placing.{grows_both, grows_with, grows_keeps, with_place_has, with_place_only}

@@ -13,7 +13,7 @@ use Rattle.deb_index.specs.Meets.{meets, meets_at, meets_need, meets_need_at, ne
 use Rattle.deb_index.specs.Constraints.{constraints_at, constraints_of, below, has_name, answers, Holds}
 use Rattle.deb_index.proofs.MemberLemmas.{member-places_where}
 use Rattle.sat_solve.specs.Sets.{NumberSet, members_of}
-use Rattle.deb_encode.proofs.Members.{member_any}
+use Rattle.sat_solve.proofs.ListMembers.{member_any}
 use Rattle.deb_encode.specs.Standings.{HasOneOf}
 
 -- what is at an index of the list has what all have

@@ -7,7 +7,6 @@ pub mod Excluding
 pub mod Extending
 pub mod Grouped
 pub mod IndexFacts
-pub mod Members
 pub mod OneVersion
 pub mod PlaceSetLemmas
 pub mod Placing

@@ -16,7 +16,7 @@ use Rattle.deb_encode.specs.Exclusions.{AreNamesOf}
 use Rattle.deb_encode.specs.Alone.{IsAlone}
 use Rattle.deb_encode.specs.PlaceSets.{with_place}
 use Rattle.deb_encode.specs.Standings.{IsClear, HasOneOf, HasOneVersion}
-use Rattle.deb_encode.proofs.Members.{members_of_at}
+use Rattle.sat_solve.proofs.ListMembers.{members_of_at}
 use Rattle.deb_encode.proofs.AddLemmas.{adds_as, in_push, front_in, last_in}
 use Rattle.deb_encode.proofs.AddSteps.{take_whole, below_members}
 use Rattle.deb_encode.proofs.Each.{AddsEach, meaning_of_only}

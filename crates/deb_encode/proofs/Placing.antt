@@ -10,7 +10,7 @@ use Rattle.std.proofs.lemmas.Map.Keys.{IsDistinct-push}
 use Rattle.std.proofs.lemmas.Map.Steps.{length-le_from_distinct_below}
 use Rattle.sat_solve.specs.Sets.{members_of}
 use Rattle.sat_solve.proofs.MembersLemmas.{members_of_push}
-use Rattle.deb_encode.proofs.Members.{members_of_at}
+use Rattle.sat_solve.proofs.ListMembers.{members_of_at}
 use Rattle.deb_encode.specs.PlaceSets.{with_place, ArePlaces, Grows}
 
 -- ---- one place more

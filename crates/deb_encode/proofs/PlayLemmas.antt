@@ -5,7 +5,7 @@ use Rattle.std.proofs.lemmas.Bool.{both_ways, false_from_ne_true}
 use Rattle.std.proofs.lemmas.Option.{slice_get_within, get_or_from_slice_get}
 use Rattle.sat_solve.specs.Sets.{NumberSet, members_of}
 use Rattle.deb_encode.specs.Play.{positions_of, placed}
-use Rattle.deb_encode.proofs.Members.{at_members_of}
+use Rattle.sat_solve.proofs.ListMembers.{at_members_of}
 use Rattle.deb_encode.proofs.PositionsOf.{group_at, same_position}
 
 placed_free : (forced candidates : List ℕ) (vars : NumberSet) (place : ℕ) → members_of forced place ≡ false → placed forced candidates vars place ≡ positions_of candidates vars place

@@ -4,18 +4,8 @@ use Rattle.std.specs.List.{list_any, range_with_len}
 use Rattle.std.specs.List.Sorted.{IsStrictlyIncreasing}
 use Rattle.std.proofs.lemmas.Bool.{cases_Bool, cases_lt, cases_order, false≢true, and_parts, and_from, or_cases, or_left, or_right, both_ways, eqb-true, eq-eqb, false_from_ne_true}
 use Rattle.sat_solve.specs.Sets.{NumberSet}
+use Rattle.sat_solve.proofs.RisingLists.{rising_lt}
 use Rattle.deb_encode.specs.Play.{positions_of}
-
--- the numbers of a rising list keep the order of their places
-pub rising_lt : (numbers : List ℕ) → IsStrictlyIncreasing numbers → (i j : ℕ) → i < j → j < length numbers → get_or numbers i 0 < get_or numbers j 0
-rising_lt numbers rising i zero less inside = absurd (omega arith)
-rising_lt numbers rising i (suc j) less inside =
-    let next : suc j ≡ j + 1 = omega arith in
-    let step : get_or numbers j 0 < get_or numbers (suc j) 0 = omega (arith, rising j (omega arith), ap (λ k. get_or numbers k 0) next) in
-    elim (cases_lt i j) [
-      | inl before ↦ omega (arith, rising_lt numbers rising i j before (omega arith))
-      | inr here ↦ let same : i ≡ j = omega arith in omega (arith, ap (λ k. get_or numbers k 0) same)
-    ]
 
 any_of_range : (test : ℕ → Bool) (first count g : ℕ) → first ≤ g → g < first + count → test g ≡ true → list_any test (range_with_len first count) ≡ true
 any_of_range test first zero g from under holds = absurd (omega arith)

@@ -13,7 +13,7 @@ use Rattle.sat_solve.specs.Clauses.{Clauses}
 use Rattle.deb_encode.specs.Play.{positions_of, placed, AddsPlaces}
 use Rattle.deb_encode.specs.Adding.{Adds}
 use Rattle.deb_encode.specs.Standings.{IsClear}
-use Rattle.deb_encode.proofs.Members.{at_members_of}
+use Rattle.sat_solve.proofs.ListMembers.{at_members_of}
 use Rattle.deb_encode.proofs.IndexFacts.{member_satisfiers}
 use Rattle.deb_encode.proofs.AddLemmas.{adds_none, adds_both, adds_as}
 use Rattle.deb_encode.proofs.PositionsOf.{group_at}

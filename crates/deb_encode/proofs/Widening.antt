@@ -17,7 +17,7 @@ use Rattle.sat_solve.specs.Sets.{NumberSet, members_of}
 use Rattle.sat_solve.specs.Clauses.{Clauses, clause_holds}
 use Rattle.deb_encode.specs.Adding.{Adds}
 use Rattle.deb_encode.specs.Standings.{Widens}
-use Rattle.deb_encode.proofs.Members.{any_member, member_any}
+use Rattle.sat_solve.proofs.ListMembers.{any_member, member_any}
 use Rattle.deb_encode.proofs.IndexFacts.{member_named, member_need_satisfiers, some_named}
 use Rattle.deb_encode.proofs.AddLemmas.{adds_as}
 use Rattle.deb_encode.proofs.AddSteps.{take_whole, list_any-map}

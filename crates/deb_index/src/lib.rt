@@ -4,7 +4,7 @@
 //!
 //! - `limits`: how large an index may be; `error`: why one is refused.
 //! - `package`: one stanza, read as a package; `meets`: what it asks for, and which atoms it meets.
-//! - `names`: the names that packages have or provide, with where each is found.
+//! - `names`: the names that packages have or provide, with where each is found; `name`: how one lies in the table.
 //! - `lookup`: all places that meet an atom, found by the names; `walk`: rising lists of places, side by side.
 //! - `rows`: lists of places, one behind the other; `memo`: rows that come many times; `links`: the row of each group and of each entry, made once.
 //! - `builder`: an index while it is read, stanza by stanza, which is consumed into
@@ -22,6 +22,7 @@ mod links;
 mod lookup;
 mod meets;
 mod memo;
+mod name;
 mod names;
 mod package;
 mod rows;

@@ -6,6 +6,7 @@ ghost use Rattle.deb_index.specs.Packages.{PackageView, is_named, package_view, 
 ghost use Rattle.deb_index.specs.Reading.{stanza_limit};
 ghost use Rattle.deb_index.specs.Tables.{IsSmall, items_of, number_in};
 
+use crate::name::Name;
 use crate::package::Package;
 use deb_relation::Atom;
 use indexmap::IndexSet;
@@ -30,7 +31,7 @@ pub(crate) struct Candidates<'a> {
 /// The names, each once: those of packages in the order in which they first occur, and behind them those that are only provided.
 #[derive(Drop)]
 pub(crate) struct Names {
-    pub(crate) texts: IndexSet<Vec<u8>>,
+    pub(crate) texts: IndexSet<Name>,
     // By the number of the name.
     pub(crate) lists: Vec<Lists>,
     // How many names packages have.
@@ -64,7 +65,7 @@ impl Names {
         requires { number < length (name_texts self.now) }
         ensures { result.now ≡ slice_index_or (name_texts self.now) number [] }
     {
-        &self.texts.as_slice()[number]
+        self.texts.as_slice()[number].as_slice()
     }
 
     /// The places of the packages that have the name with a number.
@@ -118,7 +119,7 @@ impl Names {
         ensures front { self.new.front ≡ self.old.front }
     {
         self.lists.push(lists)?;
-        self.texts.insert(Vec::from_slice(alloc, name)?)?;
+        self.texts.insert(Name::from_slice(alloc, name)?)?;
         Ok(())
     }
 

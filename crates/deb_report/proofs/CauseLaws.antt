@@ -10,7 +10,7 @@ use Rattle.deb_index.specs.Constraints.{Holds, constraints_of}
 use Rattle.deb_index.specs.Meets.{meets_need, meets_need_at, need_satisfiers}
 use Rattle.deb_index.specs.Packages.{IndexView, need_at}
 use Rattle.deb_index.proofs.MemberLemmas.{member-places_where}
-use Rattle.deb_verdict.specs.Verdicts.{IsFirstCore}
+use Rattle.deb_health.specs.Verdicts.{IsFirstCore}
 use Rattle.deb_report.specs.Causes.{cause_in, is_final}
 use Rattle.deb_report.specs.Report.{is_empty, is_missing}
 use Rattle.deb_report.proofs.PlaceLemmas.{is_among}

@@ -13,7 +13,7 @@ use Rattle.deb_index.specs.Packages.{IndexView, first_of_each}
 use Rattle.deb_index.specs.Tables.{IsTable, items_of, number_in}
 use Rattle.deb_index.proofs.TableLemmas.{number-within, put-at, put-first}
 use Rattle.deb_index.proofs.EnumerateLemmas.{filter-length}
-use Rattle.deb_verdict.specs.Verdicts.{VerdictView, Found, Blocked, SpeaksOf}
+use Rattle.deb_health.specs.Verdicts.{VerdictView, Found, Blocked, SpeaksOf}
 use Rattle.deb_report.specs.declared.causes.Cause.{Cause}
 use Rattle.deb_report.specs.declared.gathered.Gathered.{Gathered}
 use Rattle.deb_report.specs.CauseKeys.{cause_numbers}

@@ -12,7 +12,7 @@ use Rattle.deb_relation.specs.Usable.{is_usable}
 use Rattle.deb_index.specs.Meets.{entry_meets, is_providing, meets, satisfiers}
 use Rattle.deb_index.specs.Packages.{IndexView, PackageView, package_at, places_where}
 use Rattle.deb_index.proofs.MemberLemmas.{below-places_where, member-places_where, rising-places_where}
-use Rattle.deb_verdict.proofs.OneVerdict.{rising_once}
+use Rattle.sat_solve.proofs.RisingLists.{rising_once}
 use Rattle.deb_report.specs.Causes.{IsNearOf, NearMissView, is_called, is_near, named_atom, near_miss, near_places, places_near, provides_one, told_entries}
 use Rattle.deb_report.proofs.PlaceLemmas.{is_among, places-more, places_from, where_from}
 

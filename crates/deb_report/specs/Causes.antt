@@ -8,7 +8,7 @@ use Rattle.deb_index.specs.declared.constraint.Constraint.TheVariants.{Essential
 use Rattle.deb_index.specs.Constraints.{IsOfIndex}
 use Rattle.deb_index.specs.Meets.{is_providing}
 use Rattle.deb_index.specs.Packages.{IndexView, PackageView, first_of_each, is_named, need_at, no_atom, package_at, places_where}
-use Rattle.deb_verdict.specs.Verdicts.{VerdictView, Found, Blocked}
+use Rattle.deb_health.specs.Verdicts.{VerdictView, Found, Blocked}
 use Rattle.deb_report.specs.declared.causes.Cause.{Cause}
 use Rattle.deb_report.specs.declared.config.Show.{Show}
 use Rattle.deb_report.specs.declared.near.NearMiss.{NearMiss}

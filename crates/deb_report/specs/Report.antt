@@ -6,7 +6,7 @@ use Rattle.deb_index.specs.declared.constraint.Constraint.{Constraint}
 use Rattle.deb_index.specs.declared.constraint.Constraint.TheVariants.{Essential, Need, Apart, Only}
 use Rattle.deb_index.specs.Packages.{IndexView, PackageView, package_at, name_at, need_at, apart_at}
 use Rattle.deb_index.specs.Meets.{need_satisfiers}
-use Rattle.deb_verdict.specs.Verdicts.{VerdictView, Found, Blocked}
+use Rattle.deb_health.specs.Verdicts.{VerdictView, Found, Blocked}
 use Rattle.deb_report.specs.declared.config.Show.{Show}
 use Rattle.deb_report.specs.declared.config.Show.TheVariants.{All, Failures, Successes}
 use Rattle.deb_report.specs.declared.summary.Summary.{Summary}

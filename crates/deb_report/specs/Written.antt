@@ -1,7 +1,7 @@
 -- The report in its form.
 use Rattle.std.specs.Prelude.{ℕ, Bool, List}
 use Rattle.deb_index.specs.Packages.{IndexView}
-use Rattle.deb_verdict.specs.Verdicts.{VerdictView}
+use Rattle.deb_health.specs.Verdicts.{VerdictView}
 use Rattle.deb_report.specs.declared.config.Format.{Format}
 use Rattle.deb_report.specs.declared.config.Format.TheVariants.{Json, Text}
 use Rattle.deb_report.specs.declared.config.Show.{Show}

@@ -5,7 +5,7 @@ ghost use Rattle.std.specs.List.{flat_map, join_by};
 ghost use Rattle.deb_relation.specs.Relationship.{printed};
 ghost use Rattle.deb_index.specs.Constraints.{IsOfIndex};
 ghost use Rattle.deb_index.specs.Packages.{package_view};
-ghost use Rattle.deb_verdict.specs.Verdicts.{SpeaksOf, verdict_view};
+ghost use Rattle.deb_health.specs.Verdicts.{SpeaksOf, verdict_view};
 ghost use Rattle.deb_report.specs.Causes.{IsCauseOf, IsNearOf, cause_head, cause_text, cause_view, causes_text, near_line, near_view, present_text, provide_of, provides_text, titled};
 ghost use Rattle.deb_report.specs.Report.{place_line, reason_of};
 
@@ -13,8 +13,8 @@ use crate::causes::{Cause, causes_of};
 use crate::layout::{push_number, push_places, push_reasons};
 use crate::near::{NearMiss, near_misses};
 use crate::reasons::{push_label, push_line};
+use deb_health::Verdict;
 use deb_index::{Constraint, Index, Package};
-use deb_verdict::Verdict;
 use std::alloc::{AllocError, Global};
 
 // Adds an entry of a package's Provides.

@@ -3,14 +3,14 @@
 ghost use Rattle.std.specs.Prelude.{◌≡◌, ◌<◌, ◌≤◌, ◌++◌, ℕ, List, All, IfOk, OnOk, length, map};
 ghost use Rattle.deb_index.specs.declared.constraint.Constraint.{Constraint};
 ghost use Rattle.deb_index.specs.Constraints.{IsOfIndex};
-ghost use Rattle.deb_verdict.specs.Verdicts.{SpeaksOf, verdict_view};
+ghost use Rattle.deb_health.specs.Verdicts.{SpeaksOf, verdict_view};
 ghost use Rattle.deb_report.specs.Gathering.{IsGathered};
 ghost use Rattle.deb_report.specs.Causes.{IsCauseOf, by_count, by_first, cause_at, cause_in, cause_view, causes_list, found_causes, is_final};
 
 use crate::gathered::Gathered;
 use crate::reasons::is_missing;
+use deb_health::Verdict;
 use deb_index::{Constraint, Index};
-use deb_verdict::Verdict;
 use std::alloc::{AllocError, Global};
 
 /// What is wrong in the end, and the packages that it breaks.

@@ -1,7 +1,7 @@
 //! The report as one JSON document (RFC 8259).
 
 ghost use Rattle.std.specs.Prelude.{◌≡◌, ◌++◌, ◌-◌, ◌<◌, All, IfOk, OnOk, is_some, length, map};
-ghost use Rattle.deb_verdict.specs.Verdicts.{SpeaksOf, verdict_view};
+ghost use Rattle.deb_health.specs.Verdicts.{SpeaksOf, verdict_view};
 ghost use Rattle.deb_report.specs.Json.{background_json, background_member, block_json, explanation_json, head_json, json_start, json_text, listed, shown_of, summary_json};
 ghost use Rattle.deb_report.specs.Report.{summary_of};
 
@@ -9,8 +9,8 @@ use crate::config::Config;
 use crate::json_causes::push_causes;
 use crate::json_parts::{push_escaped, push_heading, push_number, push_places, push_reasons};
 use crate::layout::{background_count, broken_count, is_shown, status_text};
+use deb_health::Verdict;
 use deb_index::Index;
-use deb_verdict::Verdict;
 use std::alloc::{AllocError, Global};
 
 // Adds what explains a verdict.

@@ -3,7 +3,7 @@
 ghost use Rattle.std.specs.Prelude.{◌≡◌, ◌++◌, ◌<◌, All, OnOk, length, map};
 ghost use Rattle.deb_index.specs.Constraints.{IsOfIndex};
 ghost use Rattle.deb_index.specs.Packages.{package_view};
-ghost use Rattle.deb_verdict.specs.Verdicts.{SpeaksOf, verdict_view};
+ghost use Rattle.deb_health.specs.Verdicts.{SpeaksOf, verdict_view};
 ghost use Rattle.deb_report.specs.Causes.{IsCauseOf, IsNearOf, cause_view, near_view, provide_of};
 ghost use Rattle.deb_report.specs.Json.{broken_json, cause_json, cause_start_json, causes_json, entry_json, label_start_json, listed, near_json, present_json, provides_json, reasons_json};
 
@@ -11,8 +11,8 @@ use crate::cause_lines::push_entry;
 use crate::causes::{Cause, causes_of};
 use crate::json_parts::{push_both, push_number, push_places, push_reasons};
 use crate::near::{NearMiss, near_misses};
+use deb_health::Verdict;
 use deb_index::{Constraint, Index, Package};
-use deb_verdict::Verdict;
 use std::alloc::{AllocError, Global};
 
 // Adds an entry of a package's Provides.

@@ -5,7 +5,7 @@ ghost use Rattle.std.specs.List.{list_all};
 ghost use Rattle.deb_index.specs.declared.constraint.Constraint.{Constraint};
 ghost use Rattle.deb_index.specs.Packages.{IndexView, names};
 ghost use Rattle.deb_index.specs.Reading.{index_of_both};
-ghost use Rattle.deb_verdict.specs.Verdicts.{IsVerdict, Blocked};
+ghost use Rattle.deb_health.specs.Verdicts.{IsVerdict, Blocked};
 ghost use Rattle.deb_report.specs.Causes.{cause_in};
 ghost use Rattle.deb_report.specs.Json.{escaped};
 ghost use Rattle.deb_report.specs.Plain.{has_plain_texts, is_plain};

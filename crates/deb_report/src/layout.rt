@@ -4,7 +4,7 @@ ghost use Rattle.std.specs.Prelude.{◌≡◌, ◌++◌, ◌-◌, ◌<◌, ◌�
 ghost use Rattle.std.specs.List.{flat_map, zip};
 ghost use Rattle.deb_index.specs.Constraints.{IsOfIndex};
 ghost use Rattle.deb_index.specs.Packages.{package_at, package_view};
-ghost use Rattle.deb_verdict.specs.Verdicts.{SpeaksOf, verdict_view};
+ghost use Rattle.deb_health.specs.Verdicts.{SpeaksOf, verdict_view};
 ghost use Rattle.deb_report.specs.Causes.{report_with};
 ghost use Rattle.deb_report.specs.Report.{background_line, block_of, explanation, heading, is_broken, is_shown, line, place_line, reason_of, report_text, shown_block, status_of, summary_of, summary_text};
 ghost use Rattle.deb_report.specs.Settings.{settings_of};
@@ -15,8 +15,8 @@ use crate::config::{Config, Format, Show};
 use crate::json::json_report;
 use crate::reasons::{push_line, push_place, push_reason};
 use crate::summary::Summary;
+use deb_health::Verdict;
 use deb_index::{Constraint, Index, Package};
-use deb_verdict::Verdict;
 use std::alloc::{AllocError, Global};
 
 // Adds the places that were found.

@@ -1,7 +1,7 @@
 //! The report on what is asked of an index.
 
 ghost use Rattle.std.specs.Prelude.{◌≡◌, ◌<◌, All, IfOk, length, map};
-ghost use Rattle.deb_verdict.specs.Verdicts.{SpeaksOf, verdict_view};
+ghost use Rattle.deb_health.specs.Verdicts.{SpeaksOf, verdict_view};
 
 use deb_index::Index;
 use deb_report::{Config, asked_places, report};

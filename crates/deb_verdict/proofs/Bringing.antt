@@ -9,7 +9,7 @@ use Rattle.deb_index.specs.Meets.{meets_need_at, group_satisfiers}
 use Rattle.deb_index.specs.Constraints.{has_name, answers}
 use Rattle.sat_solve.specs.Sets.{NumberSet, members_of}
 use Rattle.core_extract.specs.Reduction.{IsWithin}
-use Rattle.deb_encode.proofs.Members.{members_of_at, any_member}
+use Rattle.sat_solve.proofs.ListMembers.{members_of_at, any_member}
 use Rattle.deb_encode.specs.Play.{places_in_play}
 use Rattle.deb_verdict.specs.Gathering.{IsEnough}
 use Rattle.deb_encode.specs.PlaceSets.{Grows}

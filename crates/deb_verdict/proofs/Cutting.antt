@@ -12,7 +12,7 @@ use Rattle.sat_solve.specs.Sets.{NumberSet, IsFirst}
 use Rattle.core_extract.specs.Reduction.{all_of, IsWithin}
 use Rattle.sat_solve.proofs.SetLemmas.{first_within}
 use Rattle.deb_verdict.specs.Gathering.{IsEnough}
-use Rattle.deb_verdict.specs.Health.{IsHealthy, IsInstallation, MeetsAt, Admits, AdmitsNone}
+use Rattle.deb_health.specs.Health.{IsHealthy, IsInstallation, MeetsAt, Admits, AdmitsNone}
 use Rattle.deb_verdict.specs.Closure.{cut, IsClosed, is_kept, is_kept_there, kept}
 use Rattle.deb_encode.proofs.IndexFacts.{All-at, IsRight, all_right, some_named}
 

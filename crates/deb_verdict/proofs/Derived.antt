@@ -15,7 +15,7 @@ use Rattle.sat_solve.proofs.MembersLemmas.{members_of_push}
 use Rattle.deb_verdict.specs.declared.derivation.Outcome.{Outcome}
 use Rattle.deb_verdict.specs.declared.derivation.Outcome.TheVariants.{Forced, Contradiction}
 use Rattle.deb_verdict.specs.Deriving.{row_of, Comes, Gives}
-use Rattle.deb_verdict.specs.Health.{AdmitsNone, MeetsAt}
+use Rattle.deb_health.specs.Health.{AdmitsNone, MeetsAt}
 use Rattle.deb_encode.specs.PlaceSets.{with_place}
 use Rattle.core_extract.specs.Reduction.{IsWithin, IsRefutation}
 use Rattle.deb_encode.proofs.IndexFacts.{member_named}

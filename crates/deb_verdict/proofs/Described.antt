@@ -11,14 +11,14 @@ use Rattle.deb_encode.specs.Adding.{Adds}
 use Rattle.deb_verdict.specs.declared.unmet.UnmetNeed.{UnmetNeed}
 use Rattle.deb_encode.specs.Play.{places_in_play, positions_of, placed, AddsPlaces}
 use Rattle.deb_verdict.specs.Encoding.{IsDescription}
-use Rattle.deb_verdict.specs.Health.{IsHealthy}
+use Rattle.deb_health.specs.Health.{IsHealthy}
 use Rattle.deb_encode.specs.declared.encoder.Encoder.{Encoder}
 use Rattle.deb_encode.specs.declared.play.Play.{Play}
 use Rattle.deb_encode.specs.Encoders.{IsSame, Tells}
 use Rattle.deb_encode.specs.Standings.{has_row, HasOneVersion, MeetsNarrow}
 use Rattle.deb_verdict.specs.Meeting.{MeetsNeeds, MeetsEntries, MeetsPlace}
 use Rattle.deb_verdict.specs.Unmet.{IsUnmet, AreUnmet}
-use Rattle.deb_encode.proofs.Members.{members_of_at}
+use Rattle.sat_solve.proofs.ListMembers.{members_of_at}
 use Rattle.deb_encode.proofs.AddLemmas.{adds_both, adds_as}
 use Rattle.deb_encode.proofs.Told.{placed_in_play}
 use Rattle.deb_verdict.proofs.UnmetNeeds.{unmet_moved}

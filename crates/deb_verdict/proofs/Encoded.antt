@@ -14,7 +14,7 @@ use Rattle.sat_solve.specs.Clauses.{Clause, MeetsKept, IsTrueSet}
 use Rattle.deb_encode.specs.Play.{placed, TellsPlaces}
 use Rattle.deb_verdict.specs.Closure.{cut, IsClosed}
 use Rattle.deb_verdict.specs.Encoding.{IsChosen}
-use Rattle.deb_verdict.specs.Health.{MeetsAt, AdmitsNone}
+use Rattle.deb_health.specs.Health.{MeetsAt, AdmitsNone}
 use Rattle.deb_encode.proofs.PositionsOf.{position_in}
 use Rattle.deb_verdict.proofs.Cutting.{none_of, closure_meets}
 use Rattle.deb_verdict.proofs.FirstSet.{pulled_beside, placed_beside}

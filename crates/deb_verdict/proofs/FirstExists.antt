@@ -11,8 +11,8 @@ use Rattle.sat_solve.specs.Sets.{NumberSet, members_of, AgreeBelow, IsBefore, Is
 use Rattle.sat_solve.proofs.MembersLemmas.{ListsBelow, lists_more_in, lists_more_out, lists_all}
 use Rattle.deb_verdict.specs.Closure.{cut}
 use Rattle.deb_verdict.specs.Gathering.{IsEnough}
-use Rattle.deb_verdict.specs.Health.{IsInstallation, IsInstallable}
-use Rattle.deb_verdict.specs.Verdicts.{IsFirstInstallation}
+use Rattle.deb_health.specs.Health.{IsInstallation, IsInstallable}
+use Rattle.deb_health.specs.Verdicts.{IsFirstInstallation}
 use Rattle.deb_verdict.proofs.Cutting.{none_of, cut_installation, has_nothing}
 use Rattle.deb_encode.proofs.IndexFacts.{named_is_place, answers_is_place}
 

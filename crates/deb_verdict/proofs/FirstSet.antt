@@ -8,16 +8,16 @@ use Rattle.deb_index.specs.Packages.{IndexView}
 use Rattle.sat_solve.specs.Sets.{NumberSet, members_of, IsFirst}
 use Rattle.sat_solve.specs.Clauses.{Clause, IsTrueSet}
 use Rattle.core_extract.specs.Reduction.{IsWithin, all_of}
-use Rattle.deb_verdict.specs.Health.{IsHealthy, IsInstallation}
+use Rattle.deb_health.specs.Health.{IsHealthy, IsInstallation}
 use Rattle.deb_verdict.specs.Closure.{cut, is_kept}
 use Rattle.deb_encode.specs.Play.{places_in_play, positions_of, placed}
 use Rattle.deb_verdict.specs.Gathering.{IsEnough, Follows}
 use Rattle.deb_verdict.specs.Encoding.{Describes}
-use Rattle.deb_verdict.specs.Verdicts.{IsFirstInstallation}
-use Rattle.deb_encode.proofs.Members.{members_of_at, at_members_of}
+use Rattle.deb_health.specs.Verdicts.{IsFirstInstallation}
+use Rattle.sat_solve.proofs.ListMembers.{members_of_at, at_members_of, same_test}
 use Rattle.deb_verdict.proofs.Cutting.{cut_installation}
-use Rattle.deb_encode.proofs.PositionsOf.{rising_lt, position_in, group_at, same_position}
-use Rattle.deb_verdict.proofs.Answered.{same_test}
+use Rattle.sat_solve.proofs.RisingLists.{rising_lt}
+use Rattle.deb_encode.proofs.PositionsOf.{position_in, group_at, same_position}
 use Rattle.deb_encode.proofs.AddSteps.{below_members}
 
 -- what the variables say: the known ones at places that are in anyway, a set of places at the others

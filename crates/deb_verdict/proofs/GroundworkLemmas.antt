@@ -15,7 +15,7 @@ use Rattle.deb_verdict.specs.Growing.{KeepsForced}
 use Rattle.deb_verdict.proofs.Forcing.{member_answers}
 use Rattle.deb_encode.proofs.IndexFacts.{member_satisfiers}
 use Rattle.deb_encode.proofs.Placing.{places_empty}
-use Rattle.deb_encode.proofs.Members.{any_member, member_any, all_member}
+use Rattle.sat_solve.proofs.ListMembers.{any_member, member_any, all_member}
 
 -- ---- needs that are answered by what is in
 

@@ -16,10 +16,10 @@ use Rattle.deb_index.specs.Constraints.{Holds, constraints_at, constraints_of, b
 use Rattle.deb_index.proofs.FirstLemmas.{same-name, name-itself, names-turned, any-filter}
 use Rattle.deb_index.proofs.MemberLemmas.{member-places_where}
 use Rattle.sat_solve.specs.Sets.{NumberSet, members_of}
-use Rattle.deb_verdict.specs.Health.{IsHealthy}
+use Rattle.deb_health.specs.Health.{IsHealthy}
 use Rattle.deb_verdict.specs.Meeting.{HasNoEarlier, MeetsPlace}
 use Rattle.deb_encode.specs.Standings.{HasOneOf, HasOneVersion}
-use Rattle.deb_encode.proofs.Members.{members_of_at, at_members_of}
+use Rattle.sat_solve.proofs.ListMembers.{members_of_at, at_members_of}
 use Rattle.deb_encode.proofs.IndexFacts.{member_named, named_is_place, only_says_once}
 use Rattle.deb_encode.proofs.AddLemmas.{All-front, All-back}
 

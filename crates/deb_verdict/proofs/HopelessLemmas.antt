@@ -11,7 +11,7 @@ use Rattle.deb_encode.specs.PlaceSets.{with_place}
 use Rattle.deb_verdict.specs.Hopeless.{IsHopeless, AreHopeless, IsUnanswered, HasUnanswered}
 use Rattle.deb_verdict.proofs.Forcing.{member_answers}
 use Rattle.deb_encode.proofs.IndexFacts.{All-at, member_named}
-use Rattle.deb_encode.proofs.Members.{all_member}
+use Rattle.sat_solve.proofs.ListMembers.{all_member}
 use Rattle.deb_encode.proofs.Placing.{with_place_only}
 use Rattle.deb_verdict.proofs.Standing.{need_stands, essential_stands}
 

@@ -6,9 +6,8 @@ use Rattle.std.proofs.lemmas.List.Folds.{list_any-append}
 use Rattle.sat_solve.specs.Sets.{members_of}
 use Rattle.deb_encode.specs.Play.{positions_of, placed}
 use Rattle.deb_encode.specs.PlaceSets.{with_place}
-use Rattle.deb_encode.proofs.Members.{members_of_at, at_members_of}
+use Rattle.sat_solve.proofs.ListMembers.{members_of_at, at_members_of, same_test}
 use Rattle.deb_encode.proofs.PositionsOf.{position_in, group_at}
-use Rattle.deb_verdict.proofs.Answered.{same_test}
 use Rattle.deb_encode.proofs.AddSteps.{below_members}
 use Rattle.deb_encode.proofs.PlaceSetLemmas.{position_at_most}
 

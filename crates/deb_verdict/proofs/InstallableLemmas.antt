@@ -8,7 +8,7 @@ use Rattle.std.proofs.lemmas.Option.{slice_get_within, get_or_from_slice_get, sl
 use Rattle.deb_index.specs.Packages.{IndexView}
 use Rattle.sat_solve.specs.Sets.{members_of}
 use Rattle.deb_encode.specs.Alone.{MarksOnly}
-use Rattle.deb_verdict.specs.Health.{IsHealthy, IsInstallable, MeetsAt}
+use Rattle.deb_health.specs.Health.{IsHealthy, IsInstallable, MeetsAt}
 use Rattle.deb_encode.specs.PlaceSets.{with_place}
 use Rattle.core_extract.specs.Reduction.{left}
 use Rattle.deb_verdict.proofs.Cutting.{healthy_from_meets}

@@ -20,7 +20,6 @@ pub mod OneVerdict
 pub mod Propagated
 pub mod ReachLemmas
 pub mod Reaching
-pub mod SameMembers
 pub mod Searched
 pub mod Settled
 pub mod Standing

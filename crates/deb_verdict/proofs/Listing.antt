@@ -17,7 +17,7 @@ use Rattle.deb_verdict.specs.Listing.{Lists, IsAnEssential, IsNeedOf, IsApartOf}
 use Rattle.deb_verdict.proofs.Healthy.{name_is}
 use Rattle.deb_encode.proofs.IndexFacts.{All-at, IsRight, all_right, member_named}
 use Rattle.core_extract.proofs.Kept.{pushed_has}
-use Rattle.deb_encode.proofs.Members.{any_member}
+use Rattle.sat_solve.proofs.ListMembers.{any_member}
 use Rattle.deb_verdict.proofs.Names.{one_number}
 
 -- the constraints that are told by numbers below a count

@@ -6,8 +6,8 @@ use Rattle.std.proofs.lemmas.Bool.{cases_lt, lt-leb, false_from_ne_true}
 use Rattle.std.proofs.lemmas.List.Sorted.{searched}
 use Rattle.sat_solve.specs.Sets.{members_of}
 use Rattle.core_extract.specs.Reduction.{left}
-use Rattle.deb_encode.proofs.Members.{members_of_at, at_members_of}
-use Rattle.deb_encode.proofs.PositionsOf.{rising_lt}
+use Rattle.sat_solve.proofs.ListMembers.{members_of_at, at_members_of}
+use Rattle.sat_solve.proofs.RisingLists.{rising_lt}
 
 never_falls : (xs : List ℕ) → IsStrictlyIncreasing xs → (i j : ℕ) → i ≤ j → j < length xs → get_or xs i 0 ≤ get_or xs j 0
 never_falls xs rising i j before inside =

@@ -9,9 +9,9 @@ use Rattle.core_extract.specs.Reduction.{IsRefutation}
 use Rattle.deb_encode.specs.Play.{placed, TellsPlaces}
 use Rattle.deb_verdict.specs.Closure.{cut, kept}
 use Rattle.deb_verdict.specs.Encoding.{IsChosen}
-use Rattle.deb_verdict.specs.Health.{AdmitsNone}
+use Rattle.deb_health.specs.Health.{AdmitsNone}
 use Rattle.deb_verdict.specs.Listing.{TellsPart}
-use Rattle.deb_encode.proofs.Members.{members_of_at, at_members_of}
+use Rattle.sat_solve.proofs.ListMembers.{members_of_at, at_members_of}
 use Rattle.deb_verdict.proofs.Cutting.{fewer_meets, kept_admits}
 use Rattle.deb_verdict.proofs.Encoded.{none_true, true_meets}
 

@@ -7,7 +7,7 @@ use Rattle.deb_index.specs.Constraints.{Holds, constraints_of, has_name, answers
 use Rattle.sat_solve.specs.Sets.{NumberSet}
 use Rattle.deb_encode.proofs.IndexFacts.{All-at}
 use Rattle.deb_verdict.specs.Gathering.{Follows}
-use Rattle.deb_verdict.specs.Health.{IsInstallation}
+use Rattle.deb_health.specs.Health.{IsInstallation}
 
 -- one number more
 abbrev pub with_one : NumberSet → ℕ → NumberSet

@@ -9,7 +9,7 @@ use Rattle.deb_index.specs.Constraints.{answers}
 use Rattle.sat_solve.specs.Sets.{NumberSet, members_of}
 use Rattle.core_extract.specs.Reduction.{IsWithin}
 use Rattle.deb_verdict.specs.declared.unmet.UnmetNeed.{UnmetNeed}
-use Rattle.deb_encode.proofs.Members.{members_of_at, any_member, member_any}
+use Rattle.sat_solve.proofs.ListMembers.{members_of_at, any_member, member_any}
 use Rattle.deb_encode.specs.Play.{places_in_play}
 use Rattle.deb_verdict.specs.Groundwork.{IsMet}
 use Rattle.deb_verdict.specs.Unmet.{LeavesUnmet, IsUnmet, ListsUnmet, AreUnmet}

@@ -13,7 +13,7 @@ use Rattle.deb_index.proofs.ConstraintLemmas.{constraints-few}
 use Rattle.sat_solve.specs.Sets.{NumberSet, members_of, IsFirst}
 use Rattle.sat_solve.proofs.SetLemmas.{first_within}
 use Rattle.deb_verdict.specs.Closure.{cut}
-use Rattle.deb_verdict.specs.Health.{IsInstallation, AdmitsNone}
+use Rattle.deb_health.specs.Health.{IsInstallation, AdmitsNone}
 use Rattle.core_extract.specs.Reduction.{all_of, all_below, listed, IsRefutation}
 use Rattle.deb_verdict.proofs.Cutting.{healthy_from_meets}
 use Rattle.deb_encode.proofs.IndexFacts.{All-at}

@@ -10,14 +10,13 @@ use Rattle.deb_index.specs.Constraints.{Holds, IsOfIndex, constraints_of}
 use Rattle.deb_index.proofs.ConstraintLemmas.{constraints-within}
 use Rattle.deb_index.proofs.PositionLemmas.{one_position, essential_position}
 use Rattle.sat_solve.specs.Sets.{NumberSet, members_of}
-use Rattle.deb_verdict.specs.Health.{MeetsAt}
+use Rattle.deb_health.specs.Health.{MeetsAt}
 use Rattle.deb_verdict.specs.Meeting.{HasNoEarlier}
 use Rattle.deb_verdict.specs.Witnesses.{IsAsked, MeetsAsked, MeetsAskedOf, StandsOnce}
-use Rattle.deb_encode.proofs.Members.{members_of_at, any_member, member_any}
+use Rattle.sat_solve.proofs.ListMembers.{members_of_at, any_member, member_any, contains_member}
 use Rattle.deb_verdict.proofs.Healthy.{only_says, name_is}
 use Rattle.deb_encode.proofs.IndexFacts.{All-at, IsRight, all_right, member_named, member_satisfiers}
 use Rattle.deb_verdict.proofs.Names.{one_number}
-use Rattle.deb_verdict.proofs.SameMembers.{contains_member}
 
 -- what each number of a list has, up to its end, each member has
 pub of_members : (P : ℕ → Type 0) (xs : List ℕ) (count : ℕ) → length xs ≤ count → ((k : ℕ) → k < count → P (get_or xs k 0)) → (q : ℕ) → members_of xs q ≡ true → P q

@@ -3,7 +3,7 @@ use Rattle.std.specs.Prelude.{◌≡◌, ℕ, ◌<◌, ◌↔◌, true, Bool, Li
 use Rattle.deb_index.specs.Packages.{IndexView}
 use Rattle.sat_solve.specs.Sets.{NumberSet}
 use Rattle.sat_solve.specs.Clauses.{Clause, Clauses}
-use Rattle.deb_verdict.specs.Health.{IsHealthy}
+use Rattle.deb_health.specs.Health.{IsHealthy}
 use Rattle.deb_encode.specs.Play.{placed}
 use Rattle.deb_encode.specs.Adding.{AllHold}
 

@@ -4,7 +4,7 @@ use Rattle.deb_index.specs.Packages.{IndexView, essential_names}
 use Rattle.deb_index.specs.Constraints.{has_name, answers}
 use Rattle.sat_solve.specs.Sets.{NumberSet}
 use Rattle.core_extract.specs.Reduction.{IsWithin}
-use Rattle.deb_verdict.specs.Health.{IsInstallation}
+use Rattle.deb_health.specs.Health.{IsInstallation}
 
 -- each healthy set with p has all these places
 abbrev pub Follows : IndexView → ℕ → NumberSet → Type 0

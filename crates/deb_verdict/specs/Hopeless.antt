@@ -3,7 +3,7 @@ use Rattle.std.specs.Prelude.{◌≡◌, ℕ, ◌<◌, true, length}
 use Rattle.deb_index.specs.Packages.{IndexView, needs_at}
 use Rattle.deb_index.specs.Constraints.{answers}
 use Rattle.sat_solve.specs.Sets.{NumberSet}
-use Rattle.deb_verdict.specs.Health.{IsInstallation}
+use Rattle.deb_health.specs.Health.{IsInstallation}
 
 -- no healthy set has the place
 abbrev pub IsHopeless : IndexView → ℕ → Type 0

@@ -4,11 +4,9 @@ pub mod Encoding
 pub mod Gathering
 pub mod Groundwork
 pub mod Growing
-pub mod Health
 pub mod Hopeless
 pub mod Listing
 pub mod Meeting
 pub mod Reach
 pub mod Unmet
-pub mod Verdicts
 pub mod Witnesses

@@ -4,7 +4,7 @@ ghost use Rattle.std.specs.Prelude.{◌≡◌, ◌<◌, ◌^◌, true, false, If
 ghost use Rattle.std.specs.List.Sorted.{IsStrictlyIncreasing};
 ghost use Rattle.sat_solve.specs.Sets.{members_of};
 ghost use Rattle.deb_verdict.specs.Encoding.{IsChosen};
-ghost use Rattle.deb_verdict.specs.Health.{AdmitsNone};
+ghost use Rattle.deb_health.specs.Health.{AdmitsNone};
 ghost use Rattle.deb_verdict.specs.Listing.{TellsPart};
 ghost use Rattle.core_extract.specs.Reduction.{left, IsRefutation};
 

@@ -6,15 +6,15 @@ ghost use Rattle.std.specs.List.Sorted.{IsStrictlyIncreasing};
 ghost use Rattle.sat_solve.specs.Sets.{members_of};
 ghost use Rattle.deb_verdict.specs.Closure.{IsClosure};
 ghost use Rattle.deb_verdict.specs.Hopeless.{IsHopeless};
-ghost use Rattle.deb_verdict.specs.Verdicts.{IsVerdict, SpeaksOf, verdict_view};
+ghost use Rattle.deb_health.specs.Verdicts.{IsVerdict, SpeaksOf, verdict_view};
 
-use crate::answer::Verdict;
 use crate::first_core::first_core;
 use crate::first_set::first_set;
 use crate::groundwork::Groundwork;
 use crate::reach::reach;
 use crate::workspace::Workspace;
 use deb_encode::PlaceSet;
+use deb_health::Verdict;
 use deb_index::Index;
 use std::alloc::{AllocError, Global};
 

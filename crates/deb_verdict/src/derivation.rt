@@ -4,7 +4,7 @@ ghost use Rattle.std.specs.Prelude.{◌≡◌, ◌≢◌, ℕ, ◌<◌, true, If
 ghost use Rattle.sat_solve.specs.Sets.{NumberSet, members_of};
 ghost use Rattle.deb_index.specs.Packages.{names, name_at, places_of, needs_at, aparts_at, need_at};
 ghost use Rattle.deb_index.specs.Meets.{group_satisfiers};
-ghost use Rattle.deb_verdict.specs.Health.{AdmitsNone};
+ghost use Rattle.deb_health.specs.Health.{AdmitsNone};
 ghost use Rattle.core_extract.specs.Reduction.{left, IsRefutation};
 ghost use Rattle.deb_verdict.specs.Deriving.{row_of, Gives};
 

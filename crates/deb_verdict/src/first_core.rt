@@ -3,8 +3,8 @@
 ghost use Rattle.std.specs.Prelude.{◌<◌, All, IfOk, length};
 ghost use Rattle.sat_solve.specs.Sets.{NumberSet};
 ghost use Rattle.deb_index.specs.Constraints.{IsOfIndex};
-ghost use Rattle.deb_verdict.specs.Health.{IsInstallation};
-ghost use Rattle.deb_verdict.specs.Verdicts.{IsFirstCore};
+ghost use Rattle.deb_health.specs.Health.{IsInstallation};
+ghost use Rattle.deb_health.specs.Verdicts.{IsFirstCore};
 
 use crate::kept_positions::list_constraints;
 use crate::question::Blocking;

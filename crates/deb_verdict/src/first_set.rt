@@ -3,9 +3,9 @@
 ghost use Rattle.std.specs.Prelude.{◌≡◌, ℕ, ◌<◌, All, IfOk, OnOk, IfSome, IfNone, length};
 ghost use Rattle.std.specs.List.Sorted.{IsStrictlyIncreasing};
 ghost use Rattle.sat_solve.specs.Sets.{NumberSet, members_of};
-ghost use Rattle.deb_verdict.specs.Health.{IsInstallation};
+ghost use Rattle.deb_health.specs.Health.{IsInstallation};
 ghost use Rattle.deb_encode.specs.Play.{placed};
-ghost use Rattle.deb_verdict.specs.Verdicts.{IsFirstInstallation};
+ghost use Rattle.deb_health.specs.Verdicts.{IsFirstInstallation};
 
 use crate::describe::describe;
 use crate::gather::gather;

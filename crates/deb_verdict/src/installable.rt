@@ -3,7 +3,7 @@
 ghost use Rattle.std.specs.Prelude.{◌≡◌, ◌<◌, true, All, IfOk, OnOk, length};
 ghost use Rattle.sat_solve.specs.Sets.{members_of};
 ghost use Rattle.deb_encode.specs.Alone.{MarksOnly};
-ghost use Rattle.deb_verdict.specs.Health.{IsHealthy, IsInstallable};
+ghost use Rattle.deb_health.specs.Health.{IsHealthy, IsInstallable};
 
 use crate::groundwork::Groundwork;
 use crate::installation::{Installation, weight};

@@ -5,9 +5,9 @@ ghost use Rattle.deb_index.specs.declared.constraint.Constraint.{Constraint};
 ghost use Rattle.deb_index.specs.Packages.{IndexView};
 ghost use Rattle.sat_solve.specs.Sets.{NumberSet, IsFirst};
 ghost use Rattle.core_extract.specs.Reduction.{IsWithin};
-ghost use Rattle.deb_verdict.specs.Health.{IsInstallation, MeetsAt, Admits, AdmitsNone};
+ghost use Rattle.deb_health.specs.Health.{IsInstallation, MeetsAt, Admits, AdmitsNone};
 ghost use Rattle.deb_verdict.specs.Closure.{cut, IsClosure, kept};
-ghost use Rattle.deb_verdict.specs.Verdicts.{IsFirstInstallation, IsFirstCore};
+ghost use Rattle.deb_health.specs.Verdicts.{IsFirstInstallation, IsFirstCore};
 
 /// What lies outside of the closure of a package plays no part in its verdict.
 pub fn closure()

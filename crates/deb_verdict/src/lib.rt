@@ -2,7 +2,8 @@
 //!
 //! The modules in reading order:
 //!
-//! - `answer` has what is found of a package, `decision` the public calls, `laws` what holds of the definitions alone.
+//! - `decision` has the public calls, `laws` what holds of the definitions alone. What is found of a package, and what a healthy set is,
+//!   `deb_health` says.
 //! - `workspace` has the buffers that one verdict leaves to the next; the sets of places that all work is done on are those of `deb_encode`.
 //! - `reach` finds the closure.
 //! - `groundwork` knows what all verdicts of an index have in common; `forced` finds the places that are in every healthy set,
@@ -20,7 +21,6 @@
 //! - `installable` finds many places that some healthy set has, for which no set need be shown: an `installation` grows without a search.
 #![tactic(auto)]
 
-mod answer;
 mod by_formula;
 mod decision;
 mod derivation;
@@ -43,7 +43,7 @@ mod unmet;
 mod witness;
 mod workspace;
 
-pub use answer::Verdict;
+pub use deb_health::Verdict;
 pub use decision::{closure, verdict, verdict_in};
 pub use groundwork::Groundwork;
 pub use installable::find_installable;

@@ -5,7 +5,7 @@ ghost use Rattle.std.specs.List.Sorted.{IsStrictlyIncreasing};
 ghost use Rattle.sat_solve.specs.Sets.{members_of};
 ghost use Rattle.deb_index.specs.Packages.{names, needs_at, aparts_at};
 ghost use Rattle.deb_encode.specs.PlaceSets.{ArePlaces, Grows};
-ghost use Rattle.deb_verdict.specs.Health.{AdmitsNone};
+ghost use Rattle.deb_health.specs.Health.{AdmitsNone};
 ghost use Rattle.core_extract.specs.Reduction.{left, IsRefutation};
 
 use crate::derivation::{Outcome, Step, is_refutation, name_outcome, need_outcome};

@@ -2,7 +2,7 @@
 
 ghost use Rattle.std.specs.Prelude.{◌≡◌, ◌<◌, true, false, IfOk, length};
 ghost use Rattle.sat_solve.specs.Sets.{members_of};
-ghost use Rattle.deb_verdict.specs.Health.{AdmitsNone};
+ghost use Rattle.deb_health.specs.Health.{AdmitsNone};
 ghost use Rattle.core_extract.specs.Reduction.{left, IsRefutation};
 
 use crate::by_formula::refute_by_formula;
@@ -54,7 +54,7 @@ pub(crate) struct Blocking<'a> {
 }
 
 impl<'a> Question for Blocking<'a> {
-    ghost use Rattle.deb_verdict.specs.Health.{AdmitsNone, admits_none_upward};
+    ghost use Rattle.deb_health.specs.Health.{AdmitsNone, admits_none_upward};
     ghost use Rattle.core_extract.specs.Reduction.{listed};
 
     ghost is_failing = { λ q. AdmitsNone q.index.now q.p };

@@ -7,7 +7,7 @@ ghost use Rattle.deb_index.specs.Packages.{essential_names, needs_at, aparts_at}
 ghost use Rattle.deb_index.specs.Constraints.{Holds};
 ghost use Rattle.sat_solve.specs.Sets.{members_of};
 ghost use Rattle.deb_encode.specs.PlaceSets.{ArePlaces, Grows};
-ghost use Rattle.deb_verdict.specs.Health.{Admits, MeetsAt};
+ghost use Rattle.deb_health.specs.Health.{Admits, MeetsAt};
 ghost use Rattle.core_extract.specs.Reduction.{left};
 ghost use Rattle.deb_verdict.specs.Meeting.{HasNoEarlier};
 ghost use Rattle.deb_verdict.specs.Witnesses.{MeetsAsked, MeetsAskedOf, StandsOnce};

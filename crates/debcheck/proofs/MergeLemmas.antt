@@ -4,7 +4,7 @@ use Rattle.std.specs.List.{filter, zip}
 use Rattle.std.proofs.lemmas.Bool.{cases_Bool}
 use Rattle.std.proofs.lemmas.List.{append-nil, drop_all}
 use Rattle.std.proofs.lemmas.List.Elements.{All-cons, All-nil}
-use Rattle.deb_verdict.specs.Verdicts.{Found, VerdictView}
+use Rattle.deb_health.specs.Verdicts.{Found, VerdictView}
 use Rattle.debcheck.specs.Standing.{Merges, is_unmarked}
 
 -- what the loop tells of these places from the verdicts that are left

@@ -2,7 +2,7 @@
 use Rattle.std.proofs.Common.{◌≡◌, ℕ, List, [], ◌∷◌, refl, sym, ap, subst, ◌∙◌}
 use Rattle.deb_index.specs.declared.constraint.Constraint.{Constraint}
 use Rattle.deb_index.specs.Packages.{IndexView}
-use Rattle.deb_verdict.specs.Verdicts.{Blocked, Found, IsFirstCore, IsFirstInstallation, IsVerdict, VerdictView}
+use Rattle.deb_health.specs.Verdicts.{Blocked, Found, IsFirstCore, IsFirstInstallation, IsVerdict, VerdictView}
 use Rattle.sat_solve.specs.Sets.{members_of}
 use Rattle.work_draw.specs.Checks.{AnswersEach}
 use Rattle.deb_report.specs.declared.summary.Summary.{Summary}

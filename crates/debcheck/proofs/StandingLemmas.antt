@@ -7,8 +7,8 @@ use Rattle.std.proofs.lemmas.List.Sums.{count_by-le-length, length-filter}
 use Rattle.std.proofs.lemmas.Option.{slice_get-get_or}
 use Rattle.deb_index.specs.Packages.{IndexView}
 use Rattle.deb_encode.specs.Alone.{MarksOnly}
-use Rattle.deb_verdict.specs.Health.{IsInstallable}
-use Rattle.deb_verdict.specs.Verdicts.{Found, IsVerdict, SpeaksOf, VerdictView}
+use Rattle.deb_health.specs.Health.{IsInstallable}
+use Rattle.deb_health.specs.Verdicts.{Found, IsVerdict, SpeaksOf, VerdictView}
 use Rattle.deb_verdict.proofs.FirstExists.{first_installation}
 use Rattle.work_draw.specs.Checks.{AnswersEach}
 use Rattle.deb_report.specs.declared.summary.Summary.{Summary}

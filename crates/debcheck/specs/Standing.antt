@@ -1,7 +1,7 @@
 -- Verdicts that a report may be made of in the place of the true ones.
 use Rattle.std.specs.Prelude.{◌≡◌, ℕ, Bool, false, true, not, List, [], All, filter, length, map, slice_index_or, zip}
 use Rattle.deb_index.specs.Packages.{IndexView}
-use Rattle.deb_verdict.specs.Verdicts.{Found, IsVerdict, VerdictView}
+use Rattle.deb_health.specs.Verdicts.{Found, IsVerdict, VerdictView}
 use Rattle.work_draw.specs.Checks.{AnswersEach}
 use Rattle.deb_report.specs.Report.{without_set}
 use Rattle.deb_report.specs.Settings.{Settings, shows_sets}

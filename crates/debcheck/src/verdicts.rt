@@ -2,7 +2,7 @@
 
 ghost use Rattle.std.specs.Prelude.{◌≡◌, ◌^◌, ◌<◌, ◌≤◌, All, IfOk, filter, length, map};
 ghost use Rattle.deb_report.specs.Settings.{settings_of};
-ghost use Rattle.deb_verdict.specs.Verdicts.{SpeaksOf, verdict_view};
+ghost use Rattle.deb_health.specs.Verdicts.{SpeaksOf, verdict_view};
 ghost use Rattle.debcheck.specs.Standing.{Merges, StandFor, is_unmarked};
 
 use deb_index::Index;

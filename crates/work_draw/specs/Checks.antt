@@ -2,8 +2,8 @@
 use Rattle.std.specs.Prelude.{ℕ, ◌*◌, List, [], ◌∷◌, length, take, drop}
 use Rattle.std.specs.Int.{div_ceil}
 use Rattle.deb_index.specs.Packages.{IndexView}
-use Rattle.deb_verdict.specs.Verdicts.{IsVerdict, SpeaksOf, verdict_view}
-use Rattle.deb_verdict.specs.declared.answer.Verdict.{Verdict}
+use Rattle.deb_health.specs.Verdicts.{IsVerdict, SpeaksOf, verdict_view}
+use Rattle.deb_health.specs.declared.answer.Verdict.{Verdict}
 
 -- one answer to each question, in the same order
 abbrev pub AnswersEach : {A B : Type 0} → (A → B → Type 0) → List A → List B → Type 0

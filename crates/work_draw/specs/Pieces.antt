@@ -2,7 +2,7 @@
 use Rattle.std.specs.Prelude.{◌≡◌, ℕ, ◌+◌, ◌-◌, ◌≤◌, true, List, All, map, flat_map, IsPermutation, ◌++◌, length}
 use Rattle.std.specs.List.{range_with_len}
 use Rattle.deb_index.specs.Packages.{IndexView}
-use Rattle.deb_verdict.specs.declared.answer.Verdict.{Verdict}
+use Rattle.deb_health.specs.declared.answer.Verdict.{Verdict}
 use Rattle.work_draw.specs.declared.piece.Piece.{Piece}
 use Rattle.work_draw.specs.Board.{DrawerView}
 use Rattle.work_draw.specs.Checks.{AnswersEach, IsFound, chunk_of}

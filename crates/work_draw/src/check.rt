@@ -1,6 +1,6 @@
 //! The verdicts of all asked places, in the order in which they were asked.
 ghost use Rattle.std.specs.Prelude.{◌≡◌, ◌^◌, ◌<◌, ◌≤◌, All, IfOk, length, map};
-ghost use Rattle.deb_verdict.specs.Verdicts.{IsVerdict, SpeaksOf, verdict_view};
+ghost use Rattle.deb_health.specs.Verdicts.{IsVerdict, SpeaksOf, verdict_view};
 ghost use Rattle.work_draw.specs.Checks.{AnswersEach, IsFound};
 
 use crate::board::new_board;

@@ -1,6 +1,6 @@
 use Rattle.std.proofs.Common.{◌∙◌, ap, length, map}
 use Rattle.std.proofs.lemmas.List.Elements.{All-same}
-use Rattle.deb_verdict.specs.Verdicts.{verdict_view}
+use Rattle.deb_health.specs.Verdicts.{verdict_view}
 use Rattle.deb_report.specs.Causes.{IsCauseOf, by_count, by_first, cause_view, causes_list, found_causes}
 use Rattle.deb_report.proofs.GatherLemmas.{causes-within, few-places}
 use Rattle.deb_report.proofs.causes.causes_of.Goals as goal

@@ -1,7 +1,7 @@
 use Rattle.std.proofs.Common.{◌≡◌, ◌<◌, ◌∙◌, List, ℕ, ap₂, arith, length, map, subst, sym, take}
 use Rattle.std.proofs.lemmas.List.{take_all}
 use Rattle.deb_index.specs.declared.constraint.Constraint.{Constraint}
-use Rattle.deb_verdict.specs.Verdicts.{SpeaksOf, verdict_view}
+use Rattle.deb_health.specs.Verdicts.{SpeaksOf, verdict_view}
 use Rattle.deb_report.specs.Causes.{by_first, found_causes}
 use Rattle.deb_report.specs.Gathering.{IsGathered}
 use Rattle.deb_report.proofs.CauseKeyLemmas.{gathered-causes}

@@ -1,5 +1,5 @@
 use Rattle.std.proofs.Common.{map, take}
-use Rattle.deb_verdict.specs.Verdicts.{verdict_view}
+use Rattle.deb_health.specs.Verdicts.{verdict_view}
 use Rattle.deb_report.specs.Causes.{found_causes}
 use Rattle.deb_report.specs.Gathering.{IsGathered}
 use Rattle.deb_report.proofs.causes.gather.Given as goal

@@ -1,6 +1,6 @@
 use Rattle.std.proofs.Common.{◌≡◌, ◌<◌, ◌∙◌, ℕ, arith, false, get_or, length, map, sym, take, true}
 use Rattle.std.specs.List.{zip}
-use Rattle.deb_verdict.specs.Verdicts.{SpeaksOf, VerdictView, verdict_view}
+use Rattle.deb_health.specs.Verdicts.{SpeaksOf, VerdictView, verdict_view}
 use Rattle.deb_report.specs.Json.{block_json}
 use Rattle.deb_report.specs.Report.{is_shown}
 use Rattle.deb_report.proofs.JsonLemmas.{filter_fails, filter_passes, listed_step, separator_more}

@@ -1,5 +1,5 @@
 use Rattle.std.proofs.Common.{◌≡◌, ◌++◌, map, take}
-use Rattle.deb_verdict.specs.Verdicts.{verdict_view}
+use Rattle.deb_health.specs.Verdicts.{verdict_view}
 use Rattle.deb_report.specs.Json.{block_json, listed, shown_of}
 use Rattle.deb_report.proofs.JsonLemmas.{separator_after}
 use Rattle.deb_report.proofs.json.push_blocks.Given as goal

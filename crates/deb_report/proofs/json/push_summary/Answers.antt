@@ -1,6 +1,6 @@
 use Rattle.std.proofs.Common.{◌-◌, codes, decimal, is_some, length, map}
 use Rattle.std.specs.List.{count_by}
-use Rattle.deb_verdict.specs.Verdicts.{verdict_view}
+use Rattle.deb_health.specs.Verdicts.{verdict_view}
 use Rattle.deb_report.specs.Json.{background_json, summary_json}
 use Rattle.deb_report.specs.Report.{is_broken}
 use Rattle.deb_report.proofs.JsonLemmas.{in_summary}

@@ -1,5 +1,5 @@
 use Rattle.std.proofs.Common.{codes, map}
-use Rattle.deb_verdict.specs.Verdicts.{verdict_view}
+use Rattle.deb_health.specs.Verdicts.{verdict_view}
 use Rattle.deb_report.specs.Causes.{causes_list}
 use Rattle.deb_report.specs.Json.{cause_json, causes_json, listed}
 use Rattle.deb_report.proofs.ReportLemmas.{in_three}

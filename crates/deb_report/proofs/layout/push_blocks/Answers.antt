@@ -1,5 +1,5 @@
 use Rattle.std.proofs.Common.{◌<◌, arith, length}
-use Rattle.deb_verdict.specs.Verdicts.{SpeaksOf, verdict_view}
+use Rattle.deb_health.specs.Verdicts.{SpeaksOf, verdict_view}
 use Rattle.deb_report.specs.Report.{shown_block}
 use Rattle.deb_report.proofs.ListLemmas.{all_at, one_more, zip_more}
 use Rattle.deb_report.proofs.layout.push_blocks.Goals as goal

@@ -4,7 +4,7 @@ use Rattle.std.proofs.lemmas.Option.{slice_get-get_or}
 use Rattle.sat_solve.specs.Sets.{NumberSet, members_of, IsFirst}
 use Rattle.sat_solve.specs.Clauses.{Clauses, IsTrueSet}
 use Rattle.deb_verdict.specs.Encoding.{IsChosen}
-use Rattle.deb_verdict.specs.Health.{AdmitsNone}
+use Rattle.deb_health.specs.Health.{AdmitsNone}
 use Rattle.core_extract.specs.Reduction.{left, IsRefutation}
 use Rattle.deb_verdict.proofs.Settled.{part_refuted, part_admits}
 use Rattle.deb_verdict.proofs.by_formula.refute_by_formula.Goals as goal

@@ -4,7 +4,7 @@ use Rattle.sat_solve.specs.Sets.{members_of}
 use Rattle.deb_verdict.specs.declared.unmet.UnmetNeed.{UnmetNeed}
 use Rattle.deb_encode.specs.Play.{places_in_play, placed}
 use Rattle.deb_verdict.specs.Unmet.{AreUnmet}
-use Rattle.deb_verdict.specs.Verdicts.{IsFirstInstallation}
+use Rattle.deb_health.specs.Verdicts.{IsFirstInstallation}
 use Rattle.deb_encode.proofs.AddSteps.{below_moved}
 use Rattle.deb_verdict.proofs.Inserted.{same_below, placed_below}
 use Rattle.deb_verdict.proofs.FirstSet.{first_answer, no_answer, vars_below}

@@ -1,6 +1,6 @@
 use Rattle.std.proofs.Common.{◌≡◌, length}
 use Rattle.deb_encode.specs.Alone.{MarksOnly}
-use Rattle.deb_verdict.specs.Health.{IsInstallable}
+use Rattle.deb_health.specs.Health.{IsInstallable}
 use Rattle.deb_verdict.proofs.installable.mark_set.Given as goal
 
 abbrev pub invariant-loop-place : goal.invariant-loop-place

@@ -1,6 +1,6 @@
 use Rattle.std.proofs.Common.{false}
 use Rattle.std.proofs.lemmas.Bool.{false≢true}
-use Rattle.deb_verdict.specs.Health.{IsInstallable}
+use Rattle.deb_health.specs.Health.{IsInstallable}
 use Rattle.deb_verdict.proofs.GroundworkLemmas.{one_mark_more}
 use Rattle.deb_verdict.proofs.installable.no_marks.Goals as goal
 

@@ -1,4 +1,4 @@
-use Rattle.deb_verdict.specs.Health.{IsInstallable}
+use Rattle.deb_health.specs.Health.{IsInstallable}
 use Rattle.deb_verdict.proofs.GroundworkLemmas.{MarksFirst}
 use Rattle.deb_verdict.proofs.installable.no_marks.Given as goal
 

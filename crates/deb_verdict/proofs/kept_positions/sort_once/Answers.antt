@@ -2,8 +2,7 @@ use Rattle.std.proofs.lemmas.List.Filters.{dedup_is}
 use Rattle.std.proofs.lemmas.List.Kept.{Contains-dedup_nat, Contains-from_dedup}
 use Rattle.std.proofs.lemmas.List.Sorted.{Contains-permutation, IsPermutation-sym}
 use Rattle.std.proofs.lemmas.Map.Keys.{IsStrictlyIncreasing-dedup}
-use Rattle.deb_verdict.proofs.Answered.{same_test}
-use Rattle.deb_verdict.proofs.SameMembers.{contains_member, member_contains}
+use Rattle.sat_solve.proofs.ListMembers.{same_test, contains_member, member_contains}
 use Rattle.deb_verdict.proofs.kept_positions.sort_once.Goals as goal
 
 pub returns : goal.returns

@@ -3,8 +3,8 @@ use Rattle.deb_report.specs.Asked.{asked_places}
 use Rattle.deb_report.specs.Report.{summary_of}
 use Rattle.deb_report.specs.Settings.{settings_of}
 use Rattle.deb_report.specs.Written.{written_report}
-use Rattle.deb_verdict.specs.declared.answer.Verdict.{Verdict}
-use Rattle.deb_verdict.specs.Verdicts.{verdict_view}
+use Rattle.deb_health.specs.declared.answer.Verdict.{Verdict}
+use Rattle.deb_health.specs.Verdicts.{verdict_view}
 use Rattle.debcheck.proofs.StandingLemmas.{reported-told}
 use Rattle.debcheck.proofs.phases.check_and_report.Goals as goal
 

@@ -1,7 +1,7 @@
 use Rattle.std.proofs.Common.{◌∙◌, ◌≤◌, arith, length, map, sym}
 use Rattle.std.proofs.lemmas.List.{length-map}
 use Rattle.deb_report.specs.Settings.{settings_of}
-use Rattle.deb_verdict.specs.Verdicts.{verdict_view}
+use Rattle.deb_health.specs.Verdicts.{verdict_view}
 use Rattle.debcheck.proofs.StandingLemmas.{Told, left-few, left-within, stands-told, told_by_marks}
 use Rattle.debcheck.proofs.verdicts.find_verdicts.Goals as goal
 

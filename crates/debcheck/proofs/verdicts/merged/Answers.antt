@@ -1,7 +1,7 @@
 use Rattle.std.proofs.Common.{◌∙◌, arith, map}
 use Rattle.std.specs.Vec.Iter.{into_iter_items}
 use Rattle.std.proofs.lemmas.List.{length-map}
-use Rattle.deb_verdict.specs.Verdicts.{verdict_view}
+use Rattle.deb_health.specs.Verdicts.{verdict_view}
 use Rattle.debcheck.proofs.MergeLemmas.{merges_at_end}
 use Rattle.debcheck.proofs.verdicts.merged.Goals as goal
 

@@ -1,6 +1,6 @@
 use Rattle.std.proofs.Common.{◌≡◌, ◌++◌, drop, length, map}
 use Rattle.std.specs.Vec.Iter.{into_iter_items, into_iter_len}
-use Rattle.deb_verdict.specs.Verdicts.{verdict_view}
+use Rattle.deb_health.specs.Verdicts.{verdict_view}
 use Rattle.debcheck.proofs.MergeLemmas.{told_of}
 use Rattle.debcheck.proofs.verdicts.merged.Given as goal
 

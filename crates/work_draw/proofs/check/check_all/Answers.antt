@@ -1,6 +1,6 @@
 use Rattle.std.proofs.Common.{ℕ}
-use Rattle.deb_verdict.specs.Verdicts.{IsVerdict, SpeaksOf, VerdictView, verdict_view}
-use Rattle.deb_verdict.specs.declared.answer.Verdict.{Verdict}
+use Rattle.deb_health.specs.Verdicts.{IsVerdict, SpeaksOf, VerdictView, verdict_view}
+use Rattle.deb_health.specs.declared.answer.Verdict.{Verdict}
 use Rattle.work_draw.specs.Checks.{AnswersEach, IsFound}
 use Rattle.work_draw.proofs.Answered.{AnswersEach-All-map, AnswersEach-length, AnswersEach-map, AnswersEach-weaker}
 use Rattle.work_draw.proofs.check.check_all.Goals as goal

@@ -2,7 +2,7 @@ use Rattle.std.proofs.Common.{◌≡◌, ◌*◌, ◌≤◌, ℕ, [], List, Vec,
 use Rattle.std.proofs.lemmas.Grind.{div_ceil_times}
 use Rattle.std.proofs.lemmas.List.Sorted.{All-permutation}
 use Rattle.std.proofs.lemmas.Result.{IfOk-weaker}
-use Rattle.deb_verdict.specs.declared.answer.Verdict.{Verdict}
+use Rattle.deb_health.specs.declared.answer.Verdict.{Verdict}
 use Rattle.work_draw.specs.Board.{DrawerView}
 use Rattle.work_draw.specs.Checks.{AnswersEach, IsFound, chunk_of}
 use Rattle.work_draw.specs.Drawing.{HoldsEachOnce}

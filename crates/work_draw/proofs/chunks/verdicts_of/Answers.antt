@@ -1,5 +1,5 @@
 use Rattle.std.proofs.Common.{List, arith, subst, sym, take, ◌+◌}
-use Rattle.deb_verdict.specs.declared.answer.Verdict.{Verdict}
+use Rattle.deb_health.specs.declared.answer.Verdict.{Verdict}
 use Rattle.work_draw.specs.Checks.{AnswersEach, IsFound}
 use Rattle.work_draw.proofs.Answered.{AnswersEach_more}
 use Rattle.work_draw.proofs.chunks.verdicts_of.Goals as goal

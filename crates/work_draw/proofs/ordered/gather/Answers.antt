@@ -1,6 +1,6 @@
 use Rattle.std.proofs.Common.{rules, ◌≡◌, List, Vec, Global, flat_map}
 use Rattle.std.proofs.lemmas.List.Sorted.{IsNonDecreasingBy-from_sort_by_key}
-use Rattle.deb_verdict.specs.declared.answer.Verdict.{Verdict}
+use Rattle.deb_health.specs.declared.answer.Verdict.{Verdict}
 use Rattle.work_draw.specs.declared.piece.Piece.{Piece}
 use Rattle.std.proofs.lemmas.Result.{IfOk-weaker}
 use Rattle.work_draw.proofs.Rising.{sorted_pieces}

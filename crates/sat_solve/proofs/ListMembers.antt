@@ -1,7 +1,8 @@
--- Members of lists of numbers.
-use Rattle.std.proofs.Common.{◌≡◌, ℕ, suc, ◌<◌, true, eqb, List, [], ◌∷◌, length, get_or, refl, sym, ◌∙◌, ap, inl, inr, arith}
+-- Members of lists of numbers: where they stand, and what a test says of them.
+use Rattle.std.proofs.Common.{◌≡◌, ℕ, suc, ◌<◌, Bool, true, eqb, List, [], ◌∷◌, length, get_or, Contains, refl, sym, ◌∙◌, ap, inl, inr, arith}
 use Rattle.std.specs.List.{list_any, list_all}
-use Rattle.std.proofs.lemmas.Bool.{false≢true, and_parts, or_cases, or_left, or_right, eqb-true, eq-eqb}
+use Rattle.std.proofs.lemmas.Bool.{cases_Bool, false≢true, and_parts, or_cases, or_left, or_right, both_ways, eqb-true, eq-eqb, false_from_ne_true}
+use Rattle.std.proofs.lemmas.List.{get_or_default}
 use Rattle.std.proofs.lemmas.List.Folds.{list_any_at}
 use Rattle.sat_solve.specs.Sets.{NumberSet, members_of}
 
@@ -43,3 +44,20 @@ members_of_at (x ∷ rest) number is_in =
 
 pub at_members_of : (numbers : List ℕ) (k : ℕ) → k < length numbers → members_of numbers (get_or numbers k 0) ≡ true
 at_members_of numbers k inside = list_any_at (λ member. eqb member (get_or numbers k 0)) numbers k 0 inside (eq-eqb (get_or numbers k 0) (get_or numbers k 0) refl)
+
+-- membership, as a test and as a place in the list
+pub contains_member : (numbers : List ℕ) (number : ℕ) → Contains numbers number → members_of numbers number ≡ true
+contains_member numbers number there =
+    let here : get_or numbers there.0 0 ≡ number = sym (get_or_default numbers there.0 number 0 there.1) ∙ there.2 in
+    sym (ap (members_of numbers) here) ∙ at_members_of numbers there.0 there.1
+
+pub member_contains : (numbers : List ℕ) (number : ℕ) → members_of numbers number ≡ true → Contains numbers number
+member_contains numbers number is_in = let at = members_of_at numbers number is_in in (at.0, at.1, get_or_default numbers at.0 number 0 at.1 ∙ at.2)
+
+-- tests that hold together are one
+pub same_test : (a b : Bool) → (a ≡ true → b ≡ true) → (b ≡ true → a ≡ true) → a ≡ b
+same_test a b to from =
+    elim (cases_Bool a) [
+      | inl holds ↦ holds ∙ sym (to holds)
+      | inr fails ↦ fails ∙ sym (false_from_ne_true b (λ other. both_ways a fails (from other)))
+    ]

@@ -5,9 +5,9 @@ use Rattle.deb_index.specs.declared.constraint.Constraint.{Constraint}
 use Rattle.deb_index.specs.Packages.{IndexView}
 use Rattle.deb_index.specs.Constraints.{constraints_of, IsOfIndex}
 use Rattle.sat_solve.specs.Sets.{NumberSet, members_of, IsFirst}
-use Rattle.deb_verdict.specs.declared.answer.Verdict.{Verdict}
-use Rattle.deb_verdict.specs.declared.answer.Verdict.TheVariants as variant
-use Rattle.deb_verdict.specs.Health.{IsInstallation, AdmitsNone}
+use Rattle.deb_health.specs.declared.answer.Verdict.{Verdict}
+use Rattle.deb_health.specs.declared.answer.Verdict.TheVariants as variant
+use Rattle.deb_health.specs.Health.{IsInstallation, AdmitsNone}
 
 -- the places, rising, of the first healthy set that contains p
 abbrev pub IsFirstInstallation : IndexView → ℕ → List ℕ → Type 0
