@@ -47,8 +47,7 @@ CALLS = {
     "deb_verdict_tests": ["closure", "verdict", "verdict_in", "groundwork", "workspace", "find_installable"],
     "work_draw_tests": ["new_board", "gather", "check_all", "check_all_with_a_gate", "draw_pieces", "crew"],
     "deb_report_tests": ["usual", "asked_places", "report", "report_with_causes", "json_report"],
-    "run_tests": ["read_all", "run", "run_with_a_failing_writer", "fault_line", "write_fault"],
-    "command_line_tests": ["read_line"],
+    "run_tests": ["read_all", "run", "run_with_a_failing_writer", "fault_line", "write_fault", "read_line"],
     "debcheck_tests": ["run_with_one_worker", "run_with_two_workers", "run_with_a_background"],
 }
 PROGRAM = "debcheck_program"

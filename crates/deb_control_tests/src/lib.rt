@@ -6,7 +6,8 @@
 
 #[cfg(test)]
 mod examples;
-pub mod fields;
+#[cfg(test)]
+mod fields;
 #[cfg(test)]
 mod folded;
 #[cfg(test)]

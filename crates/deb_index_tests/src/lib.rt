@@ -19,7 +19,8 @@ mod limits;
 mod needs;
 #[cfg(test)]
 mod positions;
-pub mod reading;
+#[cfg(test)]
+mod reading;
 #[cfg(test)]
 mod rows;
 #[cfg(test)]

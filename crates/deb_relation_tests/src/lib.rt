@@ -6,7 +6,8 @@
 
 #[cfg(test)]
 mod growths;
-pub mod printing;
+#[cfg(test)]
+mod printing;
 #[cfg(test)]
 mod relations;
 #[cfg(test)]

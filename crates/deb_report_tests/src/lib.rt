@@ -13,4 +13,5 @@ mod causes;
 mod growths;
 #[cfg(test)]
 mod parts;
-pub mod reporting;
+#[cfg(test)]
+mod reporting;

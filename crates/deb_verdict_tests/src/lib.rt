@@ -26,7 +26,8 @@ mod installable;
 mod lent;
 #[cfg(test)]
 mod qualifiers;
-pub mod reading;
+#[cfg(test)]
+mod reading;
 #[cfg(test)]
 mod trial;
 #[cfg(test)]

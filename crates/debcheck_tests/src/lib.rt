@@ -1,6 +1,6 @@
 //! Worked examples over all crates: words and a text go in, and the bytes of the report are compared.
 //!
-//! `devices` has readers and a writer over memory, and is proved. The rest is tests: `example` says what an example is and runs it, `reports` goes over those of
+//! `devices` has readers and a writer over memory. `example` says what an example is and runs it, `reports` goes over those of
 //! `relations`, `meanings`, `qualifiers`, `settings` and `refusals`; `backgrounds` has those with a second text, `json_reports` documents in JSON, which it reads back;
 //! `cut_texts`, `failing_devices`, `large`, `without_sets`, `workers` and `growths` have inputs of their own.
 #![tactic(auto)]
@@ -9,7 +9,8 @@
 mod backgrounds;
 #[cfg(test)]
 mod cut_texts;
-pub mod devices;
+#[cfg(test)]
+mod devices;
 #[cfg(test)]
 mod example;
 #[cfg(test)]

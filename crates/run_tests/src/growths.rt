@@ -2,10 +2,13 @@
 
 ghost use Rattle.std.specs.Prelude.{◌≡◌, ◌<◌, ◌≤◌, IfOk, false};
 
+use crate::command_line::asking::{is_plain, read, sides_of};
 use crate::devices::{Feed, Held, sink_of, source_of};
 use crate::runs::{EMPTY, run_alone};
 use crate::whole_texts::told_by;
-use debcheck::{Config, RunFault, Summary, fault_line, read_all, status, write_fault};
+use debcheck::{
+    Config, LineFault, RunFault, Summary, fault_line, line_status, read_all, status, write_fault,
+};
 use std::alloc::{AllocError, Global};
 use std::process::Abort;
 use std::test::Fail;
@@ -191,4 +194,60 @@ fn expect_errors(rt: &impl Abort, errors: &Held, written: bool) -> Result<(), Fa
     let wanted = b"debcheck: out of memory\n";
     assert_eq!(rt; errors.bytes.as_slice(), wanted.as_slice());
     Err(Fail::new("out of memory"))
+}
+
+/// A word for what reading a line comes to.
+fn told_of_line(outcome: &Result<Config, LineFault>) -> &'static str {
+    match outcome {
+        Ok(config) => told_of_config(config),
+        Err(fault) => match line_status(fault) {
+            64 => "refused",
+            69 => "no memory",
+            _ => "no refusal",
+        },
+    }
+}
+
+/// A word for the usual settings for amd64, with or without explanations.
+fn told_of_config(config: &Config) -> &'static str {
+    if !is_plain(config) || config.arch.as_str() != "amd64" {
+        return "other settings";
+    }
+    if config.explain {
+        return "explained";
+    }
+    "taken"
+}
+
+/// The word for what the line comes to.
+fn word_for(alloc: Global, line: &str) -> Result<&'static str, AllocError> {
+    let outcome = read(alloc, line)?;
+    Ok(told_of_line(&outcome))
+}
+
+/// The line comes to what the word says, or memory was refused.
+fn expect_row(rt: &(impl Abort + AllocGlobal), line: &str, wanted: &str) -> Result<(), Fail> {
+    let told = word_for(rt.alloc(), line)?;
+    if told == "no memory" {
+        return Err(Fail::new("out of memory"));
+    }
+    assert_eq!(rt; told, wanted, "{line}");
+    Ok(())
+}
+
+const LINES: &str = "|--arch|amd64 => taken
+ => explained
+|--workers|2 => refused
+|--arch|all => refused
+|--arch|amd64|--workers|65 => refused
+|--arch|amd64|--checkonly|a,,b => refused";
+
+/// An architecture alone, no words, and four lines that are refused.
+#[test]
+fn of_read_line(rt: HostRuntime) -> Result<(), Fail> {
+    for row in LINES.lines() {
+        let (line, wanted) = sides_of(row)?;
+        expect_row(&rt, line, wanted)?;
+    }
+    Ok(())
 }

@@ -9,7 +9,8 @@
 mod exclusions;
 #[cfg(test)]
 mod growths;
-pub mod literals;
+#[cfg(test)]
+mod literals;
 #[cfg(test)]
 mod scripts;
 #[cfg(test)]

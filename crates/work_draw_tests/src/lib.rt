@@ -6,7 +6,8 @@
 
 #[cfg(test)]
 mod boards;
-pub mod examples;
+#[cfg(test)]
+mod examples;
 #[cfg(test)]
 mod gates;
 #[cfg(test)]

@@ -1,8 +1,8 @@
 //! The texts of help, of the version and of refusals, and where they are written.
 
-use crate::asking::{expect_parts, fault_of, refuses};
+use crate::command_line::asking::{expect_parts, fault_of, refuses};
+use crate::devices::sink_of;
 use debcheck::{LineFault, line_status, write_line_fault};
-use run_tests::devices::sink_of;
 use std::alloc::Global;
 use std::process::Abort;
 use std::test::Fail;

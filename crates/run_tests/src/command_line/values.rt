@@ -1,6 +1,6 @@
 //! The values of options: numbers, architectures and names.
 
-use crate::asking::{config_of, refuses, refuses_each, refuses_values, sides_of};
+use crate::command_line::asking::{config_of, refuses, refuses_each, refuses_values, sides_of};
 use debcheck::Config;
 use std::alloc::Global;
 use std::process::Abort;

@@ -1,6 +1,5 @@
 //! Reading a line, and what is expected of it.
 
-use crate::words::words_of;
 use debcheck::{Config, Format, LineFault, Show, line_status, read_line};
 use std::alloc::{AllocError, Global};
 use std::process::Abort;
@@ -10,9 +9,9 @@ use std::test::Fail;
 pub fn read(alloc: Global, line: &str) -> Result<Result<Config, LineFault>, AllocError> {
     let mut words = Vec::new(alloc);
     for word in line.split('|').skip(1) {
-        words.push(word)?;
+        words.push(String::from_str(alloc, word)?)?;
     }
-    Ok(read_line(alloc, words_of(alloc, words.as_slice())?))
+    Ok(read_line(alloc, words))
 }
 
 /// What the line asks for.

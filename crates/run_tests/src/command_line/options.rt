@@ -1,7 +1,9 @@
 //! Each option, and words that are none.
 
-use crate::asking::{background_of, config_of, refuses_each, refuses_values, sides_of};
-use crate::values::names_architecture;
+use crate::command_line::asking::{
+    background_of, config_of, refuses_each, refuses_values, sides_of,
+};
+use crate::command_line::values::names_architecture;
 use debcheck::{Config, Format, Show};
 use std::process::Abort;
 use std::test::Fail;
