@@ -11,7 +11,7 @@ use Rattle.debcheck.specs.declared.fault.RunFault.TheVariants.{Read, TooLong, Ba
 use Rattle.deb_report.specs.declared.summary.Summary.{Summary}
 use Rattle.debcheck.specs.Devices.{AppendsPart}
 use Rattle.deb_report.specs.Settings.{Settings}
-use Rattle.debcheck.specs.Run.{Fails, FailsToIndex, FailsToReport, HasAsked, IfTold, Input, IsRead, IsReadAs, IsReport, IsReportOn, Leaves, ReadsAs, WritesFront, WritesReport, behind, input}
+use Rattle.debcheck.specs.Run.{Fails, FailsToIndex, FailsToReport, HasAsked, IfTold, Input, IsRead, IsReadAs, IsReport, IsReportOn, Leaves, ReadsAs, TellsReport, WritesFront, WritesReport, behind, input}
 use Rattle.debcheck.proofs.IndexLemmas.{both-fore}
 
 -- ---- reading
@@ -90,22 +90,33 @@ report-fails settings text background index w (UnknownAsked name) reads h = (rea
 report-fails settings text background index w Memory reads h = (reads.0.0.0, reads.0.1.0)
 report-fails settings text background index w Write reads h = absurd h
 
--- and so does what fails once the report is there
-pub writing-fails : (settings : Settings) (text background : Input) (index : IndexView) (write_failed : Bool) (output : List ℕ) (summary : Summary) → ReadsAs settings text background index
-    → IsReportOn settings index output summary → write_failed ≡ true → Fails settings text background write_failed Write
-writing-fails settings text background index w output summary reads on failed = (failed, (reads.0, indexed settings text background index (HasAsked settings) reads (on.asked, on.is_asked)))
+-- a run that fails before anything is written, fails so whatever becomes of the writer
+pub fails-unwritten : (settings : Settings) (text background : Input) (write_failed : Bool) (fault : RunFault) → Fails settings text background false fault → Fails settings text background write_failed fault
+fails-unwritten settings text background w Read h = h
+fails-unwritten settings text background w TooLong h = h
+fails-unwritten settings text background w BackgroundRead h = h
+fails-unwritten settings text background w BackgroundTooLong h = h
+fails-unwritten settings text background w (Index fault) h = h
+fails-unwritten settings text background w (Background fault) h = h
+fails-unwritten settings text background w (UnknownAsked name) h = h
+fails-unwritten settings text background w Memory h = h
+fails-unwritten settings text background w Write h =
+    let failed = h.0 in
+    absurd cc
 
 -- and it leaves nothing written
-pub report-leaves : (settings : Settings) (text background : Input) (held : Option (List ℕ)) (index : IndexView) (fault : RunFault) → FailsToReport settings index fault → Leaves settings text background held held fault
-report-leaves settings text background held index Read h = absurd h
-report-leaves settings text background held index TooLong h = absurd h
-report-leaves settings text background held index BackgroundRead h = absurd h
-report-leaves settings text background held index BackgroundTooLong h = absurd h
-report-leaves settings text background held index (Index fault) h = absurd h
-report-leaves settings text background held index (Background fault) h = absurd h
-report-leaves settings text background held index (UnknownAsked name) h = kept-itself held
-report-leaves settings text background held index Memory h = kept-itself held
-report-leaves settings text background held index Write h = absurd h
+pub leaves-unwritten : (settings : Settings) (text background : Input) (held : Option (List ℕ)) (fault : RunFault) → Fails settings text background false fault → Leaves settings text background held held fault
+leaves-unwritten settings text background held Read h = kept-itself held
+leaves-unwritten settings text background held TooLong h = kept-itself held
+leaves-unwritten settings text background held BackgroundRead h = kept-itself held
+leaves-unwritten settings text background held BackgroundTooLong h = kept-itself held
+leaves-unwritten settings text background held (Index fault) h = kept-itself held
+leaves-unwritten settings text background held (Background fault) h = kept-itself held
+leaves-unwritten settings text background held (UnknownAsked name) h = kept-itself held
+leaves-unwritten settings text background held Memory h = kept-itself held
+leaves-unwritten settings text background held Write h =
+    let failed = h.0 in
+    absurd cc
 
 -- ---- writing
 
@@ -127,20 +138,29 @@ reported settings None second index output summary short small none is on = tt
 reported settings (Some a) None index output summary short small none is on = tt
 reported settings (Some a) (Some b) index output summary short small none is on = record { index = index; within = short; background_within = small; no_background = none; is_index = is; is_report = on }
 
-report-on-texts : (settings : Settings) (text background : Input) (index : IndexView) (output : List ℕ) (summary : Summary) → ReadsAs settings text background index → IsReportOn settings index output summary
-    → IfTold settings text background (λ bytes more. IsReport settings bytes more output summary)
-report-on-texts settings text background index output summary reads on =
-    reported settings text.text (behind settings background).text index output summary reads.0.0.1 reads.0.1.1 (unread_if settings.background background) reads.1 on
+pub report-told : (settings : Settings) (text background : Input) (index : IndexView) (output : List ℕ) (summary : Summary) → ReadsAs settings text background index → IsReportOn settings index output summary
+    → TellsReport settings text background output summary
+report-told settings text background index output summary reads on =
+    (reads.0, reported settings text.text (behind settings background).text index output summary reads.0.0.1 reads.0.1.1 (unread_if settings.background background) reads.1 on)
 
-pub report-written : (settings : Settings) (text background : Input) (old new : Option (List ℕ)) (index : IndexView) (output : List ℕ) (summary : Summary) → ReadsAs settings text background index
-    → IsReportOn settings index output summary → Appends old new output → WritesReport settings text background old new summary
-report-written settings text background old new index output summary reads on h =
+pub report-written : (settings : Settings) (text background : Input) (old new : Option (List ℕ)) (output : List ℕ) (summary : Summary) → TellsReport settings text background output summary → Appends old new output
+    → WritesReport settings text background old new summary
+report-written settings text background old new output summary tells h =
     told_weaker text.text (behind settings background).text (λ (a b : List ℕ). IsReport settings a b output summary)
-    (λ (a b : List ℕ). (output : List ℕ) × IsReport settings a b output summary × Appends old new output) (λ a b report. (output, report, h)) (report-on-texts settings text background index output summary reads on)
+    (λ (a b : List ℕ). (output : List ℕ) × IsReport settings a b output summary × Appends old new output) (λ a b report. (output, report, h)) tells.1
 
-pub front-written : (settings : Settings) (text background : Input) (old new : Option (List ℕ)) (index : IndexView) (output : List ℕ) (summary : Summary) → ReadsAs settings text background index
-    → IsReportOn settings index output summary → AppendsPart old new output → WritesFront settings text background old new
-front-written settings text background old new index output summary reads on h =
+pub front-written : (settings : Settings) (text background : Input) (old new : Option (List ℕ)) (output : List ℕ) (summary : Summary) → TellsReport settings text background output summary → AppendsPart old new output
+    → WritesFront settings text background old new
+front-written settings text background old new output summary tells h =
     told_weaker text.text (behind settings background).text (λ (a b : List ℕ). IsReport settings a b output summary)
-    (λ (a b : List ℕ). (output : List ℕ) × (summary : Summary) × IsReport settings a b output summary × AppendsPart old new output) (λ a b report. (output, summary, report, h))
-    (report-on-texts settings text background index output summary reads on)
+    (λ (a b : List ℕ). (output : List ℕ) × (summary : Summary) × IsReport settings a b output summary × AppendsPart old new output) (λ a b report. (output, summary, report, h)) tells.1
+
+-- where the report is there, a failed write is why the run fails
+pub writing-fails : (settings : Settings) (text background : Input) (write_failed : Bool) (output : List ℕ) (summary : Summary) → TellsReport settings text background output summary → write_failed ≡ true
+    → Fails settings text background write_failed Write
+writing-fails settings text background w output summary tells failed = (
+  failed,
+  (tells.0, told_weaker text.text (behind settings background).text (λ (a b : List ℕ). IsReport settings a b output summary)
+  (λ (a b : List ℕ). (index : IndexView) × (index_of_both a b settings.arch settings.essential ≡ Ok index) × HasAsked settings index)
+  (λ a b report. (report.index, report.is_index, (report.is_report.asked, report.is_report.is_asked))) tells.1),
+)

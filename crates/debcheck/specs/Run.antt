@@ -80,6 +80,10 @@ ReadsAs settings text background index = AreRead settings text background
 
 -- ---- what is written
 
+-- both were read, and where the texts are told, this is their report, with its numbers
+abbrev pub TellsReport : Settings → Input → Input → List ℕ → Summary → Type 0
+TellsReport settings text background output summary = AreRead settings text background × IfTold settings text background (λ bytes more. IsReport settings bytes more output summary)
+
 -- where the texts are told, their report was added
 abbrev pub WritesReport : Settings → Input → Input → Option (List ℕ) → Option (List ℕ) → Summary → Type 0
 WritesReport settings text background old new summary = IfTold settings text background (λ bytes more. (output : List ℕ) × IsReport settings bytes more output summary × Appends old new output)

@@ -3,7 +3,7 @@
 ghost use Rattle.std.specs.Prelude.{◌≡◌, ◌≢◌, ◌<◌, ◌≤◌, IfErr, IfOk, OnOk, false, true};
 ghost use Rattle.std.specs.Io.KnownBytes.{IsAtEnd};
 ghost use Rattle.deb_report.specs.Settings.{settings_of};
-ghost use Rattle.debcheck.specs.Run.{Fails, FailsToIndex, FailsToReadBehind, FailsToReport, IsReadAs, IsReportOn, Leaves, ReadsAs, WritesReport, behind, input, is_unread};
+ghost use Rattle.debcheck.specs.Run.{Fails, FailsToIndex, FailsToReadBehind, FailsToReport, IsReadAs, IsReportOn, Leaves, ReadsAs, TellsReport, WritesReport, behind, input, is_unread};
 
 use crate::asked::asked_places;
 use crate::device::{Sink, Source};
@@ -96,6 +96,33 @@ fn check_and_report<G: Gate + Sync, R: Threads + Sync>(
     Ok((output, summary_of(index, asked, verdicts.as_slice())))
 }
 
+// Reads the index and what stands behind it, and makes the report. The index is dropped at the end.
+fn read_and_report<S: Source, B: Source, G: Gate + Sync, R: Threads + Sync>(
+    rt: &R,
+    alloc: Global,
+    config: &Config,
+    reader: &mut S,
+    background: &mut B,
+    gate: &G,
+) -> Result<(Vec<u8>, Summary), RunFault>
+    requires workers { (0 < config.now.workers) × (config.now.workers ≤ 64) }
+    requires chunk { 0 < config.now.chunk }
+    requires reader { S.failed reader.old ≡ false }
+    requires background { B.failed background.old ≡ false }
+    ensures end { OnOk result (IsAtEnd (S.remaining reader.new)) }
+    ensures background_end { OnOk result ((settings_of config.now).background ≡ true → IsAtEnd (B.remaining background.new)) }
+    ensures spared { (settings_of config.now).background ≡ false → background.new ≡ background.old }
+    ensures unbegun { IfErr result (λ fault. is_unread fault ≡ true → background.new ≡ background.old) }
+    ensures unfailed { OnOk result ((S.failed reader.new ≡ false) × (B.failed background.new ≡ false)) }
+    ensures report { IfOk result (λ r. TellsReport (settings_of config.now)
+        (input (S.remaining reader.old) (S.failed reader.new)) (input (B.remaining background.old) (B.failed background.new)) r.0.items r.1) }
+    ensures refused { IfErr result (Fails (settings_of config.now)
+        (input (S.remaining reader.old) (S.failed reader.new)) (input (B.remaining background.old) (B.failed background.new)) false) }
+{
+    let index = read_index(alloc, config, reader, background)?;
+    check_and_report(rt, alloc, config, &index, gate)
+}
+
 /// Reads the index to its end, and with `bg` the background; checks each asked package of the index, writes the report and flushes. It may wait
 /// for its workers.
 ///
@@ -139,8 +166,7 @@ pub fn run<S: Source, B: Source, K: Sink, G: Gate + Sync, R: Threads + Sync>(
         (input (S.remaining reader.old) (S.failed reader.new)) (input (B.remaining background.old) (B.failed background.new))
         (K.contents writer.old) (K.contents writer.new)) }
 {
-    let index = read_index(alloc, config, reader, background)?;
-    let (output, summary) = check_and_report(rt, alloc, config, &index, gate)?;
+    let (output, summary) = read_and_report(rt, alloc, config, reader, background, gate)?;
     match write_all(writer, output.as_slice()) {
         Ok(()) => Ok(summary),
         Err(_) => Err(RunFault::Write),

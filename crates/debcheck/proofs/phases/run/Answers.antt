@@ -4,53 +4,42 @@ use Rattle.std.specs.Io.KnownBytes.{Appends}
 use Rattle.debcheck.specs.Devices.{AppendsPart}
 use Rattle.deb_report.specs.Settings.{settings_of}
 use Rattle.debcheck.specs.Run.{input}
-use Rattle.debcheck.proofs.PhaseLemmas.{front-written, indexing-fails, report-fails, report-leaves, report-written, writing-fails}
+use Rattle.debcheck.proofs.PhaseLemmas.{fails-unwritten, front-written, leaves-unwritten, report-written, writing-fails}
 use Rattle.debcheck.proofs.phases.run.Goals as goal
 
 pub returns-in_err-output-clause-refused : goal.returns-in_err-output-clause-refused
 returns-in_err-output-clause-refused g c =
-    let p = err_from_is_err_and c.from_residual-in_err-output.result c.from_residual-in_err-output.ensures.1 in
-    let text = input (g.S.Source.remaining c.args.reader.now) (g.S.Source.failed c.read_index.new.reader) in
-    let background = input (g.B.Source.remaining c.args.background.now) (g.B.Source.failed c.read_index.new.background) in
-    rw (p.1, p.2) (report-fails (settings_of c.args.config.now) text background c.in_ok-index.index (g.K.Sink.failed c.args.writer.now)
-    c.in_err-output.field-0.0 c.in_ok-index.ensures.index c.in_err-output.ensures.refused)
+    let p = err_from_is_err_and c.from_residual.result c.from_residual.ensures.1 in
+    let text = input (g.S.Source.remaining c.args.reader.now) (g.S.Source.failed c.read_and_report.new.reader) in
+    let background = input (g.B.Source.remaining c.args.background.now) (g.B.Source.failed c.read_and_report.new.background) in
+    rw (p.1, p.2) (fails-unwritten (settings_of c.args.config.now) text background (g.K.Sink.failed c.args.writer.now) c.in_err-output.field-0.0 c.in_err-output.ensures.refused)
 
 pub returns-in_err-output-clause-left : goal.returns-in_err-output-clause-left
 returns-in_err-output-clause-left g c =
-    let p = err_from_is_err_and c.from_residual-in_err-output.result c.from_residual-in_err-output.ensures.1 in
-    let text = input (g.S.Source.remaining c.args.reader.now) (g.S.Source.failed c.read_index.new.reader) in
-    let background = input (g.B.Source.remaining c.args.background.now) (g.B.Source.failed c.read_index.new.background) in
-    rw (p.1, p.2)
-    (report-leaves (settings_of c.args.config.now) text background (g.K.Sink.contents c.args.writer.now) c.in_ok-index.index c.in_err-output.field-0.0 c.in_err-output.ensures.refused)
+    let p = err_from_is_err_and c.from_residual.result c.from_residual.ensures.1 in
+    let text = input (g.S.Source.remaining c.args.reader.now) (g.S.Source.failed c.read_and_report.new.reader) in
+    let background = input (g.B.Source.remaining c.args.background.now) (g.B.Source.failed c.read_and_report.new.background) in
+    rw (p.1, p.2) (leaves-unwritten (settings_of c.args.config.now) text background (g.K.Sink.contents c.args.writer.now) c.in_err-output.field-0.0 c.in_err-output.ensures.refused)
 
 pub returns-in-Ok-clause-report : goal.returns-in-Ok-clause-report
 returns-in-Ok-clause-report g c =
-    let written = c.in-Ok.ensures.bytes in
-    let text = input (g.S.Source.remaining c.args.reader.now) (g.S.Source.failed c.read_index.new.reader) in
-    let background = input (g.B.Source.remaining c.args.background.now) (g.B.Source.failed c.read_index.new.background) in
-    report-written (settings_of c.args.config.now) text background (g.K.Sink.contents c.args.writer.now) (g.K.Sink.contents c.write_all.new.writer) c.in_ok-index.index
-    c.in_ok-output.output.items c.in_ok-output.summary c.in_ok-index.ensures.index c.in_ok-output.ensures.report
-    (subst (λ (bytes : List ℕ). Appends (g.K.Sink.contents c.args.writer.now) (g.K.Sink.contents c.write_all.new.writer) bytes) c.as_slice.ensures.value written)
+    let text = input (g.S.Source.remaining c.args.reader.now) (g.S.Source.failed c.read_and_report.new.reader) in
+    let background = input (g.B.Source.remaining c.args.background.now) (g.B.Source.failed c.read_and_report.new.background) in
+    report-written (settings_of c.args.config.now) text background (g.K.Sink.contents c.args.writer.now) (g.K.Sink.contents c.write_all.new.writer)
+    c.in_ok-output.output.items c.in_ok-output.summary c.in_ok-output.ensures.report
+    (subst (λ (bytes : List ℕ). Appends (g.K.Sink.contents c.args.writer.now) (g.K.Sink.contents c.write_all.new.writer) bytes) c.as_slice.ensures.value c.in-Ok.ensures.bytes)
 
 pub returns-clause-left : goal.returns-clause-left
 returns-clause-left g c =
-    let part = c.in-Err.ensures.part in
-    let text = input (g.S.Source.remaining c.args.reader.now) (g.S.Source.failed c.read_index.new.reader) in
-    let background = input (g.B.Source.remaining c.args.background.now) (g.B.Source.failed c.read_index.new.background) in
-    front-written (settings_of c.args.config.now) text background (g.K.Sink.contents c.args.writer.now) (g.K.Sink.contents c.write_all.new.writer) c.in_ok-index.index
-    c.in_ok-output.output.items c.in_ok-output.summary c.in_ok-index.ensures.index c.in_ok-output.ensures.report
-    (subst (λ (bytes : List ℕ). AppendsPart (g.K.Sink.contents c.args.writer.now) (g.K.Sink.contents c.write_all.new.writer) bytes) c.as_slice.ensures.value part)
-
-pub returns-in_err-index-clause-refused : goal.returns-in_err-index-clause-refused
-returns-in_err-index-clause-refused g c =
-    let p = err_from_is_err_and c.from_residual.result c.from_residual.ensures.1 in
-    let text = input (g.S.Source.remaining c.args.reader.now) (g.S.Source.failed c.read_index.new.reader) in
-    let background = input (g.B.Source.remaining c.args.background.now) (g.B.Source.failed c.read_index.new.background) in
-    rw (p.1, p.2) (indexing-fails (settings_of c.args.config.now) text background (g.K.Sink.failed c.args.writer.now) c.in_err-index.field-0.0 c.in_err-index.ensures.refused)
+    let text = input (g.S.Source.remaining c.args.reader.now) (g.S.Source.failed c.read_and_report.new.reader) in
+    let background = input (g.B.Source.remaining c.args.background.now) (g.B.Source.failed c.read_and_report.new.background) in
+    front-written (settings_of c.args.config.now) text background (g.K.Sink.contents c.args.writer.now) (g.K.Sink.contents c.write_all.new.writer)
+    c.in_ok-output.output.items c.in_ok-output.summary c.in_ok-output.ensures.report
+    (subst (λ (bytes : List ℕ). AppendsPart (g.K.Sink.contents c.args.writer.now) (g.K.Sink.contents c.write_all.new.writer) bytes) c.as_slice.ensures.value c.in-Err.ensures.part)
 
 pub returns-clause-refused : goal.returns-clause-refused
 returns-clause-refused g c =
-    let text = input (g.S.Source.remaining c.args.reader.now) (g.S.Source.failed c.read_index.new.reader) in
-    let background = input (g.B.Source.remaining c.args.background.now) (g.B.Source.failed c.read_index.new.background) in
-    writing-fails (settings_of c.args.config.now) text background c.in_ok-index.index (g.K.Sink.failed c.write_all.new.writer)
-    c.in_ok-output.output.items c.in_ok-output.summary c.in_ok-index.ensures.index c.in_ok-output.ensures.report c.in-Err.ensures.failed
+    let text = input (g.S.Source.remaining c.args.reader.now) (g.S.Source.failed c.read_and_report.new.reader) in
+    let background = input (g.B.Source.remaining c.args.background.now) (g.B.Source.failed c.read_and_report.new.background) in
+    writing-fails (settings_of c.args.config.now) text background (g.K.Sink.failed c.write_all.new.writer)
+    c.in_ok-output.output.items c.in_ok-output.summary c.in_ok-output.ensures.report c.in-Err.ensures.failed
