@@ -160,7 +160,10 @@ pub writing-fails : (settings : Settings) (text background : Input) (write_faile
     → Fails settings text background write_failed Write
 writing-fails settings text background w output summary tells failed = (
   failed,
-  (tells.0, told_weaker text.text (behind settings background).text (λ (a b : List ℕ). IsReport settings a b output summary)
-  (λ (a b : List ℕ). (index : IndexView) × (index_of_both a b settings.arch settings.essential ≡ Ok index) × HasAsked settings index)
-  (λ a b report. (report.index, report.is_index, (report.is_report.asked, report.is_report.is_asked))) tells.1),
+  (
+    tells.0,
+    told_weaker text.text (behind settings background).text (λ (a b : List ℕ). IsReport settings a b output summary)
+        (λ (a b : List ℕ). (index : IndexView) × (index_of_both a b settings.arch settings.essential ≡ Ok index) × HasAsked settings index)
+        (λ a b report. (report.index, report.is_index, (report.is_report.asked, report.is_report.is_asked))) tells.1,
+  ),
 )
