@@ -48,17 +48,17 @@ fore-refused settings text background bytes more fault first second other h = (
 
 -- ---- failing
 
--- where there is no index, the run fails
-pub indexing-fails : (settings : Settings) (text background : Input) (write_failed : Bool) (fault : RunFault) → FailsToIndex settings text background fault → Fails settings text background write_failed fault
-indexing-fails settings text background w Read h = h
-indexing-fails settings text background w TooLong h = h
-indexing-fails settings text background w BackgroundRead h = h
-indexing-fails settings text background w BackgroundTooLong h = h
-indexing-fails settings text background w (Index fault) h = h
-indexing-fails settings text background w (Background fault) h = h
-indexing-fails settings text background w (UnknownAsked name) h = absurd h
-indexing-fails settings text background w Memory h = h
-indexing-fails settings text background w Write h = absurd h
+-- where there is no index, the run fails, with nothing written
+pub indexing-fails : (settings : Settings) (text background : Input) (fault : RunFault) → FailsToIndex settings text background fault → Fails settings text background false fault
+indexing-fails settings text background Read h = h
+indexing-fails settings text background TooLong h = h
+indexing-fails settings text background BackgroundRead h = h
+indexing-fails settings text background BackgroundTooLong h = h
+indexing-fails settings text background (Index fault) h = h
+indexing-fails settings text background (Background fault) h = h
+indexing-fails settings text background (UnknownAsked name) h = absurd h
+indexing-fails settings text background Memory h = h
+indexing-fails settings text background Write h = absurd h
 
 pub kept-itself : (held : Option (List ℕ)) → Keeps held held
 kept-itself None = tt
@@ -78,17 +78,17 @@ indexed settings text background index P reads h =
     (λ (a b : List ℕ). (view : IndexView) × (index_of_both a b settings.arch settings.essential ≡ Ok view) × P view) (λ a b is. (index, is, h)) reads.1
 
 -- what fails once the index is there, fails as a run
-pub report-fails : (settings : Settings) (text background : Input) (index : IndexView) (write_failed : Bool) (fault : RunFault) → ReadsAs settings text background index → FailsToReport settings index fault
-    → Fails settings text background write_failed fault
-report-fails settings text background index w Read reads h = absurd h
-report-fails settings text background index w TooLong reads h = absurd h
-report-fails settings text background index w BackgroundRead reads h = absurd h
-report-fails settings text background index w BackgroundTooLong reads h = absurd h
-report-fails settings text background index w (Index fault) reads h = absurd h
-report-fails settings text background index w (Background fault) reads h = absurd h
-report-fails settings text background index w (UnknownAsked name) reads h = (reads.0, indexed settings text background index (λ view. FailsToReport settings view (UnknownAsked name)) reads h)
-report-fails settings text background index w Memory reads h = (reads.0.0.0, reads.0.1.0)
-report-fails settings text background index w Write reads h = absurd h
+pub report-fails : (settings : Settings) (text background : Input) (index : IndexView) (fault : RunFault) → ReadsAs settings text background index → FailsToReport settings index fault
+    → Fails settings text background false fault
+report-fails settings text background index Read reads h = absurd h
+report-fails settings text background index TooLong reads h = absurd h
+report-fails settings text background index BackgroundRead reads h = absurd h
+report-fails settings text background index BackgroundTooLong reads h = absurd h
+report-fails settings text background index (Index fault) reads h = absurd h
+report-fails settings text background index (Background fault) reads h = absurd h
+report-fails settings text background index (UnknownAsked name) reads h = (reads.0, indexed settings text background index (λ view. FailsToReport settings view (UnknownAsked name)) reads h)
+report-fails settings text background index Memory reads h = (reads.0.0.0, reads.0.1.0)
+report-fails settings text background index Write reads h = absurd h
 
 -- a run that fails before anything is written, fails so whatever becomes of the writer
 pub fails-unwritten : (settings : Settings) (text background : Input) (write_failed : Bool) (fault : RunFault) → Fails settings text background false fault → Fails settings text background write_failed fault

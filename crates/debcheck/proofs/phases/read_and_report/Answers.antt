@@ -10,7 +10,7 @@ returns-in_err-index-clause-refused g c =
     let p = err_from_is_err_and c.from_residual.result c.from_residual.ensures.1 in
     let text = input (g.S.Source.remaining c.args.reader.now) (g.S.Source.failed c.read_index.new.reader) in
     let background = input (g.B.Source.remaining c.args.background.now) (g.B.Source.failed c.read_index.new.background) in
-    rw (p.1, p.2) (indexing-fails (settings_of c.args.config.now) text background false c.in_err-index.field-0.0 c.in_err-index.ensures.refused)
+    rw (p.1, p.2) (indexing-fails (settings_of c.args.config.now) text background c.in_err-index.field-0.0 c.in_err-index.ensures.refused)
 
 pub returns-clause-report : goal.returns-clause-report
 returns-clause-report g c =
@@ -28,4 +28,4 @@ returns-clause-refused g c =
     let background = input (g.B.Source.remaining c.args.background.now) (g.B.Source.failed c.read_index.new.background) in
     let index = c.in_ok-index.index in
     IfErr-weaker c.check_and_report.result (FailsToReport settings index) (Fails settings text background false)
-    (λ fault h. report-fails settings text background index false fault c.in_ok-index.ensures.index h) c.check_and_report.ensures.refused
+    (λ fault h. report-fails settings text background index fault c.in_ok-index.ensures.index h) c.check_and_report.ensures.refused
