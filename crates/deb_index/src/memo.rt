@@ -13,12 +13,20 @@ use std::marker::Model;
 // How many atoms are remembered at most.
 const SLOT_COUNT: usize = 8192;
 
+// Atoms of one slot have so many marks.
+const MARK_COUNT: usize = 65536;
+
+// Multiplied with it, each bit of a word changes about half of those above it (2^64 by the golden ratio).
+const SPREAD: usize = 0x9e37_79b9_7f4a_7c15;
+
 /// An atom in its role, and the place of the one package that meets it.
 #[derive(Clone, Copy)]
 pub(crate) struct Met<'t> {
-    role: Role,
     atom: &'t Atom,
     place: u32,
+    // That of the atom: most others are told apart by it, without a look at the atom, which lies anywhere.
+    mark: u16,
+    role: Role,
 }
 
 /// What was found of some atoms, each in the slot that it is given by its bytes. Contracts see the index that it was found in.
@@ -74,25 +82,33 @@ fn is_same_atom(atom: &Atom, other: &Atom) -> bool
         && is_same_qualifier(&atom.qualifier, &other.qualifier)
 }
 
-// A number that tells most texts apart.
+// A number that tells most texts apart, made from eight bytes at a time.
 fn mix(text: &[u8]) -> usize {
-    let mut sum: usize = 0;
-    for byte in text {
+    let mut sum = text.len();
+    let mut rest = text;
+    'words: while let [a, b, c, d, e, f, g, h, others @ ..] = rest {
+        let word = usize::from_le_bytes([*a, *b, *c, *d, *e, *f, *g, *h]);
+        let spread = (sum ^ word).wrapping_mul(SPREAD);
+        sum = spread ^ (spread >> 32);
+        rest = others;
+    }
+    for byte in rest {
         sum = sum.wrapping_mul(31).wrapping_add(usize::from(*byte));
     }
     sum
 }
 
-// The slot of an atom.
-fn slot_of(atom: &Atom) -> usize
-    ensures { result < slot_count }
+// The slot of an atom, and a mark that tells it from most others of that slot.
+fn slot_of(atom: &Atom) -> (usize, u16)
+    ensures { result.0 < slot_count }
 {
     let name = mix(atom.name.as_slice());
     let version = match &atom.bound {
         Some((_, version)) => mix(version.text()),
         None => 0,
     };
-    name.wrapping_add(version.wrapping_mul(17)) % SLOT_COUNT
+    let sum = name.wrapping_add(version.wrapping_mul(17));
+    (sum % SLOT_COUNT, (sum / SLOT_COUNT % MARK_COUNT) as u16)
 }
 
 impl<'t> Memo<'t> {
@@ -117,8 +133,9 @@ impl<'t> Memo<'t> {
     pub(crate) fn get(&self, role: Role, atom: &Atom) -> Option<u32>
         ensures { IfSome result (λ place. row_as role self.now (atom_view atom.now) ≡ Some (place ∷ [])) }
     {
-        let met = self.slots[slot_of(atom)]?;
-        if met.role == role && is_same_atom(met.atom, atom) {
+        let (slot, mark) = slot_of(atom);
+        let met = self.slots[slot]?;
+        if met.mark == mark && met.role == role && is_same_atom(met.atom, atom) {
             Some(met.place)
         } else {
             None
@@ -130,6 +147,12 @@ impl<'t> Memo<'t> {
         requires { row_as role self.old (atom_view atom.now) ≡ Some (place ∷ []) }
         ensures { self.new ≡ self.old }
     {
-        self.slots[slot_of(atom)] = Some(Met { role, atom, place });
+        let (slot, mark) = slot_of(atom);
+        self.slots[slot] = Some(Met {
+            atom,
+            place,
+            mark,
+            role,
+        });
     }
 }
