@@ -34,13 +34,14 @@ pub struct Index {
     pub(crate) skipped: u32,
     pub(crate) duplicates: u32,
     pub(crate) foreground: u32,
-    pub(crate) packages: Vec<Package>,
     // The number of each package's name.
     pub(crate) numbers: Vec<u32>,
     pub(crate) names: Names,
     // The numbers of the essential names.
     pub(crate) essential: Vec<u32>,
     pub(crate) links: Links,
+    // Given back last: at a larger piece that came back behind its many small ones, the allocator would go through all of them.
+    pub(crate) packages: Vec<Package>,
 }
 
 impl Model for Index {

@@ -82,15 +82,22 @@ fn is_same_atom(atom: &Atom, other: &Atom) -> bool
         && is_same_qualifier(&atom.qualifier, &other.qualifier)
 }
 
-// A number that tells most texts apart, made from eight bytes at a time.
+// What a number becomes by a word.
+fn mix_word(sum: usize, word: [u8; 8]) -> usize {
+    let spread = (sum ^ usize::from_le_bytes(word)).wrapping_mul(SPREAD);
+    spread ^ (spread >> 32)
+}
+
+// A number that tells most texts apart, made from eight bytes at a time, and in the end from the last eight.
 fn mix(text: &[u8]) -> usize {
     let mut sum = text.len();
     let mut rest = text;
     'words: while let [a, b, c, d, e, f, g, h, others @ ..] = rest {
-        let word = usize::from_le_bytes([*a, *b, *c, *d, *e, *f, *g, *h]);
-        let spread = (sum ^ word).wrapping_mul(SPREAD);
-        sum = spread ^ (spread >> 32);
+        sum = mix_word(sum, [*a, *b, *c, *d, *e, *f, *g, *h]);
         rest = others;
+    }
+    if let [.., a, b, c, d, e, f, g, h] = text {
+        return mix_word(sum, [*a, *b, *c, *d, *e, *f, *g, *h]);
     }
     for byte in rest {
         sum = sum.wrapping_mul(31).wrapping_add(usize::from(*byte));

@@ -15,5 +15,5 @@ returns-in_err-atom c =
 pub returns : goal.returns
 returns c =
     let element = c.args.element.now in
-    let items : c.push.new.self.items ≡ c.in_ok-atom.atom ∷ [] = search rules in
+    let items : c.push_reserved.new.self.items ≡ c.in_ok-atom.atom ∷ [] = search rules in
     rw (items, one-part bar element c.requires) (group-one element (atom_view c.in_ok-atom.atom) c.in_ok-atom.ensures)
