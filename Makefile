@@ -1,16 +1,38 @@
-# Installs the program, stripped, and its manual page. DESTDIR stands before each path, for packages.
+# Builds debcheck, installs it with its manual, completion, schema and examples, and makes a Debian package of that.
+# DESTDIR stands before each path, for packages.
 PREFIX = /usr/local
 DESTDIR =
 program = crates/debcheck_program/out/debcheck_program
 
+bin = $(DESTDIR)$(PREFIX)/bin
+share = $(DESTDIR)$(PREFIX)/share
+# What the distribution installs has a folder of its own in zsh's path.
+zsh = $(share)/zsh/$(if $(filter /usr,$(PREFIX)),vendor-completions,site-functions)
+scripts = all-architectures before-publishing by-maintainer debcheck-news newest newly-broken
+units = debcheck-news.service debcheck-news.timer
+
 all:
-	./debcheck --help > /dev/null
+	./debcheck --version > /dev/null
 
 install: all
-	install -D -s -m 755 $(program) $(DESTDIR)$(PREFIX)/bin/debcheck
-	install -D -m 644 docs/debcheck.1 $(DESTDIR)$(PREFIX)/share/man/man1/debcheck.1
+	install -D -m 755 $(program) $(bin)/debcheck
+	strip --strip-all --remove-section=.comment --remove-section=.note $(bin)/debcheck
+	install -D -m 644 docs/debcheck.1 $(share)/man/man1/debcheck.1
+	install -D -m 644 completion/debcheck.bash $(share)/bash-completion/completions/debcheck
+	install -D -m 644 completion/debcheck.zsh $(zsh)/_debcheck
+	install -D -m 644 docs/report.schema.json $(share)/debcheck/report.schema.json
+	install -d -m 755 $(share)/doc/debcheck/examples
+	install -m 755 $(scripts:%=examples/%) $(share)/doc/debcheck/examples
+	install -m 644 $(units:%=examples/%) $(share)/doc/debcheck/examples
 
 uninstall:
-	rm -f $(DESTDIR)$(PREFIX)/bin/debcheck $(DESTDIR)$(PREFIX)/share/man/man1/debcheck.1
+	rm -f $(bin)/debcheck $(share)/man/man1/debcheck.1 $(share)/bash-completion/completions/debcheck $(zsh)/_debcheck
+	rm -f $(share)/debcheck/report.schema.json $(addprefix $(share)/doc/debcheck/examples/,$(scripts) $(units))
+	for folder in $(share)/debcheck $(share)/doc/debcheck/examples $(share)/doc/debcheck; do \
+	    [ ! -d $$folder ] || rmdir --ignore-fail-on-non-empty $$folder; \
+	done
 
-.PHONY: all install uninstall
+deb: all
+	packaging/make_deb
+
+.PHONY: all install uninstall deb

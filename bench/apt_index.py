@@ -1,23 +1,12 @@
 """Indexes of the archive, by apt's ordinary client: the machine's own, and that of another suite in lists of its own."""
 import os
 import re
-import subprocess
 
-from debcheck_program import Failed
+from script import Failed, output_of
 
 OTHER_SUITES = re.compile(r"-(security|updates|proposed-updates|backports|backports-sloppy|debug)\b|/")
 KEYS = ("REPO_URI", "FILENAME", "COMPONENT", "ARCHITECTURE", "RELEASE", "CODENAME", "SUITE", "ORIGIN")
 KEYRING = "/usr/share/keyrings/debian-archive-keyring.gpg"
-
-
-def output_of(words):
-    try:
-        done = subprocess.run(words, stdin=subprocess.DEVNULL, stdout=subprocess.PIPE, stderr=subprocess.PIPE)
-    except OSError as fault:
-        raise Failed("%s: %s" % (words[0], fault.strerror))
-    if done.returncode != 0:
-        raise Failed("%s: status %d\n%s" % (" ".join(words), done.returncode, done.stderr.decode(errors="replace").rstrip()))
-    return done.stdout
 
 
 def targets(arch, settings=()):

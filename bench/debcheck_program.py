@@ -3,18 +3,16 @@ import os
 
 import debcheck_report
 import measured
+from script import DEBCHECK, TOP, Failed
 
-
-class Failed(Exception):
-    pass
-
-
-def default_path():
-    return os.path.join(os.path.dirname(os.path.dirname(os.path.abspath(__file__))), "debcheck")
+BUILT = os.path.join(TOP, "crates", "debcheck_program", "out", "debcheck_program")
 
 
 def find(path, arch, folder):
-    """The program's full path, once it answered an empty index: so it is built, and it is debcheck."""
+    """The program's full path, once it answered an empty index: so it is built, and it is debcheck.
+
+    In place of the script at the top it is the program that the script runs, since the script looks for newer sources each time.
+    """
     path = os.path.abspath(path)
     if not os.path.isfile(path) or not os.access(path, os.X_OK):
         raise Failed("%s is no program that can be run; name it by --program" % path)
@@ -26,7 +24,7 @@ def find(path, arch, folder):
         debcheck_report.read(out, arch, "all", False)
     except debcheck_report.BadReport as fault:
         raise Failed("%s isn't debcheck, on an empty index: %s" % (path, fault))
-    return path
+    return BUILT if os.path.samefile(path, DEBCHECK) else path
 
 
 def tail(path):

@@ -71,6 +71,11 @@ class Run:
         return "%s %d" % (self.ended, self.number)
 
 
+def lesser(one, two):
+    """Of two runs the one that took less CPU time."""
+    return two if two.cpu < one.cpu else one
+
+
 def run(words, stdin, stdout, stderr, limit):
     """Runs the words with the three streams from and to the named files, `limit` seconds at most."""
     import subprocess

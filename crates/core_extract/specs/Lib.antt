@@ -1,2 +1,1 @@
-pub mod Having
 pub mod Reduction

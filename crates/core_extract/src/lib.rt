@@ -5,14 +5,8 @@
 //!
 //! - `reduction` has all of it: the `Question` whether some numbers fail, `first_failing`, which asks it, and `next_of`, a help for those
 //!   who answer.
-//!
-//! The tests in `counting` tell how many questions are asked.
 #![tactic(auto)]
 
-#[cfg(test)]
-mod counting;
-#[cfg(test)]
-mod growths;
 mod reduction;
 
 pub use reduction::{Question, first_failing, next_of};

@@ -1,7 +1,6 @@
 -- Where fields are looked for by their slots: those that are passed over have other names.
 use Rattle.std.proofs.Common.{arith, ◌≡◌, ℕ, ◌+◌, ◌-◌, ◌<◌, ◌≤◌, Bool, true, false, ◌||◌, List, [], ◌∷◌, length, drop, map, get_or, refl, sym, ap, ◌∙◌}
 use Prim.Native.Nat.{suc, zero}
-use Rattle.std.specs.List.{list_any}
 use Rattle.std.specs.Prelude.{slice_set}
 use Rattle.std.proofs.Math.ListN.{replicate}
 use Rattle.std.specs.Str.{str_to_ascii_lowercase}
@@ -9,7 +8,7 @@ use Rattle.std.proofs.lemmas.Bool.{or_right}
 use Rattle.std.proofs.lemmas.List.{at_drop_all, at_drop_more, get_or-set_same, drop-drop, drop-map}
 use Rattle.std.proofs.lemmas.Slice.Eq.{bytes_eq-Decides}
 use Rattle.deb_control.specs.declared.field.Field.{Field}
-use Rattle.deb_control.specs.Fields.{Entry, has_repeat, field_value, same_name}
+use Rattle.deb_control.specs.Fields.{Entry, field_value, has_name, has_repeat, same_name}
 use Rattle.deb_control.specs.Slots.{AreFirsts, name_slot, slot_in_lower}
 use Rattle.deb_control.specs.Stanzas.{entry_of}
 use Rattle.deb_control.proofs.RepeatLemmas.{has_repeat-drop}
@@ -34,7 +33,7 @@ other_name firsts name i field low high = decided (same_name field.name name) re
 
 module _ (firsts : List ℕ) (name : List ℕ) where
   abbrev named : List Entry → Bool
-  named fields = list_any (λ (other : Entry). same_name other.name name) fields
+  named fields = has_name name fields
 
   pub passed_named : (n i : ℕ) (fields : List Entry) → AreFirsts firsts i fields → (0 < n → i + n ≤ get_or firsts (name_slot name) 0) → named (drop n fields) ≡ named fields
   passed_named zero i fields are low = refl
@@ -116,13 +115,13 @@ repeats_above (f ∷ fs) (suc i) is = or_right _ _ (repeats_above fs i is)
 module _ (fields : List Field) (i : ℕ) (field : Field) where
   -- a field from i on has the name of the one before
   abbrev pub agrees : Bool
-  agrees = list_any (λ (other : Entry). same_name other.name field.name.now) (map entry_of (drop i fields))
+  agrees = has_name field.name.now (map entry_of (drop i fields))
 
   step : 0 < i → i ≤ length fields → field ≡ get_or fields (i - 1) field
       → has_repeat (map entry_of (drop (i - 1) fields)) ≡ (agrees || has_repeat (map entry_of (drop i fields)))
   step positive within at =
       let next : i - 1 + 1 ≡ i = omega arith in
-      has_repeat-drop fields (i - 1) field (omega arith) at ∙ ap (λ (k : ℕ). list_any (λ other. same_name other.name field.name.now) (map entry_of (drop k fields)) || has_repeat (map entry_of (drop k fields))) next
+      has_repeat-drop fields (i - 1) field (omega arith) at ∙ ap (λ (k : ℕ). has_name field.name.now (map entry_of (drop k fields)) || has_repeat (map entry_of (drop k fields))) next
 
   pub step_found : 0 < i → i ≤ length fields → field ≡ get_or fields (i - 1) field → agrees ≡ true → has_repeat (map entry_of fields) ≡ true
   step_found positive within at found =

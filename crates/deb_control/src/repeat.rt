@@ -1,8 +1,7 @@
 //! Whether a stanza repeats a field.
 ghost use Rattle.std.specs.Prelude.{◌≡◌, ◌≤◌, true, length, map, IfOk, MatchOption};
-ghost use Rattle.std.specs.List.{list_any};
 ghost use Rattle.std.specs.Str.{str_to_ascii_lowercase};
-ghost use Rattle.deb_control.specs.Fields.{has_repeat, same_name};
+ghost use Rattle.deb_control.specs.Fields.{has_name, has_repeat};
 ghost use Rattle.deb_control.specs.Slots.{Tells};
 ghost use Rattle.deb_control.specs.Stanzas.{entry_of};
 
@@ -16,7 +15,7 @@ const FEW_FIELDS: usize = 64;
 
 /// Whether one of the fields has the name.
 fn contains_name(fields: &[Field], name: &[u8]) -> bool
-    ensures { result ≡ list_any (λ other. same_name other.name name.now) (map entry_of fields.now) }
+    ensures { result ≡ has_name name.now (map entry_of fields.now) }
 {
     for field in fields {
         if is_same_name(field.name, name) {

@@ -1,7 +1,6 @@
 //! Where the fields of a stanza are looked for by name.
 ghost use Rattle.std.specs.Prelude.{◌≡◌, ◌≤◌, ◌<◌, ◌+◌, List, length, drop, map};
-ghost use Rattle.std.specs.List.{list_any};
-ghost use Rattle.deb_control.specs.Fields.{Entry, field_value, same_name};
+ghost use Rattle.deb_control.specs.Fields.{Entry, field_value, has_name};
 ghost use Rattle.deb_control.specs.Slots.{AreFirsts, name_slot, slot_count};
 ghost use Rattle.deb_control.specs.Stanzas.{entry_of};
 
@@ -66,7 +65,7 @@ impl Slots {
     ) -> &'f [Field<'a>]
         requires within { start ≤ length fields.now }
         requires firsts { AreFirsts self.now.firsts start (map entry_of (drop start fields.now)) }
-        ensures named { list_any (λ other. same_name other.name name.now) (map entry_of result.now) ≡ list_any (λ other. same_name other.name name.now) (map entry_of (drop start fields.now)) }
+        ensures named { has_name name.now (map entry_of result.now) ≡ has_name name.now (map entry_of (drop start fields.now)) }
         ensures value { field_value (map entry_of result.now) name.now ≡ field_value (map entry_of (drop start fields.now)) name.now }
     {
         let first = usize::from(self.firsts[slot_of(name)]);

@@ -6,7 +6,7 @@ use std::alloc::AllocError;
 use std::process::Abort;
 use std::test::Fail;
 
-const ALTERNATIVES: &str = "Package: a
+pub const ALTERNATIVES: &str = "Package: a
 Version: 1
 Architecture: all
 Depends: b | c

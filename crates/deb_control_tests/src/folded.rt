@@ -54,5 +54,6 @@ fn stanza_by_stanza_and_the_end_stays(rt: HostRuntime) -> Result<(), Fail> {
     }
     assert!(rt; reader.next_stanza(rt.alloc())?.is_none());
     assert!(rt; reader.next_stanza(rt.alloc())?.is_none());
+    assert!(rt; reader.count() == FOLDED_FIELDS.len() as u64);
     Ok(())
 }

@@ -1,4 +1,4 @@
-//! One test for each call that can want memory; bench/growths runs them with each growth refused in turn.
+//! One test for each call that can want memory; trials/growths runs them with each growth refused in turn.
 
 use crate::fields::{has_fields, have_fields};
 use crate::folded::{FOLDED, FOLDED_FIELDS};

@@ -1,14 +1,14 @@
 -- Clauses that are added, one after another, and what they say together.
-use Rattle.std.proofs.Common.{◌≡◌, ◌⊎◌, ℕ, ◌<◌, ◌≤◌, true, false, ◌||◌, eqb, List, [], ◌∷◌, ◌++◌, length, Some, slice_get, All, ◌↔◌, refl, sym, subst, ◌∙◌, ap, inl, inr, arith, append_assoc}
+use Rattle.std.proofs.Common.{◌≡◌, ◌⊎◌, ℕ, ◌+◌, ◌<◌, ◌≤◌, true, false, ◌||◌, eqb, List, [], ◌∷◌, ◌++◌, length, get_or, take, Some, slice_get, All, ◌↔◌, refl, sym, subst, ◌∙◌, ap, inl, inr, arith, append_assoc}
 use Rattle.std.proofs.lemmas.Bool.{cases_lt, false≢true, or_cases, or_left, or_right, eqb-true, eq-eqb}
-use Rattle.std.proofs.lemmas.List.{append-nil, get_or_append_left, get_or_push, length-append}
+use Rattle.std.proofs.lemmas.List.{take_more, append-nil, get_or_append_left, get_or_push, length-append}
 use Rattle.std.proofs.lemmas.List.Elements.{All-nil, All-cons, All-head, All-tail, All-append, All-weaker}
 use Rattle.std.proofs.lemmas.List.Folds.{list_any-append}
 use Rattle.std.proofs.lemmas.Option.{slice_get-get_or, slice_get_within, get_or_from_slice_get}
 use Rattle.deb_index.specs.declared.constraint.Constraint.{Constraint}
 use Rattle.deb_index.specs.Packages.{IndexView}
 use Rattle.deb_index.specs.Constraints.{Holds}
-use Rattle.sat_solve.specs.Sets.{NumberSet, members_of}
+use Rattle.number_sets.specs.Sets.{NumberSet, members_of}
 use Rattle.sat_solve.specs.Clauses.{Clause, Clauses, clause_holds}
 use Rattle.deb_encode.specs.Adding.{GroupHolds, Adds}
 use Rattle.deb_encode.specs.Play.{placed, TellsPlaces}
@@ -76,6 +76,17 @@ front_in xs x q is_in = list_any-append (λ member. eqb member q) xs (x ∷ []) 
 
 pub last_in : (xs : List ℕ) (x : ℕ) → members_of (xs ++ x ∷ []) x ≡ true
 last_in xs x = list_any-append (λ member. eqb member x) xs (x ∷ []) ∙ or_right (members_of xs x) (eqb x x || false) (or_left (eqb x x) false (eq-eqb x x refl))
+
+-- the front of a list, and one more of it
+module _ (xs : List ℕ) (i : ℕ) (inside : i < length xs) where
+  pub taken_either : (q : ℕ) → members_of (take (i + 1) xs) q ≡ true → (members_of (take i xs) q ≡ true) ⊎ (get_or xs i 0 ≡ q)
+  taken_either q is_in = in_push (take i xs) (get_or xs i 0) q (ap (λ list. members_of list q) (sym (take_more xs i 0 inside)) ∙ is_in)
+
+  pub taken_before : (q : ℕ) → members_of (take i xs) q ≡ true → members_of (take (i + 1) xs) q ≡ true
+  taken_before q is_in = ap (λ list. members_of list q) (take_more xs i 0 inside) ∙ front_in (take i xs) (get_or xs i 0) q is_in
+
+  pub taken_last : members_of (take (i + 1) xs) (get_or xs i 0) ≡ true
+  taken_last = ap (λ list. members_of list (get_or xs i 0)) (take_more xs i 0 inside) ∙ last_in (take i xs) (get_or xs i 0)
 
 -- ---- the clauses of all constraints, one constraint more
 

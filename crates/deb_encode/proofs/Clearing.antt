@@ -1,32 +1,19 @@
 -- Places that are not in together.
-use Rattle.std.proofs.Common.{◌≡◌, ◌⊎◌, ℕ, ◌+◌, ◌<◌, ◌≤◌, Bool, true, false, ◌||◌, ◌&&◌, not, List, [], ◌∷◌, ◌++◌, length, get_or, take, ◌↔◌, sym, subst, ◌∙◌, ap, inl, inr}
-use Rattle.std.proofs.lemmas.Bool.{cases_Bool, both_ways, or_cases, or_left, or_right, not-true, not_from_false, and_parts, and_from}
-use Rattle.std.proofs.lemmas.List.{take_more}
+use Rattle.std.proofs.Common.{◌≡◌, ℕ, ◌+◌, ◌<◌, Bool, true, false, ◌||◌, not, List, [], length, get_or, take, ◌↔◌, refl, sym, ◌∙◌}
+use Rattle.std.proofs.lemmas.Bool.{both_ways, false≢true, not-true}
 use Rattle.sat_solve.specs.declared.clause.Lit.{Lit}
-use Rattle.sat_solve.specs.Sets.{NumberSet, members_of}
+use Rattle.number_sets.specs.Sets.{NumberSet}
 use Rattle.sat_solve.specs.Clauses.{Clauses, clause_holds}
 use Rattle.deb_encode.specs.Adding.{Adds}
-use Rattle.deb_encode.specs.Standings.{Widens, IsClear}
-use Rattle.deb_encode.proofs.AddLemmas.{adds_none, adds_both, adds_as, in_push, front_in, last_in}
-use Rattle.deb_encode.proofs.AddSteps.{take_whole}
+use Rattle.deb_encode.specs.Standings.{Widens}
+use Rattle.deb_encode.proofs.AddLemmas.{adds_none, adds_as}
+use Rattle.deb_encode.proofs.Each.{AddsEach, each_more}
 use Rattle.deb_encode.proofs.Widening.{settled_passes, pair_adds}
 
 not_both_says : (a b : Bool) → ((not a || not b) ≡ true) ↔ (a ≡ true → b ≡ true → ⊥)
-not_both_says a b = (
-  λ holds has also.
-      elim (or_cases (not a) (not b) holds) [
-        | inl lacks ↦ both_ways a (not-true a lacks) has
-        | inr lacks ↦ both_ways b (not-true b lacks) also
-      ],
-  λ apart.
-      elim (cases_Bool a) [
-        | inl has ↦ elim (cases_Bool b) [
-          | inl also ↦ absurd (apart has also)
-          | inr lacks ↦ or_right (not a) (not b) (not_from_false b lacks)
-        ]
-        | inr lacks ↦ or_left (not a) (not b) (not_from_false a lacks)
-      ],
-)
+not_both_says true true = (λ holds has also. false≢true holds, λ apart. absurd (apart refl refl))
+not_both_says true false = (λ holds has also. false≢true also, λ apart. refl)
+not_both_says false b = (λ holds has also. false≢true has, λ apart. refl)
 
 module _ (group count : ℕ) (has other : NumberSet → Bool) (empty between : List Lit) (first : Bool) (is_empty : empty ≡ []) (one : Widens (λ vars. not (has vars)) count empty between first) where
   -- nothing is added where the owner is out anyway
@@ -49,73 +36,23 @@ module _ (group count : ℕ) (has other : NumberSet → Bool) (empty between : L
 
 -- ---- one place after the other
 
-member_last : (xs : List ℕ) (x q : ℕ) (test : NumberSet) → (members_of (xs ++ x ∷ []) q && test q) ≡ true → ((members_of xs q && test q) ≡ true) ⊎ (x ≡ q)
-member_last xs x q test holds =
-    let parts = and_parts (members_of (xs ++ x ∷ []) q) (test q) holds in
-    elim (in_push xs x q parts.0) [
-      | inl old ↦ inl (and_from (members_of xs q) (test q) old parts.1)
-      | inr here ↦ inr here
-    ]
-
-front_test : (xs : List ℕ) (x q : ℕ) (test : NumberSet) → (members_of xs q && test q) ≡ true → (members_of (xs ++ x ∷ []) q && test q) ≡ true
-front_test xs x q test holds =
-    let parts = and_parts (members_of xs q) (test q) holds in
-    and_from (members_of (xs ++ x ∷ []) q) (test q) (front_in xs x q parts.0) parts.1
-
 module _ (group : ℕ) (has : NumberSet → Bool) (set : NumberSet → NumberSet) (test : NumberSet) where
-  -- the places of a list that pass the test are not in together with the owner
-  abbrev pub AddsClear : List ℕ → Clauses → Clauses → Type 0
-  AddsClear xs before after = Adds group (λ vars. IsClear (has vars) (λ q. members_of xs q && test q) (set vars)) before after
+  -- a place that passes the test is not in together with the keeper
+  abbrev pub meaning_of_out : ℕ → NumberSet → Type 0
+  meaning_of_out q vars = has vars ≡ true → test q ≡ true → set vars q ≡ true → ⊥
 
-  abbrev pub AddsApart : ℕ → Clauses → Clauses → Type 0
-  AddsApart place before after = Adds group (λ vars. has vars ≡ true → set vars place ≡ true → ⊥) before after
+  abbrev pub AddsOut : List ℕ → Clauses → Clauses → Type 0
+  AddsOut = AddsEach group meaning_of_out
 
-  pub clear_added : (xs : List ℕ) (i : ℕ) (before between after : Clauses) → i < length xs → test (get_or xs i 0) ≡ true → AddsClear (take i xs) before between → AddsApart (get_or xs i 0) between after
-      → AddsClear (take (i + 1) xs) before after
-  clear_added xs i before between after inside passes so_far apart =
-      let x : ℕ = get_or xs i 0 in
-      let front : List ℕ = take i xs in
-      let Old : NumberSet → Type 0 = λ vars. IsClear (has vars) (λ q. members_of front q && test q) (set vars) in
-      let New : NumberSet → Type 0 = λ vars. IsClear (has vars) (λ q. members_of (front ++ x ∷ []) q && test q) (set vars) in
-      let Last : NumberSet → Type 0 = λ vars. has vars ≡ true → set vars x ≡ true → ⊥ in
-      let more : AddsClear (front ++ x ∷ []) before after =
-      adds_as group (λ vars. Old vars × Last vars) New before after
-      (λ vars. (
-        λ both has_it q holds also.
-            elim (member_last front x q test holds) [
-              | inl old ↦ both.0 has_it q old also
-              | inr here ↦ both.1 has_it (ap (set vars) here ∙ also)
-            ],
-        λ clear. (
-          λ has_it q holds also. clear has_it q (front_test front x q test holds) also,
-          λ has_it also. clear has_it x (and_from (members_of (front ++ x ∷ []) x) (test x) (last_in front x) passes) also,
-        ),
-      ))
-      (adds_both group Old Last before between after so_far apart) in
-      let For : List ℕ → Type 0 = λ list. AddsClear list before after in
-      subst For (sym (take_more xs i 0 inside)) more
+  module _ (xs : List ℕ) (i : ℕ) (inside : i < length xs) (before between : Clauses) (so_far : AddsOut (take i xs) before between) where
+    pub out_added : (after : Clauses) → test (get_or xs i 0) ≡ true → Adds group (λ vars. has vars ≡ true → set vars (get_or xs i 0) ≡ true → ⊥) between after → AddsOut (take (i + 1) xs) before after
+    out_added after passes adds =
+        each_more group meaning_of_out xs i before between after inside so_far
+        (adds_as group (λ vars. has vars ≡ true → set vars (get_or xs i 0) ≡ true → ⊥) (meaning_of_out (get_or xs i 0)) between after
+        (λ vars. (λ out has_it passed also. out has_it also, λ out has_it also. out has_it passes also))
+        adds)
 
-  pub clear_passed : (xs : List ℕ) (i : ℕ) (before after : Clauses) → i < length xs → test (get_or xs i 0) ≡ false → AddsClear (take i xs) before after → AddsClear (take (i + 1) xs) before after
-  clear_passed xs i before after inside fails so_far =
-      let x : ℕ = get_or xs i 0 in
-      let front : List ℕ = take i xs in
-      let Old : NumberSet → Type 0 = λ vars. IsClear (has vars) (λ q. members_of front q && test q) (set vars) in
-      let New : NumberSet → Type 0 = λ vars. IsClear (has vars) (λ q. members_of (front ++ x ∷ []) q && test q) (set vars) in
-      let more : AddsClear (front ++ x ∷ []) before after =
-      adds_as group Old New before after
-      (λ vars. (
-        λ clear has_it q holds also.
-            elim (member_last front x q test holds) [
-              | inl old ↦ clear has_it q old also
-              | inr here ↦ both_ways (test x) fails (ap test here ∙ (and_parts (members_of (front ++ x ∷ []) q) (test q) holds).1)
-            ],
-        λ clear has_it q holds also. clear has_it q (front_test front x q test holds) also,
-      ))
-      so_far in
-      let For : List ℕ → Type 0 = λ list. AddsClear list before after in
-      subst For (sym (take_more xs i 0 inside)) more
-
-  pub clear_whole : (xs : List ℕ) (i : ℕ) (before after : Clauses) → length xs ≤ i → AddsClear (take i xs) before after → AddsClear xs before after
-  clear_whole xs i before after past so_far =
-      let For : List ℕ → Type 0 = λ list. AddsClear list before after in
-      subst For (take_whole xs i past) so_far
+    pub out_passed : test (get_or xs i 0) ≡ false → AddsOut (take (i + 1) xs) before between
+    out_passed fails =
+        each_more group meaning_of_out xs i before between between inside so_far
+        (adds_none group (meaning_of_out (get_or xs i 0)) between (λ vars has_it passes also. both_ways (test (get_or xs i 0)) fails passes))

@@ -3,17 +3,16 @@ use Rattle.std.proofs.Common.{◌≡◌, ℕ, ◌+◌, ◌<◌, ◌≤◌, true,
 use Rattle.std.proofs.lemmas.Bool.{cases_lt, or_cases, or_left, or_right}
 use Rattle.std.proofs.lemmas.List.{take_more}
 use Rattle.std.proofs.lemmas.List.Elements.{All-head, All-push}
-use Rattle.deb_index.specs.declared.constraint.Constraint.{Constraint}
 use Rattle.deb_index.specs.declared.constraint.Constraint.TheVariants.{Essential, Apart, Only}
 use Rattle.deb_index.specs.Packages.{IndexView, aparts_at}
 use Rattle.deb_index.specs.Constraints.{Holds}
-use Rattle.sat_solve.specs.Sets.{NumberSet, members_of}
+use Rattle.number_sets.specs.Sets.{NumberSet, members_of}
 use Rattle.sat_solve.specs.Clauses.{Clause, Clauses}
 use Rattle.deb_encode.specs.Adding.{Adds, AllHold}
-use Rattle.deb_encode.specs.Play.{placed, AddsPlaces, places_in_play}
+use Rattle.deb_encode.specs.Play.{placed, places_in_play}
 use Rattle.deb_encode.specs.Standings.{has_row, MeetsNarrow}
-use Rattle.deb_encode.proofs.AddLemmas.{All-front, All-back, adds_both, adds_as, in_push, front_in, last_in}
-use Rattle.deb_encode.proofs.AddSteps.{take_whole}
+use Rattle.deb_encode.proofs.AddLemmas.{All-front, All-back, adds_both, adds_as, taken_either, taken_before, taken_last}
+use Rattle.number_sets.proofs.ListMembers.{take_whole}
 
 module _ (group : ℕ) (Means : ℕ → NumberSet → Type 0) where
   -- each number of a list was told
@@ -23,23 +22,18 @@ module _ (group : ℕ) (Means : ℕ → NumberSet → Type 0) where
   pub each_more : (xs : List ℕ) (i : ℕ) (before between after : Clauses) → i < length xs → AddsEach (take i xs) before between → Adds group (Means (get_or xs i 0)) between after
       → AddsEach (take (i + 1) xs) before after
   each_more xs i before between after inside so_far one =
-      let x : ℕ = get_or xs i 0 in
-      let front : List ℕ = take i xs in
-      let Old : NumberSet → Type 0 = λ vars. (q : ℕ) → members_of front q ≡ true → Means q vars in
-      let New : NumberSet → Type 0 = λ vars. (q : ℕ) → members_of (front ++ x ∷ []) q ≡ true → Means q vars in
-      let more : AddsEach (front ++ x ∷ []) before after =
-      adds_as group (λ vars. Old vars × Means x vars) New before after
+      let Old : NumberSet → Type 0 = λ vars. (q : ℕ) → members_of (take i xs) q ≡ true → Means q vars in
+      let New : NumberSet → Type 0 = λ vars. (q : ℕ) → members_of (take (i + 1) xs) q ≡ true → Means q vars in
+      adds_as group (λ vars. Old vars × Means (get_or xs i 0) vars) New before after
       (λ vars. (
         λ both q is_in.
-            elim (in_push front x q is_in) [
+            elim (taken_either xs i inside q is_in) [
               | inl old ↦ both.0 q old
               | inr here ↦ let At : ℕ → Type 0 = λ r. Means r vars in subst At here both.1
             ],
-        λ all. (λ q is_in. all q (front_in front x q is_in), all x (last_in front x)),
+        λ all. (λ q is_in. all q (taken_before xs i inside q is_in), all (get_or xs i 0) (taken_last xs i inside)),
       ))
-      (adds_both group Old (Means x) before between after so_far one) in
-      let For : List ℕ → Type 0 = λ list. AddsEach list before after in
-      subst For (sym (take_more xs i 0 inside)) more
+      (adds_both group Old (Means (get_or xs i 0)) before between after so_far one)
 
   pub each_whole : (xs : List ℕ) (i : ℕ) (before after : Clauses) → length xs ≤ i → AddsEach (take i xs) before after → AddsEach xs before after
   each_whole xs i before after past so_far =

@@ -1,6 +1,6 @@
 -- Calls of an encoder, one after another.
 use Rattle.std.proofs.Common.{◌≡◌, ℕ, refl, subst, ◌∙◌}
-use Rattle.sat_solve.specs.Sets.{NumberSet}
+use Rattle.number_sets.specs.Sets.{NumberSet}
 use Rattle.sat_solve.specs.Clauses.{Clauses}
 use Rattle.deb_encode.specs.declared.encoder.Encoder.{Encoder}
 use Rattle.deb_encode.specs.declared.play.Play.{Play}

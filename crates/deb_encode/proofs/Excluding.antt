@@ -1,22 +1,22 @@
 -- Lists of variables that exclude each other, and the places that they stand for.
-use Rattle.std.proofs.Common.{◌≡◌, ℕ, ◌+◌, ◌<◌, Bool, true, false, ◌||◌, not, if◌then◌else◌, eqb, List, [], ◌∷◌, ◌++◌, map, take, flat_map, All, length, get_or, Some, slice_get, ◌↔◌, refl, sym, subst, ◌∙◌, ap, inl, inr, arith}
+use Rattle.std.proofs.Common.{◌≡◌, ◌⊎◌, ℕ, ◌+◌, ◌<◌, Bool, true, false, ◌||◌, not, if◌then◌else◌, eqb, List, [], ◌∷◌, ◌++◌, map, take, flat_map, All, length, get_or, Some, slice_get, ◌↔◌, refl, sym, subst, ◌∙◌, ap, inl, inr, arith}
 use Rattle.std.specs.List.Sorted.{IsStrictlyIncreasing}
-use Rattle.std.proofs.lemmas.Bool.{cases_Bool, false≢true, or_right, eqb-true, eq-eqb, both_ways}
-use Rattle.std.proofs.lemmas.List.{take_more, get_or-map, get_or_default, length-map}
+use Rattle.std.proofs.lemmas.Bool.{cases_Bool, false≢true, or_left, or_right, not-true, not_from_false, eqb-true, eq-eqb, both_ways}
+use Rattle.std.proofs.lemmas.List.{get_or-map, get_or_default, length-map}
 use Rattle.std.proofs.lemmas.List.Elements.{All-nil, All-cons, All-append, All-map, All-contains}
 use Rattle.std.proofs.lemmas.Option.{slice_get_within, get_or_from_slice_get}
 use Rattle.sat_solve.specs.declared.clause.Owner.{Owner}
-use Rattle.sat_solve.specs.Sets.{NumberSet, members_of}
+use Rattle.number_sets.specs.Sets.{NumberSet, members_of, positions_of}
 use Rattle.sat_solve.specs.Clauses.{Clause, Clauses, clause_holds, not_both, exclusions}
 use Rattle.sat_solve.proofs.FlatLemmas.{all_flat, flat_all}
 use Rattle.sat_solve.proofs.ExclusionLemmas.{exclusions_in, exclusions_have}
 use Rattle.deb_encode.specs.Adding.{Adds}
-use Rattle.deb_encode.specs.Play.{positions_of, placed, AddsPlaces}
-use Rattle.deb_encode.specs.Exclusions.{AreNumbersOf}
-use Rattle.deb_encode.specs.Standings.{AreApart, HasOneOf}
-use Rattle.sat_solve.proofs.ListMembers.{members_of_at, at_members_of}
-use Rattle.deb_encode.proofs.AddLemmas.{adds_none, adds_as, in_push, front_in, last_in}
-use Rattle.deb_encode.proofs.PositionsOf.{position_in, group_at, one_group}
+use Rattle.deb_encode.specs.Play.{placed, AddsPlaces}
+use Rattle.deb_encode.specs.Exclusions.{AreNotIn, AreNumbersOf}
+use Rattle.deb_encode.specs.Standings.{AreApart, is_other}
+use Rattle.number_sets.proofs.ListMembers.{members_of_at, at_members_of}
+use Rattle.deb_encode.proofs.AddLemmas.{adds_both, adds_as, in_push, front_in, last_in, taken_either, taken_before, taken_last}
+use Rattle.number_sets.proofs.PositionsOf.{position_in, group_at, one_group}
 
 -- ---- what the clauses of an owner say
 
@@ -78,9 +78,6 @@ module _ (list : List ℕ) (set : NumberSet) where
 abbrev pub HasApart : List ℕ → List ℕ → NumberSet → Type 0
 HasApart vars list set = (v w : ℕ) → members_of vars v ≡ true → members_of list w ≡ true → set v ≡ true → set w ≡ true → v ≡ w
 
-abbrev pub HasOneVar : List ℕ → NumberSet → Type 0
-HasOneVar list = HasApart list list
-
 one_apart : (vars list : List ℕ) (group : ℕ) (set : NumberSet) → HasApart vars list set → All (λ owner. IsApart list set owner.var) (map (owner_of group) vars)
 one_apart vars list group set one =
     All-map (λ (owner : Owner). IsApart list set owner.var) (owner_of group) vars
@@ -132,14 +129,9 @@ module _ (group : ℕ) (list : List ℕ) (owners : List Owner) (owners_are : own
         );
       }
 
-  -- with all of the list as owners, one of it is in at most
-  pub exclude_adds : (given : List ℕ) (before after : Clauses) → given ≡ list
-      → after ≡ record before { clauses = before.clauses ++ flat_map (λ owner. exclusions owner.group owner.var given) owners } → Adds group (HasOneVar list) before after
-  exclude_adds given before after given_is after_is = apart_adds list given before after given_is after_is
-
 -- ---- the places of the variables
 
-module _ (forced candidates places list : List ℕ) (none_in : (q : ℕ) → members_of places q ≡ true → members_of forced q ≡ false) (are : AreNumbersOf candidates places list) where
+module _ (forced candidates places list : List ℕ) (none_in : AreNotIn forced places) (are : AreNumbersOf candidates places list) where
   -- a place of the list that is in has a variable that is
   var_of : (vars : NumberSet) (q : ℕ) → members_of places q ≡ true → placed forced candidates vars q ≡ true → (v : ℕ) × (members_of list v ≡ true) × (vars v ≡ true) × (get_or candidates v 0 ≡ q)
   var_of vars q there is_in =
@@ -154,8 +146,8 @@ module _ (forced candidates places list : List ℕ) (none_in : (q : ℕ) → mem
   place_of vars v listed is_in =
       or_right (members_of forced (get_or candidates v 0)) (positions_of candidates vars (get_or candidates v 0)) (position_in candidates vars v (listed_below v listed) is_in)
 
-module _ (forced candidates owners places vars list : List ℕ) (rising : IsStrictlyIncreasing candidates) (no_owner_in : (q : ℕ) → members_of owners q ≡ true → members_of forced q ≡ false)
-    (none_in : (q : ℕ) → members_of places q ≡ true → members_of forced q ≡ false) (of_owners : AreNumbersOf candidates owners vars) (of_places : AreNumbersOf candidates places list) where
+module _ (forced candidates owners places vars list : List ℕ) (rising : IsStrictlyIncreasing candidates) (no_owner_in : AreNotIn forced owners)
+    (none_in : AreNotIn forced places) (of_owners : AreNumbersOf candidates owners vars) (of_places : AreNumbersOf candidates places list) where
   apart_placed : (set : NumberSet) → (HasApart vars list set ↔ AreApart owners places (placed forced candidates set))
   apart_placed set = (
     λ one q r q_there r_there q_in r_in.
@@ -171,20 +163,62 @@ module _ (forced candidates owners places vars list : List ℕ) (rising : IsStri
   pub apart_places : (group : ℕ) (before after : Clauses) → Adds group (HasApart vars list) before after → AddsPlaces group forced candidates (AreApart owners places) before after
   apart_places group before after adds = adds_as group (HasApart vars list) (λ set. AreApart owners places (placed forced candidates set)) before after apart_placed adds
 
-module _ (forced candidates places list : List ℕ) (rising : IsStrictlyIncreasing candidates) (none_in : (q : ℕ) → members_of places q ≡ true → members_of forced q ≡ false) (are : AreNumbersOf candidates places list) where
-  pub excluded_places : (group : ℕ) (before after : Clauses) → Adds group (HasOneVar list) before after → AddsPlaces group forced candidates (HasOneOf places) before after
-  excluded_places group before after adds = apart_places forced candidates places places list list rising none_in none_in are are group before after adds
+-- ---- places of which some are in anyway
 
-  -- one variable alone excludes nothing
-  pub excluded_none : (group : ℕ) (before : Clauses) → length list < 2 → AddsPlaces group forced candidates (HasOneOf places) before before
-  excluded_none group before short =
-      excluded_places group before before
-      (adds_none group (HasOneVar list) before
-      (λ set v w v_there w_there v_in w_in.
-      let v_at = members_of_at list v v_there in
-      let w_at = members_of_at list w w_there in
-      let same : v_at.0 ≡ w_at.0 = omega (arith, short, v_at.1, w_at.1) in
-      sym v_at.2 ∙ (ap (λ k. get_or list k 0) same ∙ w_at.2)))
+module _ (forced candidates owners places : List ℕ) (place : ℕ) (is_in : members_of forced place ≡ true) where
+  placed_in : (vars : NumberSet) → placed forced candidates vars place ≡ true
+  placed_in vars = or_left (members_of forced place) (positions_of candidates vars place) is_in
+
+  abbrev Out : List ℕ → NumberSet → Type 0
+  Out list vars = (q : ℕ) → members_of list q ≡ true → true ≡ true → is_other place q ≡ true → placed forced candidates vars q ≡ true → ⊥
+
+  is_it : (list : List ℕ) (vars : NumberSet) → Out list vars → (q : ℕ) → members_of list q ≡ true → placed forced candidates vars q ≡ true → q ≡ place
+  is_it list vars out q there q_in =
+      elim (cases_Bool (eqb q place)) [
+        | inl same ↦ eqb-true q place same
+        | inr differs ↦ absurd (out q there refl (not_from_false (eqb q place) differs) q_in)
+      ]
+
+  -- each that is in is it
+  out_if : (list : List ℕ) (vars : NumberSet) → ((q : ℕ) → members_of list q ≡ true → placed forced candidates vars q ≡ true → q ≡ place) → Out list vars
+  out_if list vars each q there has other q_in = both_ways (eqb q place) (not-true (eqb q place) other) (eq-eqb q place (each q there q_in))
+
+  module _ (owns : members_of owners place ≡ true) where
+    owner_out : (vars : NumberSet) → AreApart owners places (placed forced candidates vars) → Out places vars
+    owner_out vars apart = out_if places vars (λ r r_there r_in. sym (apart place r owns r_there (placed_in vars) r_in))
+
+    pub owner_in_alone : (group : ℕ) (before after : Clauses) → (members_of places place ≡ false) ⊎ (owners ≡ places) → Adds group (Out places) before after → AddsPlaces group forced candidates (AreApart owners places) before after
+    owner_in_alone group before after either adds =
+        adds_as group (Out places) (λ vars. AreApart owners places (placed forced candidates vars)) before after
+        (λ vars. (
+          λ out q r q_there r_there q_in r_in.
+              let is_r : r ≡ place = is_it places vars out r r_there r_in in
+              elim either [
+                | inl lacks ↦ absurd (both_ways (members_of places place) lacks (ap (members_of places) (sym is_r) ∙ r_there))
+                | inr same ↦ is_it places vars out q (ap (λ list. members_of list q) (sym same) ∙ q_there) q_in ∙ sym is_r
+              ],
+          owner_out vars,
+        ))
+        adds
+
+    pub owner_in_both : (group : ℕ) (before between after : Clauses) → members_of places place ≡ true → Adds group (Out places) before between → Adds group (Out owners) between after
+        → AddsPlaces group forced candidates (AreApart owners places) before after
+    owner_in_both group before between after has first second =
+        adds_as group (λ vars. Out places vars × Out owners vars) (λ vars. AreApart owners places (placed forced candidates vars)) before after
+        (λ vars. (
+          λ both q r q_there r_there q_in r_in. is_it owners vars both.1 q q_there q_in ∙ sym (is_it places vars both.0 r r_there r_in),
+          λ apart. (owner_out vars apart, out_if owners vars (λ q q_there q_in. apart q place q_there has q_in (placed_in vars))),
+        ))
+        (adds_both group (Out places) (Out owners) before between after first second)
+
+  pub place_in_alone : (group : ℕ) (before after : Clauses) → members_of places place ≡ true → AreNotIn forced owners → Adds group (Out owners) before after → AddsPlaces group forced candidates (AreApart owners places) before after
+  place_in_alone group before after has no_owner_in adds =
+      adds_as group (Out owners) (λ vars. AreApart owners places (placed forced candidates vars)) before after
+      (λ vars. (
+        λ out q r q_there r_there q_in r_in. absurd (both_ways (members_of forced place) (ap (members_of forced) (sym (is_it owners vars out q q_there q_in)) ∙ no_owner_in q q_there) is_in),
+        λ apart. out_if owners vars (λ q q_there q_in. apart q place q_there has q_in (placed_in vars)),
+      ))
+      adds
 
 -- ---- the variables of places, one place after the other
 
@@ -193,42 +227,34 @@ module _ (candidates places : List ℕ) (i : ℕ) (inside : i < length places) w
       → AreNumbersOf candidates (take i places) before → AreNumbersOf candidates (take (i + 1) places) after
   numbers_more rising before after var there after_is so_far =
       let x : ℕ = get_or places i 0 in
-      let front : List ℕ = take i places in
       let var_inside : var < length candidates = slice_get_within candidates var x there in
       let var_is : get_or candidates var 0 ≡ x = get_or_from_slice_get candidates var x 0 there in
-      let more : AreNumbersOf candidates (front ++ x ∷ []) (before ++ var ∷ []) = record {
+      let For : List ℕ → Type 0 = λ list. AreNumbersOf candidates (take (i + 1) places) list in
+      subst For (sym after_is) (record {
         below = All-append (λ number. number < length candidates) before (var ∷ []) so_far.below (All-cons (λ number. number < length candidates) var [] var_inside (All-nil (λ number. number < length candidates)));
         among = λ number is_in.
             elim (in_push before var number is_in) [
-              | inl old ↦ front_in front x (get_or candidates number 0) (so_far.among number old)
+              | inl old ↦ taken_before places i inside (get_or candidates number 0) (so_far.among number old)
               | inr last ↦
                   let same : get_or candidates number 0 ≡ x = ap (λ n. get_or candidates n 0) (sym last) ∙ var_is in
-                  ap (members_of (front ++ x ∷ [])) same ∙ last_in front x
+                  ap (members_of (take (i + 1) places)) same ∙ taken_last places i inside
             ];
         all = λ number within is_in.
-            elim (in_push front x (get_or candidates number 0) is_in) [
+            elim (taken_either places i inside (get_or candidates number 0) is_in) [
               | inl old ↦ front_in before var number (so_far.all number within old)
               | inr last ↦
                   let same : var ≡ number = one_group candidates rising var number var_inside within (var_is ∙ last) in
                   ap (members_of (before ++ var ∷ [])) (sym same) ∙ last_in before var
             ];
-      } in
-      let List_is : List ℕ → Type 0 = λ list. AreNumbersOf candidates (front ++ x ∷ []) list in
-      let Places_are : List ℕ → Type 0 = λ list. AreNumbersOf candidates list after in
-      subst Places_are (sym (take_more places i 0 inside)) (subst List_is (sym after_is) more)
+      })
 
   pub numbers_passed : (list : List ℕ) → members_of candidates (get_or places i 0) ≡ false → AreNumbersOf candidates (take i places) list → AreNumbersOf candidates (take (i + 1) places) list
-  numbers_passed list lacks so_far =
-      let x : ℕ = get_or places i 0 in
-      let front : List ℕ = take i places in
-      let more : AreNumbersOf candidates (front ++ x ∷ []) list = record {
-        below = so_far.below;
-        among = λ number is_in. front_in front x (get_or candidates number 0) (so_far.among number is_in);
-        all = λ number within is_in.
-            elim (in_push front x (get_or candidates number 0) is_in) [
-              | inl old ↦ so_far.all number within old
-              | inr last ↦ absurd (both_ways (members_of candidates x) lacks (ap (members_of candidates) last ∙ at_members_of candidates number within))
-            ];
-      } in
-      let Places_are : List ℕ → Type 0 = λ places. AreNumbersOf candidates places list in
-      subst Places_are (sym (take_more places i 0 inside)) more
+  numbers_passed list lacks so_far = record {
+    below = so_far.below;
+    among = λ number is_in. taken_before places i inside (get_or candidates number 0) (so_far.among number is_in);
+    all = λ number within is_in.
+        elim (taken_either places i inside (get_or candidates number 0) is_in) [
+          | inl old ↦ so_far.all number within old
+          | inr last ↦ absurd (both_ways (members_of candidates (get_or places i 0)) lacks (ap (members_of candidates) last ∙ at_members_of candidates number within))
+        ];
+  }

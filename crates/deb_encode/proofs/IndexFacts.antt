@@ -1,19 +1,20 @@
 -- What the definitions of an index give.
-use Rattle.std.proofs.Common.{◌≡◌, ℕ, ◌<◌, Bool, true, false, List, [], ◌∷◌, ◌++◌, length, map, Option, Some, None, slice_get, refl, subst, ◌∙◌, inl, inr, arith, All, ◌↔◌, sym, Contains}
+use Rattle.std.proofs.Common.{◌≡◌, ℕ, ◌<◌, Bool, true, false, List, [], ◌∷◌, ◌++◌, length, map, Option, Some, None, slice_get, refl, subst, ◌∙◌, arith, All, ◌↔◌, sym, Contains}
 use Rattle.std.specs.List.{list_any, flat_map}
 use Rattle.std.specs.Option.{option_map_or}
-use Rattle.std.proofs.lemmas.Bool.{false≢true, or_cases}
+use Rattle.std.proofs.lemmas.Bool.{false≢true}
 use Rattle.std.proofs.lemmas.List.Elements.{All-append, All-map, All-contains_itself}
 use Rattle.std.proofs.lemmas.Option.{slice_get_within, get_or_from_slice_get}
 use Rattle.deb_relation.specs.Relationship.{AtomText}
 use Rattle.deb_index.specs.declared.constraint.Constraint.{Constraint}
 use Rattle.deb_index.specs.declared.constraint.Constraint.TheVariants.{Essential, Need, Apart, Only}
-use Rattle.deb_index.specs.Packages.{IndexView, names, name_at, is_named, places_of, essential_names, needs_at, aparts_at, need_at}
-use Rattle.deb_index.specs.Meets.{meets, meets_at, meets_need, meets_need_at, need_satisfiers, satisfiers}
+use Rattle.deb_index.specs.Packages.{IndexView, PackageView, names, name_at, is_named, places_of, essential_names, needs_at, aparts_at, need_at}
+use Rattle.deb_index.specs.Meets.{meets, meets_at, meets_need, satisfiers}
 use Rattle.deb_index.specs.Constraints.{constraints_at, constraints_of, below, has_name, answers, Holds}
+use Rattle.deb_index.proofs.HoldsLemmas.{group-at}
 use Rattle.deb_index.proofs.MemberLemmas.{member-places_where}
-use Rattle.sat_solve.specs.Sets.{NumberSet, members_of}
-use Rattle.sat_solve.proofs.ListMembers.{member_any}
+use Rattle.number_sets.specs.Sets.{NumberSet, members_of}
+use Rattle.number_sets.proofs.ListMembers.{member_any}
 use Rattle.deb_encode.specs.Standings.{HasOneOf}
 
 -- what is at an index of the list has what all have
@@ -56,19 +57,10 @@ found_within test xs q None there holds = absurd (false≢true holds)
 pub named_is_place : (index : IndexView) (q number : ℕ) → has_name index q number ≡ true → q < length index.packages
 named_is_place index q number named = found_within (is_named (name_at index number)) index.packages q (slice_get index.packages q) refl named
 
-meets_need_is_place : (index : IndexView) (q : ℕ) (atom : AtomText) → meets_need_at index q atom ≡ true → q < length index.packages
-meets_need_is_place index q atom met = found_within (λ item. meets_need index.arch item atom) index.packages q (slice_get index.packages q) refl met
-
-any_meets_need_is_place : (index : IndexView) (q : ℕ) (group : List AtomText) → list_any (meets_need_at index q) group ≡ true → q < length index.packages
-any_meets_need_is_place index q [] met = absurd (false≢true met)
-any_meets_need_is_place index q (atom ∷ group) met =
-    elim (or_cases (meets_need_at index q atom) (list_any (meets_need_at index q) group) met) [
-      | inl here ↦ meets_need_is_place index q atom here
-      | inr later ↦ any_meets_need_is_place index q group later
-    ]
-
 pub answers_is_place : (index : IndexView) (p j q : ℕ) → answers index p j q ≡ true → q < length index.packages
-answers_is_place index p j q answered = any_meets_need_is_place index q (need_at index p j) answered
+answers_is_place index p j q answered =
+    let found : Option PackageView = slice_get index.packages q in
+    found_within (λ item. list_any (meets_need index.arch item) (need_at index p j)) index.packages q found refl (group-at index.arch (need_at index p j) found ∙ answered)
 
 -- the places of a name are those that have it
 pub member_named : (index : IndexView) (number q : ℕ) → members_of (places_of index (name_at index number)) q ≡ has_name index q number
@@ -77,10 +69,6 @@ member_named index number q = member-places_where (is_named (name_at index numbe
 -- the satisfiers of an atom are the places that meet it
 pub member_satisfiers : (index : IndexView) (atom : AtomText) (q : ℕ) → members_of (satisfiers index atom) q ≡ meets_at index q atom
 member_satisfiers index atom q = member-places_where (λ item. meets index.arch item atom) index.packages q
-
--- and of an alternative of a need those that meet it as such
-pub member_need_satisfiers : (index : IndexView) (atom : AtomText) (q : ℕ) → members_of (need_satisfiers index atom) q ≡ meets_need_at index q atom
-member_need_satisfiers index atom q = member-places_where (λ item. meets_need index.arch item atom) index.packages q
 
 -- a member with the name is one of the name's places
 pub some_named : (index : IndexView) (candidates : NumberSet) (q number : ℕ) → candidates q ≡ true → has_name index q number ≡ true → list_any candidates (places_of index (name_at index number)) ≡ true

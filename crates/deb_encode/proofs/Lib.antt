@@ -4,14 +4,10 @@ pub mod Clearing
 pub mod Each
 pub mod EncoderLemmas
 pub mod Excluding
-pub mod Extending
 pub mod Grouped
 pub mod IndexFacts
 pub mod OneVersion
-pub mod PlaceSetLemmas
-pub mod Placing
 pub mod PlayLemmas
-pub mod PositionsOf
 pub mod Skipped
 pub mod Told
 pub mod WideEntries

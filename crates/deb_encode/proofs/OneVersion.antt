@@ -1,51 +1,25 @@
 -- Names of which one package at most is in, and the places that have them.
-use Rattle.std.proofs.Common.{◌≡◌, ◌⊎◌, ℕ, ◌+◌, ◌<◌, ◌≤◌, Bool, true, false, ◌||◌, ◌&&◌, not, eqb, List, [], take, All, length, get_or, ◌↔◌, refl, sym, subst, ◌∙◌, ap, inl, inr, arith}
+use Rattle.std.proofs.Common.{◌≡◌, ◌⊎◌, ℕ, ◌+◌, ◌<◌, ◌≤◌, Bool, true, false, ◌||◌, ◌&&◌, List, [], take, All, length, get_or, ◌↔◌, refl, sym, subst, ◌∙◌, ap, inl, inr, arith}
 use Rattle.std.specs.Option.{option_map_or}
 use Rattle.std.specs.Str.{bytes_eq}
-use Rattle.std.proofs.lemmas.Bool.{cases_Bool, false≢true, or_cases, or_left, or_right, and_parts, and_from, not-true, not_from_false, both_ways, eqb-true, eq-eqb}
-use Rattle.std.proofs.lemmas.List.{take_more}
+use Rattle.std.proofs.lemmas.Bool.{false≢true, or_cases, or_left, or_right, and_parts, and_from}
 use Rattle.std.proofs.lemmas.Option.{slice_get-get_or}
 use Rattle.deb_index.specs.declared.constraint.Constraint.TheVariants.{Only}
 use Rattle.deb_index.specs.Packages.{IndexView, no_package, package_at, is_named, names, name_at, places_of}
 use Rattle.deb_index.specs.Constraints.{Holds, has_name}
-use Rattle.sat_solve.specs.Sets.{NumberSet, members_of}
+use Rattle.number_sets.specs.Sets.{NumberSet, members_of}
 use Rattle.sat_solve.specs.Clauses.{Clauses}
-use Rattle.deb_encode.specs.Adding.{Adds}
-use Rattle.deb_encode.specs.Play.{places_in_play, positions_of, placed, AddsPlaces}
+use Rattle.deb_encode.specs.Play.{places_in_play, placed, AddsPlaces}
 use Rattle.deb_encode.specs.Exclusions.{AreNamesOf}
 use Rattle.deb_encode.specs.Alone.{IsAlone}
-use Rattle.deb_encode.specs.PlaceSets.{with_place}
-use Rattle.deb_encode.specs.Standings.{IsClear, HasOneOf, HasOneVersion}
-use Rattle.sat_solve.proofs.ListMembers.{members_of_at}
-use Rattle.deb_encode.proofs.AddLemmas.{adds_as, in_push, front_in, last_in}
-use Rattle.deb_encode.proofs.AddSteps.{take_whole, below_members}
+use Rattle.number_sets.specs.SparseSets.{with_number}
+use Rattle.deb_encode.specs.Standings.{HasOneOf, HasOneVersion}
+use Rattle.number_sets.proofs.ListMembers.{members_of_at, take_whole, below_members}
+use Rattle.deb_encode.proofs.AddLemmas.{adds_none, adds_as, taken_either, taken_before, taken_last}
 use Rattle.deb_encode.proofs.Each.{AddsEach, meaning_of_only}
 use Rattle.deb_encode.proofs.IndexFacts.{once_says_only, named_is_place}
-use Rattle.deb_encode.proofs.Placing.{with_place_has, with_place_only, grows_keeps, grows_with}
-use Rattle.deb_encode.proofs.Told.{placed_in_play}
-
--- ---- at most one of some places
-
-module _ (forced candidates places : List ℕ) (place : ℕ) (there : members_of places place ≡ true) (is_in : members_of forced place ≡ true) where
-  one_clear : (vars : NumberSet) → (IsClear true (λ q. members_of places q && not (eqb q place)) (placed forced candidates vars) ↔ HasOneOf places (placed forced candidates vars))
-  one_clear vars =
-      let alone : IsClear true (λ q. members_of places q && not (eqb q place)) (placed forced candidates vars) → (q : ℕ) → members_of places q ≡ true → placed forced candidates vars q ≡ true → q ≡ place =
-      λ clear q q_there q_in. elim (cases_Bool (eqb q place)) [
-        | inl same ↦ eqb-true q place same
-        | inr differs ↦ absurd (clear refl q (and_from (members_of places q) (not (eqb q place)) q_there (not_from_false (eqb q place) differs)) q_in)
-      ] in (
-        λ clear q r q_there r_there q_in r_in. alone clear q q_there q_in ∙ sym (alone clear r r_there r_in),
-        λ one has q told q_in.
-            let parts = and_parts (members_of places q) (not (eqb q place)) told in
-            both_ways (eqb q place) (not-true (eqb q place) parts.1)
-            (eq-eqb q place (one q place parts.0 there q_in (or_left (members_of forced place) (positions_of candidates vars place) is_in))),
-      )
-
-  -- where one of them is in anyway, no other one is
-  pub one_in : (group : ℕ) (before after : Clauses) → Adds group (λ vars. IsClear true (λ q. members_of places q && not (eqb q place)) (placed forced candidates vars)) before after
-      → AddsPlaces group forced candidates (HasOneOf places) before after
-  one_in group before after adds =
-      adds_as group (λ vars. IsClear true (λ q. members_of places q && not (eqb q place)) (placed forced candidates vars)) (λ vars. HasOneOf places (placed forced candidates vars)) before after one_clear adds
+use Rattle.number_sets.proofs.Placing.{with_number_has, with_number_only, grows_keeps, grows_with}
+use Rattle.deb_encode.proofs.Told.{in_play_placed}
 
 -- ---- the places of a name
 
@@ -67,13 +41,8 @@ module _ (index : IndexView) (forced candidates : List ℕ) (number group : ℕ)
       let within : (xs : List ℕ) (q : ℕ) → All (λ p. p < length index.packages) xs → members_of xs q ≡ true → q < length index.packages =
       λ xs q below is_in. (let at = members_of_at xs q is_in in omega (arith, below at.0 0 at.1, at.2)) in
       let named : ℕ → Bool = λ q. bytes_eq (name_at index number) (package_at index q).name in
-      let in_play : (vars : NumberSet) (q : ℕ) → placed forced candidates vars q ≡ true → places_in_play (members_of forced) candidates q ≡ true =
-      λ vars q there. elim (placed_in_play forced candidates vars q there) [
-        | inl is_in ↦ or_left (members_of forced q) (members_of candidates q) is_in
-        | inr member ↦ or_right (members_of forced q) (members_of candidates q) member
-      ] in
       let finds : (vars : NumberSet) (q : ℕ) → placed forced candidates vars q ≡ true → has_name index q number ≡ true → members_of found q ≡ true =
-      λ vars q there is_named. found_are q ∙ and_from (places_in_play (members_of forced) candidates q) (named q) (in_play vars q there) (sym (named_as q (named_is_place index q number is_named)) ∙ is_named) in
+      λ vars q there is_named. found_are q ∙ and_from (places_in_play (members_of forced) candidates q) (named q) (in_play_placed forced candidates vars q there) (sym (named_as q (named_is_place index q number is_named)) ∙ is_named) in
       let has : (q : ℕ) → members_of found q ≡ true → has_name index q number ≡ true =
       λ q is_found.
       let parts = and_parts (places_in_play (members_of forced) candidates q) (named q) (sym (found_are q) ∙ is_found) in
@@ -87,6 +56,18 @@ module _ (index : IndexView) (forced candidates : List ℕ) (number group : ℕ)
         λ holds q r q_there r_there q_in r_in. holds q r q_in r_in (has q q_there) (has r r_there),
       ))
       adds
+
+-- a name of one package needs no clause
+pub only_single : (index : IndexView) (forced candidates : List ℕ) (number group : ℕ) (before : Clauses) (row : List ℕ) → row ≡ places_of index (name_at index number) → length row < 2
+    → AddsPlaces group forced candidates (λ set. Holds index set (Only number)) before before
+only_single index forced candidates number group before row same short =
+    only_by_row index forced candidates number group before before row same
+    (adds_none group (λ vars. HasOneOf row (placed forced candidates vars)) before
+    (λ vars q r q_there r_there q_in r_in.
+    let q_at = members_of_at row q q_there in
+    let r_at = members_of_at row r r_there in
+    let one : q_at.0 ≡ r_at.0 = omega (arith, short, q_at.1, r_at.1) in
+    sym q_at.2 ∙ (ap (λ k. get_or row k 0) one ∙ r_at.2)))
 
 -- ---- names of places
 
@@ -119,35 +100,33 @@ module _ (index : IndexView) (before : NumberSet) (places : List ℕ) (i : ℕ) 
   was q is_in =
       elim (or_cases (before q) (members_of (take i places) q) is_in) [
         | inl old ↦ or_left (before q) (members_of (take (i + 1) places) q) old
-        | inr front ↦ or_right (before q) (members_of (take (i + 1) places) q) (ap (λ list. members_of list q) (take_more places i 0 inside) ∙ front_in (take i places) (get_or places i 0) q front)
+        | inr front ↦ or_right (before q) (members_of (take (i + 1) places) q) (taken_before places i inside q front)
       ]
 
   came : So (i + 1) (get_or places i 0) ≡ true
-  came =
-      or_right (before (get_or places i 0)) (members_of (take (i + 1) places) (get_or places i 0))
-      (ap (λ list. members_of list (get_or places i 0)) (take_more places i 0 inside) ∙ last_in (take i places) (get_or places i 0))
+  came = or_right (before (get_or places i 0)) (members_of (take (i + 1) places) (get_or places i 0)) (taken_last places i inside)
 
   either : (q : ℕ) → So (i + 1) q ≡ true → (So i q ≡ true) ⊎ (get_or places i 0 ≡ q)
   either q is_in =
       elim (or_cases (before q) (members_of (take (i + 1) places) q) is_in) [
         | inl old ↦ inl (or_left (before q) (members_of (take i places) q) old)
-        | inr listed ↦ elim (in_push (take i places) (get_or places i 0) q (ap (λ list. members_of list q) (sym (take_more places i 0 inside)) ∙ listed)) [
+        | inr listed ↦ elim (taken_either places i inside q listed) [
           | inl front ↦ inl (or_right (before q) (members_of (take i places) q) front)
           | inr last ↦ inr last
         ]
       ]
 
-  pub names_more : (numbers after : List ℕ) (name : ℕ) → name < length (names index) → name_at index name ≡ (package_at index (get_or places i 0)).name → after ≡ with_place numbers name
+  pub names_more : (numbers after : List ℕ) (name : ℕ) → name < length (names index) → name_at index name ≡ (package_at index (get_or places i 0)).name → after ≡ with_number numbers name
       → AreNamesOf index (So i) numbers → AreNamesOf index (So (i + 1)) after
   names_more numbers after name within named after_is are =
-      let more : AreNamesOf index (So (i + 1)) (with_place numbers name) = record {
-        below = below_members (with_place numbers name) (length (names index)) (λ number is_in.
-            elim (with_place_only numbers name number is_in) [
+      let more : AreNamesOf index (So (i + 1)) (with_number numbers name) = record {
+        below = below_members (with_number numbers name) (length (names index)) (λ number is_in.
+            elim (with_number_only numbers name number is_in) [
               | inl old ↦ let at = members_of_at numbers number old in omega (arith, are.below at.0 0 at.1, at.2)
               | inr last ↦ omega (arith, within, last)
             ]);
         among = λ number is_in.
-            elim (with_place_only numbers name number is_in) [
+            elim (with_number_only numbers name number is_in) [
               | inl old ↦ let at = are.among number old in (at.0, was at.0 at.1, at.2)
               | inr last ↦ (get_or places i 0, came, ap (name_at index) (sym last) ∙ named)
             ];
@@ -155,9 +134,9 @@ module _ (index : IndexView) (before : NumberSet) (places : List ℕ) (i : ℕ) 
             elim (either q is_in) [
               | inl old ↦ elim (are.all q old) [
                 | inl alone ↦ inl alone
-                | inr has ↦ inr (has.0, grows_keeps (name + 1) numbers (with_place numbers name) (grows_with (name + 1) numbers name (omega arith)) has.0 has.1, has.2)
+                | inr has ↦ inr (has.0, grows_keeps (name + 1) numbers (with_number numbers name) (grows_with (name + 1) numbers name (omega arith)) has.0 has.1, has.2)
               ]
-              | inr last ↦ inr (name, with_place_has numbers name, named ∙ ap (λ p. (package_at index p).name) last)
+              | inr last ↦ inr (name, with_number_has numbers name, named ∙ ap (λ p. (package_at index p).name) last)
             ];
       } in
       let For : List ℕ → Type 0 = λ list. AreNamesOf index (So (i + 1)) list in

@@ -1,12 +1,13 @@
 -- How places stand, read off the list of those that are in and the list of those that have variables.
-use Rattle.std.proofs.Common.{◌≡◌, ℕ, zero, suc, ◌+◌, ◌<◌, ◌≤◌, false, ◌||◌, List, length, get_or, Some, slice_get, All, refl, sym, ◌∙◌, ap, arith}
+use Rattle.std.proofs.Common.{◌≡◌, ℕ, zero, suc, ◌<◌, ◌≤◌, false, ◌||◌, List, length, get_or, Some, slice_get, All, refl, sym, ◌∙◌, ap, arith}
 use Rattle.std.specs.List.Sorted.{IsStrictlyIncreasing}
 use Rattle.std.proofs.lemmas.Bool.{both_ways, false_from_ne_true}
 use Rattle.std.proofs.lemmas.Option.{slice_get_within, get_or_from_slice_get}
-use Rattle.sat_solve.specs.Sets.{NumberSet, members_of}
-use Rattle.deb_encode.specs.Play.{positions_of, placed}
-use Rattle.sat_solve.proofs.ListMembers.{at_members_of}
-use Rattle.deb_encode.proofs.PositionsOf.{group_at, same_position}
+use Rattle.number_sets.specs.Sets.{NumberSet, members_of, positions_of}
+use Rattle.deb_encode.specs.Play.{placed}
+use Rattle.number_sets.proofs.ListMembers.{at_members_of}
+use Rattle.number_sets.proofs.SparseSetLemmas.{position_at_most}
+use Rattle.number_sets.proofs.PositionsOf.{group_at, same_position}
 
 placed_free : (forced candidates : List ℕ) (vars : NumberSet) (place : ℕ) → members_of forced place ≡ false → placed forced candidates vars place ≡ positions_of candidates vars place
 placed_free forced candidates vars place out = ap (λ b. b || positions_of candidates vars place) out
@@ -28,15 +29,9 @@ placed_out forced candidates place out free vars =
     both_ways (members_of candidates place) free (ap (members_of candidates) (sym at.3) ∙ at_members_of candidates at.0 at.1))
 
 -- a rising list of numbers below a bound is no longer than the bound
-rising_above : (xs : List ℕ) → IsStrictlyIncreasing xs → (k : ℕ) → k < length xs → k ≤ get_or xs k 0
-rising_above xs rising zero inside = omega arith
-rising_above xs rising (suc k) inside =
-    let next : suc k ≡ k + 1 = omega arith in
-    omega (arith, rising_above xs rising k (omega arith), rising k (omega arith), ap (λ m. get_or xs m 0) next)
-
 last_above : (xs : List ℕ) (size : ℕ) → length xs ≡ size → IsStrictlyIncreasing xs → (bound : ℕ) → All (λ q. q < bound) xs → size ≤ bound
 last_above xs zero size_is rising bound below = omega arith
-last_above xs (suc size) size_is rising bound below = omega (arith, rising_above xs rising size (omega arith), below size 0 (omega arith))
+last_above xs (suc size) size_is rising bound below = omega (arith, position_at_most xs size rising (omega arith), below size 0 (omega arith))
 
 pub rising_length : (xs : List ℕ) → IsStrictlyIncreasing xs → (bound : ℕ) → All (λ q. q < bound) xs → length xs ≤ bound
 rising_length xs rising bound below = last_above xs (length xs) refl rising bound below

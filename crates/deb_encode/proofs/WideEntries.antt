@@ -1,25 +1,24 @@
 -- Entries that very many packages may meet: gathered, and told run by run.
-use Rattle.std.proofs.Common.{◌≡◌, ◌⊎◌, ℕ, ◌+◌, ◌<◌, ◌≤◌, true, false, ◌&&◌, not, eqb, List, [], ◌∷◌, ◌++◌, take, All, Contains, length, get_or, ◌↔◌, refl, sym, subst, ◌∙◌, ap, inl, inr, arith}
-use Rattle.std.proofs.lemmas.Bool.{cases_Bool, cases_lt, false≢true, or_cases, or_left, or_right, and_parts, and_from, not-true, not_from_false, both_ways, eqb-true, eq-eqb}
-use Rattle.std.proofs.lemmas.List.{take_more, get_or_default}
+use Rattle.std.proofs.Common.{◌≡◌, ◌⊎◌, ℕ, ◌+◌, ◌<◌, ◌≤◌, true, false, ◌&&◌, eqb, List, [], ◌∷◌, ◌++◌, take, All, Contains, length, get_or, ◌↔◌, sym, subst, ◌∙◌, ap, inl, inr, arith}
+use Rattle.std.proofs.lemmas.Bool.{cases_lt, false≢true, or_cases, and_parts, and_from, both_ways, eqb-true, eq-eqb}
+use Rattle.std.proofs.lemmas.List.{get_or_default}
 use Rattle.std.proofs.lemmas.List.Elements.{All-push, All-contains, Contains-append_left, Contains-push}
 use Rattle.deb_relation.specs.Relationship.{AtomText}
 use Rattle.deb_index.specs.declared.constraint.Constraint.TheVariants.{Apart}
 use Rattle.deb_index.specs.Packages.{IndexView, aparts_at, apart_at}
 use Rattle.deb_index.specs.Meets.{meets_at}
 use Rattle.deb_index.specs.Constraints.{Holds}
-use Rattle.sat_solve.specs.Sets.{NumberSet, members_of}
+use Rattle.number_sets.specs.Sets.{NumberSet, members_of}
 use Rattle.sat_solve.specs.Clauses.{Clauses}
 use Rattle.deb_encode.specs.declared.rivals.Entry.{Entry}
-use Rattle.deb_encode.specs.Adding.{Adds}
-use Rattle.deb_encode.specs.Play.{places_in_play, positions_of, placed, AddsPlaces}
+use Rattle.deb_encode.specs.Play.{places_in_play, placed, AddsPlaces}
 use Rattle.deb_encode.specs.Exclusions.{IsWide, AddsWide, entry_at, IsRun}
 use Rattle.deb_encode.specs.Alone.{IsAlone}
-use Rattle.deb_encode.specs.Standings.{has_row, IsClear, AreApart}
-use Rattle.deb_encode.proofs.AddLemmas.{adds_both, adds_as, in_push, front_in, last_in}
-use Rattle.deb_encode.proofs.AddSteps.{take_whole}
+use Rattle.deb_encode.specs.Standings.{has_row, AreApart, MeetsWide}
+use Rattle.deb_encode.proofs.AddLemmas.{adds_both, adds_as, taken_either, in_push, front_in, last_in}
+use Rattle.number_sets.proofs.ListMembers.{take_whole}
 use Rattle.deb_encode.proofs.Each.{AddsBelow}
-use Rattle.deb_encode.proofs.Told.{placed_in_play}
+use Rattle.deb_encode.proofs.Told.{in_play_placed}
 
 abbrev entry_of : ℕ → ℕ → Entry
 entry_of place number = record { place = place; number = number }
@@ -80,15 +79,12 @@ pub wide_none : (index : IndexView) (entries : List Entry) → AddsWide index (m
 wide_none index entries = record { wide = λ all. all; kept = λ entry there. there; all = λ q is_in. absurd (false≢true is_in) }
 
 module _ (index : IndexView) (places : List ℕ) (i : ℕ) (inside : i < length places) (before between : List Entry) (so_far : AddsWide index (members_of (take i places)) before between) where
-  either : (q : ℕ) → members_of (take (i + 1) places) q ≡ true → (members_of (take i places) q ≡ true) ⊎ (get_or places i 0 ≡ q)
-  either q is_in = in_push (take i places) (get_or places i 0) q (ap (λ list. members_of list q) (sym (take_more places i 0 inside)) ∙ is_in)
-
   pub wide_more : (after : List Entry) → AddsWide index (λ q. eqb q (get_or places i 0)) between after → AddsWide index (members_of (take (i + 1) places)) before after
   wide_more after one = record {
     wide = λ all. one.wide (so_far.wide all);
     kept = λ entry there. one.kept entry (so_far.kept entry there);
     all = λ q is_in.
-        elim (either q is_in) [
+        elim (taken_either places i inside q is_in) [
           | inl old ↦ elim (so_far.all q old) [
             | inl alone ↦ inl alone
             | inr each ↦ inr (λ j less is_wide. one.kept (entry_of q j) (each j less is_wide))
@@ -102,7 +98,7 @@ module _ (index : IndexView) (places : List ℕ) (i : ℕ) (inside : i < length 
     wide = so_far.wide;
     kept = so_far.kept;
     all = λ q is_in.
-        elim (either q is_in) [
+        elim (taken_either places i inside q is_in) [
           | inl old ↦ so_far.all q old
           | inr last ↦ (let Alone : ℕ → Type 0 = λ p. IsAlone index p in inl (subst Alone last alone))
         ];
@@ -142,60 +138,6 @@ module _ (index : IndexView) (entries : List Entry) (start : ℕ) where
             ];
       })
 
--- ---- owners and places of which some are in anyway
-
-module _ (forced candidates owners places : List ℕ) (place : ℕ) (is_in : members_of forced place ≡ true) where
-  placed_in : (vars : NumberSet) → placed forced candidates vars place ≡ true
-  placed_in vars = or_left (members_of forced place) (positions_of candidates vars place) is_in
-
-  abbrev Out : List ℕ → NumberSet → Type 0
-  Out list vars = IsClear true (λ q. members_of list q && not (eqb q place)) (placed forced candidates vars)
-
-  is_it : (list : List ℕ) (vars : NumberSet) → Out list vars → (q : ℕ) → members_of list q ≡ true → placed forced candidates vars q ≡ true → q ≡ place
-  is_it list vars out q there q_in =
-      elim (cases_Bool (eqb q place)) [
-        | inl same ↦ eqb-true q place same
-        | inr differs ↦ absurd (out refl q (and_from (members_of list q) (not (eqb q place)) there (not_from_false (eqb q place) differs)) q_in)
-      ]
-
-  -- each that is in is it
-  out_if : (list : List ℕ) (vars : NumberSet) → ((q : ℕ) → members_of list q ≡ true → placed forced candidates vars q ≡ true → q ≡ place) → Out list vars
-  out_if list vars each has q told q_in =
-      let parts = and_parts (members_of list q) (not (eqb q place)) told in
-      both_ways (eqb q place) (not-true (eqb q place) parts.1) (eq-eqb q place (each q parts.0 q_in))
-
-  pub owner_in_alone : (group : ℕ) (before after : Clauses) → members_of owners place ≡ true → members_of places place ≡ false → Adds group (Out places) before after → AddsPlaces group forced candidates (AreApart owners places) before after
-  owner_in_alone group before after owns lacks adds =
-      adds_as group (Out places) (λ vars. AreApart owners places (placed forced candidates vars)) before after
-      (λ vars. (
-        λ out q r q_there r_there q_in r_in. absurd (both_ways (members_of places place) lacks (ap (members_of places) (sym (is_it places vars out r r_there r_in)) ∙ r_there)),
-        λ apart. out_if places vars (λ r r_there r_in. sym (apart place r owns r_there (placed_in vars) r_in)),
-      ))
-      adds
-
-  pub owner_in_both : (group : ℕ) (before between after : Clauses) → members_of owners place ≡ true → members_of places place ≡ true → Adds group (Out places) before between → Adds group (Out owners) between after
-      → AddsPlaces group forced candidates (AreApart owners places) before after
-  owner_in_both group before between after owns has first second =
-      adds_as group (λ vars. Out places vars × Out owners vars) (λ vars. AreApart owners places (placed forced candidates vars)) before after
-      (λ vars. (
-        λ both q r q_there r_there q_in r_in. is_it owners vars both.1 q q_there q_in ∙ sym (is_it places vars both.0 r r_there r_in),
-        λ apart. (
-          out_if places vars (λ r r_there r_in. sym (apart place r owns r_there (placed_in vars) r_in)),
-          out_if owners vars (λ q q_there q_in. apart q place q_there has q_in (placed_in vars)),
-        ),
-      ))
-      (adds_both group (Out places) (Out owners) before between after first second)
-
-  pub place_in_alone : (group : ℕ) (before after : Clauses) → members_of places place ≡ true → ((q : ℕ) → members_of owners q ≡ true → members_of forced q ≡ false) → Adds group (Out owners) before after
-      → AddsPlaces group forced candidates (AreApart owners places) before after
-  place_in_alone group before after has no_owner_in adds =
-      adds_as group (Out owners) (λ vars. AreApart owners places (placed forced candidates vars)) before after
-      (λ vars. (
-        λ out q r q_there r_there q_in r_in. absurd (both_ways (members_of forced place) (ap (members_of forced) (sym (is_it owners vars out q q_there q_in)) ∙ no_owner_in q q_there) is_in),
-        λ apart. out_if owners vars (λ q q_there q_in. apart q place q_there has q_in (placed_in vars)),
-      ))
-      adds
-
 -- ---- runs, one after the other
 
 module _ (index : IndexView) (forced candidates : List ℕ) (entries : List Entry) where
@@ -208,11 +150,7 @@ module _ (index : IndexView) (forced candidates : List ℕ) (entries : List Entr
     run_says vars = (
       λ apart k from below p_in r r_in hit.
           let r_met : meets_at index r atom ≡ true = ap (meets_at index r) (atom_is ∙ sym (run.one_atom k from below)) ∙ hit in
-          let in_play : places_in_play (members_of forced) candidates r ≡ true = elim (placed_in_play forced candidates vars r r_in) [
-            | inl is_in ↦ or_left (members_of forced r) (members_of candidates r) is_in
-            | inr member ↦ or_right (members_of forced r) (members_of candidates r) member
-          ] in
-          sym (apart (entry_at entries k).place r (run.owned k from below) (are_met r ∙ and_from (places_in_play (members_of forced) candidates r) (meets_at index r atom) in_play r_met) p_in r_in),
+          sym (apart (entry_at entries k).place r (run.owned k from below) (are_met r ∙ and_from (places_in_play (members_of forced) candidates r) (meets_at index r atom) (in_play_placed forced candidates vars r r_in) r_met) p_in r_in),
       λ each q r q_there r_there q_in r_in.
           let k = run.only q q_there in
           let parts = and_parts (places_in_play (members_of forced) candidates r) (meets_at index r atom) (sym (are_met r) ∙ r_there) in
@@ -267,11 +205,11 @@ module _ (index : IndexView) (forced candidates forced_row candidates_row : List
       ]
 
   pub wide_added : (group : ℕ) (given : List Entry) (before after : Clauses) → given ≡ entries → AddsPlaces group forced candidates (λ set. All (λ entry. Holds index set (Apart entry.place entry.number)) given) before after
-      → AddsPlaces group forced candidates (λ set. (q : ℕ) → places_in_play (members_of forced) candidates q ≡ true → (j : ℕ) → j < length (aparts_at index q) → has_row index q j ≡ false → Holds index set (Apart q j)) before after
+      → AddsPlaces group forced candidates (λ set. (q : ℕ) → places_in_play (members_of forced) candidates q ≡ true → MeetsWide index set q) before after
   wide_added group given before after given_is adds =
       let Told : List Entry → Type 0 = λ list. AddsPlaces group forced candidates (λ set. All (λ entry. Holds index set (Apart entry.place entry.number)) list) before after in
       let Each : NumberSet → Type 0 = λ vars. All (λ entry. Holds index (placed forced candidates vars) (Apart entry.place entry.number)) entries in
-      let Wide : NumberSet → Type 0 = λ vars. (q : ℕ) → places_in_play (members_of forced) candidates q ≡ true → (j : ℕ) → j < length (aparts_at index q) → has_row index q j ≡ false → Holds index (placed forced candidates vars) (Apart q j) in
+      let Wide : NumberSet → Type 0 = λ vars. (q : ℕ) → places_in_play (members_of forced) candidates q ≡ true → MeetsWide index (placed forced candidates vars) q in
       adds_as group Each Wide before after
       (λ vars. (
         λ all q in_play j less is_wide.
@@ -281,10 +219,6 @@ module _ (index : IndexView) (forced candidates forced_row candidates_row : List
             ],
         λ wide k d inside p_in.
             let entry = all_wide k d inside in
-            let in_play : places_in_play (members_of forced) candidates (get_or entries k d).place ≡ true = elim (placed_in_play forced candidates vars (get_or entries k d).place p_in) [
-              | inl is_in ↦ or_left (members_of forced (get_or entries k d).place) (members_of candidates (get_or entries k d).place) is_in
-              | inr member ↦ or_right (members_of forced (get_or entries k d).place) (members_of candidates (get_or entries k d).place) member
-            ] in
-            wide (get_or entries k d).place in_play (get_or entries k d).number entry.numbered entry.wide p_in,
+            wide (get_or entries k d).place (in_play_placed forced candidates vars (get_or entries k d).place p_in) (get_or entries k d).number entry.numbered entry.wide p_in,
       ))
       (subst Told given_is adds)

@@ -1,40 +1,19 @@
 -- Clauses in the making, and what is added with them.
-use Rattle.std.proofs.Common.{◌≡◌, ℕ, zero, suc, ◌+◌, ◌<◌, ◌≤◌, Bool, true, false, ◌||◌, not, List, [], ◌∷◌, length, get_or, take, map, All, Option, Some, None, slice_get, ◌↔◌, refl, sym, subst, ◌∙◌, ap, inl, inr, arith}
+use Rattle.std.proofs.Common.{◌≡◌, ℕ, zero, suc, ◌+◌, ◌<◌, ◌≤◌, Bool, true, false, ◌||◌, List, [], ◌∷◌, length, get_or, take, All, refl, sym, subst, ◌∙◌, ap, inl, inr, arith}
 use Rattle.std.specs.List.{list_any}
-use Rattle.std.specs.Option.{option_map_or}
-use Rattle.std.proofs.lemmas.Bool.{cases_Bool, false≢true, both_ways, or_cases, or_left, or_right, not-true, not_from_false}
+use Rattle.std.proofs.lemmas.Bool.{false≢true, or_cases, or_left, or_right}
 use Rattle.std.proofs.lemmas.List.Folds.{list_any_more}
-use Rattle.deb_relation.specs.declared.atom.Atom.{Atom}
-use Rattle.deb_relation.specs.AtomView.{atom_view}
-use Rattle.deb_relation.specs.Relationship.{AtomText}
-use Rattle.deb_index.specs.declared.constraint.Constraint.TheVariants.{Essential, Need}
-use Rattle.deb_index.specs.Packages.{IndexView, PackageView, name_at, places_of, need_at}
-use Rattle.deb_index.specs.Meets.{meets_need, meets_need_at, need_satisfiers, group_satisfiers}
-use Rattle.deb_index.specs.Constraints.{Holds}
-use Rattle.deb_index.proofs.MemberLemmas.{member-places_where}
 use Rattle.sat_solve.specs.declared.clause.Lit.{Lit}
-use Rattle.sat_solve.specs.Sets.{NumberSet, members_of}
+use Rattle.number_sets.specs.Sets.{NumberSet}
 use Rattle.sat_solve.specs.Clauses.{Clauses, clause_holds}
 use Rattle.deb_encode.specs.Adding.{Adds}
 use Rattle.deb_encode.specs.Standings.{Widens}
-use Rattle.sat_solve.proofs.ListMembers.{any_member, member_any}
-use Rattle.deb_encode.proofs.IndexFacts.{member_named, member_need_satisfiers, some_named}
+use Rattle.number_sets.proofs.ListMembers.{take_whole}
 use Rattle.deb_encode.proofs.AddLemmas.{adds_as}
-use Rattle.deb_encode.proofs.AddSteps.{take_whole, list_any-map}
 
 or_assoc : (a b c : Bool) → ((a || b) || c) ≡ (a || (b || c))
 or_assoc true b c = refl
 or_assoc false b c = refl
-
-or_false : (b : Bool) → (b || false) ≡ b
-or_false true = refl
-or_false false = refl
-
--- two tests that pass together are one
-pub same_test : (a b : Bool) → (a ≡ true → b ≡ true) → (b ≡ true → a ≡ true) → a ≡ b
-same_test true b to from = sym (to refl)
-same_test false true to from = from refl
-same_test false false to from = refl
 
 any_kept : {A : Type 0} (test : A → Bool) (i : ℕ) (xs : List A) → list_any test (take i xs) ≡ true → list_any test xs ≡ true
 any_kept test zero xs holds = absurd (false≢true holds)
@@ -98,75 +77,6 @@ module _ (count : ℕ) where
     some_whole i before after past so_far =
         let For : List A → Type 0 = λ list. Widens (λ vars. list_any (test vars) list) count before after false in
         subst For (take_whole xs i past) so_far
-
--- ---- the places that answer a group
-
-meets_some : (arch : List ℕ) (group : List AtomText) (there : Option PackageView) → list_any (λ (a : AtomText). option_map_or (λ (q : PackageView). meets_need arch q a) there false) group ≡ option_map_or (λ (q : PackageView). list_any (meets_need arch q) group) there false
-meets_some arch group (Some q) = refl
-meets_some arch [] None = refl
-meets_some arch (a ∷ group) None = meets_some arch group None
-
-member_answers : (index : IndexView) (group : List AtomText) (q : ℕ) → members_of (group_satisfiers index group) q ≡ list_any (meets_need_at index q) group
-member_answers index group q =
-    member-places_where (λ item. list_any (meets_need index.arch item) group) index.packages q ∙ sym (meets_some index.arch group (slice_get index.packages q))
-
-module _ (index : IndexView) (set : NumberSet) where
-  alternative_met : (group : List AtomText) → list_any (λ atom. list_any set (need_satisfiers index atom)) group ≡ true → (q : ℕ) × (set q ≡ true) × (list_any (meets_need_at index q) group ≡ true)
-  alternative_met [] holds = absurd (false≢true holds)
-  alternative_met (atom ∷ group) holds =
-      elim (or_cases (list_any set (need_satisfiers index atom)) (list_any (λ other. list_any set (need_satisfiers index other)) group) holds) [
-        | inl here ↦
-            let at = any_member set (need_satisfiers index atom) here in
-            (at.0, at.1, or_left (meets_need_at index at.0 atom) (list_any (meets_need_at index at.0) group) (sym (member_need_satisfiers index atom at.0) ∙ at.2))
-        | inr later ↦ let at = alternative_met group later in (at.0, at.1, or_right (meets_need_at index at.0 atom) (list_any (meets_need_at index at.0) group) at.2)
-      ]
-
-  met_alternative : (group : List AtomText) (q : ℕ) → set q ≡ true → list_any (meets_need_at index q) group ≡ true → list_any (λ atom. list_any set (need_satisfiers index atom)) group ≡ true
-  met_alternative [] q is_there met = absurd (false≢true met)
-  met_alternative (atom ∷ group) q is_there met =
-      elim (or_cases (meets_need_at index q atom) (list_any (meets_need_at index q) group) met) [
-        | inl here ↦
-            or_left (list_any set (need_satisfiers index atom)) (list_any (λ other. list_any set (need_satisfiers index other)) group)
-            (member_any set (need_satisfiers index atom) q is_there (member_need_satisfiers index atom q ∙ here))
-        | inr later ↦ or_right (list_any set (need_satisfiers index atom)) (list_any (λ other. list_any set (need_satisfiers index other)) group) (met_alternative group q is_there later)
-      ]
-
-  some_answer : (group : List AtomText) → list_any set (group_satisfiers index group) ≡ true → (q : ℕ) × (set q ≡ true) × (list_any (meets_need_at index q) group ≡ true)
-  some_answer group holds = let at = any_member set (group_satisfiers index group) holds in (at.0, at.1, sym (member_answers index group at.0) ∙ at.2)
-
-  answer_some : (group : List AtomText) (q : ℕ) → set q ≡ true → list_any (meets_need_at index q) group ≡ true → list_any set (group_satisfiers index group) ≡ true
-  answer_some group q is_there met = member_any set (group_satisfiers index group) q is_there (member_answers index group q ∙ met)
-
-  -- one alternative after the other finds the same
-  pub alternatives : (atoms : List Atom) (group : List AtomText) → map atom_view atoms ≡ group → list_any (λ (a : Atom). list_any set (need_satisfiers index (atom_view a))) atoms ≡ list_any set (group_satisfiers index group)
-  alternatives atoms group same =
-      let each : NumberSet → AtomText → Bool = λ s atom. list_any s (need_satisfiers index atom) in
-      sym (list_any-map (each set) atom_view atoms)
-      ∙ (ap (list_any (each set)) same
-      ∙ same_test (list_any (each set) group) (list_any set (group_satisfiers index group))
-      (λ holds. let at = alternative_met group holds in answer_some group at.0 at.1 at.2)
-      (λ holds. let at = some_answer group holds in met_alternative group at.0 at.1 at.2))
-
-  pub need_says : (p j : ℕ) → ((not (set p) || list_any set (group_satisfiers index (need_at index p j))) ≡ true) ↔ Holds index set (Need p j)
-  need_says p j =
-      let answered : Bool = list_any set (group_satisfiers index (need_at index p j)) in (
-        λ holds has.
-            elim (or_cases (not (set p)) answered holds) [
-              | inl lacks ↦ absurd (both_ways (set p) (not-true (set p) lacks) has)
-              | inr some ↦ some_answer (need_at index p j) some
-            ],
-        λ holds.
-            elim (cases_Bool (set p)) [
-              | inl has ↦ let at = holds has in or_right (not (set p)) answered (answer_some (need_at index p j) at.0 at.1 at.2)
-              | inr lacks ↦ or_left (not (set p)) answered (not_from_false (set p) lacks)
-            ],
-      )
-
-  pub essential_says : (number : ℕ) → (list_any set (places_of index (name_at index number)) ≡ true) ↔ Holds index set (Essential number)
-  essential_says number = (
-    λ holds. (let at = any_member set (places_of index (name_at index number)) holds in (at.0, at.1, sym (member_named index number at.0) ∙ at.2)),
-    λ found. some_named index set found.0 number found.1 found.2,
-  )
 
 -- ---- what is added with them
 

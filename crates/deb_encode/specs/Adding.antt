@@ -1,6 +1,6 @@
 -- Clauses that are added to a formula, and what they say of a set.
 use Rattle.std.specs.Prelude.{◌≡◌, ℕ, ◌↔◌, ◌++◌, true, List, All}
-use Rattle.sat_solve.specs.Sets.{NumberSet}
+use Rattle.number_sets.specs.Sets.{NumberSet}
 use Rattle.sat_solve.specs.Clauses.{Clause, Clauses, clause_holds}
 
 -- all clauses hold in the set

@@ -1,14 +1,10 @@
--- Places whose conflicts hold in every set, and marks of places.
-use Rattle.std.specs.Prelude.{◌≡◌, ℕ, ◌<◌, true, Bool, List, Some, length, slice_get}
+-- Places whose conflicts hold in every set.
+use Rattle.std.specs.Prelude.{◌≡◌, ℕ, ◌<◌, true, length}
 use Rattle.deb_index.specs.Packages.{IndexView, package_at, places_of, aparts_at}
 use Rattle.deb_index.specs.Constraints.{hits}
-use Rattle.sat_solve.specs.Sets.{members_of}
+use Rattle.number_sets.specs.Sets.{members_of}
 
 -- no entry of the place hits another one, and no other one has its name
 pub record IsAlone (index : IndexView) (place : ℕ) : Type 0 where
   pub hits_none : (j : ℕ) → j < length (aparts_at index place) → (q : ℕ) → hits index place j q ≡ true → q ≡ place
   pub only : (q : ℕ) → members_of (places_of index (package_at index place).name) q ≡ true → q ≡ place
-
--- what is marked, by place, has the property
-abbrev pub MarksOnly : (ℕ → Type 0) → List Bool → Type 0
-MarksOnly Property marks = (place : ℕ) → slice_get marks place ≡ Some true → Property place

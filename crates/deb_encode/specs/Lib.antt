@@ -2,6 +2,5 @@ pub mod Adding
 pub mod Alone
 pub mod Encoders
 pub mod Exclusions
-pub mod PlaceSets
 pub mod Play
 pub mod Standings

@@ -1,20 +1,15 @@
 -- Places in play: those that are forced are in every set that is looked for, the candidates have a variable each, and no further place is in any.
-use Rattle.std.specs.Prelude.{◌≡◌, ℕ, ◌<◌, ◌||◌, ◌&&◌, ◌==◌, ◌↔◌, List, All, length, Some, slice_get, slice_index}
-use Rattle.std.specs.List.{list_any, range_with_len}
+use Rattle.std.specs.Prelude.{◌≡◌, ℕ, ◌<◌, ◌||◌, ◌↔◌, List, All, length, Some, slice_get}
 use Rattle.deb_index.specs.declared.constraint.Constraint.{Constraint}
 use Rattle.deb_index.specs.Packages.{IndexView}
 use Rattle.deb_index.specs.Constraints.{Holds}
-use Rattle.sat_solve.specs.Sets.{NumberSet, members_of}
+use Rattle.number_sets.specs.Sets.{NumberSet, members_of, positions_of}
 use Rattle.sat_solve.specs.Clauses.{Clause, Clauses}
 use Rattle.deb_encode.specs.Adding.{Adds, GroupHolds}
 
 -- the forced places and the candidates
 abbrev pub places_in_play : NumberSet → List ℕ → NumberSet
 places_in_play forced candidates q = forced q || members_of candidates q
-
--- the numbers of a list at the indexes of a set: the places of variables, or the positions of groups
-abbrev pub positions_of : List ℕ → NumberSet → NumberSet
-positions_of positions groups k = list_any (λ group. groups group && (slice_index positions group == k)) (range_with_len 0 (length positions))
 
 -- the set of places that a set of variables stands for: the forced ones, and the candidates whose variables it has
 abbrev pub placed : List ℕ → List ℕ → NumberSet → NumberSet

@@ -1,11 +1,13 @@
 -- How places stand in the sets that are looked for, and what such sets say of a place and others.
-use Rattle.std.specs.Prelude.{◌≡◌, ℕ, ◌<◌, Bool, true, false, ◌||◌, nat_le, List, All, length}
-use Rattle.deb_index.specs.declared.constraint.Constraint.TheVariants.{Apart}
-use Rattle.deb_index.specs.Packages.{IndexView, package_at, places_of, aparts_at, apart_at}
+use Rattle.std.specs.Prelude.{◌≡◌, ℕ, ◌<◌, Bool, true, false, ◌||◌, ◌&&◌, ◌==◌, not, nat_le, List, All, length}
+use Rattle.deb_relation.specs.Relationship.{AtomText}
+use Rattle.deb_index.specs.declared.constraint.Constraint.TheVariants.{Essential, Apart}
+use Rattle.deb_index.specs.Packages.{IndexView, package_at, places_of, essential_names, aparts_at, apart_at}
+use Rattle.deb_index.specs.Meets.{meets_at}
 use Rattle.deb_index.specs.Rows.{candidate_count, row_limit}
 use Rattle.deb_index.specs.Constraints.{Holds}
 use Rattle.sat_solve.specs.declared.clause.Lit.{Lit}
-use Rattle.sat_solve.specs.Sets.{NumberSet, members_of}
+use Rattle.number_sets.specs.Sets.{NumberSet, members_of}
 use Rattle.sat_solve.specs.Clauses.{clause_holds}
 use Rattle.deb_encode.specs.declared.play.Standing.{Standing}
 use Rattle.deb_encode.specs.declared.play.Standing.TheVariants.{In, Variable, Out}
@@ -15,6 +17,10 @@ abbrev pub is_in : Standing → NumberSet → Bool
 is_in In vars = true
 is_in (Variable var) vars = vars var
 is_in Out vars = false
+
+-- whether it is out there
+abbrev pub is_out : Standing → NumberSet → Bool
+is_out standing vars = not (is_in standing vars)
 
 -- its variable, if it has one, is below the count
 abbrev pub IsBelow : ℕ → Standing → Type 0
@@ -27,10 +33,6 @@ pub record Widens (test : NumberSet → Bool) (count : ℕ) (before after : List
   pub in_range : All (λ literal. literal.var < count) before → All (λ literal. literal.var < count) after
   pub says : (vars : NumberSet) → (anyway || clause_holds vars after) ≡ (clause_holds vars before || test vars)
 
--- where something holds, none of these places is in the set
-abbrev pub IsClear : Bool → NumberSet → NumberSet → Type 0
-IsClear holds places set = holds ≡ true → (q : ℕ) → places q ≡ true → set q ≡ true → ⊥
-
 -- few packages may meet an entry of the package at a place
 abbrev pub has_row : IndexView → ℕ → ℕ → Bool
 has_row index place j = nat_le (candidate_count index (apart_at index place j)) row_limit
@@ -38,6 +40,10 @@ has_row index place j = nat_le (candidate_count index (apart_at index place j)) 
 -- none of the owners is in the set together with another one of these places
 abbrev pub AreApart : List ℕ → List ℕ → NumberSet → Type 0
 AreApart owners places set = (q r : ℕ) → members_of owners q ≡ true → members_of places r ≡ true → set q ≡ true → set r ≡ true → q ≡ r
+
+-- some package of each essential name is in the set
+abbrev pub MeetsEssentials : IndexView → NumberSet → Type 0
+MeetsEssentials index set = (number : ℕ) → members_of (essential_names index) number ≡ true → Holds index set (Essential number)
 
 -- at most one of these places is in the set
 abbrev pub HasOneOf : List ℕ → NumberSet → Type 0
@@ -47,6 +53,24 @@ HasOneOf places = AreApart places places
 abbrev pub HasOneVersion : IndexView → NumberSet → ℕ → Type 0
 HasOneVersion index set place = HasOneOf (places_of index (package_at index place).name) set
 
--- the same of those of its entries that few packages may meet, so that the index has a row of them
+-- an entry holds if few packages may meet it, so that the index has a row of them, or if it is one of the others
+abbrev pub MeetsEntry : Bool → IndexView → NumberSet → ℕ → ℕ → Type 0
+MeetsEntry narrow index set place j = has_row index place j ≡ narrow → Holds index set (Apart place j)
+
+-- all such entries of the package at a place hold
+abbrev pub MeetsEntries : Bool → IndexView → NumberSet → ℕ → Type 0
+MeetsEntries narrow index set place = (j : ℕ) → j < length (aparts_at index place) → MeetsEntry narrow index set place j
+
 abbrev pub MeetsNarrow : IndexView → NumberSet → ℕ → Type 0
-MeetsNarrow index set place = (j : ℕ) → j < length (aparts_at index place) → has_row index place j ≡ true → Holds index set (Apart place j)
+MeetsNarrow = MeetsEntries true
+
+abbrev pub MeetsWide : IndexView → NumberSet → ℕ → Type 0
+MeetsWide = MeetsEntries false
+
+-- another place than this one
+abbrev pub is_other : ℕ → NumberSet
+is_other place q = not (q == place)
+
+-- another place than this one, whose package meets an atom
+abbrev pub is_hit : IndexView → AtomText → ℕ → NumberSet
+is_hit index atom place q = not (q == place) && meets_at index q atom

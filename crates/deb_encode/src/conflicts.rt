@@ -1,14 +1,11 @@
 //! What an entry of Conflicts or Breaks hits, as clauses over the places in play.
 
-ghost use Rattle.std.specs.Prelude.{◌≡◌, ℕ, ◌<◌, ◌&&◌, ◌==◌, not, true, All, OnOk, length};
+ghost use Rattle.std.specs.Prelude.{◌≡◌, ◌<◌, true, All, OnOk, length};
 ghost use Rattle.deb_relation.specs.AtomView.{atom_view};
 ghost use Rattle.deb_index.specs.Packages.{aparts_at};
-ghost use Rattle.deb_index.specs.Meets.{meets_at};
 ghost use Rattle.deb_index.specs.Constraints.{Holds};
-ghost use Rattle.sat_solve.specs.Sets.{members_of};
-ghost use Rattle.deb_encode.specs.Encoders.{AddsVars, Tells};
-ghost use Rattle.deb_encode.specs.Play.{placed};
-ghost use Rattle.deb_encode.specs.Standings.{is_in, IsBelow, IsClear};
+ghost use Rattle.deb_encode.specs.Encoders.{AddsVars, KeepsOut, KeepsOutMeeting, Tells, set_of};
+ghost use Rattle.deb_encode.specs.Standings.{is_in, is_other, is_hit, IsBelow};
 
 use crate::encoder::Encoder;
 use crate::play::Standing;
@@ -16,9 +13,9 @@ use deb_index::{Constraint, Index};
 use deb_relation::Atom;
 use std::alloc::AllocError;
 
-/// The place whose constraint is told, and how it stands.
+/// A place that keeps others out, and how it stands.
 #[derive(Clone, Copy)]
-pub(crate) struct Owner {
+pub(crate) struct Keeper {
     pub(crate) place: u32,
     pub(crate) standing: Standing,
 }
@@ -26,7 +23,7 @@ pub(crate) struct Owner {
 /// Whether another package than the one at a place meets an atom.
 fn is_hit(index: &Index, place: u32, atom: &Atom, other: u32) -> bool
     requires { other < length index.now.packages }
-    ensures { result ≡ (not (other == place) && meets_at index.now other (atom_view atom.now)) }
+    ensures { result ≡ is_hit index.now (atom_view atom.now) place other }
 {
     if other == place {
         return false;
@@ -35,14 +32,14 @@ fn is_hit(index: &Index, place: u32, atom: &Atom, other: u32) -> bool
 }
 
 impl Encoder<'_> {
-    /// Adds that an owner and another place are not both in.
-    fn add_not_both(&mut self, owner: Owner, other: u32) -> Result<(), AllocError>
-        requires owner { IsBelow (length self.old.play.candidates.now) owner.standing }
+    /// Adds that a keeper and another place are not both in.
+    fn add_not_both(&mut self, keeper: Keeper, other: u32) -> Result<(), AllocError>
+        requires keeper { IsBelow (length self.old.play.candidates.now) keeper.standing }
         ensures same_formula { self.new.formula.ghost_name ≡ self.old.formula.ghost_name }
-        ensures adds { OnOk result (AddsVars (λ play vars. is_in owner.standing vars ≡ true → placed play.forced.now play.candidates.now vars other ≡ true → ⊥) self.old self.new) }
+        ensures adds { OnOk result (AddsVars (λ play vars. is_in keeper.standing vars ≡ true → set_of play vars other ≡ true → ⊥) self.old self.new) }
     {
         self.clause.clear();
-        if owner.standing.or_out(self.clause)? {
+        if keeper.standing.or_out(self.clause)? {
             return Ok(());
         }
         let anyway = self.play.standing(other).or_out(self.clause)?;
@@ -50,36 +47,36 @@ impl Encoder<'_> {
         Ok(())
     }
 
-    /// Adds that an owner is not in together with another place of a row.
-    pub(crate) fn add_apart_from(&mut self, owner: Owner, row: &[u32]) -> Result<(), AllocError>
-        requires owner { IsBelow (length self.old.play.candidates.now) owner.standing }
+    /// Adds that a keeper is not in together with another place of a row.
+    pub(crate) fn add_apart_from(&mut self, keeper: Keeper, row: &[u32]) -> Result<(), AllocError>
+        requires keeper { IsBelow (length self.old.play.candidates.now) keeper.standing }
         ensures same_formula { self.new.formula.ghost_name ≡ self.old.formula.ghost_name }
-        ensures adds { OnOk result (AddsVars (λ play vars. IsClear (is_in owner.standing vars) (λ q. members_of row.now q && not (q == owner.place)) (placed play.forced.now play.candidates.now vars)) self.old self.new) }
+        ensures adds { OnOk result (AddsVars (KeepsOut keeper row.now (is_other keeper.place)) self.old self.new) }
     {
         for other in row {
-            if *other != owner.place {
-                self.add_not_both(owner, *other)?;
+            if *other != keeper.place {
+                self.add_not_both(keeper, *other)?;
             }
         }
         Ok(())
     }
 
-    /// Adds that an owner is not in together with another one of these places that meets an atom.
+    /// Adds that a keeper is not in together with another one of these places that meets an atom.
     fn add_apart_among(
         &mut self,
-        owner: Owner,
+        keeper: Keeper,
         atom: &Atom,
         places: &[u32],
     ) -> Result<(), AllocError>
-        requires owner { IsBelow (length self.old.play.candidates.now) owner.standing }
+        requires keeper { IsBelow (length self.old.play.candidates.now) keeper.standing }
         requires places { All (λ q. q < length self.old.play.index.now.packages) places.now }
         ensures same_formula { self.new.formula.ghost_name ≡ self.old.formula.ghost_name }
-        ensures adds { OnOk result (AddsVars (λ play vars. IsClear (is_in owner.standing vars) (λ q. members_of places.now q && (not (q == owner.place) && meets_at play.index.now q (atom_view atom.now))) (placed play.forced.now play.candidates.now vars)) self.old self.new) }
+        ensures adds { OnOk result (AddsVars (KeepsOutMeeting keeper (atom_view atom.now) places.now) self.old self.new) }
     {
         let index = self.play.index;
         for other in places {
-            if is_hit(index, owner.place, atom, *other) {
-                self.add_not_both(owner, *other)?;
+            if is_hit(index, keeper.place, atom, *other) {
+                self.add_not_both(keeper, *other)?;
             }
         }
         Ok(())
@@ -97,16 +94,16 @@ impl Encoder<'_> {
     {
         let play = self.play;
         let standing = play.standing(place);
-        let owner = Owner { place, standing };
+        let keeper = Keeper { place, standing };
         if let Some(row) = play.index.hit_row(place, number) {
             if play.is_short(row) {
-                self.add_apart_from(owner, row)?;
+                self.add_apart_from(keeper, row)?;
                 return Ok(());
             }
         }
         let atom = play.index.apart(place, number);
-        self.add_apart_among(owner, atom, play.forced.as_slice())?;
-        self.add_apart_among(owner, atom, play.candidates.as_slice())?;
+        self.add_apart_among(keeper, atom, play.forced.as_slice())?;
+        self.add_apart_among(keeper, atom, play.candidates.as_slice())?;
         Ok(())
     }
 }

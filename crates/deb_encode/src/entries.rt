@@ -2,14 +2,12 @@
 
 ghost use Rattle.std.specs.Prelude.{◌≡◌, ℕ, ◌<◌, not, true, All, OnOk, length};
 ghost use Rattle.deb_index.specs.Packages.{aparts_at};
-ghost use Rattle.deb_index.specs.Constraints.{Holds};
-ghost use Rattle.sat_solve.specs.Sets.{members_of};
-ghost use Rattle.deb_encode.specs.Encoders.{Tells};
-ghost use Rattle.deb_encode.specs.Play.{places_in_play};
-ghost use Rattle.deb_encode.specs.Standings.{has_row, MeetsNarrow};
+ghost use Rattle.number_sets.specs.Sets.{members_of};
+ghost use Rattle.deb_encode.specs.Encoders.{Tells, in_play};
+ghost use Rattle.deb_encode.specs.Standings.{has_row, MeetsEntry, MeetsNarrow};
 
 use crate::encoder::Encoder;
-use deb_index::{Constraint, Index};
+use deb_index::Index;
 use std::alloc::AllocError;
 
 /// Whether very many packages may meet an entry.
@@ -27,7 +25,7 @@ impl Encoder<'_> {
         requires place { place < length self.old.play.index.now.packages }
         requires number { number < length (aparts_at self.old.play.index.now place) }
         ensures same_formula { self.new.formula.ghost_name ≡ self.old.formula.ghost_name }
-        ensures adds { OnOk result (Tells (λ play set. has_row play.index.now place number ≡ true → Holds play.index.now set (Constraint.Apart place number)) self.old self.new) }
+        ensures adds { OnOk result (Tells (λ play set. MeetsEntry true play.index.now set place number) self.old self.new) }
     {
         if is_wide(self.play.index, place, number) {
             return Ok(());
@@ -66,7 +64,7 @@ impl Encoder<'_> {
     /// Adds what the places in play keep out by entries of Conflicts and Breaks that few packages may meet. The error is want of memory.
     pub fn add_narrow(&mut self) -> Result<(), AllocError>
         ensures same_formula { self.new.formula.ghost_name ≡ self.old.formula.ghost_name }
-        ensures adds { OnOk result (Tells (λ play set. (q : ℕ) → places_in_play (members_of play.forced.now) play.candidates.now q ≡ true → MeetsNarrow play.index.now set q) self.old self.new) }
+        ensures adds { OnOk result (Tells (λ play set. (q : ℕ) → in_play play q ≡ true → MeetsNarrow play.index.now set q) self.old self.new) }
     {
         let play = self.play;
         self.add_all_entries(play.forced.as_slice())?;

@@ -1,13 +1,14 @@
-//! Places of which at most one is in: their variables, told in one list of those that exclude each other.
+//! Places that are not in together with others: their variables, told in one list of those that exclude each other.
 
-ghost use Rattle.std.specs.Prelude.{◌≡◌, ℕ, ◌<◌, true, false, OnOk, length, map};
-ghost use Rattle.sat_solve.specs.Sets.{members_of};
+ghost use Rattle.std.specs.Prelude.{◌≡◌, true, OnOk, IfSome, IfNone, map};
+ghost use Rattle.number_sets.specs.Sets.{members_of};
 ghost use Rattle.deb_encode.specs.Encoders.{Tells};
-ghost use Rattle.deb_encode.specs.Exclusions.{AreNumbersOf};
-ghost use Rattle.deb_encode.specs.Standings.{AreApart, HasOneOf};
+ghost use Rattle.deb_encode.specs.Exclusions.{AreNotIn, AreNumbersOf};
+ghost use Rattle.deb_encode.specs.Standings.{AreApart};
 
+use crate::conflicts::Keeper;
 use crate::encoder::Encoder;
-use crate::play::Play;
+use crate::play::{Play, Standing};
 use sat_solve::Owner;
 use std::alloc::{AllocError, Global};
 
@@ -54,36 +55,37 @@ fn own_all(group: u32, list: &[u32], owners: &mut Vec<Owner>) -> Result<(), Allo
     Ok(())
 }
 
-impl Encoder<'_> {
-    /// Adds that at most one of these places is in, where none of them is in anyway.
-    pub(crate) fn exclude_each_other(
-        &mut self,
-        places: &[u32],
-        exclusion: &mut Exclusion,
-    ) -> Result<(), AllocError>
-        requires none_in { (q : ℕ) → members_of places.now q ≡ true → members_of self.old.play.forced.now q ≡ false }
-        ensures same_formula { self.new.formula.ghost_name ≡ self.old.formula.ghost_name }
-        ensures adds { OnOk result (Tells (λ play. HasOneOf places.now) self.old self.new) }
-    {
-        let play = self.play;
-        list_variables(&play, places, &mut exclusion.list)?;
-        if exclusion.list.len() < 2 {
-            return Ok(());
+/// The first of these places that is in anyway.
+fn first_in(play: &Play<'_>, places: &[u32]) -> Option<u32>
+    ensures among { IfSome result (λ place. members_of places.now place ≡ true) }
+    ensures is_in { IfSome result (λ place. members_of play.now.forced.now place ≡ true) }
+    ensures none { IfNone result (AreNotIn play.now.forced.now places.now) }
+{
+    for place in places {
+        if play.forced.contains(*place) {
+            return Some(*place);
         }
-        own_all(self.group, &exclusion.list, &mut exclusion.owners)?;
-        self.formula.exclude(&exclusion.owners, &exclusion.list)?;
-        Ok(())
     }
+    None
+}
 
+/// Whether a place is one of these.
+fn has(places: &[u32], place: u32) -> bool
+    ensures { result ≡ members_of places.now place }
+{
+    places.iter().any(|other| *other == place)
+}
+
+impl Encoder<'_> {
     /// Adds that no owner is in together with another one of these places, where none of them all is in anyway.
-    pub(crate) fn exclude_others(
+    fn exclude_others(
         &mut self,
         owners: &[u32],
         places: &[u32],
         exclusion: &mut Exclusion,
     ) -> Result<(), AllocError>
-        requires no_owner_in { (q : ℕ) → members_of owners.now q ≡ true → members_of self.old.play.forced.now q ≡ false }
-        requires none_in { (q : ℕ) → members_of places.now q ≡ true → members_of self.old.play.forced.now q ≡ false }
+        requires no_owner_in { AreNotIn self.old.play.forced.now owners.now }
+        requires none_in { AreNotIn self.old.play.forced.now places.now }
         ensures same_formula { self.new.formula.ghost_name ≡ self.old.formula.ghost_name }
         ensures adds { OnOk result (Tells (λ play. AreApart owners.now places.now) self.old self.new) }
     {
@@ -93,5 +95,33 @@ impl Encoder<'_> {
         own_all(self.group, &exclusion.vars, &mut exclusion.owners)?;
         self.formula.exclude(&exclusion.owners, &exclusion.list)?;
         Ok(())
+    }
+
+    /// Adds that no owner is in together with another one of these places. Where one of them all is in anyway, no list is made.
+    pub(crate) fn add_all_apart(
+        &mut self,
+        owners: &[u32],
+        places: &[u32],
+        exclusion: &mut Exclusion,
+    ) -> Result<(), AllocError>
+        ensures same_formula { self.new.formula.ghost_name ≡ self.old.formula.ghost_name }
+        ensures adds { OnOk result (Tells (λ play. AreApart owners.now places.now) self.old self.new) }
+    {
+        let play = self.play;
+        let standing = Standing::In;
+        if let Some(place) = first_in(&play, owners) {
+            let keeper = Keeper { place, standing };
+            self.add_apart_from(keeper, places)?;
+            if !has(places, place) || owners == places {
+                return Ok(());
+            }
+            self.add_apart_from(keeper, owners)?;
+            return Ok(());
+        }
+        if let Some(place) = first_in(&play, places) {
+            self.add_apart_from(Keeper { place, standing }, owners)?;
+            return Ok(());
+        }
+        self.exclude_others(owners, places, exclusion)
     }
 }

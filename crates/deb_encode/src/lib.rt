@@ -2,7 +2,6 @@
 //!
 //! The modules in reading order:
 //!
-//! - `place_set` is the set of places that all work is done on.
 //! - `play` has the places in play, and how each place stands in the sets that are looked for.
 //! - `encoder` holds them and the formula that it adds to. Its calls stand by topic: each adds clauses that hold in just the sets that meet
 //!   one thing.
@@ -18,14 +17,12 @@ mod entries;
 mod exclusion;
 mod groups;
 mod needs;
-mod place_set;
 mod play;
 mod rivals;
 mod versions;
 
 pub use encoder::Encoder;
 pub use groups::encode_each;
-pub use place_set::PlaceSet;
 pub use play::Play;
 pub use rivals::Rivals;
 pub use versions::Versions;

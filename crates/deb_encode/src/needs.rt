@@ -1,15 +1,11 @@
 //! An essential name, or a need, as a clause over the places in play.
 
 ghost use Rattle.std.specs.Prelude.{◌≡◌, ℕ, ◌<◌, ◌||◌, true, All, IfOk, OnOk, length};
-ghost use Rattle.std.specs.List.{list_any};
-ghost use Rattle.deb_index.specs.Packages.{names, essential_names, needs_at, need_at};
-ghost use Rattle.deb_index.specs.Meets.{group_satisfiers};
+ghost use Rattle.deb_index.specs.Packages.{names, needs_at};
 ghost use Rattle.deb_index.specs.Constraints.{Holds};
-ghost use Rattle.sat_solve.specs.Sets.{members_of};
 ghost use Rattle.sat_solve.specs.Clauses.{clause_holds};
-ghost use Rattle.deb_encode.specs.Encoders.{AddsVars, Tells};
-ghost use Rattle.deb_encode.specs.Play.{placed};
-ghost use Rattle.deb_encode.specs.Standings.{Widens};
+ghost use Rattle.deb_encode.specs.Encoders.{AddsVars, Tells, WidensBySome, answers_of};
+ghost use Rattle.deb_encode.specs.Standings.{MeetsEssentials};
 
 use crate::encoder::Encoder;
 use crate::play::Play;
@@ -19,7 +15,7 @@ use std::alloc::AllocError;
 
 /// Makes a clause hold where one of the places is in, too. `true`: it holds anyway, whatever its literals say.
 fn or_some(play: &Play<'_>, places: &[u32], clause: &mut Vec<Lit>) -> Result<bool, AllocError>
-    ensures { IfOk result (λ anyway. Widens (λ vars. list_any (placed play.now.forced.now play.now.candidates.now vars) places.now) (length play.now.candidates.now) clause.old.items clause.new.items anyway) }
+    ensures { IfOk result (λ anyway. WidensBySome play.now places.now clause.old.items clause.new.items anyway) }
 {
     for place in places {
         if play.standing(*place).or_in(clause)? {
@@ -39,7 +35,7 @@ fn or_answers(
 ) -> Result<bool, AllocError>
     requires place { place < length play.now.index.now.packages }
     requires number { number < length (needs_at play.now.index.now place) }
-    ensures { IfOk result (λ anyway. Widens (λ vars. list_any (placed play.now.forced.now play.now.candidates.now vars) (group_satisfiers play.now.index.now (need_at play.now.index.now place number))) (length play.now.candidates.now) clause.old.items clause.new.items anyway) }
+    ensures { IfOk result (λ anyway. WidensBySome play.now (answers_of play.now place number) clause.old.items clause.new.items anyway) }
 {
     let row = play.index.answers(place, number, found)?;
     or_some(play, row, clause)
@@ -76,7 +72,7 @@ impl Encoder<'_> {
     /// Adds that of each essential name some package is in. The error is want of memory.
     pub fn add_essentials(&mut self) -> Result<(), AllocError>
         ensures same_formula { self.new.formula.ghost_name ≡ self.old.formula.ghost_name }
-        ensures adds { OnOk result (Tells (λ play set. (number : ℕ) → members_of (essential_names play.index.now) number ≡ true → Holds play.index.now set (Constraint.Essential number)) self.old self.new) }
+        ensures adds { OnOk result (Tells (λ play set. MeetsEssentials play.index.now set) self.old self.new) }
     {
         let play = self.play;
         for name in play.index.essential_names() {

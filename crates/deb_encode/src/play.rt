@@ -2,13 +2,13 @@
 
 ghost use Rattle.std.specs.Prelude.{◌≡◌, ℕ, ◌<◌, ◌^◌, ◌||◌, not, true, false, Some, All, IfOk, IfSome, IfNone, length, slice_get};
 ghost use Rattle.std.specs.List.Sorted.{IsStrictlyIncreasing};
-ghost use Rattle.sat_solve.specs.Sets.{NumberSet, members_of};
-ghost use Rattle.deb_encode.specs.Alone.{IsAlone, MarksOnly};
+ghost use Rattle.number_sets.specs.Sets.{NumberSet, members_of, MarksOnly};
+ghost use Rattle.deb_encode.specs.Alone.{IsAlone};
 ghost use Rattle.deb_encode.specs.Play.{placed};
-ghost use Rattle.deb_encode.specs.Standings.{is_in, IsBelow, Widens};
+ghost use Rattle.deb_encode.specs.Standings.{is_in, is_out, IsBelow, Widens};
 
-use crate::place_set::PlaceSet;
 use deb_index::Index;
+use number_sets::SparseSet;
 use sat_solve::Lit;
 use std::alloc::AllocError;
 
@@ -43,7 +43,7 @@ impl Standing {
 
     /// Makes a clause hold where the place is out, too. `true`: it holds anyway, whatever its literals say.
     pub(crate) fn or_out(self, clause: &mut Vec<Lit>) -> Result<bool, AllocError>
-        ensures { IfOk result (λ anyway. (count : ℕ) → IsBelow count self → Widens (λ vars. not (is_in self vars)) count clause.old.items clause.new.items anyway) }
+        ensures { IfOk result (λ anyway. (count : ℕ) → IsBelow count self → Widens (is_out self) count clause.old.items clause.new.items anyway) }
     {
         match self {
             Standing::In => Ok(false),
@@ -64,8 +64,8 @@ impl Standing {
 #[derive(Clone, Copy)]
 pub struct Play<'a> {
     pub(crate) index: &'a Index,
-    pub(crate) forced: &'a PlaceSet,
-    pub(crate) candidates: &'a PlaceSet,
+    pub(crate) forced: &'a SparseSet,
+    pub(crate) candidates: &'a SparseSet,
     /// By place: no entry of it hits another one, and no other one has its name.
     alone: &'a [bool],
     ghost forced_within: { All (λ q. q < length index.now.packages) forced.now },
@@ -82,8 +82,8 @@ impl<'a> Play<'a> {
     /// name. A package without a mark has its conflicts told.
     pub fn new(
         index: &'a Index,
-        forced: &'a PlaceSet,
-        candidates: &'a PlaceSet,
+        forced: &'a SparseSet,
+        candidates: &'a SparseSet,
         alone: &'a [bool],
     ) -> Play<'a>
         requires forced_within { All (λ q. q < length index.now.packages) forced.now }
@@ -112,7 +112,7 @@ impl<'a> Play<'a> {
         if self.forced.contains(place) {
             return Standing::In;
         }
-        match self.candidates.number_of(place) {
+        match self.candidates.position_of(place) {
             Some(number) => Standing::Variable(number as u32),
             None => Standing::Out,
         }
@@ -123,7 +123,7 @@ impl<'a> Play<'a> {
         ensures some { IfSome result (λ var. slice_get self.now.candidates.now var ≡ Some place) }
         ensures none { IfNone result (members_of self.now.candidates.now place ≡ false) }
     {
-        let number = self.candidates.number_of(place)?;
+        let number = self.candidates.position_of(place)?;
         Some(number as u32)
     }
 

@@ -1,23 +1,19 @@
 //! Entries that very many packages may meet: each atom is told once, with all the places that keep out what meets it.
 
-ghost use Rattle.std.specs.Prelude.{◌≡◌, ℕ, ◌<◌, ◌≤◌, ◌&&◌, ◌||◌, ◌==◌, not, true, false, None, All, IfOk, OnOk, length};
+ghost use Rattle.std.specs.Prelude.{◌≡◌, ℕ, ◌<◌, ◌≤◌, ◌&&◌, ◌==◌, true, None, All, IfOk, OnOk, length};
 ghost use Rattle.deb_relation.specs.AtomView.{atom_view};
-ghost use Rattle.deb_index.specs.Packages.{aparts_at, apart_at};
+ghost use Rattle.deb_index.specs.Packages.{apart_at};
 ghost use Rattle.deb_index.specs.Meets.{meets_at};
-ghost use Rattle.deb_index.specs.Constraints.{Holds};
-ghost use Rattle.sat_solve.specs.Sets.{members_of};
-ghost use Rattle.deb_encode.specs.Play.{places_in_play};
-ghost use Rattle.deb_encode.specs.Encoders.{Tells};
-ghost use Rattle.deb_encode.specs.Exclusions.{IsWide, AddsWide, IsRun};
-ghost use Rattle.deb_encode.specs.Standings.{has_row, AreApart};
+ghost use Rattle.number_sets.specs.Sets.{members_of};
+ghost use Rattle.deb_encode.specs.Encoders.{Tells, in_play};
+ghost use Rattle.deb_encode.specs.Exclusions.{Lists, AddsNumbers, IsWide, EntryHolds, AddsWide, IsRun};
+ghost use Rattle.deb_encode.specs.Standings.{MeetsWide};
 
-use crate::conflicts::Owner;
 use crate::encoder::Encoder;
 use crate::entries::is_wide;
 use crate::exclusion::Exclusion;
-use crate::play::{Play, Standing};
-use crate::versions::first_in;
-use deb_index::{Constraint, Index};
+use crate::play::Play;
+use deb_index::Index;
 use deb_relation::Atom;
 use std::alloc::{AllocError, Global};
 
@@ -88,10 +84,7 @@ fn is_plain(atom: &Atom) -> bool
     ensures qualifier { result ≡ true → (atom_view atom.now).qualifier ≡ None }
     ensures bound { result ≡ true → (atom_view atom.now).bound ≡ None }
 {
-    if atom.qualifier.is_some() {
-        return false;
-    }
-    atom.bound.is_none()
+    atom.qualifier.is_none() && atom.bound.is_none()
 }
 
 /// Whether two entries are known to have the same atom: those that are names alone.
@@ -102,13 +95,7 @@ fn is_same(index: &Index, one: Entry, other: Entry) -> bool
 {
     let first = index.apart(one.place, one.number);
     let second = index.apart(other.place, other.number);
-    if !is_plain(first) {
-        return false;
-    }
-    if !is_plain(second) {
-        return false;
-    }
-    first.name.as_slice() == second.name.as_slice()
+    is_plain(first) && is_plain(second) && first.name.as_slice() == second.name.as_slice()
 }
 
 /// Takes the places of the entries from one on that have its atom, up to the first that hasn't: where that stands.
@@ -145,7 +132,7 @@ fn push_meeting(
     found: &mut Vec<u32>,
 ) -> Result<(), AllocError>
     requires places { All (λ q. q < length index.now.packages) places.now }
-    ensures { OnOk result ((q : ℕ) → members_of found.new.items q ≡ (members_of found.old.items q || (members_of places.now q && meets_at index.now q (atom_view atom.now)))) }
+    ensures { OnOk result (AddsNumbers (λ q. members_of places.now q && meets_at index.now q (atom_view atom.now)) found.old.items found.new.items) }
 {
     for place in places {
         if index.meets(*place, atom) {
@@ -157,7 +144,7 @@ fn push_meeting(
 
 /// Lists the places in play that meet an atom.
 fn list_meeting(play: &Play<'_>, atom: &Atom, found: &mut Vec<u32>) -> Result<(), AllocError>
-    ensures { OnOk result ((q : ℕ) → members_of found.new.items q ≡ (places_in_play (members_of play.now.forced.now) play.now.candidates.now q && meets_at play.now.index.now q (atom_view atom.now))) }
+    ensures { OnOk result (Lists (λ q. in_play play.now q && meets_at play.now.index.now q (atom_view atom.now)) found.new.items) }
 {
     found.clear();
     push_meeting(play.index, atom, play.forced.as_slice(), found)?;
@@ -165,75 +152,12 @@ fn list_meeting(play: &Play<'_>, atom: &Atom, found: &mut Vec<u32>) -> Result<()
     Ok(())
 }
 
-/// Whether a place is one of these.
-fn has(places: &[u32], place: u32) -> bool
-    ensures { result ≡ members_of places.now place }
-{
-    places.iter().any(|other| *other == place)
-}
-
 impl Encoder<'_> {
-    /// Adds that no owner is in together with another one of these places, where one of the owners is in anyway.
-    fn add_owner_in(&mut self, place: u32, owners: &[u32], places: &[u32]) -> Result<(), AllocError>
-        requires owner { members_of owners.now place ≡ true }
-        requires is_in { members_of self.old.play.forced.now place ≡ true }
-        ensures same_formula { self.new.formula.ghost_name ≡ self.old.formula.ghost_name }
-        ensures adds { OnOk result (Tells (λ play. AreApart owners.now places.now) self.old self.new) }
-    {
-        let standing = Standing::In;
-        let owner = Owner { place, standing };
-        self.add_apart_from(owner, places)?;
-        if !has(places, place) {
-            return Ok(());
-        }
-        self.add_apart_from(owner, owners)?;
-        Ok(())
-    }
-
-    /// Adds that no owner is in together with another one of these places, where no owner is in anyway.
-    fn add_none_in(
-        &mut self,
-        owners: &[u32],
-        places: &[u32],
-        exclusion: &mut Exclusion,
-    ) -> Result<(), AllocError>
-        requires no_owner_in { (q : ℕ) → members_of owners.now q ≡ true → members_of self.old.play.forced.now q ≡ false }
-        ensures same_formula { self.new.formula.ghost_name ≡ self.old.formula.ghost_name }
-        ensures adds { OnOk result (Tells (λ play. AreApart owners.now places.now) self.old self.new) }
-    {
-        let play = self.play;
-        match first_in(&play, places) {
-            Some(place) => {
-                let standing = Standing::In;
-                let owner = Owner { place, standing };
-                self.add_apart_from(owner, owners)
-            }
-            None => self.exclude_others(owners, places, exclusion),
-        }
-    }
-
-    /// Adds that no owner is in together with another one of these places.
-    fn add_all_apart(
-        &mut self,
-        owners: &[u32],
-        places: &[u32],
-        exclusion: &mut Exclusion,
-    ) -> Result<(), AllocError>
-        ensures same_formula { self.new.formula.ghost_name ≡ self.old.formula.ghost_name }
-        ensures adds { OnOk result (Tells (λ play. AreApart owners.now places.now) self.old self.new) }
-    {
-        let play = self.play;
-        match first_in(&play, owners) {
-            Some(place) => self.add_owner_in(place, owners, places),
-            None => self.add_none_in(owners, places, exclusion),
-        }
-    }
-
     /// Adds what these entries say, run by run.
     fn add_runs(&mut self, entries: &[Entry], one: &mut OneAtom) -> Result<(), AllocError>
         requires { All (IsWide self.old.play.index.now) entries.now }
         ensures same_formula { self.new.formula.ghost_name ≡ self.old.formula.ghost_name }
-        ensures adds { OnOk result (Tells (λ play set. All (λ entry. Holds play.index.now set (Constraint.Apart entry.place entry.number)) entries.now) self.old self.new) }
+        ensures adds { OnOk result (Tells (λ play set. All (EntryHolds play.index.now set) entries.now) self.old self.new) }
     {
         let play = self.play;
         let mut start = 0;
@@ -255,7 +179,7 @@ impl Encoder<'_> {
     /// `rivals` are buffers.
     pub fn add_wide(&mut self, rivals: &mut Rivals) -> Result<(), AllocError>
         ensures same_formula { self.new.formula.ghost_name ≡ self.old.formula.ghost_name }
-        ensures adds { OnOk result (Tells (λ play set. (q : ℕ) → places_in_play (members_of play.forced.now) play.candidates.now q ≡ true → (j : ℕ) → j < length (aparts_at play.index.now q) → has_row play.index.now q j ≡ false → Holds play.index.now set (Constraint.Apart q j)) self.old self.new) }
+        ensures adds { OnOk result (Tells (λ play set. (q : ℕ) → in_play play q ≡ true → MeetsWide play.index.now set q) self.old self.new) }
     {
         let play = self.play;
         rivals.entries.clear();

@@ -3,8 +3,7 @@ use Rattle.std.specs.Prelude.{◌≡◌, ℕ, true, All, Some, slice_get}
 use Rattle.deb_index.specs.declared.constraint.Constraint.{Constraint}
 use Rattle.deb_index.specs.Packages.{IndexView}
 use Rattle.deb_index.specs.Constraints.{Holds, constraints_of}
-use Rattle.sat_solve.specs.Sets.{NumberSet}
-use Rattle.core_extract.specs.Reduction.{IsWithin, IsUpward}
+use Rattle.number_sets.specs.Sets.{NumberSet, IsWithin, IsUpward}
 
 -- the set meets all constraints of the index
 abbrev pub IsHealthy : IndexView → NumberSet → Type 0
@@ -13,6 +12,10 @@ IsHealthy index set = All (Holds index set) (constraints_of index)
 -- a healthy set that contains p
 abbrev pub IsInstallation : IndexView → ℕ → NumberSet → Type 0
 IsInstallation index p set = IsHealthy index set × (set p ≡ true)
+
+-- no healthy set contains p
+abbrev pub IsHopeless : IndexView → ℕ → Type 0
+IsHopeless index p = (set : NumberSet) → IsInstallation index p set → ⊥
 
 -- some healthy set contains p
 abbrev pub IsInstallable : IndexView → ℕ → Type 0

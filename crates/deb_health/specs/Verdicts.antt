@@ -4,10 +4,10 @@ use Rattle.std.specs.List.Sorted.{IsStrictlyIncreasing}
 use Rattle.deb_index.specs.declared.constraint.Constraint.{Constraint}
 use Rattle.deb_index.specs.Packages.{IndexView}
 use Rattle.deb_index.specs.Constraints.{constraints_of, IsOfIndex}
-use Rattle.sat_solve.specs.Sets.{NumberSet, members_of, IsFirst}
+use Rattle.number_sets.specs.Sets.{members_of, IsFirst}
 use Rattle.deb_health.specs.declared.answer.Verdict.{Verdict}
 use Rattle.deb_health.specs.declared.answer.Verdict.TheVariants as variant
-use Rattle.deb_health.specs.Health.{IsInstallation, AdmitsNone}
+use Rattle.deb_health.specs.Health.{IsInstallation, IsHopeless, AdmitsNone}
 
 -- the places, rising, of the first healthy set that contains p
 abbrev pub IsFirstInstallation : IndexView → ℕ → List ℕ → Type 0
@@ -32,7 +32,7 @@ verdict_view (variant.Broken constraints) = Blocked constraints.items
 -- the first healthy set that contains p; where there is none, the first core
 abbrev pub IsVerdict : IndexView → ℕ → VerdictView → Type 0
 IsVerdict index p (Found places) = IsFirstInstallation index p places
-IsVerdict index p (Blocked constraints) = ((set : NumberSet) → IsInstallation index p set → ⊥) × IsFirstCore index p constraints
+IsVerdict index p (Blocked constraints) = IsHopeless index p × IsFirstCore index p constraints
 
 -- a verdict speaks of places and constraints that the index has
 abbrev pub SpeaksOf : IndexView → VerdictView → Type 0

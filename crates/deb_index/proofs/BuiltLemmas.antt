@@ -1,5 +1,5 @@
 -- What a stanza adds to an index while it is read.
-use Rattle.std.proofs.Common.{◌≡◌, ◌≤◌, ◌<◌, ◌+◌, ℕ, true, false, cond, List, [], ◌∷◌, ◌++◌, map, length, sum_by, Some, refl, sym, ap, ◌∙◌, subst, arith}
+use Rattle.std.proofs.Common.{◌≡◌, ◌≤◌, ◌<◌, ◌+◌, ℕ, false, cond, List, [], ◌∷◌, ◌++◌, map, length, sum_by, Some, refl, sym, ap, ◌∙◌, subst, arith}
 use Rattle.std.specs.List.{list_any, AllByRecursion}
 use Rattle.std.proofs.lemmas.List.{length-append, map-append}
 use Rattle.std.proofs.lemmas.List.Sums.{sum_by_push}
@@ -25,11 +25,7 @@ keys-grow key ks k same apart =
     let none : list_any (λ k. same_key (key_view key) (key_view k)) ks ≡ false = sym (any-map (same_key (key_view key)) key_view ks) ∙ ap (λ k. list_any (same_key k) (map key_view ks)) same ∙ apart in
     ap (λ b. map key_view (cond b ks (ks ++ key ∷ []))) none ∙ map-append key_view ks (key ∷ []) ∙ ap (λ w. map key_view ks ++ w ∷ []) same
 
--- what a stanza adds to an index: a duplicate, or a package
-pub adds-duplicate : (index : IndexView) (p : PackageView) → list_any (λ q. same_package q p) index.packages ≡ true
-    → record index { stanzas = index.stanzas + 1; duplicates = index.duplicates + 1 } ≡ with_reading index (Some p)
-adds-duplicate index p there = sym (rw there refl)
-
+-- a package that is new goes last
 pub adds-package : (index : IndexView) (p : PackageView) → list_any (λ q. same_package q p) index.packages ≡ false
     → record index { packages = index.packages ++ p ∷ []; stanzas = index.stanzas + 1 } ≡ with_reading index (Some p)
 adds-package index p there = sym (rw there refl)

@@ -123,6 +123,10 @@ module _ (arch : List ℕ) (with_essential : Bool) where
   pub text-unread : (text : List ℕ) (old : IndexView) (f : IndexError) → old ≡ collected arch with_essential [] → continued old (readings arch old.stanzas 0 (stanzas_of text)) ≡ Err f → readings arch 0 0 (stanzas_of text) ≡ Err f
   text-unread text old f is e = failed-of (readings arch 0 0 (stanzas_of text)) f (sym (from-none text old is) ∙ e)
 
+  pub own-arch : (old : IndexView) → old ≡ collected arch with_essential [] → old.arch ≡ arch
+  unfolding collected
+  own-arch old is = ap (λ (i : IndexView). i.arch) is
+
   -- and so gives the text's index
   pub text-index : (text : List ℕ) (old index : IndexView) → old ≡ collected arch with_essential [] → continued old (readings arch old.stanzas 0 (stanzas_of text)) ≡ Ok index → index_of text arch with_essential ≡ Ok (with_foreground index)
   unfolding index_of

@@ -116,12 +116,6 @@ module _ (index : IndexView) where
     length-range_with_len 0 (length (names index)),
   )
 
--- a package asks for no more than all do
-pub asked-at : (ps : List PackageView) (i : ℕ) → i < length ps → asked_count (get_or ps i no_package) ≤ sum_by asked_count ps
-asked-at [] i less = absurd (omega arith)
-asked-at (p ∷ ps) zero less = omega (arith, sum_by-cons asked_count p ps)
-asked-at (p ∷ ps) (suc i) less = omega (arith, sum_by-cons asked_count p ps, asked-at ps i (omega arith))
-
 -- ---- the parts that were pushed, put together
 
 pub asked-all : (index : IndexView) (p g e : ℕ) (old mid new : List Constraint) → mid ≡ old ++ map (λ j. Need p j) (below g) → new ≡ mid ++ map (λ j. Apart p j) (below e)

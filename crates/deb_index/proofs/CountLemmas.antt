@@ -3,7 +3,8 @@ use Rattle.std.proofs.Common.{◌≡◌, ℕ, ◌+◌, ◌<◌, ◌≤◌, Bool,
 use Rattle.std.specs.Prelude.{count_by}
 use Rattle.std.proofs.lemmas.List.Sums.{sum_by-cons}
 use Rattle.std.proofs.lemmas.Bool.{cases_Bool, false≢true, or_cases, or_left, or_right, eqb-true, eq-eqb}
-use Rattle.deb_index.proofs.RisingLemmas.{IsRising, is_in, rising-within}
+use Rattle.deb_index.specs.Packages.{is_in}
+use Rattle.deb_index.proofs.RisingLemmas.{IsRising, rising-within}
 
 module _ (test : ℕ → Bool) where
   count-first : (x : ℕ) (xs : List ℕ) → test x ≡ true → count_by test (x ∷ xs) ≡ 1 + count_by test xs

@@ -5,7 +5,7 @@ use Rattle.deb_control.specs.Lines.{lines, content_lines}
 use Rattle.deb_control.specs.Fields.{is_field_name, field_parts, has_bad_line, value_of, fields_of, has_repeat, field_value}
 use Rattle.deb_control.specs.Stanzas.{runs, stanzas_of, good_fields, read_stanza}
 use Rattle.deb_relation.specs.Runs.{after_run, run}
-use Rattle.deb_relation.specs.Relationship.{AtomText, atom_of, atoms_from, bound_at, group_of, groups_from, inside_at}
+use Rattle.deb_relation.specs.Relationship.{AtomText, atom_of, bound_at, each, inside_at}
 use Rattle.deb_relation.specs.Split.{continued_cmp, in_front, part_cmp, split}
 use Rattle.deb_relation.specs.VersionOrder.{rest_cmp, version_cmp}
 use Rattle.deb_relation.specs.VersionText.{colon_in, compared_epoch, compared_revision, compared_upstream, fault_of, hyphen_in, last_position, rest_fault}
@@ -44,7 +44,7 @@ pub bounded_provides :
     (seen (λ i. satisfiers i (asked (codes "bar") (Some (Ge, codes "1.0")))) provided_version ≡ Some (2 ∷ []))
     × (seen (λ i. satisfiers i (asked (codes "bar") None)) provided_version ≡ Some (1 ∷ 2 ∷ []))
     × (seen (λ i. meets_at i 1 (asked (codes "bar") (Some (Ge, codes "1.0")))) provided_version ≡ Some false)
-unfolding lines content_lines is_field_name field_parts has_bad_line value_of fields_of has_repeat field_value runs stanzas_of good_fields read_stanza groups_from group_of atom_of bound_at inside_at atoms_from run after_run fault_of rest_fault colon_in hyphen_in last_position split in_front part_cmp continued_cmp rest_cmp version_cmp compared_epoch compared_upstream compared_revision first_of_each places_where head_of package_of provides_in reading_of stanza_reading readings collected index_of meets provided_at constraints_of is_holding meets_need
+unfolding lines content_lines is_field_name field_parts has_bad_line value_of fields_of has_repeat field_value runs stanzas_of good_fields read_stanza each atom_of bound_at inside_at run after_run fault_of rest_fault colon_in hyphen_in last_position split in_front part_cmp continued_cmp rest_cmp version_cmp compared_epoch compared_upstream compared_revision first_of_each places_where head_of package_of provides_in reading_of stanza_reading readings collected index_of meets provided_at constraints_of is_holding meets_need
 bounded_provides = (refl, refl, refl)
 
 abbrev spelled : List ℕ
@@ -53,7 +53,7 @@ spelled = codes "Package: a\nVersion: 1.0\nArchitecture: amd64\n\nPackage: a\nVe
 pub duplicates_and_skipped :
     (seen counts spelled ≡ Some (4 ∷ 1 ∷ 1 ∷ []))
     × (seen (λ i. map (λ (p : PackageView). p.version) i.packages) spelled ≡ Some (codes "1.0" ∷ codes "1.00" ∷ []))
-unfolding lines content_lines is_field_name field_parts has_bad_line value_of fields_of has_repeat field_value runs stanzas_of good_fields read_stanza groups_from group_of atom_of bound_at inside_at atoms_from run after_run fault_of rest_fault colon_in hyphen_in last_position split in_front part_cmp continued_cmp rest_cmp version_cmp compared_epoch compared_upstream compared_revision first_of_each places_where head_of package_of provides_in reading_of stanza_reading readings collected index_of meets provided_at constraints_of is_holding meets_need
+unfolding lines content_lines is_field_name field_parts has_bad_line value_of fields_of has_repeat field_value runs stanzas_of good_fields read_stanza each atom_of bound_at inside_at run after_run fault_of rest_fault colon_in hyphen_in last_position split in_front part_cmp continued_cmp rest_cmp version_cmp compared_epoch compared_upstream compared_revision first_of_each places_where head_of package_of provides_in reading_of stanza_reading readings collected index_of meets provided_at constraints_of is_holding meets_need
 duplicates_and_skipped = (refl, refl)
 
 pub refusals :
@@ -66,13 +66,13 @@ pub refusals :
     × (read (codes "Package: a\nVersion: 1_2\nArchitecture: all\n") ≡ Err (BadVersion 1))
     × (read (codes "Package: a!\nVersion: 1\nArchitecture: all\n") ≡ Err (BadName 1))
     × (read (codes "Package: a\nVersion: 1\nArchitecture: all\npackage: a\n") ≡ Err (RepeatedField 1))
-unfolding lines content_lines is_field_name field_parts has_bad_line value_of fields_of has_repeat field_value runs stanzas_of good_fields read_stanza groups_from group_of atom_of bound_at inside_at atoms_from run after_run fault_of rest_fault colon_in hyphen_in last_position split in_front part_cmp continued_cmp rest_cmp version_cmp compared_epoch compared_upstream compared_revision first_of_each places_where head_of package_of provides_in reading_of stanza_reading readings collected index_of meets provided_at constraints_of is_holding meets_need
+unfolding lines content_lines is_field_name field_parts has_bad_line value_of fields_of has_repeat field_value runs stanzas_of good_fields read_stanza each atom_of bound_at inside_at run after_run fault_of rest_fault colon_in hyphen_in last_position split in_front part_cmp continued_cmp rest_cmp version_cmp compared_epoch compared_upstream compared_revision first_of_each places_where head_of package_of provides_in reading_of stanza_reading readings collected index_of meets provided_at constraints_of is_holding meets_need
 refusals = (refl, refl, refl, refl, refl, refl, refl, refl, refl)
 
 pub in_order :
     (seen constraints_of (codes "Package: a\nVersion: 1\nArchitecture: all\nDepends: x, y\n") ≡ Some (Need 0 0 ∷ Need 0 1 ∷ Only 0 ∷ []))
     × (seen constraints_of (codes "Package: base\nVersion: 1\nArchitecture: all\nEssential: yes\n\nPackage: x\nVersion: 1\nArchitecture: all\nConflicts: base\n") ≡ Some (Essential 0 ∷ Apart 1 0 ∷ Only 0 ∷ Only 1 ∷ []))
-unfolding lines content_lines is_field_name field_parts has_bad_line value_of fields_of has_repeat field_value runs stanzas_of good_fields read_stanza groups_from group_of atom_of bound_at inside_at atoms_from run after_run fault_of rest_fault colon_in hyphen_in last_position split in_front part_cmp continued_cmp rest_cmp version_cmp compared_epoch compared_upstream compared_revision first_of_each places_where head_of package_of provides_in reading_of stanza_reading readings collected index_of meets provided_at constraints_of is_holding meets_need
+unfolding lines content_lines is_field_name field_parts has_bad_line value_of fields_of has_repeat field_value runs stanzas_of good_fields read_stanza each atom_of bound_at inside_at run after_run fault_of rest_fault colon_in hyphen_in last_position split in_front part_cmp continued_cmp rest_cmp version_cmp compared_epoch compared_upstream compared_revision first_of_each places_where head_of package_of provides_in reading_of stanza_reading readings collected index_of meets provided_at constraints_of is_holding meets_need
 in_order = (refl, refl)
 
 pub held :
@@ -80,7 +80,7 @@ pub held :
     × (seen (λ i. is_holding i (λ p. nat_eq p 0) (Need 0 1)) (codes "Package: s\nVersion: 1\nArchitecture: all\nDepends: s, v\nProvides: v\n") ≡ Some true)
     × (seen (λ i. is_holding i (λ p. true) (Apart 1 0)) (codes "Package: base\nVersion: 1\nArchitecture: all\nEssential: yes\n\nPackage: x\nVersion: 1\nArchitecture: all\nConflicts: base\n") ≡ Some false)
     × (seen (λ i. is_holding i (λ p. nat_eq p 1) (Essential 0)) (codes "Package: base\nVersion: 1\nArchitecture: all\nEssential: yes\n\nPackage: x\nVersion: 1\nArchitecture: all\nConflicts: base\n") ≡ Some false)
-unfolding lines content_lines is_field_name field_parts has_bad_line value_of fields_of has_repeat field_value runs stanzas_of good_fields read_stanza groups_from group_of atom_of bound_at inside_at atoms_from run after_run fault_of rest_fault colon_in hyphen_in last_position split in_front part_cmp continued_cmp rest_cmp version_cmp compared_epoch compared_upstream compared_revision first_of_each places_where head_of package_of provides_in reading_of stanza_reading readings collected index_of meets provided_at constraints_of is_holding meets_need
+unfolding lines content_lines is_field_name field_parts has_bad_line value_of fields_of has_repeat field_value runs stanzas_of good_fields read_stanza each atom_of bound_at inside_at run after_run fault_of rest_fault colon_in hyphen_in last_position split in_front part_cmp continued_cmp rest_cmp version_cmp compared_epoch compared_upstream compared_revision first_of_each places_where head_of package_of provides_in reading_of stanza_reading readings collected index_of meets provided_at constraints_of is_holding meets_need
 held = (refl, refl, refl, refl)
 
 abbrev provided_twice : List ℕ
@@ -94,7 +94,7 @@ pub provided :
     × (seen (λ i. satisfiers i (record { name = codes "v"; qualifier = Some (codes "i386"); bound = None })) provided_twice ≡ Some [])
     × (seen (λ i. provided_at i (codes "v")) provided_twice ≡ Some ((0, 0) ∷ (0, 1) ∷ (1, 0) ∷ []))
     × (seen (λ i. provided_at i (codes "w")) provided_twice ≡ Some [])
-unfolding lines content_lines is_field_name field_parts has_bad_line value_of fields_of has_repeat field_value runs stanzas_of good_fields read_stanza groups_from group_of atom_of bound_at inside_at atoms_from run after_run fault_of rest_fault colon_in hyphen_in last_position split in_front part_cmp continued_cmp rest_cmp version_cmp compared_epoch compared_upstream compared_revision first_of_each places_where head_of package_of provides_in reading_of stanza_reading readings collected index_of meets provided_at constraints_of is_holding meets_need
+unfolding lines content_lines is_field_name field_parts has_bad_line value_of fields_of has_repeat field_value runs stanzas_of good_fields read_stanza each atom_of bound_at inside_at run after_run fault_of rest_fault colon_in hyphen_in last_position split in_front part_cmp continued_cmp rest_cmp version_cmp compared_epoch compared_upstream compared_revision first_of_each places_where head_of package_of provides_in reading_of stanza_reading readings collected index_of meets provided_at constraints_of is_holding meets_need
 provided = (refl, refl, refl, refl, refl, refl, refl)
 
 -- two packages provide a name, and one of them is marked
@@ -110,5 +110,5 @@ pub marks :
     × (seen (λ i. meets_need_at i 2 of_any) marked_provider ≡ Some false)
     × (seen (λ i. meets_at i 2 of_any) marked_provider ≡ Some true)
     × (seen (λ i. need_satisfiers i (asked (codes "v") None)) marked_provider ≡ Some (1 ∷ 2 ∷ []))
-unfolding lines content_lines is_field_name field_parts has_bad_line value_of fields_of has_repeat field_value runs stanzas_of good_fields read_stanza groups_from group_of atom_of bound_at inside_at atoms_from run after_run fault_of rest_fault colon_in hyphen_in last_position split in_front part_cmp continued_cmp rest_cmp version_cmp compared_epoch compared_upstream compared_revision first_of_each places_where head_of package_of provides_in reading_of stanza_reading readings collected index_of meets provided_at constraints_of is_holding meets_need
+unfolding lines content_lines is_field_name field_parts has_bad_line value_of fields_of has_repeat field_value runs stanzas_of good_fields read_stanza each atom_of bound_at inside_at run after_run fault_of rest_fault colon_in hyphen_in last_position split in_front part_cmp continued_cmp rest_cmp version_cmp compared_epoch compared_upstream compared_revision first_of_each places_where head_of package_of provides_in reading_of stanza_reading readings collected index_of meets provided_at constraints_of is_holding meets_need
 marks = (refl, refl, refl, refl, refl)

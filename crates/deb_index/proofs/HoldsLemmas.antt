@@ -1,5 +1,5 @@
 -- The computing test of a constraint tells whether it holds.
-use Rattle.std.proofs.Common.{◌≡◌, ℕ, Bool, true, false, not, ◌&&◌, eqb, List, [], ◌∷◌, Option, Some, None, slice_get, refl, sym, ◌∙◌, inl, inr, ◌↔◌}
+use Rattle.std.proofs.Common.{◌≡◌, ℕ, Bool, true, false, not, ◌&&◌, eqb, List, [], ◌∷◌, Option, Some, None, slice_get, refl, sym, ◌∙◌, inl, inr}
 use Rattle.std.specs.Prelude.{count_by}
 use Rattle.std.specs.List.{list_any}
 use Rattle.std.specs.Option.{option_map_or}
@@ -89,7 +89,3 @@ module _ (index : IndexView) (set : ℕ → Bool) where
   test-from-holds (Only n) h = le-leb (count_by set (places_of index (name_at index n))) 1
       (count-from-one set 0 _ (places_of index (name_at index n)) (where-rising (is_named (name_at index n)) index.packages) (λ q r inside also there too.
       h q r inside also (sym (member-places_where (is_named (name_at index n)) index.packages q) ∙ there) (sym (member-places_where (is_named (name_at index n)) index.packages r) ∙ too)))
-
-  -- the test of a constraint is true where it holds, and only there
-  pub is_holding-decides : (c : Constraint) → (is_holding index set c ≡ true) ↔ Holds index set c
-  is_holding-decides c = (holds-from-test c, test-from-holds c)

@@ -5,8 +5,9 @@ use Rattle.std.specs.Prelude.{find}
 use Rattle.std.specs.List.{enumerate_from, list_any}
 use Rattle.std.specs.Option.{option_map_or}
 use Rattle.std.specs.Str.{bytes_eq}
-use Rattle.std.proofs.lemmas.Bool.{false≢true}
+use Rattle.std.proofs.lemmas.Bool.{false≢true, or_parts}
 use Rattle.std.proofs.lemmas.List.{append-nil, get_or-map, length-map}
+use Rattle.std.proofs.lemmas.List.Folds.{list_any-append}
 use Rattle.deb_index.specs.declared.package.Package.{Package}
 use Rattle.deb_index.specs.Packages.{PackageView, is_named, package_view, places_where}
 use Rattle.deb_index.specs.Reading.{same_package}
@@ -27,14 +28,9 @@ or-turned true false = refl
 or-turned false true = refl
 or-turned false false = refl
 
-or-none : (a b : Bool) → (a || b) ≡ false → b ≡ false
-or-none true b e = absurd (false≢true (sym e))
-or-none false b e = e
-
 module _ {A : Type 0} (test : A → Bool) where
   any-push : (xs : List A) (x : A) → list_any test (xs ++ x ∷ []) ≡ (list_any test xs || test x)
-  any-push [] x = or-false (test x)
-  any-push (y ∷ ys) x = ap (λ r. test y || r) (any-push ys x) ∙ sym (or-joined (test y) (list_any test ys) (test x))
+  any-push xs x = list_any-append test xs (x ∷ []) ∙ ap (λ r. list_any test xs || r) (or-false (test x))
 
   find-none : (xs : List A) → list_any test xs ≡ false → find test xs ≡ None
   find-none [] h = refl
@@ -128,7 +124,7 @@ known-first p packages later places q known e some at =
 
 -- the key of a package that isn't known is not there
 pub key-apart : (p : PackageView) (packages : List PackageView) (later : List (List ℕ × List ℕ)) → IsKnown packages later → list_any (λ q. same_package q p) packages ≡ false → list_any (same_key (package_key p)) later ≡ false
-key-apart p packages later known apart = or-none _ _ (sym (known p) ∙ apart)
+key-apart p packages later known apart = (or_parts _ _ (sym (known p) ∙ apart)).1
 
 -- one package more, whose key is kept where its name was there
 pub known-push : (packages : List PackageView) (later : List (List ℕ × List ℕ)) (q : PackageView) → IsKnown packages later → IsKnown (packages ++ q ∷ []) (later ++ cond (list_any (is_named q.name) packages) (package_key q ∷ []) [])

@@ -9,7 +9,7 @@ pub mod SmallLemmas
 pub mod Examples
 pub mod MemberLemmas
 pub mod RisingLemmas
-pub mod WalkLemmas
+pub mod FoundLemmas
 pub mod ConstraintLemmas
 pub mod CountLemmas
 pub mod HoldsLemmas
@@ -17,13 +17,15 @@ pub mod SizeLemmas
 pub mod StepLemmas
 pub mod CollectLemmas
 pub mod RoomLemmas
+pub mod TakenLemmas
+pub mod ForeseenLemmas
+pub mod PartedLemmas
 pub mod EnumerateLemmas
 pub mod NameLemmas
 pub mod ProvidedLemmas
 pub mod BuiltLemmas
 pub mod EssentialLemmas
 pub mod EndLemmas
-pub mod MergeLemmas
 pub mod RowLemmas
 pub mod PartLemmas
 pub mod LinkLemmas

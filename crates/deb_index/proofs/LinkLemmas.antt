@@ -1,5 +1,5 @@
 -- What an index looks up by place: how it grows by a package, and what stands at a place.
-use Rattle.std.proofs.Common.{◌≡◌, ◌<◌, ◌≤◌, ◌+◌, ℕ, List, [], ◌∷◌, ◌++◌, map, length, take, get_or, sum_by, Option, None, Result, Ok, Err, OnOk, sym, ap, ◌∙◌, subst, append_assoc, arith}
+use Rattle.std.proofs.Common.{◌≡◌, ◌<◌, ◌≤◌, ◌+◌, ℕ, List, [], ◌∷◌, ◌++◌, map, length, take, get_or, sum_by, Option, None, Result, Ok, Err, OnOk, sym, ap, ◌∙◌, append_assoc, arith}
 use Rattle.std.specs.List.{flat_map}
 use Rattle.std.proofs.lemmas.List.{get_or-map, length-map, map-append, take_more}
 use Rattle.std.proofs.lemmas.List.Concat.{length-flat_map}
@@ -8,7 +8,7 @@ use Rattle.deb_index.specs.declared.links.Start.{Start}
 use Rattle.deb_index.specs.Packages.{IndexView, PackageView, aparts, aparts_at, apart_at, need_at, needs, needs_at, no_atom, no_package}
 use Rattle.deb_index.specs.Tables.{asked_count}
 use Rattle.deb_index.specs.Rows.{answer_row, hit_row}
-use Rattle.deb_index.specs.Links.{IsLinked}
+use Rattle.deb_index.specs.Links.{IsLinked, starts_from}
 use Rattle.deb_index.proofs.PartLemmas.{flat-at, flat-push, flat-within, start-at, starts-length, starts-none, starts-push, sum-less, sum-more}
 
 pub on-ok : {A E : Type 0} {P Q : Type 0} (r : Result A E) → (P → Q) → OnOk r P → OnOk r Q
@@ -21,114 +21,132 @@ rows-more f front xs n d less =
     append_assoc front (map f (take n xs)) (f (get_or xs n d) ∷ [])
     ∙ ap (λ l. front ++ l) (sym (ap (map f) (take_more xs n d less) ∙ map-append f (take n xs) (get_or xs n d ∷ [])))
 
--- ---- how they grow
+-- ---- the rows of one kind, each package's behind those of the one before
+
+abbrev Row : Type 0
+Row = Option (List ℕ)
+
+module _ (count : PackageView → ℕ) (rows_of : PackageView → List Row) (counts : (p : PackageView) → length (rows_of p) ≡ count p) where
+  sums : (packages : List PackageView) → sum_by (λ p. length (rows_of p)) packages ≡ sum_by count packages
+  sums packages = λ i. sum_by (λ p. counts p i) packages
+
+  rows-length : (packages : List PackageView) → length (flat_map rows_of packages) ≡ sum_by count packages
+  rows-length packages = length-flat_map rows_of packages ∙ sums packages
+
+  -- a package more
+  module _ (packages : List PackageView) (p : PackageView) (old new : List Row) (are : old ≡ flat_map rows_of packages) (more : new ≡ old ++ rows_of p) where
+    rows-push : new ≡ flat_map rows_of (packages ++ p ∷ [])
+    rows-push = more ∙ ap (λ l. l ++ rows_of p) are ∙ sym (flat-push rows_of packages p)
+
+    starts-more : (ns : List ℕ) (n : ℕ) → ns ≡ starts_from count 0 packages → n ≡ length new → ns ++ n ∷ [] ≡ starts_from count 0 (packages ++ p ∷ [])
+    starts-more ns n begun e = (λ i. begun i ++ (e ∙ ap length rows-push ∙ rows-length (packages ++ p ∷ [])) i ∷ []) ∙ sym (starts-push count packages p)
+
+    rows-few : (total : PackageView → ℕ) → ((q : PackageView) → count q ≤ total q) → length new ≤ sum_by total (packages ++ p ∷ [])
+    rows-few total less = omega (arith, ap length rows-push, rows-length (packages ++ p ∷ []), sum-less count total less (packages ++ p ∷ []))
+
+  -- what stands at a place
+  module _ (packages : List PackageView) (rows : List Row) (are : rows ≡ flat_map rows_of packages) (i : ℕ) (less : i < length packages) where
+    row-within : (j n : ℕ) → j < count (get_or packages i no_package) → n ≡ sum_by count (take i packages) + j → n < length rows
+    row-within j n h e = omega (arith, e, ap length are, sums (take i packages), flat-within rows_of packages i j no_package less (omega (arith, h, counts (get_or packages i no_package))))
+
+    row-at : (j n : ℕ) → j < count (get_or packages i no_package) → n ≡ sum_by count (take i packages) + j → get_or rows n None ≡ get_or (rows_of (get_or packages i no_package)) j None
+    row-at j n h e =
+        let at : n ≡ sum_by (λ p. length (rows_of p)) (take i packages) + j = omega (arith, e, sums (take i packages)) in
+        ap (λ m. get_or rows m None) at ∙ ap (λ rs. get_or rs (sum_by (λ p. length (rows_of p)) (take i packages) + j) None) are
+        ∙ flat-at rows_of packages i j no_package None less (omega (arith, h, counts (get_or packages i no_package)))
+
+-- ---- both kinds
+
+abbrev need_count : PackageView → ℕ
+need_count p = length (needs p)
+
+abbrev apart_count : PackageView → ℕ
+apart_count p = length (aparts p)
+
+abbrev group_of : Start → ℕ
+group_of s = s.group
+
+abbrev entry_of : Start → ℕ
+entry_of s = s.entry
 
 pub linked-none : (index : IndexView) (none : List Start) (l : Links) → none ≡ [] → l.starts.items ≡ none ++ record { group = 0; entry = 0 } ∷ [] → l.groups ≡ [] → l.entries ≡ [] → IsLinked index [] l
-linked-none index none l o s g e = record {
-  group_starts = ap (map (λ (s : Start). s.group)) first ∙ sym (starts-none (λ (p : PackageView). length (needs p)));
-  entry_starts = ap (map (λ (s : Start). s.entry)) first ∙ sym (starts-none (λ (p : PackageView). length (aparts p)));
-  groups = g;
-  entries = e;
-}
+linked-none index none l o s g e = record { group_starts = ap (map group_of) first ∙ sym (starts-none need_count); entry_starts = ap (map entry_of) first ∙ sym (starts-none apart_count); groups = g; entries = e }
   where
     first : l.starts.items ≡ record { group = 0; entry = 0 } ∷ []
     first = s ∙ ap (λ (ss : List Start). ss ++ record { group = 0; entry = 0 } ∷ []) o
 
 module _ (index : IndexView) where
-  abbrev group_rows : PackageView → List (Option (List ℕ))
+  abbrev group_rows : PackageView → List Row
   group_rows p = map (answer_row index) (needs p)
 
-  abbrev entry_rows : PackageView → List (Option (List ℕ))
+  abbrev entry_rows : PackageView → List Row
   entry_rows p = map (hit_row index) (aparts p)
 
-  group-count : (packages : List PackageView) → sum_by (λ p. length (group_rows p)) packages ≡ sum_by (λ p. length (needs p)) packages
-  group-count packages = λ i. sum_by (λ p. length-map (needs p) (answer_row index) i) packages
+  groups-count : (p : PackageView) → length (group_rows p) ≡ need_count p
+  groups-count p = length-map (needs p) (answer_row index)
 
-  entry-count : (packages : List PackageView) → sum_by (λ p. length (entry_rows p)) packages ≡ sum_by (λ p. length (aparts p)) packages
-  entry-count packages = λ i. sum_by (λ p. length-map (aparts p) (hit_row index) i) packages
-
-  groups-length : (packages : List PackageView) → length (flat_map group_rows packages) ≡ sum_by (λ p. length (needs p)) packages
-  groups-length packages = length-flat_map group_rows packages ∙ group-count packages
-
-  entries-length : (packages : List PackageView) → length (flat_map entry_rows packages) ≡ sum_by (λ p. length (aparts p)) packages
-  entries-length packages = length-flat_map entry_rows packages ∙ entry-count packages
+  entries-count : (p : PackageView) → length (entry_rows p) ≡ apart_count p
+  entries-count p = length-map (aparts p) (hit_row index)
 
   module _ (packages : List PackageView) (p : PackageView) (old new : Links) (o : IsLinked index packages old)
       (g : new.groups ≡ old.groups ++ group_rows p) (e : new.entries ≡ old.entries ++ entry_rows p) where
-    groups-are : new.groups ≡ flat_map group_rows (packages ++ p ∷ [])
-    groups-are = g ∙ ap (λ l. l ++ group_rows p) o.groups ∙ sym (flat-push group_rows packages p)
-
-    entries-are : new.entries ≡ flat_map entry_rows (packages ++ p ∷ [])
-    entries-are = e ∙ ap (λ l. l ++ entry_rows p) o.entries ∙ sym (flat-push entry_rows packages p)
-
     pub linked-push : (s : Start) → new.starts.items ≡ old.starts.items ++ s ∷ []
         → s.group ≡ length new.groups → s.entry ≡ length new.entries → IsLinked index (packages ++ p ∷ []) new
     linked-push s ss sg se = record {
-      group_starts = ap (map (λ (t : Start). t.group)) ss ∙ map-append (λ (t : Start). t.group) old.starts.items (s ∷ [])
-          ∙ (λ i. o.group_starts i ++ (sg ∙ ap length groups-are ∙ groups-length (packages ++ p ∷ [])) i ∷ []) ∙ sym (starts-push (λ (q : PackageView). length (needs q)) packages p);
-      entry_starts = ap (map (λ (t : Start). t.entry)) ss ∙ map-append (λ (t : Start). t.entry) old.starts.items (s ∷ [])
-          ∙ (λ i. o.entry_starts i ++ (se ∙ ap length entries-are ∙ entries-length (packages ++ p ∷ [])) i ∷ []) ∙ sym (starts-push (λ (q : PackageView). length (aparts q)) packages p);
-      groups = groups-are;
-      entries = entries-are;
+      group_starts = ap (map group_of) ss ∙ map-append group_of old.starts.items (s ∷ []) ∙ starts-more need_count group_rows groups-count packages p old.groups new.groups o.groups g _ s.group o.group_starts sg;
+      entry_starts = ap (map entry_of) ss ∙ map-append entry_of old.starts.items (s ∷ []) ∙ starts-more apart_count entry_rows entries-count packages p old.entries new.entries o.entries e _ s.entry o.entry_starts se;
+      groups = rows-push need_count group_rows groups-count packages p old.groups new.groups o.groups g;
+      entries = rows-push apart_count entry_rows entries-count packages p old.entries new.entries o.entries e;
     }
 
     -- there are no more rows than packages ask for
     pub groups-few : length new.groups ≤ sum_by asked_count (packages ++ p ∷ [])
-    groups-few = omega (arith, ap length groups-are, groups-length (packages ++ p ∷ []), sum-less (λ (q : PackageView). length (needs q)) asked_count (λ q. omega arith) (packages ++ p ∷ []))
+    groups-few = rows-few need_count group_rows groups-count packages p old.groups new.groups o.groups g asked_count (λ q. omega arith)
 
     pub entries-few : length new.entries ≤ sum_by asked_count (packages ++ p ∷ [])
-    entries-few = omega (arith, ap length entries-are, entries-length (packages ++ p ∷ []), sum-less (λ (q : PackageView). length (aparts q)) asked_count (λ q. omega arith) (packages ++ p ∷ []))
-
--- ---- what stands at a place
+    entries-few = rows-few apart_count entry_rows entries-count packages p old.entries new.entries o.entries e asked_count (λ q. omega arith)
 
 module _ (index : IndexView) (l : Links) (k : IsLinked index index.packages l) where
   pub starts-long : length l.starts.items ≡ length index.packages + 1
-  starts-long = sym (length-map l.starts.items (λ (s : Start). s.group)) ∙ ap length k.group_starts ∙ starts-length (λ (p : PackageView). length (needs p)) index.packages
+  starts-long = sym (length-map l.starts.items group_of) ∙ ap length k.group_starts ∙ starts-length need_count index.packages
 
-  module _ (i : ℕ) (s : Start) (less : i ≤ length index.packages) (at : s ≡ get_or l.starts.items i s) where
-    inside : i < length l.starts.items
-    inside = omega (arith, starts-long)
+  -- where a package's rows begin
+  begins : (part : Start → ℕ) (count : PackageView → ℕ) → map part l.starts.items ≡ starts_from count 0 index.packages
+      → (i : ℕ) (s : Start) → i ≤ length index.packages → s ≡ get_or l.starts.items i s → part s ≡ sum_by count (take i index.packages)
+  begins part count are i s less at =
+      let inside : i < length l.starts.items = omega (arith, starts-long) in
+      ap part at ∙ sym (get_or-map part l.starts.items i s 0 inside) ∙ ap (λ ns. get_or ns i 0) are ∙ start-at count i index.packages less
 
-    pub group-start : s.group ≡ sum_by (λ (p : PackageView). length (needs p)) (take i index.packages)
-    group-start = ap (λ (t : Start). t.group) at ∙ sym (get_or-map (λ (t : Start). t.group) l.starts.items i s 0 inside) ∙ ap (λ ns. get_or ns i 0) k.group_starts
-        ∙ start-at (λ (p : PackageView). length (needs p)) i index.packages less
+  pub group-start : (i : ℕ) (s : Start) → i ≤ length index.packages → s ≡ get_or l.starts.items i s → s.group ≡ sum_by need_count (take i index.packages)
+  group-start = begins group_of need_count k.group_starts
 
-    pub entry-start : s.entry ≡ sum_by (λ (p : PackageView). length (aparts p)) (take i index.packages)
-    entry-start = ap (λ (t : Start). t.entry) at ∙ sym (get_or-map (λ (t : Start). t.entry) l.starts.items i s 0 inside) ∙ ap (λ ns. get_or ns i 0) k.entry_starts
-        ∙ start-at (λ (p : PackageView). length (aparts p)) i index.packages less
+  pub entry-start : (i : ℕ) (s : Start) → i ≤ length index.packages → s ≡ get_or l.starts.items i s → s.entry ≡ sum_by apart_count (take i index.packages)
+  entry-start = begins entry_of apart_count k.entry_starts
 
-  module _ (i : ℕ) (less : i < length index.packages) where
-    pub group-next : sum_by (λ (p : PackageView). length (needs p)) (take (i + 1) index.packages) ≡ sum_by (λ (p : PackageView). length (needs p)) (take i index.packages) + length (needs_at index i)
-    group-next = sum-more (λ (p : PackageView). length (needs p)) index.packages i no_package less
+  module _ (i : ℕ) (less : i < length index.packages) (s : Start) (at : s ≡ get_or l.starts.items i s) where
+    -- how many rows a package has
+    pub group-next : (t : Start) → t ≡ get_or l.starts.items (i + 1) t → t.group ≡ s.group + length (needs_at index i)
+    group-next t next =
+        let more : sum_by need_count (take (i + 1) index.packages) ≡ sum_by need_count (take i index.packages) + length (needs_at index i) = sum-more need_count index.packages i no_package less in
+        omega (arith, group-start i s (omega arith) at, group-start (i + 1) t (omega arith) next)
 
-    pub entry-next : sum_by (λ (p : PackageView). length (aparts p)) (take (i + 1) index.packages) ≡ sum_by (λ (p : PackageView). length (aparts p)) (take i index.packages) + length (aparts_at index i)
-    entry-next = sum-more (λ (p : PackageView). length (aparts p)) index.packages i no_package less
+    pub entry-next : (t : Start) → t ≡ get_or l.starts.items (i + 1) t → t.entry ≡ s.entry + length (aparts_at index i)
+    entry-next t next =
+        let more : sum_by apart_count (take (i + 1) index.packages) ≡ sum_by apart_count (take i index.packages) + length (aparts_at index i) = sum-more apart_count index.packages i no_package less in
+        omega (arith, entry-start i s (omega arith) at, entry-start (i + 1) t (omega arith) next)
 
-    module _ (j : ℕ) (n : ℕ) where
-      pub group-within : j < length (needs_at index i) → n ≡ sum_by (λ (p : PackageView). length (needs p)) (take i index.packages) + j → n < length l.groups
-      group-within h e = omega (
-        arith,
-        e,
-        ap length k.groups,
-        group-count index (take i index.packages),
-        flat-within (group_rows index) index.packages i j no_package less (subst (λ m. j < m) (sym (length-map (needs_at index i) (answer_row index))) h),
-      )
+    -- and which
+    module _ (j : ℕ) where
+      pub group-within : j < length (needs_at index i) → s.group + j < length l.groups
+      group-within h = row-within need_count (group_rows index) (groups-count index) index.packages l.groups k.groups i less j _ h (ap (λ m. m + j) (group-start i s (omega arith) at))
 
-      pub group-at : j < length (needs_at index i) → n ≡ sum_by (λ (p : PackageView). length (needs p)) (take i index.packages) + j → get_or l.groups n None ≡ answer_row index (need_at index i j)
-      group-at h e = ap (λ m. get_or l.groups m None) (e ∙ ap (λ m. m + j) (sym (group-count index (take i index.packages)))) ∙ ap (λ rs. get_or rs (sum_by (λ p. length (group_rows index p)) (take i index.packages) + j) None) k.groups
-          ∙ flat-at (group_rows index) index.packages i j no_package None less (subst (λ m. j < m) (sym (length-map (needs_at index i) (answer_row index))) h)
+      pub group-at : j < length (needs_at index i) → get_or l.groups (s.group + j) None ≡ answer_row index (need_at index i j)
+      group-at h = row-at need_count (group_rows index) (groups-count index) index.packages l.groups k.groups i less j _ h (ap (λ m. m + j) (group-start i s (omega arith) at))
           ∙ get_or-map (answer_row index) (needs_at index i) j [] None h
 
-      pub entry-within : j < length (aparts_at index i) → n ≡ sum_by (λ (p : PackageView). length (aparts p)) (take i index.packages) + j → n < length l.entries
-      entry-within h e = omega (
-        arith,
-        e,
-        ap length k.entries,
-        entry-count index (take i index.packages),
-        flat-within (entry_rows index) index.packages i j no_package less (subst (λ m. j < m) (sym (length-map (aparts_at index i) (hit_row index))) h),
-      )
+      pub entry-within : j < length (aparts_at index i) → s.entry + j < length l.entries
+      entry-within h = row-within apart_count (entry_rows index) (entries-count index) index.packages l.entries k.entries i less j _ h (ap (λ m. m + j) (entry-start i s (omega arith) at))
 
-      pub entry-at : j < length (aparts_at index i) → n ≡ sum_by (λ (p : PackageView). length (aparts p)) (take i index.packages) + j → get_or l.entries n None ≡ hit_row index (apart_at index i j)
-      entry-at h e = ap (λ m. get_or l.entries m None) (e ∙ ap (λ m. m + j) (sym (entry-count index (take i index.packages)))) ∙ ap (λ rs. get_or rs (sum_by (λ p. length (entry_rows index p)) (take i index.packages) + j) None) k.entries
-          ∙ flat-at (entry_rows index) index.packages i j no_package None less (subst (λ m. j < m) (sym (length-map (aparts_at index i) (hit_row index))) h)
+      pub entry-at : j < length (aparts_at index i) → get_or l.entries (s.entry + j) None ≡ hit_row index (apart_at index i j)
+      entry-at h = row-at apart_count (entry_rows index) (entries-count index) index.packages l.entries k.entries i less j _ h (ap (λ m. m + j) (entry-start i s (omega arith) at))
           ∙ get_or-map (hit_row index) (aparts_at index i) j no_atom None h

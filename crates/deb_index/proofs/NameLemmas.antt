@@ -5,8 +5,8 @@ use Rattle.std.specs.Prelude.{position, slice_get}
 use Rattle.std.specs.List.{enumerate_from, list_any}
 use Rattle.std.specs.Option.{is_some, option_map}
 use Rattle.std.specs.Str.{bytes_eq}
-use Rattle.std.proofs.lemmas.Bool.{false≢true}
-use Rattle.std.proofs.lemmas.List.{append-nil, get_or-map, get_or_append_left, length-append, length-map, map-append, map-set}
+use Rattle.std.proofs.lemmas.Bool.{false≢true, or_parts}
+use Rattle.std.proofs.lemmas.List.{append-nil, get_or-map, get_or_append_left, length-append, length-map, map-append, map-id, map-set}
 use Rattle.std.proofs.lemmas.List.Elements.{filter-append}
 use Rattle.std.proofs.lemmas.List.Folds.{list_any-append}
 use Rattle.std.proofs.lemmas.Option.{slice_get_within, slice_get-get_or}
@@ -27,17 +27,13 @@ none-some i e = cc
 some-same : (i j : ℕ) → Some i ≡ Some j → i ≡ j
 some-same i j e = cc
 
-map-itself : (ks : List (List ℕ)) → map (λ k. k) ks ≡ ks
-map-itself [] = refl
-map-itself (k ∷ ks) = ap (λ r. k ∷ r) (map-itself ks)
-
 -- a name's number is its position among the names
 pub number-position : (name : List ℕ) (ks : List (List ℕ)) → number_in name ks ≡ position (bytes_eq name) ks
-number-position name ks = sym (position-is name (λ k. k) ks ∙ ap (number_in name) (map-itself ks))
+number-position name ks = sym (position-is name (λ k. k) ks ∙ ap (number_in name) (map-id ks))
 
 -- and leads to it
 pub text-at : (name : List ℕ) (ks : List (List ℕ)) (i : ℕ) → number_in name ks ≡ Some i → get_or ks i [] ≡ name
-text-at name ks i e = ap (λ l. get_or l i []) (sym (map-itself ks)) ∙ get-there name (λ k. k) ks i [] e
+text-at name ks i e = ap (λ l. get_or l i []) (sym (map-id ks)) ∙ get-there name (λ k. k) ks i [] e
 
 module _ (name : List ℕ) where
   -- among more names, one of the first has the number that it has among them
@@ -127,14 +123,6 @@ no-places {A} test n (x ∷ xs) none = by (test x) refl (no-places test (n + 1) 
     by true e ih = absurd (false≢true (sym none ∙ rw e refl))
     by false e ih = rw e (ih (rw e at none))
 
-or-left : (a b : Bool) → (a || b) ≡ false → a ≡ false
-or-left true b e = absurd (false≢true (sym e))
-or-left false b e = refl
-
-or-right : (a b : Bool) → (a || b) ≡ false → b ≡ false
-or-right true b e = absurd (false≢true (sym e))
-or-right false b e = e
-
 abbrev places_seen : Lists → List ℕ
 places_seen l = l.places.items
 
@@ -142,9 +130,6 @@ abbrev entries_seen : Lists → List (ℕ × ℕ)
 entries_seen l = l.provided.items
 
 module _ (packages : List PackageView) where
-  places_by : List ℕ → List ℕ
-  places_by name = places_where (is_named name) packages
-
   any-named : (name : List ℕ) → list_any (is_named name) packages ≡ list_any (bytes_eq name) (map (λ (p : PackageView). p.name) packages)
   any-named name = by packages
     where
@@ -211,10 +196,10 @@ module _ {packages : List PackageView} {entries : List (List ℕ × (ℕ × ℕ)
         ∙ subst (λ ks. list_any (bytes_eq name) ks ≡ false) n.texts (none-any name (name_texts names) e)
 
     pub places-none-named : [] ≡ places_where (is_named name) packages
-    places-none-named = sym (no-named packages name (any-named packages name ∙ or-left _ _ nowhere))
+    places-none-named = sym (no-named packages name (any-named packages name ∙ (or_parts _ _ nowhere).0))
 
     pub entries-none : [] ≡ items_of name entries
-    entries-none = sym (no-items name entries (or-right _ _ nowhere))
+    entries-none = sym (no-items name entries ((or_parts _ _ nowhere).1))
 
   -- ---- the names of packages come first
 

@@ -1,5 +1,5 @@
--- The next stanza of a reader, as the next reading of an index.
-use Rattle.std.proofs.Common.{◌≡◌, ◌≢◌, ◌<◌, ◌≤◌, ◌+◌, ℕ, Bool, true, false, cond, ltb, List, [], ◌∷◌, Option, Some, None, Result, Ok, Err, refl, sym, ap, ◌∙◌}
+-- The next stanza of a reader, and what it reads as.
+use Rattle.std.proofs.Common.{◌≡◌, ◌≢◌, ◌<◌, ◌≤◌, ◌+◌, ℕ, Bool, true, false, cond, ltb, List, ◌∷◌, Option, Result, Ok, Err, refl, sym, ap, ◌∙◌}
 use Rattle.std.proofs.lemmas.Bool.{lt-ltb, le-ltb}
 use Rattle.deb_control.specs.declared.error.ControlError.{ControlError}
 use Rattle.deb_control.specs.declared.error.ControlError.TheVariants as control
@@ -8,68 +8,67 @@ use Rattle.deb_control.specs.Stanzas.{Takes, Refuses, Unread, read_stanza}
 use Rattle.deb_index.specs.declared.error.IndexError.{IndexError}
 use Rattle.deb_index.specs.declared.error.IndexError.TheVariants.{BadLine, RepeatedField, MissingField, BadName, BadVersion, BadRelation, TooManyStanzas, Memory}
 use Rattle.deb_index.specs.Packages.{PackageView}
-use Rattle.deb_index.specs.Reading.{◌>>=◌, Fails, from_control, next_reading, reading_of, stanza_fault, stanza_limit, stanza_reading}
+use Rattle.deb_index.specs.Reading.{◌>>=◌, Fails, Steps, from_control, reading_of, readings, stanza_fault, stanza_limit, stanza_reading}
 
-no-stanza : (s : List (List ℕ)) (more : List (List (List ℕ))) → s ∷ more ≡ [] → ⊥
-no-stanza s more h = cc
+-- a fault that isn't want of memory is the reading's
+fails-is : {A : Type 0} (e : IndexError) (read : Result A IndexError) → e ≢ Memory → Fails e read → read ≡ Err e
+fails-is (BadLine n) read other h = h
+fails-is (RepeatedField n) read other h = h
+fails-is (MissingField n) read other h = h
+fails-is (BadName n) read other h = h
+fails-is (BadVersion n) read other h = h
+fails-is (BadRelation n field) read other h = h
+fails-is (TooManyStanzas n) read other h = h
+fails-is Memory read other h = absurd (other refl)
 
--- what the fields of the n-th stanza read as, or that it is one too many
-abbrev pub limited : ℕ → ℕ → Result (Option PackageView) IndexError → Result (Option PackageView) IndexError
+-- what a stanza reads as, or that it is one too many
+abbrev limited : ℕ → ℕ → Result (Option PackageView) IndexError → Result (Option PackageView) IndexError
 limited before n read = cond (ltb stanza_limit (before + n)) (Err (TooManyStanzas n)) read
 
+abbrev refusal : IndexError → Result (Option PackageView) IndexError
+refusal e = Err e
+
+either : (b : Bool) (x y : IndexError) → cond b (refusal x) (refusal y) ≡ refusal (cond b x y)
+either true x y = refl
+either false x y = refl
+
 module _ (arch : List ℕ) (before : ℕ) where
-  ends : (ss : List (List (List ℕ))) (n : ℕ) → ss ≡ [] → next_reading arch before ss n ≡ Ok (None, record { stanzas = ss; count = n })
-  unfolding next_reading
-  ends [] n h = refl
-  ends (s ∷ more) n h = absurd (no-stanza s more h)
+  -- a fault of the first stanza is that of the text
+  first-fails : (left : Unread) (stanza : List (List ℕ)) (more : List (List (List ℕ))) (n : ℕ) (e : IndexError) → left.stanzas ≡ stanza ∷ more → n ≡ left.count + 1 → stanza_reading arch before n stanza ≡ Err e
+      → readings arch before left.count left.stanzas ≡ Err e
+  unfolding readings
+  first-fails left stanza more n e first counts fault = ap (readings arch before left.count) first
+      ∙ ap (λ r. r >>= λ read. readings arch before (left.count + 1) more >>= λ others. Ok (read ∷ others)) (ap (λ m. stanza_reading arch before m stanza) (sym counts) ∙ fault)
 
-  pub next-ends : (old : Unread) → old.stanzas ≡ [] → next_reading arch before old.stanzas old.count ≡ Ok (None, old)
-  next-ends old h = ends old.stanzas old.count h
+  control-fault : (n : ℕ) (stanza : List (List ℕ)) (e : ControlError) → e ≢ control.Memory → read_stanza n stanza ≡ Err e → stanza_reading arch before n stanza ≡ Err (stanza_fault before n e)
+  unfolding stanza_reading
+  control-fault n stanza control.Memory other h = absurd (other refl)
+  control-fault n stanza (control.BadLine m) other h = rw h (either (ltb stanza_limit (before + n)) (TooManyStanzas n) (BadLine m))
+  control-fault n stanza (control.RepeatedField m) other h = rw h (either (ltb stanza_limit (before + n)) (TooManyStanzas n) (RepeatedField m))
 
-  pub next-takes : (old new : Unread) (fields : List Entry) → Takes old fields new → next_reading arch before old.stanzas old.count ≡ (limited before new.count (reading_of arch new.count fields) >>= λ r. Ok (Some r, new))
-  unfolding next_reading stanza_reading
-  next-takes old new fields t = ap (λ ss. next_reading arch before ss old.count) t.first
-      ∙ ap (λ m. stanza_reading arch before m t.stanza >>= λ r. Ok (Some r, record { stanzas = new.stanzas; count = m })) (sym t.counts)
-      ∙ ap (λ x. limited before new.count (from_control x >>= λ f. reading_of arch new.count f) >>= λ r. Ok (Some r, new)) t.reads
+  pub refused : (left : Unread) (e : ControlError) (n : ℕ) → (e ≢ control.Memory → Refuses left e) → n ≡ left.count + 1 → stanza_fault before n e ≢ Memory → readings arch before left.count left.stanzas ≡ Err (stanza_fault before n e)
+  refused left e n refuses counts other =
+      let no_memory : e ≢ control.Memory = λ m. other (ap (stanza_fault before n) m) in
+      let r = refuses no_memory in
+      first-fails left r.stanza r.more n (stanza_fault before n e) r.first counts (control-fault n r.stanza e no_memory (ap (λ m. read_stanza m r.stanza) counts ∙ r.reads))
 
-  limited-fault : (b : Bool) (n m : ℕ) (f : Option PackageView → Result (Option (Option PackageView) × Unread) IndexError)
-      → (Fails (cond b (TooManyStanzas n) (BadLine m)) (cond b (Err (TooManyStanzas n)) (Err (BadLine m)) >>= f)) × (Fails (cond b (TooManyStanzas n) (RepeatedField m)) (cond b (Err (TooManyStanzas n)) (Err (RepeatedField m)) >>= f))
-  limited-fault true n m f = (refl, refl)
-  limited-fault false n m f = (refl, refl)
+  -- a stanza that has no fault of its lines and fields
+  module _ (left new : Unread) (fields : List Entry) (t : Takes left fields new) (n : ℕ) (same : new.count ≡ n) where
+    reads : stanza_reading arch before n t.stanza ≡ limited before n (reading_of arch n fields)
+    unfolding stanza_reading
+    reads = ap (λ x. limited before n (from_control x >>= λ f. reading_of arch n f)) (ap (λ m. read_stanza m t.stanza) (sym same) ∙ t.reads)
 
-  refused-at : (s : List (List ℕ)) (more : List (List (List ℕ))) (n : ℕ) (e : ControlError) → read_stanza (n + 1) s ≡ Err e → Fails (stanza_fault before (n + 1) e) (next_reading arch before (s ∷ more) n)
-  unfolding next_reading stanza_reading
-  refused-at s more n control.Memory h = tt
-  refused-at s more n (control.BadLine m) h = rw h (limited-fault (ltb stanza_limit (before + (n + 1))) (n + 1) m (λ r. Ok (Some r, record { stanzas = more; count = n + 1 }))).0
-  refused-at s more n (control.RepeatedField m) h = rw h (limited-fault (ltb stanza_limit (before + (n + 1))) (n + 1) m (λ r. Ok (Some r, record { stanzas = more; count = n + 1 }))).1
+    counted : n ≡ left.count + 1
+    counted = sym same ∙ t.counts
 
-  -- a fault of the next stanza is that of the next reading
-  pub refused : (old : Unread) (e : ControlError) (n : ℕ) → (e ≢ control.Memory → Refuses old e) → n ≡ old.count + 1 → Fails (stanza_fault before n e) (next_reading arch before old.stanzas old.count)
-  refused old control.Memory n h same = tt
-  refused old (control.BadLine m) n h same = at (control.BadLine m) (h (λ k. absurd cc))
-    where
-      at : (e : ControlError) → Refuses old e → Fails (stanza_fault before n e) (next_reading arch before old.stanzas old.count)
-      at e r = rw (same, r.first) (refused-at r.stanza r.more old.count e r.reads)
-  refused old (control.RepeatedField m) n h same = at (control.RepeatedField m) (h (λ k. absurd cc))
-    where
-      at : (e : ControlError) → Refuses old e → Fails (stanza_fault before n e) (next_reading arch before old.stanzas old.count)
-      at e r = rw (same, r.first) (refused-at r.stanza r.more old.count e r.reads)
+    pub too-many : stanza_limit < before + n → readings arch before left.count left.stanzas ≡ Err (TooManyStanzas n)
+    too-many many = first-fails left t.stanza new.stanzas n (TooManyStanzas n) t.first counted (reads ∙ ap (λ b. cond b (Err (TooManyStanzas n)) (reading_of arch n fields)) (lt-ltb stanza_limit (before + n) many))
 
-  pub taken-many : (old new : Unread) (fields : List Entry) (n : ℕ) → Takes old fields new → new.count ≡ n → stanza_limit < before + n → next_reading arch before old.stanzas old.count ≡ Err (TooManyStanzas n)
-  taken-many old new fields n t same many = next-takes old new fields t ∙ ap (λ m. limited before m (reading_of arch m fields) >>= λ r. Ok (Some r, new)) same
-      ∙ ap (λ b. cond b (Err (TooManyStanzas n)) (reading_of arch n fields) >>= λ r. Ok (Some r, new)) (lt-ltb stanza_limit (before + n) many)
+    few-read : before + n ≤ stanza_limit → stanza_reading arch before n t.stanza ≡ reading_of arch n fields
+    few-read few = reads ∙ ap (λ b. cond b (Err (TooManyStanzas n)) (reading_of arch n fields)) (le-ltb stanza_limit (before + n) few)
 
-  pub taken : (old new : Unread) (fields : List Entry) (n : ℕ) → Takes old fields new → new.count ≡ n → before + n ≤ stanza_limit → next_reading arch before old.stanzas old.count ≡ (reading_of arch n fields >>= λ r. Ok (Some r, new))
-  taken old new fields n t same few = next-takes old new fields t ∙ ap (λ m. limited before m (reading_of arch m fields) >>= λ r. Ok (Some r, new)) same
-      ∙ ap (λ b. cond b (Err (TooManyStanzas n)) (reading_of arch n fields) >>= λ r. Ok (Some r, new)) (le-ltb stanza_limit (before + n) few)
+    pub steps : before + n ≤ stanza_limit → (read : Option PackageView) → reading_of arch n fields ≡ Ok read → Steps arch before left read new
+    steps few read h = record { stanza = t.stanza; first = t.first; counts = t.counts; reads = ap (λ m. stanza_reading arch before m t.stanza) same ∙ few-read few ∙ h }
 
--- what fails at a step fails as a whole
-pub step-fails : {A B : Type 0} (e : IndexError) (read : Result A IndexError) (f : A → Result B IndexError) → Fails e read → Fails e (read >>= f)
-step-fails (BadLine n) read f h = ap (λ r. r >>= f) h
-step-fails (RepeatedField n) read f h = ap (λ r. r >>= f) h
-step-fails (MissingField n) read f h = ap (λ r. r >>= f) h
-step-fails (BadName n) read f h = ap (λ r. r >>= f) h
-step-fails (BadVersion n) read f h = ap (λ r. r >>= f) h
-step-fails (BadRelation n field) read f h = ap (λ r. r >>= f) h
-step-fails (TooManyStanzas n) read f h = ap (λ r. r >>= f) h
-step-fails Memory read f h = tt
+    pub unread : before + n ≤ stanza_limit → (e : IndexError) → Fails e (reading_of arch n fields) → e ≢ Memory → readings arch before left.count left.stanzas ≡ Err e
+    unread few e h other = first-fails left t.stanza new.stanzas n e t.first counted (few-read few ∙ fails-is e _ other h)

@@ -1,18 +1,12 @@
 -- Rising lists are one where their members are, and a list that is sorted, and whose repeats are left out, is such a one.
-use Rattle.std.proofs.Common.{◌≡◌, ℕ, suc, ◌<◌, ◌≤◌, Bool, true, false, ◌+◌, ◌||◌, eqb, List, [], ◌∷◌, Contains, get_or, slice_get, refl, sym, ◌∙◌, ap, ap₂, subst, inl, inr, arith}
-use Rattle.std.specs.List.{dedup, flat_map, list_any}
+use Rattle.std.proofs.Common.{◌≡◌, ℕ, suc, ◌<◌, ◌≤◌, Bool, true, false, ◌+◌, ◌||◌, eqb, List, [], ◌∷◌, Contains, get_or, refl, sym, ◌∙◌, ap, subst, inl, inr, arith}
+use Rattle.std.specs.List.{dedup}
 use Rattle.std.specs.List.Sorted.{IsPermutation, IsStrictlyIncreasing}
-use Rattle.std.specs.Option.{option_map_or}
 use Rattle.std.proofs.lemmas.Bool.{both_ways, cases_Bool, false≢true, or_cases, or_left, eqb-true, eq-eqb, false_from_ne_true}
-use Rattle.std.proofs.lemmas.List.Folds.{list_any-append, list_any_at}
+use Rattle.std.proofs.lemmas.List.Folds.{list_any_at}
 use Rattle.std.proofs.lemmas.List.Kept.{AllPairs-from_increasing, Contains-dedup_nat, Contains-from_dedup}
-use Rattle.std.proofs.lemmas.List.Sorted.{Contains-permutation, IsPermutation-sym}
-use Rattle.deb_relation.specs.Relationship.{AtomText}
-use Rattle.deb_index.specs.Packages.{IndexView, PackageView, places_where}
-use Rattle.deb_index.specs.Meets.{group_satisfiers, meets_need, need_satisfiers}
-use Rattle.deb_index.proofs.HoldsLemmas.{group-at}
-use Rattle.deb_index.proofs.MemberLemmas.{member-places_where, rising-places_where}
-use Rattle.deb_index.proofs.RisingLemmas.{is_in}
+use Rattle.std.proofs.lemmas.List.Sorted.{list_any-IsPermutation}
+use Rattle.deb_index.specs.Packages.{is_in}
 
 rising-tail : (x : ℕ) (rest : List ℕ) → IsStrictlyIncreasing (x ∷ rest) → IsStrictlyIncreasing rest
 rising-tail x rest rising k below =
@@ -40,11 +34,12 @@ same-test a b to from =
     ]
 
 -- sorting, and leaving out what comes again, change no member
-once-members : (xs sorted : List ℕ) → IsPermutation xs sorted → (q : ℕ) → is_in (dedup eqb sorted) q ≡ is_in xs q
-once-members xs sorted moved q =
-    same-test (is_in (dedup eqb sorted) q) (is_in xs q)
-    (λ there. contains-in xs q (Contains-permutation sorted xs q (IsPermutation-sym xs sorted moved) (Contains-from_dedup eqb sorted q (in-contains (dedup eqb sorted) q there))))
-    (λ there. contains-in (dedup eqb sorted) q (Contains-dedup_nat sorted q (Contains-permutation xs sorted q moved (in-contains xs q there))))
+pub once-members : (xs sorted once : List ℕ) → IsPermutation xs sorted → once ≡ dedup eqb sorted → (q : ℕ) → is_in once q ≡ is_in xs q
+once-members xs sorted once moved are q =
+    ap (λ ys. is_in ys q) are
+    ∙ same-test (is_in (dedup eqb sorted) q) (is_in sorted q) (λ there. contains-in sorted q (Contains-from_dedup eqb sorted q (in-contains (dedup eqb sorted) q there)))
+    (λ there. contains-in (dedup eqb sorted) q (Contains-dedup_nat sorted q (in-contains sorted q there)))
+    ∙ sym (list_any-IsPermutation (λ place. eqb place q) xs sorted moved)
 
 -- ---- rising lists
 
@@ -84,20 +79,3 @@ rising-once (x ∷ xs) (y ∷ ys) rising also same =
     let Q : ℕ → Type 0 = λ z. (q : ℕ) → is_in (x ∷ xs) q ≡ is_in (z ∷ ys) q in
     let rest : xs ≡ ys = rising-once xs ys (rising-tail x xs rising) (rising-tail y ys also) (same-rest x xs ys rising (subst P (sym e) also) (subst Q (sym e) same)) in
     ap (λ z. z ∷ xs) e ∙ ap (λ zs. y ∷ zs) rest
-
--- ---- the places that answer a group, from those of each alternative
-
-any-found : (index : IndexView) (group : List AtomText) (q : ℕ)
-    → is_in (flat_map (need_satisfiers index) group) q ≡ list_any (λ atom. option_map_or (λ p. meets_need index.arch p atom) (slice_get index.packages q) false) group
-any-found index [] q = refl
-any-found index (atom ∷ group) q =
-    list_any-append (λ place. eqb place q) (need_satisfiers index atom) (flat_map (need_satisfiers index) group)
-    ∙ ap₂ (λ a b. a || b) (member-places_where (λ p. meets_need index.arch p atom) index.packages q) (any-found index group q)
-
-pub group-found : (index : IndexView) (group : List AtomText) (found sorted once : List ℕ) → found ≡ flat_map (need_satisfiers index) group → IsPermutation found sorted → once ≡ dedup eqb sorted → IsStrictlyIncreasing once
-    → once ≡ group_satisfiers index group
-group-found index group found sorted once are moved left rising =
-    let test : PackageView → Bool = λ p. list_any (meets_need index.arch p) group in
-    rising-once once (places_where test index.packages) rising (rising-places_where test index.packages)
-    (λ q. ap (λ xs. is_in xs q) left ∙ once-members found sorted moved q ∙ ap (λ xs. is_in xs q) are ∙ any-found index group q
-    ∙ sym (group-at index.arch group (slice_get index.packages q)) ∙ sym (member-places_where test index.packages q))

@@ -2,12 +2,8 @@
 use Rattle.std.proofs.Common.{◌≡◌, ℕ, suc, zero, ◌+◌, ◌<◌, ◌≤◌, Bool, true, eqb, List, [], ◌∷◌, length, get_or, refl, sym, ◌∙◌, ap, subst, inl, inr, arith}
 use Rattle.std.specs.List.{list_any}
 use Rattle.std.proofs.lemmas.Bool.{cases_Bool, false≢true, or_cases, or_left, or_right, eqb-true, eq-eqb}
-use Rattle.deb_index.specs.Packages.{places_where}
+use Rattle.deb_index.specs.Packages.{is_in, places_where}
 use Rattle.deb_index.proofs.MemberLemmas.{from_fail, from_pass, places_from}
-
--- a place is in a list
-abbrev pub is_in : List ℕ → ℕ → Bool
-is_in xs q = list_any (λ place. eqb place q) xs
 
 -- a member of the list that passes
 pub any-member : (test : ℕ → Bool) (xs : List ℕ) → list_any test xs ≡ true → (q : ℕ) × (test q ≡ true) × (is_in xs q ≡ true)

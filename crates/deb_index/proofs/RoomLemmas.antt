@@ -1,23 +1,22 @@
 -- An index has room for the packages of a text and of a background: together they ask for little more than the texts have bytes.
-use Rattle.std.proofs.Common.{◌≡◌, ◌<◌, ◌≤◌, ◌+◌, ◌-◌, ◌*◌, ℕ, Bool, true, false, List, [], ◌∷◌, length, Option, Some, None, refl, ap, ◌∙◌, arith}
+use Rattle.std.proofs.Common.{◌≡◌, ◌<◌, ◌≤◌, ◌+◌, ◌*◌, ℕ, Bool, true, false, List, [], ◌∷◌, length, Option, Some, None, refl, ap, ◌∙◌, arith}
 use Rattle.std.specs.List.{list_any, sum_by}
 use Rattle.std.proofs.lemmas.List.Sums.{sum_by-append, sum_by-cons}
 use Rattle.deb_control.specs.Stanzas.{Unread, size_of, stanzas_of}
 use Rattle.deb_control.proofs.SizeLemmas.{stanza-sizes}
 use Rattle.deb_index.specs.Packages.{IndexView, PackageView, first_of_each}
-use Rattle.deb_index.specs.Reading.{byte_limit, collected, same_package, stanza_limit, with_reading}
+use Rattle.deb_index.specs.Reading.{Steps, byte_limit, collected, same_package, stanza_limit, with_reading}
+use Rattle.deb_index.specs.Parts.{HasRoomFor}
 use Rattle.deb_index.specs.Tables.{HasRoom, asked_count}
 use Rattle.deb_index.proofs.SizeLemmas.{stanza-few, stanza-fits}
-use Rattle.deb_index.proofs.StepLemmas.{Steps}
 
 abbrev asked : IndexView → ℕ
 asked index = sum_by asked_count index.packages
 
--- what the packages ask for, and what is left may ask for, is bounded by the bytes of the texts and four more for each stanza that was read
-pub record IsRoomy (before start : ℕ) (index : IndexView) (left : Unread) : Type 0 where
+-- so many stanzas were read in all, and there is room for those that are left
+pub record IsRoomy (before : ℕ) (index : IndexView) (left : Unread) : Type 0 where
   pub counts : index.stanzas ≡ before + left.count
-  pub room : asked index + sum_by size_of left.stanzas ≤ start + (byte_limit + 1) + 4 * left.count
-  pub few : start ≤ byte_limit + 1 + 4 * before
+  pub room : HasRoomFor index left.stanzas
 
 left-sizes : (arch : List ℕ) (before : ℕ) (left new : Unread) (read : Option PackageView) (step : Steps arch before left read new) → sum_by size_of left.stanzas ≡ size_of step.stanza + sum_by size_of new.stanzas
 left-sizes arch before left new read step = ap (sum_by size_of) step.first ∙ sum_by-cons size_of step.stanza new.stanzas
@@ -30,36 +29,56 @@ stanzas-more : (t : Bool) (index : IndexView) (p : PackageView) → list_any (λ
 stanzas-more true index p e = rw e refl
 stanzas-more false index p e = rw e refl
 
-module _ (arch : List ℕ) (before start : ℕ) (index : IndexView) (left new : Unread) where
+pub arch-kept : (index : IndexView) (read : Option PackageView) → (with_reading index read).arch ≡ index.arch
+arch-kept index None = refl
+arch-kept index (Some p) = by (list_any (λ q. same_package q p) index.packages) refl
+  where
+    by : (t : Bool) → list_any (λ q. same_package q p) index.packages ≡ t → (with_reading index (Some p)).arch ≡ index.arch
+    by true e = rw e refl
+    by false e = rw e refl
+
+module _ (arch : List ℕ) (before : ℕ) (index : IndexView) (left new : Unread) where
   -- a stanza that is read is none too many
-  pub read-few : (read : Option PackageView) → IsRoomy before start index left → Steps arch before left read new → index.stanzas < stanza_limit
+  pub read-few : (read : Option PackageView) → IsRoomy before index left → Steps arch before left read new → index.stanzas < stanza_limit
   read-few read roomy step = omega (arith, roomy.counts, step.counts, stanza-few arch before new.count step.stanza read step.reads)
 
-  pub read-room : (read : Option PackageView) → IsRoomy before start index left → Steps arch before left read new → HasRoom index read
+  pub read-room : (read : Option PackageView) → IsRoomy before index left → Steps arch before left read new → HasRoom index read
   read-room None roomy step = tt
   read-room (Some p) roomy step =
       let fits = stanza-fits arch before new.count step.stanza p step.reads in
-      let few = stanza-few arch before new.count step.stanza (Some p) step.reads in
+      let few = read-few (Some p) roomy step in
       let sizes = left-sizes arch before left new (Some p) step in
-      (omega (arith, roomy.room, roomy.few, step.counts, fits.1, few, sizes), omega (arith, roomy.room, roomy.few, step.counts, fits.0, few, sizes))
+      (omega (arith, roomy.room, fits.1, few, sizes), omega (arith, roomy.room, fits.0, few, sizes))
 
-  pub stays-roomy : (read : Option PackageView) → IsRoomy before start index left → Steps arch before left read new → IsRoomy before start (with_reading index read) new
+  pub stays-roomy : (read : Option PackageView) → IsRoomy before index left → Steps arch before left read new → IsRoomy before (with_reading index read) new
   stays-roomy None roomy step =
       let sizes = left-sizes arch before left new None step in
-      record { counts = omega (arith, roomy.counts, step.counts); room = omega (arith, roomy.room, step.counts, sizes); few = roomy.few }
+      record { counts = omega (arith, roomy.counts, step.counts); room = omega (arith, roomy.room, sizes) }
   stays-roomy (Some p) roomy step =
       let fits = stanza-fits arch before new.count step.stanza p step.reads in
       let sizes = left-sizes arch before left new (Some p) step in
       let more = asked-more _ index p refl in
       let stanzas = stanzas-more _ index p refl in
-      record { counts = omega (arith, roomy.counts, step.counts, stanzas); room = omega (arith, roomy.room, step.counts, fits.0, sizes, more); few = roomy.few }
+      record { counts = omega (arith, roomy.counts, step.counts, stanzas); room = omega (arith, roomy.room, fits.0, sizes, more, stanzas) }
 
-pub starts-roomy : (index : IndexView) (text : List ℕ) → length text ≤ byte_limit → asked index ≤ byte_limit + 1 + 4 * index.stanzas → IsRoomy index.stanzas (asked index) index (record { stanzas = stanzas_of text; count = 0 })
-starts-roomy index text short room = record { counts = omega arith; room = omega (arith, stanza-sizes text, short); few = room }
+  pub stays-few : (read : Option PackageView) → IsRoomy before index left → Steps arch before left read new → (with_reading index read).stanzas ≤ stanza_limit
+  stays-few read roomy step = omega (arith, (stays-roomy read roomy step).counts, stanza-few arch before new.count step.stanza read step.reads)
 
--- and what it has room for afterwards
-pub ends-roomy : (before start : ℕ) (index : IndexView) (left : Unread) → IsRoomy before start index left → (asked index ≤ start + (byte_limit + 1) + 4 * (index.stanzas - before)) × (before ≤ index.stanzas)
-ends-roomy before start index left roomy = (omega (arith, roomy.room, roomy.counts), omega (arith, roomy.counts))
+  -- and it asks for no more than it has bytes, and four
+  pub step-asks : (read : Option PackageView) → Steps arch before left read new
+      → asked (with_reading index read) + 4 * index.stanzas + sum_by size_of new.stanzas ≤ asked index + sum_by size_of left.stanzas + 4 * (with_reading index read).stanzas
+  step-asks None step = omega (arith, left-sizes arch before left new None step)
+  step-asks (Some p) step =
+      let fits = stanza-fits arch before new.count step.stanza p step.reads in
+      omega (arith, left-sizes arch before left new (Some p) step, fits.0, asked-more _ index p refl, stanzas-more _ index p refl)
+
+pub counts-more : (index : IndexView) (read : Option PackageView) → (with_reading index read).stanzas ≡ index.stanzas + 1
+counts-more index None = refl
+counts-more index (Some p) = stanzas-more _ index p refl
+
+-- a text asks for little more than it has bytes
+pub text-room : (index : IndexView) (text : List ℕ) → length text ≤ byte_limit → asked index ≤ byte_limit + 1 + 4 * index.stanzas → HasRoomFor index (stanzas_of text)
+text-room index text short room = omega (arith, stanza-sizes text, short, room)
 
 fresh : (arch : List ℕ) (with_essential : Bool) → asked (collected arch with_essential []) ≡ 0
 unfolding collected first_of_each
@@ -69,6 +88,6 @@ pub fresh-room : (arch : List ℕ) (with_essential : Bool) (index : IndexView) �
 fresh-room arch with_essential index is = omega (arith, ap asked is, fresh arch with_essential)
 
 -- after the first text there is room for a second one
-pub fore-room : (arch : List ℕ) (with_essential : Bool) (old new : IndexView) → old ≡ collected arch with_essential [] → asked new ≤ asked old + (byte_limit + 1) + 4 * (new.stanzas - old.stanzas)
-    → asked new ≤ byte_limit + 1 + 4 * new.stanzas
-fore-room arch with_essential old new is room = omega (arith, ap asked is, fresh arch with_essential, room)
+pub fore-room : (arch : List ℕ) (with_essential : Bool) (text : List ℕ) (old new : IndexView) → length text ≤ byte_limit → old ≡ collected arch with_essential []
+    → asked new + 4 * old.stanzas ≤ asked old + sum_by size_of (stanzas_of text) + 4 * new.stanzas → asked new ≤ byte_limit + 1 + 4 * new.stanzas
+fore-room arch with_essential text old new short is room = omega (arith, ap asked is, fresh arch with_essential, stanza-sizes text, short, room)

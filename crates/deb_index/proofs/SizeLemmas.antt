@@ -11,8 +11,8 @@ use Rattle.deb_control.specs.Stanzas.{size_of, read_stanza}
 use Rattle.deb_control.proofs.SizeLemmas.{values-short, values-fit}
 use Rattle.deb_index.proofs.FieldSums.{four-fit}
 use Rattle.deb_relation.specs.declared.atom.RelationError.{RelationError}
-use Rattle.deb_relation.specs.Relationship.{AtomText, atoms_of, groups_of}
-use Rattle.deb_relation.proofs.Counts.{atoms-few, groups-few}
+use Rattle.deb_relation.specs.Relationship.{AtomText, atoms_of, group_in, groups_of, single_of}
+use Rattle.deb_relation.proofs.Counts.{few-read}
 use Rattle.deb_index.specs.declared.error.IndexError.{IndexError}
 use Rattle.deb_index.specs.declared.error.IndexError.TheVariants.{TooManyStanzas}
 use Rattle.deb_index.specs.declared.error.RelField.{RelField}
@@ -79,13 +79,13 @@ text-short k fields field short = of (field_value fields (field_name field)) (λ
 groups-fit : (n : ℕ) (fields : List Entry) (field : RelField) (groups : List (List AtomText)) → groups_in n fields field ≡ Ok groups → length groups ≤ length (relation_text fields field) + 1
 groups-fit n fields field groups e =
     let read = well n field (groups_of (relation_text fields field)) groups e in
-    let few = groups-few (λ (g : List AtomText). g) groups (relation_text fields field) (read ∙ ap Ok (sym (map-id groups))) in
+    let few = few-read group_in (λ (g : List AtomText). g) groups (relation_text fields field) (read ∙ ap Ok (sym (map-id groups))) in
     omega (arith, few)
 
 atoms-fit : (n : ℕ) (fields : List Entry) (field : RelField) (atoms : List AtomText) → atoms_in n fields field ≡ Ok atoms → length atoms ≤ length (relation_text fields field) + 1
 atoms-fit n fields field atoms e =
     let read = well n field (atoms_of (relation_text fields field)) atoms e in
-    let few = atoms-few (λ (a : AtomText). a) atoms (relation_text fields field) (read ∙ ap Ok (sym (map-id atoms))) in
+    let few = few-read single_of (λ (a : AtomText). a) atoms (relation_text fields field) (read ∙ ap Ok (sym (map-id atoms))) in
     omega (arith, few)
 
 provides-fit : (n k : ℕ) (fields : List Entry) (atoms : List AtomText) → AreShort k fields → provides_in n fields ≡ Ok atoms → length atoms ≤ k + 1

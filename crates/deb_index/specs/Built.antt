@@ -6,11 +6,17 @@ use Rattle.std.specs.Str.{bytes_eq}
 use Rattle.deb_index.specs.declared.builder.PackageKey.{PackageKey}
 use Rattle.deb_index.specs.declared.links.Links.{Links}
 use Rattle.deb_index.specs.declared.names.Names.{Names}
-use Rattle.deb_index.specs.Packages.{PackageView, IndexView, essential_names, is_named}
+use Rattle.deb_index.specs.declared.package.Package.{Package}
+use Rattle.deb_index.specs.Packages.{PackageView, IndexView, essential_names, is_named, package_view}
 use Rattle.deb_index.specs.Reading.{same_package, stanza_limit}
 use Rattle.deb_index.specs.Links.{IsLinked}
 use Rattle.deb_index.specs.Names.{AreNumbers, IsNaming, provided_places}
 use Rattle.deb_index.specs.Tables.{IsSmall, asked_count, asked_limit}
+
+-- what contracts see of what is kept
+abbrev pub index_of_parts : List ℕ → List Package → Bool → ℕ → ℕ → ℕ → ℕ → IndexView
+index_of_parts arch packages with_essential stanzas skipped duplicates foreground =
+    record { arch = arch; packages = map package_view packages; with_essential = with_essential; stanzas = stanzas; skipped = skipped; duplicates = duplicates; foreground = foreground }
 
 -- what tells packages apart: the name and the text of the version
 abbrev pub package_key : PackageView → List ℕ × List ℕ

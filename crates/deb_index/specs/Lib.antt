@@ -4,9 +4,9 @@ pub mod Meets
 pub mod Constraints
 pub mod Tables
 pub mod Names
-pub mod Walk
 pub mod Roles
 pub mod Rows
 pub mod Links
 pub mod Built
 pub mod Memo
+pub mod Parts

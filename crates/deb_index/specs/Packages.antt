@@ -1,5 +1,5 @@
 -- Packages and the index that they make, without where they lie in memory.
-use Rattle.std.specs.Prelude.{ℕ, Bool, false, ◌&&◌, List, [], ◌∷◌, ◌++◌, map, filter, not, None, slice_index_or}
+use Rattle.std.specs.Prelude.{ℕ, Bool, false, ◌&&◌, ◌==◌, List, [], ◌∷◌, ◌++◌, map, filter, not, None, slice_index_or}
 use Rattle.std.specs.List.{list_any, enumerate_from}
 use Rattle.std.specs.Str.{bytes_eq}
 use Rattle.deb_relation.specs.AtomView.{atom_view, atoms_view}
@@ -82,6 +82,10 @@ first_of_each same (x ∷ xs) = x ∷ filter (λ y. not (same x y)) (first_of_ea
 -- the places of the elements that pass a test, rising
 unfoldable pub places_where : {A : Type 0} → (A → Bool) → List A → List ℕ
 places_where test xs = map (λ e. e.0) (filter (λ e. test e.1) (enumerate_from 0 xs))
+
+-- a place is in a list
+abbrev pub is_in : List ℕ → ℕ → Bool
+is_in places q = list_any (λ place. place == q) places
 
 -- the distinct names, in the order in which they first occur
 abbrev pub names : IndexView → List (List ℕ)

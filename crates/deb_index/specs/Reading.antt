@@ -234,12 +234,12 @@ index_of_both text background arch with_essential = do
 
 -- ---- one stanza after the other
 
--- the next stanza of a reader, if there is one, and what is left
-unfoldable pub next_reading : List ℕ → ℕ → List (List (List ℕ)) → ℕ → Result (Option (Option PackageView) × Unread) IndexError
-next_reading arch before [] n = Ok (None, record { stanzas = []; count = n })
-next_reading arch before (stanza ∷ more) n = do
-  r ← stanza_reading arch before (n + 1) stanza
-  Ok (Some r, record { stanzas = more; count = n + 1 })
+-- a step reads the first stanza that is left
+pub record Steps (arch : List ℕ) (before : ℕ) (left : Unread) (read : Option PackageView) (new : Unread) : Type 0 where
+  pub stanza : List (List ℕ)
+  pub first : left.stanzas ≡ stanza ∷ new.stanzas
+  pub counts : new.count ≡ left.count + 1
+  pub reads : stanza_reading arch before new.count stanza ≡ Ok read
 
 -- an index with one stanza more
 abbrev pub with_reading : IndexView → Option PackageView → IndexView

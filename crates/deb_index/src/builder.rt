@@ -1,19 +1,23 @@
 //! An index while it is read.
-ghost use Rattle.std.specs.Prelude.{◌≡◌, ◌≢◌, ◌<◌, ◌≤◌, ◌+◌, ◌-◌, ◌*◌, ◌++◌, ◌∷◌, [], cond, false, Ok, Err, IfOk, IfErr, OnOk, Some, length, map, position, sum_by};
-ghost use Rattle.std.specs.List.{list_any};
+ghost use Rattle.std.specs.Prelude.{◌≡◌, ◌≢◌, ◌<◌, ◌≤◌, ◌+◌, ◌-◌, ◌*◌, ◌++◌, ◌∷◌, [], cond, false, Ok, Err, IfOk, IfErr, OnOk, Some};
+ghost use Rattle.std.specs.Prelude.{length, map, position, sum_by};
+ghost use Rattle.std.specs.List.{fold, list_any};
 ghost use Rattle.std.specs.Str.{bytes_eq};
 ghost use Rattle.deb_control.specs.Stanzas.{stanzas_of};
 ghost use Rattle.deb_index.specs.Packages.{IndexView, essential_names, names, package_view};
 ghost use Rattle.deb_index.specs.Built.{is_marked, key_view, package_key, same_key};
+ghost use Rattle.deb_index.specs.Parts.{ArePartsOf, HasRoomFor, HaveRoom, IsForeseen, part_stanzas};
 ghost use Rattle.deb_index.specs.Reading.{byte_limit, collected, continued, reading_view, readings, same_package, stanza_limit, with_foreground, with_reading};
 ghost use Rattle.deb_index.specs.Tables.{HasRoom, asked_count};
 
 use crate::error::IndexError;
 use crate::index::Index;
+use crate::limits::STANZA_LIMIT;
 use crate::links::Links;
 use crate::lookup::Lookup;
 use crate::names::Names;
 use crate::package::{Package, Reading, next_reading};
+use crate::parts::{Part, Parted};
 use deb_control::Reader;
 use indexmap::IndexSet;
 use std::alloc::{AllocError, Global};
@@ -72,15 +76,15 @@ pub(crate) struct Builder {
 }
 
 impl Model for Builder {
-    ghost use Rattle.std.specs.Prelude.{map};
-    ghost use Rattle.deb_index.specs.Packages.{IndexView, package_view};
-    ghost use Rattle.deb_index.specs.Built.{IsBuilt};
+    ghost use Rattle.deb_index.specs.Packages.{IndexView};
+    ghost use Rattle.deb_index.specs.Built.{IsBuilt, index_of_parts};
 
     ghost Value = { IndexView };
 
-    ghost view = { λ b. record { arch = b.arch.items; packages = map package_view b.packages.items; with_essential = b.with_essential; stanzas = b.stanzas; skipped = b.skipped; duplicates = b.duplicates; foreground = b.foreground } };
+    ghost view = { λ b. index_of_parts b.arch.items b.packages.items b.with_essential b.stanzas b.skipped b.duplicates b.foreground };
 
-    ghost invariant = { λ b. IsBuilt (record { arch = b.arch.items; packages = map package_view b.packages.items; with_essential = b.with_essential; stanzas = b.stanzas; skipped = b.skipped; duplicates = b.duplicates; foreground = b.foreground }) b.numbers.items b.names b.later.keys };
+    ghost invariant = { λ b. IsBuilt (index_of_parts b.arch.items b.packages.items b.with_essential b.stanzas b.skipped b.duplicates b.foreground)
+        b.numbers.items b.names b.later.keys };
 }
 
 impl Builder {
@@ -105,29 +109,71 @@ impl Builder {
         })
     }
 
-    /// Takes in the stanzas of a text, behind those that are there.
-    pub(crate) fn add_text(
-        self,
-        alloc: Global,
-        text: &[u8],
-        arch: &[u8],
-    ) -> Result<Builder, IndexError>
-        requires short { length text.now ≤ byte_limit }
+    /// Takes in the stanzas of a text, behind those that are there, one part after the other.
+    pub(crate) fn add_text(self, alloc: Global, text: Parted) -> Result<Builder, IndexError>
+        requires parts { ArePartsOf self.arch text.text.now text.parts.items }
+        requires short { length text.text.now ≤ byte_limit }
         requires few { self.stanzas ≤ stanza_limit }
         requires room { sum_by asked_count self.packages ≤ byte_limit + 1 + 4 * self.stanzas }
-        ensures room { IfOk result (λ b. sum_by asked_count b.packages ≤ sum_by asked_count self.packages + (byte_limit + 1) + 4 * (b.stanzas - self.stanzas)) }
-        ensures more { IfOk result (λ b. self.stanzas ≤ b.stanzas) }
-        ensures accepted { IfOk result (λ b. continued self (readings arch.now self.stanzas 0 (stanzas_of text.now)) ≡ Ok b) }
-        ensures refused { IfErr result (λ e. e ≢ IndexError.Memory → continued self (readings arch.now self.stanzas 0 (stanzas_of text.now)) ≡ Err e) }
+        ensures accepted { IfOk result (λ b. continued self (readings self.arch self.stanzas 0 (stanzas_of text.entry.text.now)) ≡ Ok b) }
+        ensures refused { IfErr result (λ e. e ≢ IndexError.Memory → continued self (readings self.arch self.stanzas 0 (stanzas_of text.entry.text.now)) ≡ Err e) }
     {
         let before = self.stanzas();
         let mut builder = self;
-        let mut reader = Reader::new(text);
+        for part in text.parts {
+            builder = builder.add_part(alloc, before, part)?;
+        }
+        Ok(builder)
+    }
+
+    // Takes in a part of a text; so many stanzas stood in an earlier text. What was read beforehand is taken over, where there are not too
+    // many stanzas then; else the part is read here.
+    fn add_part(self, alloc: Global, before: u32, part: Part) -> Result<Builder, IndexError>
+        requires begun { before ≤ self.stanzas }
+        requires few { self.stanzas ≤ stanza_limit }
+        requires short { length part.text.now ≤ byte_limit }
+        requires foreseen { IsForeseen self.arch part }
+        requires room { HasRoomFor self (part_stanzas part) }
+        ensures accepted { IfOk result (λ b. continued self (readings self.arch before (self.stanzas - before) (part_stanzas part.entry)) ≡ Ok b) }
+        ensures refused { IfErr result (λ e. e ≢ IndexError.Memory → continued self (readings self.arch before (self.stanzas - before) (part_stanzas part.entry)) ≡ Err e) }
+    {
+        let Part { text, found } = part;
+        if let Some(found) = found {
+            if found.len() <= (STANZA_LIMIT - self.stanzas) as usize {
+                let builder = self.add_readings(alloc, found)?;
+                return Ok(builder);
+            }
+        }
+        let reader = Reader::behind(text, u64::from(self.stanzas - before));
+        self.add_stanzas(alloc, before, reader)
+    }
+
+    // Takes in what stanzas read as.
+    fn add_readings(self, alloc: Global, found: Vec<Reading>) -> Result<Builder, AllocError>
+        requires { HaveRoom self (map reading_view found.items) }
+        ensures { IfOk result (λ b. b ≡ fold with_reading self (map reading_view found.items)) }
+    {
+        let mut builder = self;
+        for reading in found {
+            builder = builder.add(alloc, reading)?;
+        }
+        Ok(builder)
+    }
+
+    // Reads the stanzas that a reader has before it, and takes each in; so many stood in an earlier text.
+    fn add_stanzas(self, alloc: Global, before: u32, reader: Reader) -> Result<Builder, IndexError>
+        requires counts { self.stanzas ≡ before + reader.count }
+        requires few { self.stanzas ≤ stanza_limit }
+        requires room { HasRoomFor self reader.stanzas }
+        ensures accepted { IfOk result (λ b. continued self (readings self.arch before reader.entry.count reader.entry.stanzas) ≡ Ok b) }
+        ensures refused { IfErr result (λ e. e ≢ IndexError.Memory → continued self (readings self.arch before reader.entry.count reader.entry.stanzas) ≡ Err e) }
+    {
+        let mut builder = self;
+        let mut reader = reader;
         'stanzas: while let Some(reading) = next_reading(
             alloc,
-            arch,
+            builder.arch(),
             before,
-            builder.stanzas() - before,
             &mut reader,
         )? {
             builder = builder.add(alloc, reading)?;
@@ -135,11 +181,16 @@ impl Builder {
         Ok(builder)
     }
 
-    pub(crate) fn stanzas(&self) -> u32
-        ensures value { result ≡ self.now.stanzas }
-        ensures few { self.now.stanzas ≤ stanza_limit }
+    fn stanzas(&self) -> u32
+        ensures { result ≡ self.now.stanzas }
     {
         self.stanzas
+    }
+
+    fn arch(&self) -> &[u8]
+        ensures { result.now ≡ self.now.arch }
+    {
+        &self.arch
     }
 
     // Takes in what the next stanza reads as.

@@ -5,13 +5,16 @@
 //! - `limits`: how large an index may be; `error`: why one is refused.
 //! - `package`: one stanza, read as a package; `meets`: what it asks for, and which atoms it meets.
 //! - `names`: the names that packages have or provide, with where each is found; `name`: how one lies in the table.
-//! - `lookup`: all places that meet an atom, found by the names; `walk`: rising lists of places, side by side.
+//! - `lookup`: all places that meet an atom, found by the names.
 //! - `rows`: lists of places, one behind the other; `memo`: rows that come many times; `links`: the row of each group and of each entry, made once.
-//! - `builder`: an index while it is read, stanza by stanza, which is consumed into
-//! - `index`: the index of a text, or of a text and a background, and all that is read from it; `constraint`: its constraints.
-//! - `laws`: what a background adds.
+//! - `index`: the index of a text, or of a text and a background: its packages and their names.
+//! - `answering`: which packages meet what is asked for; `constraint`: its constraints, and where each stands.
+//! - `parts`: a text in parts, which several workers read side by side.
+//! - `builder`: an index while it is read, stanza by stanza and part by part; `read` makes an index by it.
+//! - `laws`: what a background adds, and that the limits are those of the definitions.
 #![tactic(auto)]
 
+mod answering;
 mod builder;
 mod constraint;
 mod error;
@@ -25,11 +28,12 @@ mod memo;
 mod name;
 mod names;
 mod package;
+mod parts;
+mod read;
 mod rows;
-mod walk;
 
 pub use constraint::Constraint;
 pub use error::{BothError, IndexError, RelField};
 pub use index::Index;
-pub use limits::{STANZA_LIMIT, TEXT_LIMIT};
+pub use limits::{PART_SIZE, STANZA_LIMIT, TEXT_LIMIT};
 pub use package::Package;

@@ -4,18 +4,13 @@ ghost use Rattle.deb_relation.specs.AtomView.{atom_view};
 ghost use Rattle.deb_index.specs.Packages.{aparts, needs, package_view};
 ghost use Rattle.deb_index.specs.Tables.{asked_count, asked_limit};
 
-use crate::lookup::Lookup;
+use crate::lookup::{Lookup, ROW_LIMIT};
 use crate::meets::Role;
 use crate::memo::Memo;
 use crate::package::Package;
 use crate::rows::Rows;
-use crate::walk::merge;
 use deb_relation::Atom;
 use std::alloc::{AllocError, Global};
-use std::mem;
-
-// How many candidates a row is made for at most. So the rows grow with what is asked for, however many packages provide it.
-const ROW_LIMIT: usize = 64;
 
 /// Where the rows of a package's groups and those of its entries begin.
 #[derive(Clone, Copy)]
@@ -79,13 +74,11 @@ impl Links {
     }
 }
 
-// Makes rows, in lists that are used again for each. Contracts see its index as that of the memo.
+// Makes rows, in a list that is used again for each. Contracts see its index as that of the memo.
 #[derive(Drop)]
 struct Finder<'t> {
     memo: Memo<'t>,
     found: Vec<u32>,
-    more: Vec<u32>,
-    merged: Vec<u32>,
 }
 
 impl<'t> Finder<'t> {
@@ -98,8 +91,6 @@ impl<'t> Finder<'t> {
         Ok(Finder {
             memo: Memo::new(alloc, lookup)?,
             found: Vec::new(alloc),
-            more: Vec::new(alloc),
-            merged: Vec::new(alloc),
         })
     }
 
@@ -172,18 +163,10 @@ impl<'t> Finder<'t> {
             return self.add_atom(Role::Alternative, atom, rows);
         }
         let lookup = self.memo.lookup();
-        let mut count = 0;
-        self.found.clear();
-        'alternatives: for (number, atom) in group.iter().enumerate() {
-            let candidates = lookup.candidates(atom.name.as_slice());
-            count += candidates.named.len() + candidates.provided.len();
-            if count > ROW_LIMIT {
-                return rows.leave_out();
-            }
-            lookup.find(Role::Alternative, atom, candidates, &mut self.more)?;
-            merge(&self.found, &self.more, &mut self.merged)?;
-            mem::swap(&mut self.found, &mut self.merged);
+        if lookup.has_many(group) {
+            return rows.leave_out();
         }
+        lookup.find_group(group, &mut self.found)?;
         rows.push(&self.found)
     }
 }

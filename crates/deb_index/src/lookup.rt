@@ -1,19 +1,23 @@
 //! What the packages that meet an atom are looked up in.
-ghost use Rattle.std.specs.Prelude.{◌≡◌, ◌<◌, ◌≤◌, ◌++◌, OnOk, length, map, sum_by};
+ghost use Rattle.std.specs.Prelude.{◌≡◌, ◌<◌, ◌≤◌, ◌&&◌, ◌||◌, ◌==◌, ℕ, OnOk, Some, false, length, map, nat_le, not, sum_by};
+ghost use Rattle.std.specs.List.Sorted.{IsStrictlyIncreasing};
 ghost use Rattle.deb_relation.specs.AtomView.{atom_view};
-ghost use Rattle.deb_index.specs.Packages.{package_at, package_view, places_of};
+ghost use Rattle.deb_index.specs.Packages.{is_in, package_at, package_view, places_of};
 ghost use Rattle.deb_index.specs.Reading.{stanza_limit};
 ghost use Rattle.deb_index.specs.Meets.{group_satisfiers, provided_at};
 ghost use Rattle.deb_index.specs.Roles.{meets_as_at, satisfiers_as};
+ghost use Rattle.deb_index.specs.Rows.{group_candidates, row_limit};
 ghost use Rattle.deb_index.specs.Tables.{asked_count, asked_limit};
 
 use crate::meets::Role;
 use crate::names::{Candidates, Names};
 use crate::package::Package;
-use crate::walk::{behind, entries_behind, first_place};
 use deb_relation::Atom;
 use std::alloc::AllocError;
 use std::marker::Model;
+
+/// How many candidates a row is made for at most. So the rows grow with what is asked for, however many packages provide it.
+pub(crate) const ROW_LIMIT: usize = 64;
 
 /// Packages by place, an architecture, and the names that they have or provide for it. Contracts see an index that has these alone.
 #[derive(Drop)]
@@ -73,12 +77,28 @@ impl<'a> Lookup<'a> {
         self.names.candidates(name)
     }
 
-    // Whether the package at a place meets an atom in its role.
+    /// Whether the alternatives of a group have too many candidates for a row.
+    pub(crate) fn has_many(&self, group: &[Atom]) -> bool
+        ensures { result ≡ not (nat_le (group_candidates self.now (map atom_view group.now)) row_limit) }
+    {
+        let mut count = 0;
+        for atom in group {
+            let candidates = self.candidates(atom.name.as_slice());
+            count += candidates.named.len() + candidates.provided.len();
+            if count > ROW_LIMIT {
+                return true;
+            }
+        }
+        false
+    }
+
+    // Whether there is a package at a place, and it meets an atom in its role.
     fn meets_as(&self, role: Role, place: u32, atom: &Atom) -> bool
-        requires { place < length self.now.packages }
         ensures { result ≡ meets_as_at role self.now place (atom_view atom.now) }
     {
-        let asked = self.package(place);
+        let Some(asked) = self.packages.get(place as usize) else {
+            return false;
+        };
         match role {
             Role::Alternative => asked.meets_need(self.arch, atom),
             Role::Entry => asked.meets(self.arch, atom),
@@ -86,7 +106,7 @@ impl<'a> Lookup<'a> {
     }
 
     /// Finds the places that meet an alternative of a group, rising, each once; they take the place of what the list held.
-    // Sorted once, in the end: to merge each alternative's places with those before would be quadratic in a long group.
+    // Sorted once, in the end: to put each alternative's places among those before would be quadratic in a long group.
     pub(crate) fn find_group(&self, group: &[Atom], found: &mut Vec<u32>) -> Result<(), AllocError>
         ensures { OnOk result (found.new.items ≡ group_satisfiers self.now (map atom_view group.now)) }
     {
@@ -95,8 +115,7 @@ impl<'a> Lookup<'a> {
             let candidates = self.candidates(atom.name.as_slice());
             self.add_found(Role::Alternative, atom, candidates, found)?;
         }
-        found.sort_unstable();
-        found.dedup();
+        put_in_order(found);
         Ok(())
     }
 
@@ -114,10 +133,12 @@ impl<'a> Lookup<'a> {
         ensures { OnOk result (found.new.items ≡ satisfiers_as role self.now (atom_view atom.now)) }
     {
         found.clear();
-        self.add_found(role, atom, candidates, found)
+        self.add_found(role, atom, candidates, found)?;
+        put_in_order(found);
+        Ok(())
     }
 
-    // The same, but they come behind what the list held.
+    // The same, but they come behind what the list held, in any order, and some twice.
     fn add_found(
         &self,
         role: Role,
@@ -127,17 +148,78 @@ impl<'a> Lookup<'a> {
     ) -> Result<(), AllocError>
         requires named { candidates.named.now ≡ places_of self.now (atom_view atom.now).name }
         requires provided { candidates.provided.now ≡ provided_at self.now (atom_view atom.now).name }
-        ensures { OnOk result (found.new.items ≡ found.old.items ++ satisfiers_as role self.now (atom_view atom.now)) }
+        ensures { OnOk result ((q : ℕ) → is_in found.new.items q ≡ (is_in found.old.items q || meets_as_at role self.now q (atom_view atom.now))) }
     {
-        let mut named = candidates.named;
-        let mut provided = candidates.provided;
-        'places: while let Some(place) = first_place(named, provided) {
-            if self.meets_as(role, place, atom) {
-                found.push(place)?;
-            }
-            named = behind(named, place);
-            provided = entries_behind(provided, place);
+        self.add_named(role, atom, candidates.named, found)?;
+        self.add_providers(role, atom, candidates.provided, found)
+    }
+
+    // Adds those of some places where the package meets an atom.
+    fn add_named(
+        &self,
+        role: Role,
+        atom: &Atom,
+        places: &[u32],
+        found: &mut Vec<u32>,
+    ) -> Result<(), AllocError>
+        ensures { OnOk result ((q : ℕ) → is_in found.new.items q ≡ (is_in found.old.items q || (is_in places.now q && meets_as_at role self.now q (atom_view atom.now)))) }
+    {
+        for place in places {
+            self.add_place(role, atom, *place, found)?;
         }
         Ok(())
     }
+
+    // The same for the places of entries. Those of one package stand side by side: it is asked once.
+    fn add_providers(
+        &self,
+        role: Role,
+        atom: &Atom,
+        entries: &[(u32, u32)],
+        found: &mut Vec<u32>,
+    ) -> Result<(), AllocError>
+        ensures { OnOk result ((q : ℕ)
+            → is_in found.new.items q ≡ (is_in found.old.items q || (is_in (map (λ e. e.0) entries.now) q && meets_as_at role self.now q (atom_view atom.now)))) }
+    {
+        let mut last = None;
+        for entry in entries {
+            if is_new(last, entry.0) {
+                self.add_place(role, atom, entry.0, found)?;
+            }
+            last = Some(entry.0);
+        }
+        Ok(())
+    }
+
+    // Adds a place if the package there meets an atom.
+    fn add_place(
+        &self,
+        role: Role,
+        atom: &Atom,
+        place: u32,
+        found: &mut Vec<u32>,
+    ) -> Result<(), AllocError>
+        ensures { OnOk result ((q : ℕ)
+            → is_in found.new.items q ≡ (is_in found.old.items q || (place == q && meets_as_at role self.now q (atom_view atom.now)))) }
+    {
+        if self.meets_as(role, place, atom) {
+            found.push(place)?;
+        }
+        Ok(())
+    }
+}
+
+fn is_new(last: Option<u32>, place: u32) -> bool
+    ensures { result ≡ false → last ≡ Some place }
+{
+    last != Some(place)
+}
+
+// Sorts places, and leaves out those that come again.
+fn put_in_order(found: &mut Vec<u32>)
+    ensures same { (q : ℕ) → is_in found.new.items q ≡ is_in found.old.items q }
+    ensures rising { IsStrictlyIncreasing found.new.items }
+{
+    found.sort_unstable();
+    found.dedup();
 }

@@ -1,12 +1,13 @@
 //! Rows of one place, remembered by their atoms: most atoms come many times, and most are met by one package alone.
 ghost use Rattle.std.specs.Prelude.{◌≡◌, ◌<◌, ◌∷◌, [], Some, IfOk, IfSome, IsTrue};
+ghost use Rattle.std.specs.Option.{option_map};
 ghost use Rattle.deb_relation.specs.AtomView.{atom_view};
 ghost use Rattle.deb_index.specs.Memo.{slot_count};
 ghost use Rattle.deb_index.specs.Roles.{row_as};
 
 use crate::lookup::Lookup;
 use crate::meets::Role;
-use deb_relation::{Atom, Op, Qualifier, Version};
+use deb_relation::{Atom, Op, SmallText, Version};
 use std::alloc::{AllocError, Global};
 use std::marker::Model;
 
@@ -50,8 +51,8 @@ impl<'t> Model for Memo<'t> {
 }
 
 // Whether both are qualifiers of one text, or neither is there.
-fn is_same_qualifier(qualifier: &Option<Qualifier>, other: &Option<Qualifier>) -> bool
-    ensures { IsTrue result → qualifier.now ≡ other.now }
+fn is_same_qualifier(qualifier: &Option<Box<SmallText>>, other: &Option<Box<SmallText>>) -> bool
+    ensures { IsTrue result → option_map (λ q. q.value) qualifier.now ≡ option_map (λ q. q.value) other.now }
 {
     match (qualifier, other) {
         (None, None) => true,

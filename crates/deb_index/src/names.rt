@@ -80,8 +80,8 @@ impl Names {
     /// The places of the packages that have a name, by its number, where it has one.
     pub(crate) fn places_known(&self, known: Option<usize>) -> &[u32]
         requires { IfSome known (λ i. i < length (name_texts self.now)) }
-        ensures { (packages : List PackageView) (entries : List (List ℕ × (ℕ × ℕ))) (name : List ℕ) → IsNaming packages entries self.now → known ≡ number_in name (name_texts self.now)
-            → result.now ≡ places_where (is_named name) packages }
+        ensures { (packages : List PackageView) (entries : List (List ℕ × (ℕ × ℕ))) (name : List ℕ) → IsNaming packages entries self.now
+            → known ≡ number_in name (name_texts self.now) → result.now ≡ places_where (is_named name) packages }
     {
         match known {
             Some(number) => self.places(number),
@@ -132,8 +132,8 @@ impl Names {
         place: u32,
     ) -> Result<usize, AllocError>
         requires { known ≡ number_in name.now (name_texts self.old) }
-        ensures named { OnOk result ((packages : List PackageView) (p : PackageView) → IsNaming packages [] self.old → p.name ≡ name.now → length packages ≡ place
-            → IsNaming (packages ++ p ∷ []) [] self.new) }
+        ensures named { OnOk result ((packages : List PackageView) (p : PackageView) → IsNaming packages [] self.old
+            → p.name ≡ name.now → length packages ≡ place → IsNaming (packages ++ p ∷ []) [] self.new) }
         ensures number { IfOk result (λ number. number_in name.now (name_texts self.new) ≡ Some number) }
     {
         match known {

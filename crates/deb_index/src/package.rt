@@ -1,11 +1,11 @@
 //! One stanza, read as a package.
-ghost use Rattle.std.specs.Prelude.{◌≡◌, ◌+◌, ◌<◌, ◌^◌, map, codes};
-ghost use Rattle.std.specs.Option.{option_map};
+ghost use Rattle.std.specs.Prelude.{◌≡◌, ◌≢◌, ◌+◌, ◌<◌, ◌≤◌, ◌^◌, [], IfErr, IfNone, IfOk, IfSome, map, codes};
 ghost use Rattle.std.specs.List.{list_all};
 ghost use Rattle.deb_control.specs.Fields.{field_value};
 ghost use Rattle.deb_relation.specs.AtomView.{atom_view, atoms_view};
 ghost use Rattle.deb_index.specs.Packages.{package_view};
-ghost use Rattle.deb_index.specs.Reading.{Gives, head_of, head_view, groups_in, atoms_in, is_allowed, is_for, is_marked, is_provided, provides_in, package_of, reading_of, reading_view, relation_text, good_version, next_reading};
+ghost use Rattle.deb_index.specs.Reading.{Gives, head_of, head_view, groups_in, atoms_in, is_allowed, is_for, is_marked, is_provided};
+ghost use Rattle.deb_index.specs.Reading.{provides_in, package_of, reading_of, reading_view, readings, relation_text, good_version, stanza_limit, Steps};
 ghost use Rattle.deb_index.specs.Reading as spec;
 
 use crate::error::{IndexError, RelField};
@@ -260,18 +260,19 @@ fn stanza_fault(before: u32, number: u64, error: ControlError) -> IndexError
     }
 }
 
-/// Reads the next stanza of a text, if there is one; `count` of the text were read before, and `before` of an earlier text.
+/// Reads the next stanza of a text, if there is one; so many stood in an earlier text.
 pub(crate) fn next_reading(
     alloc: Global,
     arch: &[u8],
     before: u32,
-    count: u32,
     reader: &mut Reader,
 ) -> Result<Option<Reading>, IndexError>
-    requires { count ≡ reader.old.count }
-    ensures { Gives (λ found. (option_map reading_view found, reader.new)) result (next_reading arch.now before reader.old.stanzas reader.old.count) }
+    requires { before + reader.old.count ≤ stanza_limit }
+    ensures takes { IfOk result (λ found. IfSome found (λ r. Steps arch.now before reader.old (reading_view r) reader.new)) }
+    ensures ends { IfOk result (λ found. IfNone found (reader.old.stanzas ≡ [])) }
+    ensures refused { IfErr result (λ e. e ≢ IndexError.Memory → readings arch.now before reader.old.count reader.old.stanzas ≡ Err e) }
 {
-    let number = u64::from(count) + 1;
+    let number = reader.count() + 1;
     let total = u64::from(before) + number;
     match reader.next_stanza(alloc) {
         Ok(None) => Ok(None),

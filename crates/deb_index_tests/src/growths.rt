@@ -1,10 +1,10 @@
-//! One test for each call that can want memory; bench/growths runs them with each growth refused in turn.
+//! One test for each call that can want memory; trials/growths runs them with each growth refused in turn.
 
 use crate::backgrounds::{NEEDED, NEEDING, USED, USED_SHOWN};
 use crate::needs::MARKED;
 use crate::reading::read;
 use crate::rows::{SHARED, providers};
-use crate::showing::{Part, expect_shown, expect_shown_both};
+use crate::showing::{Part, expect_shown, expect_shown_both, shown_on};
 use crate::texts::VERSIONED;
 use deb_index::{Constraint, Index};
 use deb_relation::{Atom, parse_list};
@@ -30,6 +30,14 @@ bar: number Some(1), places [1], provided [(2, 0)]
 #[test]
 fn of_read_both(rt: HostRuntime) -> Result<(), Fail> {
     expect_shown_both(&rt, NEEDING, NEEDED, &USED, USED_SHOWN)
+}
+
+/// A thread that can't be started for want of memory is no fault: its part is read by the caller.
+#[test]
+fn of_read_both_on(rt: HostRuntime) -> Result<(), Fail> {
+    let found = shown_on(&rt, NEEDING, NEEDED, 2, &USED)?;
+    assert_eq!(rt; found.as_str(), USED_SHOWN);
+    Ok(())
 }
 
 fn met(alloc: Global, index: &Index, atom: &Atom, as_need: bool) -> Result<Vec<u32>, AllocError> {

@@ -2,13 +2,14 @@
 
 ghost use Rattle.std.specs.Prelude.{◌<◌, length};
 
-use crate::reading::{read, read_both};
+use crate::reading::{read, read_both, read_on};
 use deb_index::{Index, Package};
 use deb_relation::{Atom, parse_list};
 use std::alloc::{AllocError, Global};
 use std::process::Abort;
 use std::str::from_utf8;
 use std::test::Fail;
+use std::thread::Threads;
 
 /// A part of what is to be seen of an index.
 #[derive(Clone, Copy)]
@@ -306,6 +307,20 @@ pub fn shown_both(
 ) -> Result<String, Fail> {
     let index = read_both(alloc, text, background, essential)?;
     let out = shown_of(alloc, &index, parts);
+    drop(index);
+    Ok(out?)
+}
+
+/// What is to be seen of the index of a text and a background that so many workers read, where the essential names count.
+pub fn shown_on(
+    rt: &(impl Threads + Sync + AllocGlobal),
+    text: &[u8],
+    background: &[u8],
+    workers: u32,
+    parts: &[Part],
+) -> Result<String, Fail> {
+    let index = read_on(rt, text, background, workers)?;
+    let out = shown_of(rt.alloc(), &index, parts);
     drop(index);
     Ok(out?)
 }

@@ -17,10 +17,6 @@ or-second : (a b : Bool) → b ≡ true → (a || b) ≡ true
 or-second true b h = refl
 or-second false b h = h
 
--- the first part, and the others
-pub first-has : (byte : ℕ) (part : List ℕ) (parts : List (List ℕ)) → has_byte byte part ≡ true → any_has byte (part ∷ parts) ≡ true
-first-has byte part parts h = rw h refl
-
 pub later-has : (byte : ℕ) (part : List ℕ) (parts : List (List ℕ)) → any_has byte parts ≡ true → any_has byte (part ∷ parts) ≡ true
 later-has byte part parts h = or-second (has_byte byte part) (any_has byte parts) h
 

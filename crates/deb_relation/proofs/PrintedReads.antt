@@ -1,23 +1,24 @@
 -- An atom that was read, printed, reads again.
-use Rattle.std.proofs.Common.{not, ◌≡◌, ◌==◌, ℕ, List, [], ◌∷◌, ◌++◌, Bool, true, false, Option, Some, None, Ok, Err, IfSome, if◌then◌else◌, refl, inl, append_assoc}
+use Rattle.std.proofs.Common.{not, ◌≡◌, ◌==◌, ℕ, List, [], ◌∷◌, ◌++◌, Bool, true, false, Option, Some, None, Result, Ok, Err, IfSome, if◌then◌else◌, refl, inl, append_assoc}
 use Rattle.std.specs.Prelude.{codes}
 use Rattle.std.proofs.lemmas.Bool.{and_parts}
 use Rattle.std.proofs.lemmas.List.{append-nil}
 use Rattle.std.proofs.lemmas.List.Elements.{All-cons, All-nil}
 use Rattle.std.specs.Char.{is_ascii_alphanumeric}
 use Rattle.std.specs.List.{All, list_all, list_any}
+use Rattle.deb_relation.specs.declared.atom.RelationError.{RelationError}
 use Rattle.deb_relation.specs.declared.atom.RelationError.TheVariants.{Alternative}
 use Rattle.deb_relation.specs.declared.bound.Op.{Op}
 use Rattle.deb_relation.specs.declared.bound.Op.TheVariants.{Lt, Le, Eq, Ge, Gt}
 use Rattle.deb_relation.specs.Bytes.{bar, comma, space}
 use Rattle.deb_relation.specs.Form.{AtomText, IsAtom, IsBound, IsSign, is_name, is_name_byte, is_qualifier, is_qualifier_byte, is_white, qualifier_text}
 use Rattle.deb_relation.specs.Printed.{ReadsAgain}
-use Rattle.deb_relation.specs.Relationship.{◌>>=◌, atom_of, atoms_from, atoms_of, bound_text, elements_of, group_of, groups_from, groups_of, is_blank, op_text, pieces_of, printed, single_of}
+use Rattle.deb_relation.specs.Relationship.{◌>>=◌, atom_of, atoms_of, bound_text, each, filled_elements, group_in, groups_of, is_blank, op_text, pieces_of, printed, single_of}
 use Rattle.deb_relation.specs.Runs.{begins}
 use Rattle.deb_relation.specs.VersionText.{fault_of, is_upstream_byte}
 use Rattle.deb_relation.proofs.ByteKinds.{alphanumeric-not_white, inner-not_bar, inner-not_comma, is_inner_byte, name-is_inner, qualifier-is_inner, upstream-is_inner}
 use Rattle.deb_relation.proofs.FormReads.{atom-again}
-use Rattle.deb_relation.proofs.Gather.{bind-ok, onto}
+use Rattle.deb_relation.proofs.Gather.{bind-ok}
 use Rattle.deb_relation.proofs.ReadsForm.{atom-takes}
 use Rattle.deb_relation.proofs.RunJoins.{begins-append, begins-other, list_all-begins, list_all-join, list_all-wider, list_any-none, split-one}
 use Rattle.deb_relation.proofs.VersionBytes.{version-bytes}
@@ -126,7 +127,7 @@ printed-filled atom known =
 -- ---- so it reads again, alone
 
 reads-again : (atom : AtomText) → AreParts atom → ReadsAgain atom
-unfolding groups_from group_of atoms_from
+unfolding each
 reads-again atom known =
     let inner = printed-inner atom known in
     let elements = split-one (λ b. b == comma) (printed atom) (list_all-wider is_inner_byte (λ b. not (b == comma)) (printed atom) inner-not_comma inner) in
@@ -139,50 +140,28 @@ reads-again atom known =
 
 -- ---- and that holds of each atom of a value
 
-group-again : (pieces : List (List ℕ)) (atoms : List AtomText) → group_of pieces ≡ Ok atoms → All ReadsAgain atoms
-unfolding group_of
-group-again [] atoms e = let same : [] ≡ atoms = cc in rw (← same) (All-nil ReadsAgain)
-group-again (piece ∷ pieces) atoms e =
-    let first = bind-ok (atom_of piece) (λ a. group_of pieces >>= λ xs. Ok (a ∷ xs)) atoms e in
-    let others = bind-ok (group_of pieces) (λ xs. Ok (first.0 ∷ xs)) atoms first.2 in
-    let same : first.0 ∷ others.0 ≡ atoms = cc (others.2) in
-    rw (← same) (All-cons ReadsAgain first.0 others.0 (reads-again first.0 (parts-read piece first.0 first.1)) (group-again pieces others.0 others.1))
+each-all : {A : Type 0} (read : List ℕ → Result A RelationError) (P : A → Type 0) → ((part : List ℕ) (a : A) → read part ≡ Ok a → P a)
+    → (parts : List (List ℕ)) (items : List A) → each read parts ≡ Ok items → All P items
+unfolding each
+each-all read P holds [] items e = let same : [] ≡ items = cc in rw (← same) (All-nil P)
+each-all read P holds (part ∷ parts) items e =
+    let first = bind-ok (read part) (λ a. each read parts >>= λ xs. Ok (a ∷ xs)) items e in
+    let others = bind-ok (each read parts) (λ xs. Ok (first.0 ∷ xs)) items first.2 in
+    let same : first.0 ∷ others.0 ≡ items = cc (others.2) in
+    rw (← same) (All-cons P first.0 others.0 (holds part first.0 first.1) (each-all read P holds parts others.0 others.1))
 
-groups-again : (elements : List (List ℕ)) (groups : List (List AtomText)) → groups_from elements ≡ Ok groups → All (λ g. All ReadsAgain g) groups
-unfolding groups_from
-groups-again [] groups e = let same : [] ≡ groups = cc in rw (← same) (All-nil (λ g. All ReadsAgain g))
-groups-again (element ∷ elements) groups e = step (is_blank element) (groups-again elements) e
+atom-prints : (piece : List ℕ) (atom : AtomText) → atom_of piece ≡ Ok atom → ReadsAgain atom
+atom-prints piece atom e = reads-again atom (parts-read piece atom e)
+
+single-prints : (element : List ℕ) (atom : AtomText) → single_of element ≡ Ok atom → ReadsAgain atom
+single-prints element atom e = atom-prints element atom (by (list_any (λ b. b == bar) element) e)
   where
-    step : (blank : Bool) → ((gs : List (List AtomText)) → groups_from elements ≡ Ok gs → All (λ g. All ReadsAgain g) gs)
-        → (if blank then groups_from elements else onto (group_of (pieces_of element)) (groups_from elements)) ≡ Ok groups → All (λ g. All ReadsAgain g) groups
-    step true rest h = rest groups h
-    step false rest h =
-        let first = bind-ok (group_of (pieces_of element)) (λ g. groups_from elements >>= λ gs. Ok (g ∷ gs)) groups h in
-        let others = bind-ok (groups_from elements) (λ gs. Ok (first.0 ∷ gs)) groups first.2 in
-        let same : first.0 ∷ others.0 ≡ groups = cc (others.2) in
-        rw (← same) (All-cons (λ g. All ReadsAgain g) first.0 others.0 (group-again (pieces_of element) first.0 first.1) (rest others.0 others.1))
-
-single-read : (bars : Bool) (element : List ℕ) (atom : AtomText) → (if bars then Err Alternative else atom_of element) ≡ Ok atom → atom_of element ≡ Ok atom
-single-read true element atom h = cc
-single-read false element atom h = h
-
-atoms-again : (elements : List (List ℕ)) (atoms : List AtomText) → atoms_from elements ≡ Ok atoms → All ReadsAgain atoms
-unfolding atoms_from
-atoms-again [] atoms e = let same : [] ≡ atoms = cc in rw (← same) (All-nil ReadsAgain)
-atoms-again (element ∷ elements) atoms e = step (is_blank element) (atoms-again elements) e
-  where
-    step : (blank : Bool) → ((xs : List AtomText) → atoms_from elements ≡ Ok xs → All ReadsAgain xs)
-        → (if blank then atoms_from elements else onto (single_of element) (atoms_from elements)) ≡ Ok atoms → All ReadsAgain atoms
-    step true rest h = rest atoms h
-    step false rest h =
-        let first = bind-ok (single_of element) (λ a. atoms_from elements >>= λ xs. Ok (a ∷ xs)) atoms h in
-        let others = bind-ok (atoms_from elements) (λ xs. Ok (first.0 ∷ xs)) atoms first.2 in
-        let same : first.0 ∷ others.0 ≡ atoms = cc (others.2) in
-        let read = single-read (list_any (λ b. b == bar) element) element first.0 first.1 in
-        rw (← same) (All-cons ReadsAgain first.0 others.0 (reads-again first.0 (parts-read element first.0 read)) (rest others.0 others.1))
+    by : (bars : Bool) → (if bars then Err Alternative else atom_of element) ≡ Ok atom → atom_of element ≡ Ok atom
+    by true h = cc
+    by false h = h
 
 pub groups-printed : (text : List ℕ) (groups : List (List AtomText)) → groups_of text ≡ Ok groups → All (λ g. All ReadsAgain g) groups
-groups-printed text groups e = groups-again (elements_of text) groups e
+groups-printed text groups e = each-all group_in (λ g. All ReadsAgain g) (λ element. each-all atom_of ReadsAgain atom-prints (pieces_of element)) (filled_elements text) groups e
 
 pub atoms-printed : (text : List ℕ) (atoms : List AtomText) → atoms_of text ≡ Ok atoms → All ReadsAgain atoms
-atoms-printed text atoms e = atoms-again (elements_of text) atoms e
+atoms-printed text atoms e = each-all single_of ReadsAgain single-prints (filled_elements text) atoms e

@@ -94,8 +94,11 @@ abbrev pub is_blank : List ℕ → Bool
 is_blank text = list_all is_white text
 
 -- the elements that count
+abbrev pub filled : List (List ℕ) → List (List ℕ)
+filled elements = filter (λ element. not (is_blank element)) elements
+
 abbrev pub filled_elements : List ℕ → List (List ℕ)
-filled_elements text = filter (λ element. not (is_blank element)) (elements_of text)
+filled_elements text = filled (elements_of text)
 
 -- an element is a group if each piece is an atom
 abbrev pub IsGroup : List ℕ → List AtomText → Type 0

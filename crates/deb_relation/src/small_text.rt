@@ -59,18 +59,6 @@ impl SmallText {
         Ok(SmallText { bytes })
     }
 
-    /// The text that a vector holds, whose memory is kept where the text is long.
-    pub fn from_vec(text: Vec<u8>) -> SmallText
-        ensures { result ≡ text.items }
-    {
-        if text.len() > SHORT_LEN {
-            let bytes = Bytes::Long(text);
-            return SmallText { bytes };
-        }
-        let bytes = short(&text);
-        SmallText { bytes }
-    }
-
     /// Its bytes.
     pub fn as_slice(&self) -> &[u8]
         ensures value { result.now ≡ self.now }
@@ -79,12 +67,5 @@ impl SmallText {
             Bytes::Short(len, bytes) => &bytes[..*len as usize],
             Bytes::Long(bytes) => bytes.as_slice(),
         }
-    }
-
-    /// A vector with its bytes. The error is want of memory.
-    pub fn to_vec(&self, alloc: Global) -> Result<Vec<u8>, AllocError>
-        ensures { IfOk result (λ v. v.items ≡ self.now) }
-    {
-        Vec::from_slice(alloc, self.as_slice())
     }
 }

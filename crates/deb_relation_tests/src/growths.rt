@@ -1,4 +1,4 @@
-//! One test for each call that can want memory; bench/growths runs them with each growth refused in turn.
+//! One test for each call that can want memory; trials/growths runs them with each growth refused in turn.
 //!
 //! Each goes on to its end or gives the error that was had, which has to be want of memory.
 

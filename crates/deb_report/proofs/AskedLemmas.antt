@@ -1,25 +1,18 @@
 -- Lemmas on the asked places.
-use Rattle.std.proofs.Common.{◌≡◌, ◌+◌, ◌∙◌, true, List, ℕ, Option, Some, None, Ok, Err, ap, arith, find, nat_le, refl, slice_get, sym}
+use Rattle.std.proofs.Common.{◌≡◌, ◌+◌, ◌∙◌, true, List, ℕ, Option, Some, None, Ok, Err, ap, arith, nat_le, slice_get, sym}
 use Rattle.std.specs.Option.{option_map_or}
-use Rattle.deb_index.specs.Constraints.{below}
-use Rattle.deb_index.specs.Packages.{IndexView, is_named, places_of, places_where}
+use Rattle.deb_index.specs.Packages.{IndexView, is_named, places_of}
 use Rattle.deb_report.specs.Report.{is_empty}
 use Rattle.deb_report.proofs.PlaceLemmas.{none_below, none_in_front, places_from, where_from}
-use Rattle.deb_report.specs.Asked.{asked_places, foreground_packages, is_listed, is_unknown}
+use Rattle.deb_report.specs.Asked.{asked_places, foreground_packages, is_unknown, listed_places, unknown_in, unless_unknown}
 
-pub asked-all : (index : IndexView) (only : Option (List (List ℕ))) (places : List ℕ) → only ≡ None → places ≡ below index.foreground → asked_places index only ≡ Ok places
+pub asked-known : (index : IndexView) (only : Option (List (List ℕ))) (places : List ℕ) → unknown_in index only ≡ None → places ≡ listed_places index only → asked_places index only ≡ Ok places
 unfolding asked_places
-asked-all index only places all is = rw (all, is) refl
+asked-known index only places known is = ap (λ (found : Option (List ℕ)). unless_unknown found (listed_places index only)) known ∙ ap (λ (listed : List ℕ). unless_unknown None listed) (sym is)
 
-pub asked-listed : (index : IndexView) (only : Option (List (List ℕ))) (names : List (List ℕ)) (places : List ℕ) → only ≡ Some names
-    → find (is_unknown index) names ≡ None → places ≡ places_where (is_listed names) (foreground_packages index) → asked_places index only ≡ Ok places
+pub asked-unknown : (index : IndexView) (only : Option (List (List ℕ))) (name : List ℕ) → unknown_in index only ≡ Some name → asked_places index only ≡ Err name
 unfolding asked_places
-asked-listed index only names places listed known is = rw (listed, known, is) refl
-
-pub asked-unknown : (index : IndexView) (only : Option (List (List ℕ))) (names : List (List ℕ)) (name : List ℕ) → only ≡ Some names
-    → find (is_unknown index) names ≡ Some name → asked_places index only ≡ Err name
-unfolding asked_places
-asked-unknown index only names name listed unknown = rw (listed, unknown) refl
+asked-unknown index only name unknown = ap (λ (found : Option (List ℕ)). unless_unknown found (listed_places index only)) unknown
 
 -- whether a name is unknown, by the first of all places that it has
 unknown-by : (index : IndexView) (name places : List ℕ) → places ≡ places_of index name → is_unknown index name ≡ none_below index.foreground places

@@ -8,7 +8,7 @@ use Rattle.deb_index.specs.declared.constraint.Constraint.TheVariants.{Essential
 use Rattle.deb_index.specs.Packages.{first_of_each}
 use Rattle.deb_index.specs.Tables.{items_of}
 use Rattle.deb_index.proofs.FirstLemmas.{name-itself}
-use Rattle.deb_report.specs.declared.causes.Cause.{Cause}
+use Rattle.deb_report.specs.declared.gathered.Cause.{Cause}
 use Rattle.deb_report.specs.declared.gathered.Gathered.{Gathered}
 use Rattle.deb_report.specs.CauseKeys.{cause_numbers, constraint_numbers}
 use Rattle.deb_report.specs.Gathering.{IsGathered, keyed}

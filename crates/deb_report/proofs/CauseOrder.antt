@@ -4,7 +4,7 @@ use Rattle.std.proofs.lemmas.Bool.{cases_Bool, ltb-true}
 use Rattle.std.proofs.lemmas.Bool.Decides.{nat_tests}
 use Rattle.std.proofs.lemmas.List.Elements.{All-head, All-tail, All-cons, All-nil, filter_agree}
 use Rattle.std.specs.List.Sorted.{IsSortedBy, IsStableBy, ties}
-use Rattle.deb_report.specs.declared.causes.Cause.{Cause}
+use Rattle.deb_report.specs.declared.gathered.Cause.{Cause}
 use Rattle.deb_report.specs.Causes.{by_count, cause_view, has_count}
 
 -- how many packages a cause has, and whether it comes before another

@@ -2,10 +2,10 @@
 use Rattle.std.proofs.Common.{◌≡◌, ℕ, zero, suc, ◌+◌, ◌<◌, ◌≤◌, Bool, true, false, not, cond, List, [], ◌∷◌, ◌++◌, All, length, get_or, take, set, map, filter, Option, Some, None, refl, sym, ap, ap₂, ◌∙◌, subst, append-nil, arith}
 use Rattle.std.specs.Prelude.{Vec}
 use Rattle.std.specs.declared.alloc.Global.{Global}
-use Rattle.std.specs.List.{flat_map, list_any, zip}
+use Rattle.std.specs.List.{flat_map, list_any}
 use Rattle.std.specs.Str.{bytes_eq}
 use Rattle.std.proofs.lemmas.Grind.{flat_map-append}
-use Rattle.std.proofs.lemmas.List.{map-append, length-map}
+use Rattle.std.proofs.lemmas.List.{length-append, length-map, map-append}
 use Rattle.std.proofs.lemmas.List.Elements.{All-append, All-cons, All-filter, All-head, All-nil, All-tail}
 use Rattle.deb_index.specs.declared.constraint.Constraint.{Constraint}
 use Rattle.deb_index.specs.Constraints.{IsOfIndex}
@@ -14,12 +14,13 @@ use Rattle.deb_index.specs.Tables.{IsTable, items_of, number_in}
 use Rattle.deb_index.proofs.TableLemmas.{number-within, put-at, put-first}
 use Rattle.deb_index.proofs.EnumerateLemmas.{filter-length}
 use Rattle.deb_health.specs.Verdicts.{VerdictView, Found, Blocked, SpeaksOf}
-use Rattle.deb_report.specs.declared.causes.Cause.{Cause}
+use Rattle.deb_report.specs.declared.gathered.Cause.{Cause}
 use Rattle.deb_report.specs.declared.gathered.Gathered.{Gathered}
 use Rattle.deb_report.specs.CauseKeys.{cause_numbers}
-use Rattle.deb_report.specs.Causes.{CauseView, IsCauseOf, by_count, by_first, cause_at, cause_in, cause_view, found_causes, gathered, has_count, is_final, places_broken_by, same_cause}
+use Rattle.deb_report.specs.Causes.{CauseView, IsCauseOf, by_count, by_first, cause_at, cause_in, cause_view, causes_list, found_causes, gathered, has_count, is_final, places_broken_by, same_cause}
 use Rattle.deb_report.specs.Gathering.{IsGathered, keyed}
-use Rattle.deb_report.proofs.ListLemmas.{zip_more}
+use Rattle.deb_report.specs.Told.{IsAskedOf}
+use Rattle.deb_report.proofs.AtomSteps.{map_more}
 
 abbrev places_in : Cause → List ℕ
 places_in cause = cause.places.items
@@ -115,14 +116,14 @@ gathered-new pairs g h constraints place key new is none made same one keys_are 
 
 -- ---- one verdict more
 
-pub found-more : (index : IndexView) {V : Type 0} (view : V → VerdictView) (asked : List ℕ) (verdicts : List V) (i : ℕ) (verdict : V) → i < length asked → i < length verdicts → verdict ≡ get_or verdicts i verdict
-    → found_causes index (take (i + 1) asked) (map view (take (i + 1) verdicts)) ≡ found_causes index (take i asked) (map view (take i verdicts)) ++ cause_at index (get_or asked i 0) (view verdict)
+pub found-more : (index : IndexView) {S : Type 0} (view : S → ℕ × VerdictView) (told : List S) (i : ℕ) (one : S) → i < length told → one ≡ get_or told i one
+    → found_causes index (map view (take (i + 1) told)) ≡ found_causes index (map view (take i told)) ++ cause_at index (view one).0 (view one).1
 unfolding found_causes
-found-more index view asked verdicts i verdict inside within is =
+found-more index view told i one inside is =
     let cause : ℕ × VerdictView → List (List Constraint × ℕ) = λ pair. cause_at index pair.0 pair.1 in
-    ap (flat_map cause) (zip_more view asked verdicts i 0 verdict inside within is)
-    ∙ flat_map-append cause (zip (take i asked) (map view (take i verdicts))) ((get_or asked i 0, view verdict) ∷ [])
-    ∙ ap (λ last. flat_map cause (zip (take i asked) (map view (take i verdicts))) ++ last) (append-nil (cause_at index (get_or asked i 0) (view verdict)))
+    ap (flat_map cause) (map_more view told i one inside)
+    ∙ flat_map-append cause (map view (take i told)) (view (get_or told i one) ∷ [])
+    ∙ ap (λ last. flat_map cause (map view (take i told)) ++ last) (append-nil (cause (view (get_or told i one))) ∙ ap (λ x. cause (view x)) (sym is))
 
 -- ---- what is found is of the index
 
@@ -134,22 +135,24 @@ cause-found index place (Found places) inside speaks = All-nil (IsFound index)
 cause-found index place (Blocked core) inside speaks =
     All-cons (IsFound index) (cause_in index core, place) [] (All-filter (is_final index) (IsOfIndex index) core speaks, inside) (All-nil (IsFound index))
 
-found-within : (index : IndexView) (asked : List ℕ) (verdicts : List VerdictView) → All (λ place. place < length index.packages) asked → All (SpeaksOf index) verdicts
-    → All (IsFound index) (found_causes index asked verdicts)
+found-within : (index : IndexView) (told : List (ℕ × VerdictView)) → All (IsAskedOf index) told → All (IsFound index) (found_causes index told)
 unfolding found_causes
-found-within index [] verdicts inside speak = All-nil (IsFound index)
-found-within index (p ∷ ps) [] inside speak = All-nil (IsFound index)
-found-within index (p ∷ ps) (v ∷ vs) inside speak =
-    All-append (IsFound index) (cause_at index p v) (found_causes index ps vs)
-    (cause-found index p v (All-head (λ place. place < length index.packages) p ps inside) (All-head (SpeaksOf index) v vs speak))
-    (found-within index ps vs (All-tail (λ place. place < length index.packages) p ps inside) (All-tail (SpeaksOf index) v vs speak))
+found-within index [] all = All-nil (IsFound index)
+found-within index (one ∷ told) all =
+    let here = All-head (IsAskedOf index) one told all in
+    All-append (IsFound index) (cause_at index one.0 one.1) (found_causes index told) (cause-found index one.0 one.1 here.0 here.1) (found-within index told (All-tail (IsAskedOf index) one told all))
 
-found-few : (index : IndexView) (asked : List ℕ) (verdicts : List VerdictView) → length (found_causes index asked verdicts) ≤ length asked
+cause-few : (index : IndexView) (place : ℕ) (verdict : VerdictView) → length (cause_at index place verdict) ≤ 1
+cause-few index place (Found places) = omega arith
+cause-few index place (Blocked core) = omega arith
+
+found-few : (index : IndexView) (told : List (ℕ × VerdictView)) → length (found_causes index told) ≤ length told
 unfolding found_causes
-found-few index [] verdicts = omega arith
-found-few index (p ∷ ps) [] = omega arith
-found-few index (p ∷ ps) (Found places ∷ vs) = let later : length (found_causes index ps vs) ≤ length ps = found-few index ps vs in omega arith
-found-few index (p ∷ ps) (Blocked core ∷ vs) = let later : length (found_causes index ps vs) ≤ length ps = found-few index ps vs in omega arith
+found-few index [] = omega arith
+found-few index (one ∷ told) =
+    let here : length (cause_at index one.0 one.1) ≤ 1 = cause-few index one.0 one.1 in
+    let later : length (found_causes index told) ≤ length told = found-few index told in
+    omega (arith, length-append (cause_at index one.0 one.1) (found_causes index told))
 
 unmap : {A B : Type 0} (P : B → Type 0) (f : A → B) (xs : List A) → All P (map f xs) → All (λ x. P (f x)) xs
 unmap P f [] all = All-nil (λ x. P (f x))
@@ -171,15 +174,15 @@ more-room m n (c ∷ cs) fits all =
     let here : length c.places ≤ n = omega arith in
     All-cons (λ (d : CauseView). length d.places ≤ n) c cs here (more-room m n cs fits (All-tail (λ (d : CauseView). length d.places ≤ m) c cs all))
 
-pub few-places : (index : IndexView) (asked : List ℕ) (verdicts : List VerdictView) (causes : List Cause) → map cause_view causes ≡ by_first (found_causes index asked verdicts)
-    → All (λ (c : Cause). length c.places.items ≤ length asked) causes
+pub few-places : (index : IndexView) (told : List (ℕ × VerdictView)) (causes : List Cause) → map cause_view causes ≡ by_first (found_causes index told)
+    → All (λ (c : Cause). length c.places.items ≤ length told) causes
 unfolding by_first
-few-places index asked verdicts causes are =
-    let pairs = found_causes index asked verdicts in
+few-places index told causes are =
+    let pairs = found_causes index told in
     let distinct = first_of_each same_cause (map (λ (p : List Constraint × ℕ). p.0) pairs) in
-    unmap (λ (c : CauseView). length c.places ≤ length asked) cause_view causes
-    (subst (λ (cs : List CauseView). All (λ (c : CauseView). length c.places ≤ length asked) cs) (sym are)
-    (more-room (length pairs) (length asked) (map (gathered pairs) distinct) (found-few index asked verdicts) (few-each pairs distinct)))
+    unmap (λ (c : CauseView). length c.places ≤ length told) cause_view causes
+    (subst (λ (cs : List CauseView). All (λ (c : CauseView). length c.places ≤ length told) cs) (sym are)
+    (more-room (length pairs) (length told) (map (gathered pairs) distinct) (found-few index told) (few-each pairs distinct)))
 
 first-kept : (P : List Constraint → Type 0) (xs : List (List Constraint)) → All P xs → All P (first_of_each same_cause xs)
 unfolding first_of_each
@@ -210,12 +213,11 @@ unfolding by_count
 count-kept P zero causes all = All-filter (has_count 0) P causes all
 count-kept P (suc n) causes all = All-append P (filter (has_count (suc n)) causes) (by_count n causes) (All-filter (has_count (suc n)) P causes all) (count-kept P n causes all)
 
-pub causes-within : (index : IndexView) (asked : List ℕ) (verdicts : List VerdictView) → All (λ place. place < length index.packages) asked → All (SpeaksOf index) verdicts
-    → All (IsCauseOf index) (by_count (length asked) (by_first (found_causes index asked verdicts)))
-unfolding by_first
-causes-within index asked verdicts inside speak =
-    let pairs = found_causes index asked verdicts in
-    let all = found-within index asked verdicts inside speak in
-    count-kept (IsCauseOf index) (length asked) (by_first pairs)
-    (each-within index pairs (first_of_each same_cause (map (λ (p : List Constraint × ℕ). p.0) pairs)) all
-    (first-kept (All (IsOfIndex index)) (map (λ (p : List Constraint × ℕ). p.0) pairs) (fronts index pairs all)))
+pub causes-within : (index : IndexView) (told : List (ℕ × VerdictView)) → All (IsAskedOf index) told → All (IsCauseOf index) (causes_list index told)
+unfolding by_first causes_list
+causes-within index told all =
+    let pairs = found_causes index told in
+    let found = found-within index told all in
+    count-kept (IsCauseOf index) (length told) (by_first pairs)
+    (each-within index pairs (first_of_each same_cause (map (λ (p : List Constraint × ℕ). p.0) pairs)) found
+    (first-kept (All (IsOfIndex index)) (map (λ (p : List Constraint × ℕ). p.0) pairs) (fronts index pairs found)))

@@ -1,12 +1,11 @@
 -- Lemmas on lists.
-use Rattle.std.proofs.Common.{◌≡◌, ℕ, zero, suc, ◌+◌, ◌<◌, ◌||◌, Bool, true, false, List, [], ◌∷◌, ◌++◌, All, Some, None, find, length, get_or, take, map, refl, sym, ap, subst, ◌∙◌, append_assoc, append-nil, inl, inr, arith}
+use Rattle.std.proofs.Common.{◌≡◌, ℕ, zero, suc, ◌+◌, ◌<◌, ◌||◌, Bool, true, false, List, [], ◌∷◌, ◌++◌, All, Some, None, filter, find, length, get_or, take, map, refl, sym, ap, subst, ◌∙◌, append-nil, inl, inr, arith}
 use Rattle.std.proofs.Math.Seq.{take-append_seam}
 use Rattle.std.proofs.lemmas.Bool.{cases_Bool}
-use Rattle.std.proofs.lemmas.Grind.{flat_map-append}
 use Rattle.std.proofs.lemmas.List.{map-append, take_more}
 use Rattle.std.proofs.lemmas.List.Folds.{list_any-append}
-use Rattle.std.proofs.lemmas.List.Elements.{All-head, All-tail}
-use Rattle.std.specs.List.{flat_map, list_any, range_with_len, zip}
+use Rattle.std.proofs.lemmas.List.Elements.{All-cons, All-get_or, All-head, All-nil, All-tail, filter-append}
+use Rattle.std.specs.List.{list_any, range_with_len, zip}
 
 -- what holds of each image holds of that of an element
 pub all_at : {A B : Type 0} (P : B → Type 0) (f : A → B) (xs : List A) (i : ℕ) (x : A) → i < length xs → x ≡ get_or xs i x → All P (map f xs) → P (f x)
@@ -14,12 +13,9 @@ all_at P f [] i x inside is all = absurd (omega arith)
 all_at {A = A} P f (y ∷ ys) zero x inside is all = let Q : A → Type 0 = λ v. P (f v) in subst Q (sym is) (All-head P (f y) (map f ys) all)
 all_at P f (y ∷ ys) (suc i) x inside is all = let within : i < length ys = omega arith in all_at P f ys i x within is (All-tail P (f y) (map f ys) all)
 
--- a text that grows by the text of one element more
-pub one_more : {X : Type 0} (text : X → List ℕ) (start out new : List ℕ) (xs more : List X) (x : X)
-    → out ≡ start ++ flat_map text xs → new ≡ out ++ text x → more ≡ xs ++ x ∷ [] → new ≡ start ++ flat_map text more
-one_more text start out new xs more x before step e =
-    step ∙ ap (λ front. front ++ text x) before ∙ append_assoc start (flat_map text xs) (text x)
-    ∙ ap (λ rest. start ++ rest) (ap (λ last. flat_map text xs ++ last) (sym (append-nil (text x))) ∙ sym (flat_map-append text xs (x ∷ [])) ∙ ap (flat_map text) (sym e))
+-- what holds of each element
+pub all_item : {A : Type 0} (P : A → Type 0) (xs : List A) (i : ℕ) (x : A) → i < length xs → x ≡ get_or xs i x → All P xs → P x
+all_item P xs i x inside is all = subst P (sym is) (All-get_or P xs i x inside all)
 
 -- one pair more
 pub zip_more : {A B C : Type 0} (f : B → C) (xs : List A) (ys : List B) (i : ℕ) (d : A) (y : B) → i < length xs → i < length ys → y ≡ get_or ys i y
@@ -107,14 +103,24 @@ any_here test f (y ∷ ys) (suc i) x inside is passes =
     last true = refl
     last false = refl
 
--- one more that fails
-pub any_past : {A B : Type 0} (test : B → Bool) (f : A → B) (xs : List A) (i : ℕ) (x : A) → i < length xs → x ≡ get_or xs i x
-    → list_any test (map f (take i xs)) ≡ false → test (f x) ≡ false → list_any test (map f (take (i + 1) xs)) ≡ false
-any_past test f xs i x inside is before fails = any_more test f xs i x inside is ∙ rw (before, fails) refl
+-- what holds of each image
+pub all_seen : {A B : Type 0} (P : B → Type 0) (f : A → B) (xs : List A) → All P (map f xs) → All (λ x. P (f x)) xs
+all_seen P f [] all = All-nil (λ x. P (f x))
+all_seen P f (x ∷ xs) all = All-cons (λ y. P (f y)) x xs (All-head P (f x) (map f xs) all) (all_seen P f xs (All-tail P (f x) (map f xs) all))
 
--- a text that grows by the text of what is seen of one element more
-pub one_seen : {X Y : Type 0} (text : Y → List ℕ) (f : X → Y) (start out new : List ℕ) (xs : List X) (i : ℕ) (x : X) → i < length xs → x ≡ get_or xs i x
-    → out ≡ start ++ flat_map text (map f (take i xs)) → new ≡ out ++ text (f x) → new ≡ start ++ flat_map text (map f (take (i + 1) xs))
-one_seen text f start out new xs i x inside is before step =
-    one_more text start out new (map f (take i xs)) (map f (take (i + 1) xs)) (f x) before step
-    (ap (map f) (take_more xs i x inside) ∙ map-append f (take i xs) (get_or xs i x ∷ []) ∙ ap (λ y. map f (take i xs) ++ f y ∷ []) (sym is))
+-- one element more that passes a test, and one that fails
+pub filter_passes : {A : Type 0} (test : A → Bool) (xs more : List A) (x : A) → more ≡ xs ++ x ∷ [] → test x ≡ true → filter test more ≡ filter test xs ++ x ∷ []
+filter_passes test xs more x e passes = ap (filter test) e ∙ filter-append test xs (x ∷ []) ∙ ap (λ last. filter test xs ++ last) (alone test x passes)
+  where
+    alone : {A : Type 0} (test : A → Bool) (x : A) → test x ≡ true → filter test (x ∷ []) ≡ x ∷ []
+    alone test x passes = rw passes refl
+
+pub filter_fails : {A : Type 0} (test : A → Bool) (xs more : List A) (x : A) → more ≡ xs ++ x ∷ [] → test x ≡ false → filter test more ≡ filter test xs
+filter_fails test xs more x e fails = ap (filter test) e ∙ filter-append test xs (x ∷ []) ∙ ap (λ last. filter test xs ++ last) (alone test x fails) ∙ append-nil (filter test xs)
+  where
+    alone : {A : Type 0} (test : A → Bool) (x : A) → test x ≡ false → filter test (x ∷ []) ≡ []
+    alone test x fails = rw fails refl
+
+pub map-twice : {A B C : Type 0} (g : B → C) (f : A → B) (xs : List A) → map g (map f xs) ≡ map (λ x. g (f x)) xs
+map-twice g f [] = refl
+map-twice g f (x ∷ xs) = ap (λ rest. g (f x) ∷ rest) (map-twice g f xs)

@@ -10,7 +10,7 @@ use Rattle.deb_index.proofs.EssentialLemmas.{places-none}
 use Rattle.deb_report.specs.Report.{is_empty, is_missing}
 use Rattle.deb_report.proofs.PlaceLemmas.{places_from}
 
-one-is-some : (place : ℕ) (places : List ℕ) → is_empty (place ∷ places) ≡ false
+pub one-is-some : (place : ℕ) (places : List ℕ) → is_empty (place ∷ places) ≡ false
 one-is-some place places = grind (arith, nat_tests)
 
 -- no element passes one of two tests where none passes either

@@ -19,45 +19,6 @@ where_from test xs = refl
 abbrev pub is_among : ℕ → List ℕ → Bool
 is_among k places = list_any (λ place. place == k) places
 
-differ : (n k : ℕ) → k < n → (n == k) ≡ false
-differ n k h = grind (arith, nat_tests)
-
-agree : (n k : ℕ) → n ≡ k → (n == k) ≡ true
-agree n k h = grind (arith, nat_tests)
-
--- no place lies before the first
-pub none_before : {A : Type 0} (test : A → Bool) (n k : ℕ) (xs : List A) → k < n → is_among k (places_from test n xs) ≡ false
-none_before test n k [] before = refl
-none_before test n k (x ∷ xs) before =
-    let later : is_among k (places_from test (n + 1) xs) ≡ false = none_before test (n + 1) k xs (omega arith) in
-    elim (cases_Bool (test x)) [
-      | inl passes ↦ rw (passes, differ n k before) later
-      | inr fails ↦ rw fails later
-    ]
-
--- k is a place exactly where the element there passes
-pub among_places : {A : Type 0} (test : A → Bool) (n i k : ℕ) (xs : List A) (d : A) → n + i ≡ k → i < length xs → is_among k (places_from test n xs) ≡ test (get_or xs i d)
-among_places test n i k [] d at inside = absurd (omega arith)
-among_places test n zero k (x ∷ xs) d at inside =
-    let here : n ≡ k = omega arith in
-    let before : k < n + 1 = omega arith in
-    elim (cases_Bool (test x)) [
-      | inl passes ↦ rw (passes, agree n k here) refl
-      | inr fails ↦ rw fails (none_before test (n + 1) k xs before)
-    ]
-among_places test n (suc i) k (x ∷ xs) d at inside =
-    let next : n + 1 + i ≡ k = omega arith in
-    let within : i < length xs = omega arith in
-    let later : is_among k (places_from test (n + 1) xs) ≡ test (get_or xs i d) = among_places test (n + 1) i k xs d next within in
-    let other : (n == k) ≡ false = unlike n k (omega arith) in
-    elim (cases_Bool (test x)) [
-      | inl passes ↦ rw (passes, other) later
-      | inr fails ↦ rw fails later
-    ]
-  where
-    unlike : (n k : ℕ) → n < k → (n == k) ≡ false
-    unlike n k h = grind (arith, nat_tests)
-
 -- each place has an element
 pub places-within : {A : Type 0} (test : A → Bool) (n m : ℕ) (xs : List A) → n + length xs ≤ m → All (λ place. place < m) (places_from test n xs)
 places-within test n m [] fits = All-nil (λ place. place < m)

@@ -1,32 +1,90 @@
--- Lemmas on the lists of a report.
-use Rattle.std.proofs.Common.{◌≡◌, ℕ, zero, suc, Bool, true, false, ◌&&◌, List, [], ◌∷◌, ◌++◌, get_or, length, ◌<◌, arith, refl, map, codes, ap, ◌∙◌, append_assoc}
-use Rattle.std.proofs.lemmas.List.Folds.{flat_map-map}
-use Rattle.deb_relation.specs.declared.atom.Atom.{Atom}
-use Rattle.deb_relation.specs.AtomView.{atom_view}
-use Rattle.deb_relation.specs.Relationship.{printed}
-use Rattle.deb_report.specs.Report.{group_text}
-use Rattle.std.specs.List.{list_all, flat_map}
+-- What is shown speaks of what the index has, and what a report tells.
+use Rattle.std.proofs.Common.{◌≡◌, ◌<◌, ◌≤◌, ◌∙◌, ℕ, Bool, List, [], ◌∷◌, All, Option, Some, ap, arith, filter, length, map, refl, sym}
+use Rattle.std.proofs.lemmas.List.{length-map}
+use Rattle.std.proofs.lemmas.List.Elements.{All-cons, All-filter, All-head, All-map, All-nil, All-same, All-tail, All-weaker}
+use Rattle.std.proofs.lemmas.Slice.Zip.{length-zip}
+use Rattle.std.specs.List.{zip}
+use Rattle.deb_index.proofs.EnumerateLemmas.{filter-length}
+use Rattle.deb_index.specs.Packages.{IndexView}
+use Rattle.deb_health.specs.Verdicts.{SpeaksOf, VerdictView}
+use Rattle.deb_report.specs.declared.config.Show.{Show}
+use Rattle.deb_report.specs.declared.config.Show.TheVariants.{Failures}
+use Rattle.deb_report.specs.declared.content.Content.{Content}
+use Rattle.deb_report.specs.declared.shown.Shown.{Shown}
+use Rattle.deb_report.specs.Causes.{CauseView}
+use Rattle.deb_report.specs.Content.{ContentView, causes_if, content_of, content_since}
+use Rattle.deb_report.specs.Report.{broken_ones, is_shown, numbers_of, shown_of, summary_of, summary_with}
+use Rattle.deb_report.specs.Settings.{Settings}
+use Rattle.deb_report.specs.Since.{BrokenView, amends_of, is_news, news_of}
+use Rattle.deb_report.specs.Told.{IsAskedOf, content_view, shown_view}
+use Rattle.deb_report.proofs.ListLemmas.{all_seen}
 
--- one that fails
-pub list_all-fails : {A : Type 0} (p : A → Bool) (xs : List A) (i : ℕ) (d : A) → i < length xs → p (get_or xs i d) ≡ false → list_all p xs ≡ false
-list_all-fails p [] i d h f = absurd (omega arith)
-list_all-fails p (y ∷ ys) zero d h f = rw f refl
-list_all-fails p (y ∷ ys) (suc i) d h f =
-    let within : i < length ys = omega arith in
-    ap (λ rest. p y && rest) (list_all-fails p ys i d within f) ∙ and_false (p y)
-  where
-    and_false : (b : Bool) → (b && false) ≡ false
-    and_false true = refl
-    and_false false = refl
+asked-within : (index : IndexView) (asked : List ℕ) (verdicts : List VerdictView) → All (λ place. place < length index.packages) asked → All (SpeaksOf index) verdicts
+    → All (IsAskedOf index) (zip asked verdicts)
+asked-within index [] verdicts places within = All-nil (IsAskedOf index)
+asked-within index (p ∷ ps) [] places within = All-nil (IsAskedOf index)
+asked-within index (p ∷ ps) (v ∷ vs) places within =
+    All-cons (IsAskedOf index) (p, v) (zip ps vs)
+    (All-head (λ place. place < length index.packages) p ps places, All-head (SpeaksOf index) v vs within)
+    (asked-within index ps vs (All-tail (λ place. place < length index.packages) p ps places) (All-tail (SpeaksOf index) v vs within))
 
--- a group of a first atom and others
-pub group_text-cons : (first : Atom) (others : List Atom) → group_text (map atom_view (first ∷ others)) ≡ printed (atom_view first) ++ flat_map (λ atom. codes " | " ++ printed (atom_view atom)) others
-unfolding group_text
-group_text-cons first others = ap (λ rest. printed (atom_view first) ++ rest) (flat_map-map (λ atom. codes " | " ++ printed atom) atom_view others)
+pub shown-within : (index : IndexView) (show : Show) (asked : List ℕ) (verdicts : List VerdictView) (shown : List Shown) → map shown_view shown ≡ shown_of show asked verdicts
+    → All (λ place. place < length index.packages) asked → All (SpeaksOf index) verdicts → All (λ one. IsAskedOf index (shown_view one)) shown
+shown-within index show asked verdicts shown are places within =
+    all_seen (IsAskedOf index) shown_view shown
+    (All-same (IsAskedOf index) (map shown_view shown) (shown_of show asked verdicts) are
+    (All-filter (λ one. is_shown show one.1) (IsAskedOf index) (zip asked verdicts) (asked-within index asked verdicts places within)))
 
--- one after the other
-pub in_three : (out a b c : List ℕ) → ((out ++ a) ++ b) ++ c ≡ out ++ (a ++ b ++ c)
-in_three out a b c = ap (λ front. front ++ c) (append_assoc out a b) ∙ append_assoc out (a ++ b) c
+asked-placed : (limit : ℕ) (asked : List ℕ) (verdicts : List VerdictView) → All (λ place. place < limit) asked → All (λ one. one.0 < limit) (zip asked verdicts)
+asked-placed limit [] verdicts places = All-nil (λ (one : ℕ × VerdictView). one.0 < limit)
+asked-placed limit (p ∷ ps) [] places = All-nil (λ (one : ℕ × VerdictView). one.0 < limit)
+asked-placed limit (p ∷ ps) (v ∷ vs) places =
+    All-cons (λ (one : ℕ × VerdictView). one.0 < limit) (p, v) (zip ps vs) (All-head (λ place. place < limit) p ps places) (asked-placed limit ps vs (All-tail (λ place. place < limit) p ps places))
 
-pub in_four : (out a b c d : List ℕ) → (((out ++ a) ++ b) ++ c) ++ d ≡ out ++ (a ++ b ++ c ++ d)
-in_four out a b c d = ap (λ front. front ++ d) (in_three out a b c) ∙ append_assoc out (a ++ b ++ c) d
+pub shown-placed : (limit : ℕ) (show : Show) (asked : List ℕ) (verdicts : List VerdictView) (shown : List Shown) → map shown_view shown ≡ shown_of show asked verdicts
+    → All (λ place. place < limit) asked → All (λ (one : Shown). one.place < limit) shown
+shown-placed limit show asked verdicts shown are places =
+    all_seen (λ (one : ℕ × VerdictView). one.0 < limit) shown_view shown
+    (All-same (λ (one : ℕ × VerdictView). one.0 < limit) (map shown_view shown) (shown_of show asked verdicts) are
+    (All-filter (λ one. is_shown show one.1) (λ (one : ℕ × VerdictView). one.0 < limit) (zip asked verdicts) (asked-placed limit asked verdicts places)))
+
+pub places-within : (index : IndexView) (told : List Shown) → All (λ one. IsAskedOf index (shown_view one)) told → All (λ place. place < length index.packages) (map (λ one. one.0) (map shown_view told))
+places-within index told all =
+    All-map (λ place. place < length index.packages) (λ (one : ℕ × VerdictView). one.0) (map shown_view told)
+    (All-map (λ (one : ℕ × VerdictView). one.0 < length index.packages) shown_view told
+    (All-weaker (λ (one : Shown). IsAskedOf index (shown_view one)) (λ (one : Shown). one.place < length index.packages) (λ one asked. asked.0) told all))
+
+pub kept-within : (index : IndexView) (test : ℕ × VerdictView → Bool) (told kept : List Shown) → map shown_view kept ≡ filter test (map shown_view told)
+    → All (λ one. IsAskedOf index (shown_view one)) told → All (λ one. IsAskedOf index (shown_view one)) kept
+kept-within index test told kept are all =
+    all_seen (IsAskedOf index) shown_view kept
+    (All-same (IsAskedOf index) (map shown_view kept) (filter test (map shown_view told)) are (All-filter test (IsAskedOf index) (map shown_view told) (All-map (IsAskedOf index) shown_view told all)))
+
+-- no more are newly broken than are asked
+few-news : (index : IndexView) (asked : List ℕ) (verdicts : List VerdictView) (before : List BrokenView) → length (news_of index asked verdicts before) ≤ length asked
+unfolding news_of
+few-news index asked verdicts before =
+    let new = filter-length (is_news index before) (broken_ones asked verdicts) in
+    let broken = filter-length (λ (one : ℕ × VerdictView). is_shown Failures one.1) (zip asked verdicts) in
+    omega (arith, length-zip asked verdicts)
+
+pub few-blocks : (settings : Settings) (index : IndexView) (asked : List ℕ) (verdicts : List VerdictView) (before : List BrokenView) (content : Content)
+    → content_view content ≡ content_since settings index asked verdicts before → length content.blocks.items ≤ length asked
+few-blocks settings index asked verdicts before content is =
+    let size : length content.blocks.items ≡ length (news_of index asked verdicts before) = sym (length-map content.blocks.items shown_view) ∙ ap (λ (told : ContentView). length told.blocks) is in
+    let few = few-news index asked verdicts before in
+    omega arith
+
+-- ---- what is told
+
+pub content-is : (settings : Settings) (index : IndexView) (asked : List ℕ) (blocks broken : List (ℕ × VerdictView)) (views : List VerdictView) (numbers : List (List ℕ × ℕ)) (causes : Option (List CauseView))
+    → blocks ≡ shown_of settings.show asked views → broken ≡ broken_ones asked views → numbers ≡ numbers_of settings.background (summary_of index asked views) → causes ≡ causes_if settings.causes index broken
+    → record { blocks = blocks; numbers = numbers; lists = []; causes = causes } ≡ content_of settings index asked views
+content-is settings index asked blocks broken views numbers causes shown are counted told = rw (told, counted, are, shown) refl
+
+pub since-is : (settings : Settings) (index : IndexView) (asked : List ℕ) (blocks broken : List (ℕ × VerdictView)) (views : List VerdictView) (before : List BrokenView) (numbers : List (List ℕ × ℕ))
+    (lists : List (List ℕ × List BrokenView)) (causes : Option (List CauseView)) → broken ≡ broken_ones asked views → blocks ≡ filter (is_news index before) broken
+    → numbers ≡ numbers_of settings.background (summary_with index asked views (Some (length blocks))) → lists ≡ amends_of index asked broken before → causes ≡ causes_if settings.causes index blocks
+    → record { blocks = blocks; numbers = numbers; lists = lists; causes = causes } ≡ content_since settings index asked views before
+unfolding news_of
+since-is settings index asked blocks broken views before numbers lists causes are new counted amended told = rw (told, counted, amended, new, are) refl

@@ -1,118 +1,234 @@
--- Sets that no block tells don't change a report.
-use Rattle.std.proofs.Common.{◌≡◌, ℕ, ◌+◌, Bool, true, false, cond, ◌&&◌, if◌then◌else◌, List, [], ◌∷◌, ◌++◌, length, map, filter, codes, fold, refl, sym, ap, ap₂, ◌∙◌, inl, inr}
-use Rattle.std.specs.List.{flat_map, zip}
-use Rattle.std.proofs.lemmas.Bool.{cases_Bool, true≢false}
-use Rattle.deb_index.specs.Packages.{IndexView}
+-- What no block and no cause tells of verdicts doesn't change a report.
+use Rattle.std.proofs.Common.{◌≡◌, ℕ, ◌+◌, Bool, true, false, cond, not, ◌&&◌, List, [], ◌∷◌, ◌++◌, length, map, filter, codes, fold, refl, sym, ap, ap₂, ◌∙◌, Some, inl, inr}
+use Rattle.std.specs.List.{flat_map, join_by}
+use Rattle.std.proofs.lemmas.Bool.{cases_Bool, true≢false, false≢true}
+use Rattle.std.proofs.lemmas.List.{length-map}
+use Rattle.deb_index.specs.Packages.{IndexView, package_at}
 use Rattle.deb_health.specs.Verdicts.{VerdictView, Found, Blocked}
 use Rattle.deb_report.specs.declared.config.Format.{Format}
 use Rattle.deb_report.specs.declared.config.Format.TheVariants.{Json, Text}
 use Rattle.deb_report.specs.declared.config.Show.{Show}
 use Rattle.deb_report.specs.declared.config.Show.TheVariants.{All, Failures, Successes}
-use Rattle.deb_report.specs.Causes.{by_count, by_first, cause_at, cause_text, causes_list, causes_text, found_causes, report_with}
-use Rattle.deb_report.specs.Json.{block_json, cause_json, causes_json, head_json, json_start, json_text, listed, shown_of, summary_json}
-use Rattle.deb_report.specs.Report.{block_of, is_broken, is_shown, line, report_text, shown_block, status_of, summary_of, summary_text, without_set}
+use Rattle.deb_report.specs.Content.{ContentView, causes_if, content_of, content_since}
+use Rattle.deb_report.specs.Json.{block_json, causes_json, escaped, json_text, list_json, member, number_json, object, quoted, tall_array}
+use Rattle.deb_report.specs.Lines.{causes_text, lines_text, list_lines}
+use Rattle.deb_report.specs.Report.{block_of, broken_ones, is_broken, is_shown, line, number_line, numbers_of, shown_of, status_of, summary_of, titled, without_set}
 use Rattle.deb_report.specs.Settings.{Settings, shows_installable, shows_sets}
-use Rattle.deb_report.specs.Written.{text_in, written_report}
-use Rattle.deb_report.proofs.JsonLemmas.{listed-map}
+use Rattle.deb_report.specs.Since.{BrokenView, amends_of, broken_at, broken_of, has_named, is_gone, news_of, summary_since, was_broken}
+use Rattle.deb_report.specs.Written.{text_in, written_report, written_since}
+use Rattle.deb_report.proofs.JoinLemmas.{joined_map, lines_map}
 
--- ---- lists
+-- a change of verdicts that leaves their statuses, what is explained in a block, and what causes are found in
+pub record LeavesTold (explain : Bool) (show : Show) (causes : Bool) (change : VerdictView → VerdictView) : Type 0 where
+  pub status : (verdict : VerdictView) → is_broken (change verdict) ≡ is_broken verdict
+  pub shown : (verdict : VerdictView) → (explain && is_shown show verdict) ≡ true → change verdict ≡ verdict
+  pub caused : (verdict : VerdictView) → causes ≡ true → is_broken verdict ≡ true → change verdict ≡ verdict
 
--- what is the same of each place is the same of all
-same_of_each : {A : Type 0} (f : ℕ × VerdictView → List A) → ((place : ℕ) (verdict : VerdictView) → f (place, without_set verdict) ≡ f (place, verdict))
-    → (asked : List ℕ) (verdicts : List VerdictView)
-    → flat_map f (zip asked (map without_set verdicts)) ≡ flat_map f (zip asked verdicts)
-same_of_each f same [] verdicts = refl
-same_of_each f same (p ∷ ps) [] = refl
-same_of_each f same (p ∷ ps) (v ∷ vs) = ap₂ (λ front rest. front ++ rest) (same p v) (same_of_each f same ps vs)
+-- ---- what is shown
 
--- the image of an element that passes a test
-abbrev kept : {A B : Type 0} → (A → Bool) → (A → B) → A → List B
-kept test f x = cond (test x) (f x ∷ []) []
+-- whether there is a block depends on the status alone
+shown_alike : (show : Show) (other verdict : VerdictView) → is_broken other ≡ is_broken verdict → is_shown show other ≡ is_shown show verdict
+shown_alike All other verdict alike = refl
+shown_alike Failures other verdict alike = alike
+shown_alike Successes other verdict alike = rw alike refl
 
-kept_images : {A B : Type 0} (test : A → Bool) (f : A → B) (xs : List A) → map f (filter test xs) ≡ flat_map (kept test f) xs
-kept_images test f [] = refl
-kept_images test f (x ∷ xs) =
-    elim (cases_Bool (test x)) [
-      | inl passes ↦ rw passes (ap (λ rest. f x ∷ rest) (kept_images test f xs))
-      | inr fails ↦ rw fails (kept_images test f xs)
+-- what is the same of each place that is shown is the same of all
+seen_alike : {A : Type 0} (show : Show) (change : VerdictView → VerdictView) → ((verdict : VerdictView) → is_broken (change verdict) ≡ is_broken verdict) → (text : ℕ × VerdictView → A)
+    → ((place : ℕ) (verdict : VerdictView) → is_shown show verdict ≡ true → text (place, change verdict) ≡ text (place, verdict))
+    → (asked : List ℕ) (verdicts : List VerdictView) → map text (shown_of show asked (map change verdicts)) ≡ map text (shown_of show asked verdicts)
+seen_alike show change status text same [] verdicts = refl
+seen_alike show change status text same (p ∷ ps) [] = refl
+seen_alike show change status text same (p ∷ ps) (v ∷ vs) =
+    let shows : is_shown show (change v) ≡ is_shown show v = shown_alike show (change v) v (status v) in
+    let later = seen_alike show change status text same ps vs in
+    elim (cases_Bool (is_shown show v)) [
+      | inl there ↦ rw (shows, there) (ap₂ (λ first rest. first ∷ rest) (same p v there) later)
+      | inr hidden ↦ rw (shows, hidden) later
     ]
 
--- ---- each place
+-- the text of a block that explains nothing tells the status alone
+abbrev TellsStatus : {A : Type 0} → (ℕ × VerdictView → A) → Type 0
+TellsStatus text = (place : ℕ) (other verdict : VerdictView) → is_broken other ≡ is_broken verdict → text (place, other) ≡ text (place, verdict)
 
-block_without_set : (index : IndexView) (explain : Bool) (show : Show) → (explain && shows_installable show) ≡ false → (place : ℕ) (verdict : VerdictView)
-    → shown_block index explain show (place, without_set verdict) ≡ shown_block index explain show (place, verdict)
-unfolding shown_block block_of status_of
-block_without_set index explain show hidden place (Blocked core) = refl
-block_without_set index true All hidden place (Found places) = absurd (true≢false hidden)
-block_without_set index true Failures hidden place (Found places) = refl
-block_without_set index true Successes hidden place (Found places) = absurd (true≢false hidden)
-block_without_set index false All hidden place (Found places) = refl
-block_without_set index false Failures hidden place (Found places) = refl
-block_without_set index false Successes hidden place (Found places) = refl
+block_tells_status : (index : IndexView) → TellsStatus (block_of index false)
+unfolding block_of status_of
+block_tells_status index place (Found others) (Found places) alike = refl
+block_tells_status index place (Found others) (Blocked core) alike = absurd (false≢true alike)
+block_tells_status index place (Blocked others) (Found places) alike = absurd (true≢false alike)
+block_tells_status index place (Blocked others) (Blocked core) alike = refl
 
-line_without_set : (index : IndexView) (explain : Bool) (show : Show) → (explain && shows_installable show) ≡ false → (place : ℕ) (verdict : VerdictView)
-    → kept (λ one. is_shown show one.1) (block_json index explain) (place, without_set verdict) ≡ kept (λ one. is_shown show one.1) (block_json index explain) (place, verdict)
+object_tells_status : (index : IndexView) → TellsStatus (block_json index false)
 unfolding block_json status_of
-line_without_set index explain show hidden place (Blocked core) = refl
-line_without_set index true All hidden place (Found places) = absurd (true≢false hidden)
-line_without_set index true Failures hidden place (Found places) = refl
-line_without_set index true Successes hidden place (Found places) = absurd (true≢false hidden)
-line_without_set index false All hidden place (Found places) = refl
-line_without_set index false Failures hidden place (Found places) = refl
-line_without_set index false Successes hidden place (Found places) = refl
+object_tells_status index place (Found others) (Found places) alike = refl
+object_tells_status index place (Found others) (Blocked core) alike = absurd (false≢true alike)
+object_tells_status index place (Blocked others) (Found places) alike = absurd (true≢false alike)
+object_tells_status index place (Blocked others) (Blocked core) alike = refl
 
-cause_without_set : (index : IndexView) (place : ℕ) (verdict : VerdictView) → cause_at index place (without_set verdict) ≡ cause_at index place verdict
-cause_without_set index place (Found places) = refl
-cause_without_set index place (Blocked core) = refl
+-- ---- contents that tell the same
 
--- ---- all places
+record TellSame (explain : Bool) (one other : ContentView) : Type 0 where
+  blocks : (text : Bool → ℕ × VerdictView → List ℕ) → TellsStatus (text false) → map (text explain) one.blocks ≡ map (text explain) other.blocks
+  numbers : one.numbers ≡ other.numbers
+  lists : one.lists ≡ other.lists
+  causes : one.causes ≡ other.causes
 
-broken_without_sets : (count : ℕ) (verdicts : List VerdictView)
-    → fold (λ n verdict. n + cond (is_broken verdict) 1 0) count (map without_set verdicts) ≡ fold (λ n verdict. n + cond (is_broken verdict) 1 0) count verdicts
-broken_without_sets count [] = refl
-broken_without_sets count (Found places ∷ verdicts) = broken_without_sets (count + 0) verdicts
-broken_without_sets count (Blocked core ∷ verdicts) = broken_without_sets (count + 1) verdicts
+abbrev whole : List ℕ → List ℕ
+whole bytes = bytes
 
-pub summary_without_sets : (index : IndexView) (asked : List ℕ) (verdicts : List VerdictView)
-    → summary_of index asked (map without_set verdicts) ≡ summary_of index asked verdicts
-summary_without_sets index asked verdicts = ap (λ (count : ℕ). record (summary_of index asked verdicts) { broken = count }) (broken_without_sets 0 verdicts)
+text_same : (format : Format) (index : IndexView) (explain : Bool) (one other : ContentView) → TellSame explain one other → text_in format index explain one ≡ text_in format index explain other
+unfolding lines_text json_text tall_array
+text_same Text index explain one other same =
+    ap₂ (λ front causes. front ++ causes_text index causes)
+    (ap₂ (λ front lists. front ++ flat_map list_lines lists)
+    (ap₂ (λ blocks numbers. line (codes "architecture: ") index.arch ++ titled (codes "report:") blocks ++ flat_map number_line numbers)
+    (sym (lines_map whole (block_of index explain) one.blocks) ∙ ap (flat_map whole) (same.blocks (block_of index) (block_tells_status index)) ∙ lines_map whole (block_of index explain) other.blocks)
+    same.numbers) same.lists) same.causes
+text_same Json index explain one other same =
+    ap₂ (λ front causes. object (member (codes "architecture") (quoted (escaped index.arch)) ∷ front ++ causes_json index causes) ++ codes "\n")
+    (ap₂ (λ front lists. front ++ map list_json lists)
+    (ap₂ (λ blocks numbers. member (codes "report") (codes "[" ++ blocks ++ codes "\n]") ∷ map number_json numbers)
+    (sym (joined_map whole (block_json index explain) (codes ",") one.blocks) ∙ ap (join_by whole (codes ",")) (same.blocks (block_json index) (object_tells_status index))
+    ∙ joined_map whole (block_json index explain) (codes ",") other.blocks)
+    same.numbers) same.lists) same.causes
 
-causes_without_sets : (index : IndexView) (asked : List ℕ) (verdicts : List VerdictView) → causes_list index asked (map without_set verdicts) ≡ causes_list index asked verdicts
-unfolding causes_list found_causes
-causes_without_sets index asked verdicts =
-    ap (λ found. by_count (length asked) (by_first found)) (same_of_each (λ pair. cause_at index pair.0 pair.1) (cause_without_set index) asked verdicts)
+-- ---- a change that leaves what is told
 
-lines_without_sets : (index : IndexView) (asked : List ℕ) (verdicts : List VerdictView) (explain : Bool) (show : Show) → (explain && shows_installable show) ≡ false
-    → listed (block_json index explain) (shown_of show asked (map without_set verdicts)) ≡ listed (block_json index explain) (shown_of show asked verdicts)
-lines_without_sets index asked verdicts explain show hidden =
-    let text : ℕ × VerdictView → List ℕ = block_json index explain in
-    let test : ℕ × VerdictView → Bool = λ one. is_shown show one.1 in
-    let images : map text (shown_of show asked (map without_set verdicts)) ≡ map text (shown_of show asked verdicts) =
-    kept_images test text (zip asked (map without_set verdicts))
-    ∙ same_of_each (kept test text) (line_without_set index explain show hidden) asked verdicts
-    ∙ sym (kept_images test text (zip asked verdicts)) in
-    let whole : List ℕ → List ℕ = λ bytes. bytes in
-    sym (listed-map whole text (shown_of show asked (map without_set verdicts))) ∙ ap (listed whole) images ∙ listed-map whole text (shown_of show asked verdicts)
+module _ (change : VerdictView → VerdictView) (status : (verdict : VerdictView) → is_broken (change verdict) ≡ is_broken verdict) (asked : List ℕ) (verdicts : List VerdictView) where
+  broken_count : (count : ℕ) (views : List VerdictView)
+      → fold (λ n verdict. n + cond (is_broken verdict) 1 0) count (map change views) ≡ fold (λ n verdict. n + cond (is_broken verdict) 1 0) count views
+  broken_count count [] = refl
+  broken_count count (verdict ∷ views) =
+      ap (λ broken. fold (λ n one. n + cond (is_broken one) 1 0) (count + cond broken 1 0) (map change views)) (status verdict)
+      ∙ broken_count (count + cond (is_broken verdict) 1 0) views
+
+  -- the places that are shown, and what is told of each
+  blocks_alike : {A : Type 0} (explain : Bool) (show : Show) → ((verdict : VerdictView) → (explain && is_shown show verdict) ≡ true → change verdict ≡ verdict)
+      → (text : Bool → ℕ × VerdictView → A) → TellsStatus (text false) → map (text explain) (shown_of show asked (map change verdicts)) ≡ map (text explain) (shown_of show asked verdicts)
+  blocks_alike true show leaves text tells = seen_alike show change status (text true) (λ place verdict shows. ap (λ one. text true (place, one)) (leaves verdict shows)) asked verdicts
+  blocks_alike false show leaves text tells = seen_alike show change status (text false) (λ place verdict shows. tells place (change verdict) verdict (status verdict)) asked verdicts
+
+  places_alike : map (λ one. one.0) (broken_ones asked (map change verdicts)) ≡ map (λ one. one.0) (broken_ones asked verdicts)
+  places_alike = seen_alike Failures change status (λ one. one.0) (λ place verdict shows. refl) asked verdicts
+
+  pub broken_unchanged : (index : IndexView) → broken_of index asked (map change verdicts) ≡ broken_of index asked verdicts
+  unfolding broken_of
+  broken_unchanged index = seen_alike Failures change status (λ one. broken_at index one.0) (λ place verdict shows. refl) asked verdicts
+
+  -- the broken ones are the same where causes are told of them
+  broken_same : ((verdict : VerdictView) → is_broken verdict ≡ true → change verdict ≡ verdict) → broken_ones asked (map change verdicts) ≡ broken_ones asked verdicts
+  broken_same leaves =
+      sym (itself (broken_ones asked (map change verdicts)))
+      ∙ seen_alike Failures change status (λ one. one) (λ place verdict broken. ap (λ other. (place, other)) (leaves verdict broken)) asked verdicts
+      ∙ itself (broken_ones asked verdicts)
+    where
+      itself : (xs : List (ℕ × VerdictView)) → map (λ one. one) xs ≡ xs
+      itself [] = refl
+      itself (x ∷ xs) = ap (λ rest. x ∷ rest) (itself xs)
+
+  causes_alike : (causes : Bool) (index : IndexView) (pick : List (ℕ × VerdictView) → List (ℕ × VerdictView)) → ((verdict : VerdictView) → causes ≡ true → is_broken verdict ≡ true → change verdict ≡ verdict)
+      → causes_if causes index (pick (broken_ones asked (map change verdicts))) ≡ causes_if causes index (pick (broken_ones asked verdicts))
+  causes_alike true index pick leaves = ap (λ broken. causes_if true index (pick broken)) (broken_same (λ verdict broken. leaves verdict refl broken))
+  causes_alike false index pick leaves = refl
+
+  summary_alike : (index : IndexView) → summary_of index asked (map change verdicts) ≡ summary_of index asked verdicts
+  summary_alike index = ap (λ (count : ℕ). record (summary_of index asked verdicts) { broken = count }) (broken_count 0 verdicts)
+
+  -- ---- the newly broken
+
+  module _ (index : IndexView) (before : List BrokenView) where
+    kept_images : {A : Type 0} (text : ℕ × VerdictView → A) (xs : List (ℕ × VerdictView))
+        → map (λ (h : ℕ × A). h.1) (filter (λ (h : ℕ × A). not (was_broken before (package_at index h.0).name)) (map (λ (one : ℕ × VerdictView). (one.0, text one)) xs))
+        ≡ map text (filter (λ one. not (was_broken before (package_at index one.0).name)) xs)
+    kept_images text [] = refl
+    kept_images text (x ∷ xs) =
+        elim (cases_Bool (not (was_broken before (package_at index x.0).name))) [
+          | inl passes ↦ rw passes (ap (λ rest. text x ∷ rest) (kept_images text xs))
+          | inr fails ↦ rw fails (kept_images text xs)
+        ]
+
+    news_alike : {A : Type 0} (explain : Bool) → ((verdict : VerdictView) → (explain && is_shown Failures verdict) ≡ true → change verdict ≡ verdict)
+        → (text : Bool → ℕ × VerdictView → A) → TellsStatus (text false) → map (text explain) (news_of index asked (map change verdicts) before) ≡ map (text explain) (news_of index asked verdicts before)
+    unfolding news_of
+    news_alike {A} explain leaves text tells =
+        let placed : Bool → ℕ × VerdictView → ℕ × A = λ told one. (one.0, text told one) in
+        sym (kept_images (text explain) (broken_ones asked (map change verdicts)))
+        ∙ ap (λ (images : List (ℕ × A)). map (λ (h : ℕ × A). h.1) (filter (λ (h : ℕ × A). not (was_broken before (package_at index h.0).name)) images))
+        (blocks_alike explain Failures leaves placed (λ place other verdict alike. ap (λ told. (place, told)) (tells place other verdict alike)))
+        ∙ kept_images (text explain) (broken_ones asked verdicts)
+
+    news_count : length (news_of index asked (map change verdicts) before) ≡ length (news_of index asked verdicts before)
+    news_count =
+        let place : Bool → ℕ × VerdictView → ℕ = λ told one. one.0 in
+        sym (length-map (news_of index asked (map change verdicts) before) (place false))
+        ∙ ap length (news_alike false (λ verdict shows. absurd (false≢true shows)) place (λ p other verdict alike. refl))
+        ∙ length-map (news_of index asked verdicts before) (place false)
+
+    since_alike : summary_since index asked (map change verdicts) before ≡ summary_since index asked verdicts before
+    since_alike =
+        ap₂ (λ (broken newly : ℕ). record (summary_since index asked verdicts before) { broken = broken; newly_broken = Some newly }) (broken_count 0 verdicts) news_count
+
+    amends_alike : amends_of index asked (broken_ones asked (map change verdicts)) before ≡ amends_of index asked (broken_ones asked verdicts) before
+    unfolding amends_of
+    amends_alike =
+        ap (λ (places : List ℕ). (codes "mended", filter (λ deb. has_named index asked deb.name && not (has_named index places deb.name)) before) ∷ (codes "gone", filter (is_gone index) before) ∷ [])
+        places_alike
 
 -- ---- the whole
 
-text_without_sets : (format : Format) (index : IndexView) (asked : List ℕ) (verdicts : List VerdictView) (explain : Bool) (show : Show) (background causes : Bool)
-    → (explain && shows_installable show) ≡ false
-    → text_in format index asked (map without_set verdicts) explain show background causes ≡ text_in format index asked verdicts explain show background causes
-unfolding report_with report_text causes_text json_text json_start causes_json
-text_without_sets Text index asked verdicts explain show background causes hidden =
-    ap₂ (λ report list. report ++ (if causes then line (codes "causes:") [] ++ flat_map (cause_text index) list else []))
-    (ap₂ (λ blocks summary. line (codes "architecture: ") index.arch ++ line (codes "report:") [] ++ blocks ++ summary_text background summary)
-    (same_of_each (shown_block index explain show) (block_without_set index explain show hidden) asked verdicts) (summary_without_sets index asked verdicts))
-    (causes_without_sets index asked verdicts)
-text_without_sets Json index asked verdicts explain show background causes hidden =
-    ap₂ (λ start list. start ++ (if causes then codes ",\"causes\":[" ++ listed (cause_json index) list ++ codes "\n]" else []) ++ codes "}\n")
-    (ap₂ (λ lines summary. head_json index.arch ++ lines ++ summary_json background summary)
-    (lines_without_sets index asked verdicts explain show hidden) (summary_without_sets index asked verdicts))
-    (causes_without_sets index asked verdicts)
+-- a report is the same whatever it doesn't tell
+pub report_unchanged : (settings : Settings) (change : VerdictView → VerdictView) → LeavesTold settings.explain settings.show settings.causes change
+    → (index : IndexView) (asked : List ℕ) (verdicts : List VerdictView) → written_report settings index asked (map change verdicts) ≡ written_report settings index asked verdicts
+report_unchanged settings change leaves index asked verdicts =
+    text_same settings.format index settings.explain (content_of settings index asked (map change verdicts)) (content_of settings index asked verdicts) (record {
+      blocks = λ text tells. blocks_alike change leaves.status asked verdicts settings.explain settings.show leaves.shown text tells;
+      numbers = ap (numbers_of settings.background) (summary_alike change leaves.status asked verdicts index);
+      lists = refl;
+      causes = causes_alike change leaves.status asked verdicts settings.causes index (λ broken. broken) leaves.caused;
+    })
+
+-- and so are its numbers
+pub summary_unchanged : (settings : Settings) (change : VerdictView → VerdictView) → LeavesTold settings.explain settings.show settings.causes change
+    → (index : IndexView) (asked : List ℕ) (verdicts : List VerdictView) → summary_of index asked (map change verdicts) ≡ summary_of index asked verdicts
+summary_unchanged settings change leaves index asked verdicts = summary_alike change leaves.status asked verdicts index
+
+-- the same of a report since an earlier index, which shows broken packages alone
+pub since_unchanged : (settings : Settings) (change : VerdictView → VerdictView) → LeavesTold settings.explain Failures settings.causes change
+    → (index : IndexView) (asked : List ℕ) (verdicts : List VerdictView) (before : List BrokenView) → written_since settings index asked (map change verdicts) before ≡ written_since settings index asked verdicts before
+unfolding news_of
+since_unchanged settings change leaves index asked verdicts before =
+    text_same settings.format index settings.explain (content_since settings index asked (map change verdicts) before) (content_since settings index asked verdicts before) (record {
+      blocks = λ text tells. news_alike change leaves.status asked verdicts index before settings.explain leaves.shown text tells;
+      numbers = ap (numbers_of settings.background) (since_alike change leaves.status asked verdicts index before);
+      lists = amends_alike change leaves.status asked verdicts index before;
+      causes = causes_alike change leaves.status asked verdicts settings.causes index (filter (λ one. not (was_broken before (package_at index one.0).name))) leaves.caused;
+    })
+
+pub summary_since_unchanged : (settings : Settings) (change : VerdictView → VerdictView) → LeavesTold settings.explain Failures settings.causes change
+    → (index : IndexView) (asked : List ℕ) (verdicts : List VerdictView) (before : List BrokenView) → summary_since index asked (map change verdicts) before ≡ summary_since index asked verdicts before
+summary_since_unchanged settings change leaves index asked verdicts before = since_alike change leaves.status asked verdicts index before
+
+-- ---- sets
+
+set_status : (verdict : VerdictView) → is_broken (without_set verdict) ≡ is_broken verdict
+set_status (Found places) = refl
+set_status (Blocked core) = refl
+
+set_shown : (explain : Bool) (show : Show) → (explain && shows_installable show) ≡ false → (verdict : VerdictView) → (explain && is_shown show verdict) ≡ true → without_set verdict ≡ verdict
+set_shown explain show hidden (Blocked core) told = refl
+set_shown true All hidden (Found places) told = absurd (true≢false hidden)
+set_shown true Failures hidden (Found places) told = absurd (false≢true told)
+set_shown true Successes hidden (Found places) told = absurd (true≢false hidden)
+set_shown false show hidden (Found places) told = absurd (false≢true told)
+
+set_caused : (causes : Bool) (verdict : VerdictView) → causes ≡ true → is_broken verdict ≡ true → without_set verdict ≡ verdict
+set_caused causes (Found places) told broken = absurd (false≢true broken)
+set_caused causes (Blocked core) told broken = refl
 
 -- where no block tells a set that was found, the report is the same whatever the sets
 pub sets_unshown : (settings : Settings) (index : IndexView) (asked : List ℕ) (verdicts : List VerdictView) → shows_sets settings ≡ false
     → written_report settings index asked (map without_set verdicts) ≡ written_report settings index asked verdicts
 sets_unshown settings index asked verdicts hidden =
-    text_without_sets settings.format index asked verdicts settings.explain settings.show settings.background settings.causes hidden
+    report_unchanged settings without_set (record { status = set_status; shown = set_shown settings.explain settings.show hidden; caused = set_caused settings.causes }) index asked verdicts
+
+pub summary_without_sets : (index : IndexView) (asked : List ℕ) (verdicts : List VerdictView) → summary_of index asked (map without_set verdicts) ≡ summary_of index asked verdicts
+summary_without_sets index asked verdicts = summary_alike without_set set_status asked verdicts index

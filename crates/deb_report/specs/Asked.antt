@@ -24,10 +24,19 @@ abbrev pub unless_unknown : Option (List ℕ) → List ℕ → Result (List ℕ)
 unless_unknown (Some name) places = Err name
 unless_unknown None places = Ok places
 
--- all places of the foreground, or with a list of names those of its packages of these names, rising; else the first listed name that no package of the foreground has
+-- all places of the foreground, or with a list of names those of its packages of these names, rising
+abbrev pub listed_places : IndexView → Option (List (List ℕ)) → List ℕ
+listed_places index None = below index.foreground
+listed_places index (Some names) = places_where (is_listed names) (foreground_packages index)
+
+-- the first listed name that no package of the foreground has
+abbrev pub unknown_in : IndexView → Option (List (List ℕ)) → Option (List ℕ)
+unknown_in index None = None
+unknown_in index (Some names) = find (is_unknown index) names
+
+-- the listed places, unless some name is unknown
 unfoldable pub asked_places : IndexView → Option (List (List ℕ)) → Result (List ℕ) (List ℕ)
-asked_places index None = Ok (below index.foreground)
-asked_places index (Some names) = unless_unknown (find (is_unknown index) names) (places_where (is_listed names) (foreground_packages index))
+asked_places index only = unless_unknown (unknown_in index only) (listed_places index only)
 
 -- why no places are asked: a listed name is unknown, or memory was wanted
 abbrev pub FailsToAsk : IndexView → Option (List (List ℕ)) → AskedFault → Type 0

@@ -1,18 +1,20 @@
 -- The causes of broken packages, and what an index has near the missing ones.
-use Rattle.std.specs.Prelude.{ℕ, ◌==◌, ◌<◌, Bool, true, false, ◌&&◌, ◌||◌, All, List, [], ◌∷◌, ◌++◌, length, map, filter, codes, decimal, if◌then◌else◌, slice_index_or}
+use Rattle.std.specs.Prelude.{ℕ, ◌==◌, ◌<◌, Bool, true, false, ◌&&◌, ◌||◌, All, List, [], ◌∷◌, ◌++◌, length, map, filter, codes, decimal, if◌then◌else◌}
 use Prim.Native.Nat.{zero, suc}
-use Rattle.std.specs.List.{flat_map, join_by, list_any, zip}
+use Rattle.std.specs.List.{flat_map, join_by, list_any}
+use Rattle.std.specs.Str.{bytes_eq}
+use Rattle.deb_relation.specs.AtomView.{atom_view}
 use Rattle.deb_relation.specs.Relationship.{AtomText, printed}
+use Rattle.deb_relation.specs.Usable.{is_usable}
 use Rattle.deb_index.specs.declared.constraint.Constraint.{Constraint}
 use Rattle.deb_index.specs.declared.constraint.Constraint.TheVariants.{Essential, Need, Apart, Only}
 use Rattle.deb_index.specs.Constraints.{IsOfIndex}
 use Rattle.deb_index.specs.Meets.{is_providing}
-use Rattle.deb_index.specs.Packages.{IndexView, PackageView, first_of_each, is_named, need_at, no_atom, package_at, places_where}
+use Rattle.deb_index.specs.Packages.{IndexView, PackageView, first_of_each, is_named, need_at, package_at, package_view, places_where}
 use Rattle.deb_health.specs.Verdicts.{VerdictView, Found, Blocked}
-use Rattle.deb_report.specs.declared.causes.Cause.{Cause}
-use Rattle.deb_report.specs.declared.config.Show.{Show}
+use Rattle.deb_report.specs.declared.gathered.Cause.{Cause}
 use Rattle.deb_report.specs.declared.near.NearMiss.{NearMiss}
-use Rattle.deb_report.specs.Report.{is_missing, label_of, line, place_line, reason_of, report_text}
+use Rattle.deb_report.specs.Report.{constraint_line, is_missing, label_of, line, place_line, titled}
 
 -- ---- what a cause is
 
@@ -32,9 +34,9 @@ abbrev pub cause_at : IndexView → ℕ → VerdictView → List (List Constrain
 cause_at index place (Found places) = []
 cause_at index place (Blocked core) = (cause_in index core, place) ∷ []
 
--- the causes of the asked places, each with its place
-unfoldable pub found_causes : IndexView → List ℕ → List VerdictView → List (List Constraint × ℕ)
-found_causes index asked verdicts = flat_map (λ pair. cause_at index pair.0 pair.1) (zip asked verdicts)
+-- the causes of asked places with these verdicts, each with its place
+unfoldable pub found_causes : IndexView → List (ℕ × VerdictView) → List (List Constraint × ℕ)
+found_causes index told = flat_map (λ one. cause_at index one.0 one.1) told
 
 -- ---- causes with the packages that they break
 
@@ -84,9 +86,9 @@ unfoldable pub by_count : ℕ → List CauseView → List CauseView
 by_count zero causes = filter (has_count 0) causes
 by_count (suc n) causes = filter (has_count (suc n)) causes ++ by_count n causes
 
--- the causes of the asked packages: those of more packages first, then by their first packages
-unfoldable pub causes_list : IndexView → List ℕ → List VerdictView → List CauseView
-causes_list index asked verdicts = by_count (length asked) (by_first (found_causes index asked verdicts))
+-- the causes of broken packages with these verdicts: those of more packages first, then by their first packages
+unfoldable pub causes_list : IndexView → List (ℕ × VerdictView) → List CauseView
+causes_list index broken = by_count (length broken) (by_first (found_causes index broken))
 
 -- ---- near misses
 
@@ -97,13 +99,13 @@ alternatives index (Need place number) = need_at index place number
 alternatives index (Apart place number) = []
 alternatives index (Only name) = []
 
--- the package has the name of one of the atoms
-abbrev pub is_called : List AtomText → PackageView → Bool
-is_called atoms deb = list_any (λ atom. is_named atom.name deb) atoms
+-- one of the atoms has the name
+abbrev pub is_one_of : List AtomText → List ℕ → Bool
+is_one_of atoms name = list_any (λ atom. bytes_eq atom.name name) atoms
 
 -- the entry provides the name of one of them
 abbrev pub provides_one : List ℕ → List AtomText → AtomText → Bool
-provides_one arch atoms entry = list_any (λ atom. is_providing arch atom.name entry) atoms
+provides_one arch atoms entry = is_usable arch entry.qualifier && is_one_of atoms entry.name
 
 -- the package has the name, or an entry of its Provides provides it
 abbrev pub is_near : List ℕ → PackageView → AtomText → Bool
@@ -111,42 +113,27 @@ is_near arch deb atom = is_named atom.name deb || list_any (is_providing arch at
 
 -- a package that comes near: it has a name itself, and no entry is told; or these entries of its Provides have one
 pub record NearMissView : Type 0 where
-  pub place : ℕ
-  pub entries : List ℕ
+  pub deb : PackageView
+  pub provides : List AtomText
 
 abbrev pub near_view : NearMiss → NearMissView
-near_view miss = record { place = miss.place; entries = miss.entries.items }
+near_view miss = record { deb = package_view miss.deb.now; provides = map (λ entry. atom_view entry.now) miss.provides.items }
 
--- the entry of a package's Provides with a number
-abbrev pub provide_of : PackageView → ℕ → AtomText
-provide_of deb number = slice_index_or deb.provides number no_atom
+-- what is told of a package that comes near
+unfoldable pub near_miss : List ℕ → List AtomText → PackageView → NearMissView
+near_miss arch atoms deb = record { deb = deb; provides = if is_one_of atoms deb.name then [] else filter (provides_one arch atoms) deb.provides }
 
--- it speaks of a place and of entries that the index has
-abbrev pub IsNearOf : IndexView → NearMissView → Type 0
-IsNearOf index miss = (miss.place < length index.packages) × All (λ entry. entry < length (package_at index miss.place).provides) miss.entries
+abbrev pub near_miss_at : IndexView → List AtomText → ℕ → NearMissView
+near_miss_at index atoms place = near_miss index.arch atoms (package_at index place)
 
--- the entries that are told of a package: none where it has a name itself
-unfoldable pub told_entries : List ℕ → List AtomText → PackageView → List ℕ
-told_entries arch atoms deb = if is_called atoms deb then [] else places_where (provides_one arch atoms) deb.provides
-
-abbrev pub near_miss : IndexView → List AtomText → ℕ → NearMissView
-near_miss index atoms place = record { place = place; entries = told_entries index.arch atoms (package_at index place) }
-
--- an atom that has a name alone
-abbrev pub named_atom : List ℕ → AtomText
-named_atom name = record no_atom { name = name }
-
--- the places of the packages that have or provide the name of the atom, rising
-abbrev pub places_near : IndexView → AtomText → List ℕ
-places_near index atom = places_where (λ deb. is_near index.arch deb atom) index.packages
-
--- those that have or provide the name of one of the atoms
+-- the places of the packages that have or provide the name of one of the atoms
 unfoldable pub near_places : IndexView → List AtomText → List ℕ
 near_places index atoms = places_where (λ deb. list_any (is_near index.arch deb) atoms) index.packages
 
 -- the packages of the index, by place, that have or provide the name of an alternative of a need among these constraints
 unfoldable pub near_misses : IndexView → List Constraint → List NearMissView
-near_misses index constraints = let atoms = flat_map (alternatives index) constraints in map (near_miss index atoms) (near_places index atoms)
+near_misses index constraints = let atoms = flat_map (alternatives index) constraints in
+    map (near_miss_at index atoms) (near_places index atoms)
 
 -- ---- lines
 
@@ -155,33 +142,16 @@ unfoldable pub provides_text : List AtomText → List ℕ
 provides_text entries = if length entries == 0 then [] else codes " (provides " ++ join_by printed (codes ", ") entries ++ codes ")"
 
 -- the line of a near miss
-unfoldable pub near_line : IndexView → NearMissView → List ℕ
-near_line index miss = let deb = package_at index miss.place in
-    codes "   - " ++ label_of deb ++ provides_text (map (provide_of deb) miss.entries) ++ (10 ∷ [])
-
--- lines under a title
-abbrev pub titled : List ℕ → List ℕ → List ℕ
-titled title lines = line title [] ++ lines
+unfoldable pub near_line : NearMissView → List ℕ
+near_line miss = codes "   - " ++ label_of miss.deb ++ provides_text miss.provides ++ codes "\n"
 
 -- the near misses, where there are some
-unfoldable pub present_text : IndexView → List NearMissView → List ℕ
-present_text index misses = if length misses == 0 then [] else titled (codes "  present:") (flat_map (near_line index) misses)
-
--- the first lines of a cause, with the number of its packages
-unfoldable pub cause_head : ℕ → List ℕ
-cause_head count = line (codes " -") [] ++ line (codes "  packages: ") (decimal count)
+unfoldable pub present_text : List NearMissView → List ℕ
+present_text misses = if length misses == 0 then [] else titled (codes "  present:") (flat_map near_line misses)
 
 -- the lines of a cause
 unfoldable pub cause_text : IndexView → CauseView → List ℕ
-cause_text index cause = cause_head (length cause.places)
-    ++ titled (codes "  reasons:") (flat_map (reason_of index) cause.constraints)
-    ++ present_text index (near_misses index cause.constraints)
+cause_text index cause = line (codes " -") [] ++ line (codes "  packages: ") (decimal (length cause.places))
+    ++ titled (codes "  reasons:") (flat_map (constraint_line index) cause.constraints)
+    ++ present_text (near_misses index cause.constraints)
     ++ titled (codes "  broken:") (flat_map (place_line index) cause.places)
-
--- the block of causes
-unfoldable pub causes_text : IndexView → List ℕ → List VerdictView → List ℕ
-causes_text index asked verdicts = line (codes "causes:") [] ++ flat_map (cause_text index) (causes_list index asked verdicts)
-
--- the report, with the block of causes where it is asked for
-unfoldable pub report_with : IndexView → List ℕ → List VerdictView → Bool → Show → Bool → Bool → List ℕ
-report_with index asked verdicts explain show background causes = report_text index asked verdicts explain show background ++ (if causes then causes_text index asked verdicts else [])

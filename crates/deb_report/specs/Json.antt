@@ -1,16 +1,15 @@
 -- The report on an index as one JSON document (RFC 8259). The texts in it need no escapes, but for architectures.
-use Rattle.std.specs.Prelude.{ℕ, ◌==◌, ◌||◌, ◌/◌, ◌%◌, Bool, nat_lt, List, [], ◌∷◌, ◌++◌, codes, decimal, filter, if◌then◌else◌, length, map}
+use Rattle.std.specs.Prelude.{ℕ, ◌==◌, ◌||◌, ◌/◌, ◌%◌, Bool, nat_lt, List, [], ◌∷◌, ◌++◌, Option, None, Some, codes, decimal, if◌then◌else◌, length, map}
 use Rattle.std.specs.Char.{digit_char}
-use Rattle.std.specs.List.{flat_map, join_by, zip}
+use Rattle.std.specs.List.{flat_map, join_by}
 use Rattle.deb_relation.specs.Relationship.{AtomText, printed}
 use Rattle.deb_index.specs.declared.constraint.Constraint.{Constraint}
-use Rattle.deb_index.specs.declared.constraint.Constraint.TheVariants.{Essential, Need, Apart, Only}
-use Rattle.deb_index.specs.Packages.{IndexView, PackageView, package_at, name_at, need_at, apart_at}
+use Rattle.deb_index.specs.Packages.{IndexView, PackageView, package_at}
 use Rattle.deb_health.specs.Verdicts.{VerdictView, Found, Blocked}
-use Rattle.deb_report.specs.Causes.{CauseView, NearMissView, causes_list, near_misses, provide_of}
-use Rattle.deb_report.specs.declared.config.Show.{Show}
-use Rattle.deb_report.specs.declared.summary.Summary.{Summary}
-use Rattle.deb_report.specs.Report.{entry_field, group_field, group_text, is_missing, is_shown, status_of, summary_of}
+use Rattle.deb_report.specs.Causes.{CauseView, NearMissView, near_misses}
+use Rattle.deb_report.specs.Content.{ContentView}
+use Rattle.deb_report.specs.Report.{OfName, OfRelation, ReasonView, group_text, reason_of, status_of}
+use Rattle.deb_report.specs.Since.{BrokenView}
 
 -- ---- texts
 
@@ -25,152 +24,111 @@ escaped_byte byte =
 unfoldable pub escaped : List ℕ → List ℕ
 escaped text = flat_map escaped_byte text
 
+-- a string, of a text that needs no escapes
+unfoldable pub quoted : List ℕ → List ℕ
+quoted text = codes "\"" ++ text ++ codes "\""
+
 -- texts of elements, with a comma between two
 abbrev pub listed : {A : Type 0} → (A → List ℕ) → List A → List ℕ
 listed text elements = join_by text (codes ",") elements
 
--- ---- a package of a set
+-- an array
+unfoldable pub array : {A : Type 0} → (A → List ℕ) → List A → List ℕ
+array text elements = codes "[" ++ listed text elements ++ codes "]"
 
--- name and version
-unfoldable pub label_json : PackageView → List ℕ
-label_json deb = codes "{\"package\":\"" ++ deb.name ++ codes "\",\"version\":\"" ++ deb.version ++ codes "\"}"
+-- an array that ends on a line of its own
+unfoldable pub tall_array : {A : Type 0} → (A → List ℕ) → List A → List ℕ
+tall_array text elements = codes "[" ++ listed text elements ++ codes "\n]"
+
+-- a member of an object
+unfoldable pub member : List ℕ → List ℕ → List ℕ
+member title value = codes "\"" ++ title ++ codes "\":" ++ value
+
+-- the members of an object behind the first, and its end
+abbrev pub closing : List (List ℕ) → List ℕ
+closing [] = codes "}"
+closing (one ∷ others) = codes "," ++ one ++ closing others
+
+-- an object of members
+abbrev pub object : List (List ℕ) → List ℕ
+object [] = codes "{}"
+object (one ∷ others) = codes "{" ++ one ++ closing others
+
+-- ---- packages and reasons
+
+-- the two members that tell a package
+unfoldable pub label_members : List ℕ → List ℕ → List ℕ
+label_members name version = member (codes "package") (quoted name) ++ codes "," ++ member (codes "version") (quoted version)
+
+abbrev pub label_json : PackageView → List ℕ
+label_json deb = label_members deb.name deb.version
+
+-- its architecture
+unfoldable pub architecture_json : PackageView → List ℕ
+architecture_json deb = member (codes "architecture") (quoted (escaped deb.architecture))
 
 -- the package at a place
-abbrev pub place_json : IndexView → ℕ → List ℕ
-place_json index place = label_json (package_at index place)
+unfoldable pub place_json : IndexView → ℕ → List ℕ
+place_json index place = object (label_json (package_at index place) ∷ [])
 
--- ---- reasons
+-- what is told of a constraint
+unfoldable pub reason_json : ReasonView → List ℕ
+reason_json (OfName kind name) = object (member (codes "kind") (quoted kind) ∷ member (codes "name") (quoted name) ∷ [])
+reason_json (OfRelation kind deb field relation) = object (member (codes "kind") (quoted kind) ∷ label_json deb
+    ∷ member (codes "field") (quoted field) ∷ member (codes "relation") (quoted (group_text relation)) ∷ [])
 
--- a reason that is a relation of a package: what stands before the text of the relation
-unfoldable pub relation_start_json : List ℕ → PackageView → List ℕ → List ℕ
-relation_start_json kind deb field = codes "{\"kind\":\"" ++ kind
-    ++ codes "\",\"package\":\"" ++ deb.name ++ codes "\",\"version\":\"" ++ deb.version
-    ++ codes "\",\"field\":\"" ++ field ++ codes "\",\"relation\":\""
-
--- a reason that is of a name
-unfoldable pub name_json : List ℕ → List ℕ → List ℕ
-name_json kind name = codes "{\"kind\":\"" ++ kind ++ codes "\",\"name\":\"" ++ name ++ codes "\"}"
-
--- the kind of a group that is not met
-unfoldable pub need_kind : Bool → List ℕ
-need_kind missing = if missing then codes "missing" else codes "depends"
-
--- a group that is not met
-unfoldable pub need_json : IndexView → ℕ → ℕ → List ℕ
-need_json index place number =
-    let deb = package_at index place in
-    let group = need_at index place number in
-    relation_start_json (need_kind (is_missing index group)) deb (group_field deb number) ++ group_text group ++ codes "\"}"
-
--- an entry that is met
-unfoldable pub apart_json : IndexView → ℕ → ℕ → List ℕ
-apart_json index place number =
-    let deb = package_at index place in
-    relation_start_json (codes "conflict") deb (entry_field deb number) ++ printed (apart_at index place number) ++ codes "\"}"
-
--- a constraint
-unfoldable pub reason_json : IndexView → Constraint → List ℕ
-reason_json index (Essential name) = name_json (codes "essential") (name_at index name)
-reason_json index (Need place number) = need_json index place number
-reason_json index (Apart place number) = apart_json index place number
-reason_json index (Only name) = name_json (codes "versions") (name_at index name)
-
--- ---- packages
+abbrev pub constraint_json : IndexView → Constraint → List ℕ
+constraint_json index constraint = reason_json (reason_of index constraint)
 
 -- the set that was found, or what stands against each set
 unfoldable pub explanation_json : IndexView → VerdictView → List ℕ
-explanation_json index (Found places) = codes ",\"installation-set\":[" ++ listed (place_json index) places ++ codes "]"
-explanation_json index (Blocked constraints) = codes ",\"reasons\":[" ++ listed (reason_json index) constraints ++ codes "]"
+explanation_json index (Found places) = member (codes "installation-set") (array (place_json index) places)
+explanation_json index (Blocked constraints) = member (codes "reasons") (array (constraint_json index) constraints)
 
--- the first members of a package's object
-unfoldable pub heading_json : PackageView → List ℕ → List ℕ
-heading_json deb status = codes "{\"package\":\"" ++ deb.name ++ codes "\",\"version\":\"" ++ deb.version
-    ++ codes "\",\"architecture\":\"" ++ escaped deb.architecture ++ codes "\",\"status\":\"" ++ status ++ codes "\""
-
--- the line of a package, behind the end of the line before it
+-- an asked place and its verdict, on a line of its own
 unfoldable pub block_json : IndexView → Bool → ℕ × VerdictView → List ℕ
-block_json index explain asked = codes "\n" ++ heading_json (package_at index asked.0) (status_of asked.1)
-    ++ (if explain then explanation_json index asked.1 else []) ++ codes "}"
-
--- the asked places that are shown, with their verdicts
-abbrev pub shown_of : Show → List ℕ → List VerdictView → List (ℕ × VerdictView)
-shown_of show asked verdicts = filter (λ one. is_shown show one.1) (zip asked verdicts)
-
--- ---- the whole
-
--- what stands before the packages
-unfoldable pub head_json : List ℕ → List ℕ
-head_json arch = codes "{\"architecture\":\"" ++ escaped arch ++ codes "\",\"report\":["
-
--- the number of the background's packages
-unfoldable pub background_member : ℕ → List ℕ
-background_member count = codes ",\"background\":" ++ decimal count
-
--- the same, where a background is read
-unfoldable pub background_json : Bool → ℕ → List ℕ
-background_json background count = if background then background_member count else []
-
--- the numbers
-unfoldable pub summary_json : Bool → Summary → List ℕ
-summary_json background summary = codes "\n],\"stanzas\":" ++ decimal summary.stanzas ++ codes ",\"skipped\":" ++ decimal summary.skipped
-    ++ codes ",\"duplicates\":" ++ decimal summary.duplicates
-    ++ background_json background summary.background
-    ++ codes ",\"asked\":" ++ decimal summary.asked ++ codes ",\"broken\":" ++ decimal summary.broken
-
--- the document but for its end: its head, a line for each package that is shown in the order of the list, the numbers
-unfoldable pub json_start : IndexView → List ℕ → List VerdictView → Bool → Show → Bool → List ℕ
-json_start index asked verdicts explain show background = head_json index.arch
-    ++ listed (block_json index explain) (shown_of show asked verdicts)
-    ++ summary_json background (summary_of index asked verdicts)
+block_json index explain asked = let deb = package_at index asked.0 in
+    codes "\n" ++ object (label_json deb ∷ architecture_json deb ∷ member (codes "status") (quoted (status_of asked.1))
+    ∷ (if explain then explanation_json index asked.1 ∷ [] else []))
 
 -- ---- causes
 
--- an entry of Provides
-unfoldable pub entry_json : AtomText → List ℕ
-entry_json entry = codes "\"" ++ printed entry ++ codes "\""
-
 -- what a package provides, where it is near by that alone
-unfoldable pub provides_json : List AtomText → List ℕ
-provides_json entries = if length entries == 0 then [] else codes ",\"provides\":[" ++ listed entry_json entries ++ codes "]"
-
--- name and version of an object that goes on
-unfoldable pub label_start_json : PackageView → List ℕ
-label_start_json deb = codes "{\"package\":\"" ++ deb.name ++ codes "\",\"version\":\"" ++ deb.version ++ codes "\""
+unfoldable pub provides_json : List AtomText → List (List ℕ)
+provides_json entries = if length entries == 0 then [] else member (codes "provides") (array (λ entry. quoted (printed entry)) entries) ∷ []
 
 -- a near miss
-unfoldable pub near_json : IndexView → NearMissView → List ℕ
-near_json index miss = let deb = package_at index miss.place in
-    label_start_json deb ++ provides_json (map (provide_of deb) miss.entries) ++ codes "}"
+unfoldable pub near_json : NearMissView → List ℕ
+near_json miss = object (label_json miss.deb ∷ provides_json miss.provides)
 
--- the reasons of a cause
-unfoldable pub reasons_json : IndexView → List Constraint → List ℕ
-reasons_json index constraints = codes ",\"reasons\":[" ++ listed (reason_json index) constraints ++ codes "]"
-
--- its near misses
-unfoldable pub present_json : IndexView → List NearMissView → List ℕ
-present_json index misses = codes ",\"present\":[" ++ listed (near_json index) misses ++ codes "]"
-
--- its packages
-unfoldable pub broken_json : IndexView → List ℕ → List ℕ
-broken_json index places = codes ",\"broken\":[" ++ listed (place_json index) places ++ codes "]"
-
--- the number of a cause's packages, on a line of its own
-unfoldable pub cause_start_json : ℕ → List ℕ
-cause_start_json count = codes "\n{\"packages\":" ++ decimal count
-
--- a cause
+-- a cause, on a line of its own
 unfoldable pub cause_json : IndexView → CauseView → List ℕ
-cause_json index cause = cause_start_json (length cause.places)
-    ++ reasons_json index cause.constraints
-    ++ present_json index (near_misses index cause.constraints)
-    ++ broken_json index cause.places
-    ++ codes "}"
+cause_json index cause = codes "\n" ++ object (member (codes "packages") (decimal (length cause.places))
+    ∷ member (codes "reasons") (array (constraint_json index) cause.constraints)
+    ∷ member (codes "present") (array near_json (near_misses index cause.constraints))
+    ∷ member (codes "broken") (array (place_json index) cause.places) ∷ [])
 
--- the causes
-unfoldable pub causes_json : IndexView → List ℕ → List VerdictView → List ℕ
-causes_json index asked verdicts = codes ",\"causes\":[" ++ listed (cause_json index) (causes_list index asked verdicts) ++ codes "\n]"
+-- ---- the whole
 
--- the report on the asked places, with the causes where they are asked for
-unfoldable pub json_text : IndexView → List ℕ → List VerdictView → Bool → Show → Bool → Bool → List ℕ
-json_text index asked verdicts explain show background causes = json_start index asked verdicts explain show background
-    ++ (if causes then causes_json index asked verdicts else []) ++ codes "}\n"
+-- a number under its title
+abbrev pub number_json : List ℕ × ℕ → List ℕ
+number_json number = member number.0 (decimal number.1)
+
+-- a broken package of an earlier index
+unfoldable pub broken_json : BrokenView → List ℕ
+broken_json deb = object (label_members deb.name deb.version ∷ [])
+
+-- such packages under their title
+abbrev pub list_json : List ℕ × List BrokenView → List ℕ
+list_json list = member list.0 (array broken_json list.1)
+
+-- the causes, where they are told
+abbrev pub causes_json : IndexView → Option (List CauseView) → List (List ℕ)
+causes_json index None = []
+causes_json index (Some causes) = member (codes "causes") (tall_array (cause_json index) causes) ∷ []
+
+-- the report: the blocks, each on a line of its own, the numbers, the lists, the causes
+unfoldable pub json_text : IndexView → Bool → ContentView → List ℕ
+json_text index explain content = object (member (codes "architecture") (quoted (escaped index.arch))
+    ∷ member (codes "report") (tall_array (block_json index explain) content.blocks)
+    ∷ map number_json content.numbers ++ map list_json content.lists ++ causes_json index content.causes) ++ codes "\n"

@@ -1,9 +1,13 @@
 pub mod Report
-pub mod Json
-pub mod Plain
+pub mod Told
 pub mod Causes
 pub mod CauseKeys
 pub mod Gathering
 pub mod Settings
 pub mod Asked
+pub mod Since
+pub mod Content
+pub mod Lines
+pub mod Json
+pub mod Plain
 pub mod Written

@@ -1,5 +1,5 @@
 -- The report on an index.
-use Rattle.std.specs.Prelude.{ℕ, ◌==◌, ◌-◌, Bool, true, false, not, nat_lt, List, [], ◌∷◌, ◌++◌, length, codes, decimal, if◌then◌else◌, count_by}
+use Rattle.std.specs.Prelude.{ℕ, ◌==◌, ◌-◌, Bool, true, false, not, nat_lt, List, [], ◌∷◌, ◌++◌, Option, None, Some, length, codes, decimal, filter, if◌then◌else◌, count_by}
 use Rattle.std.specs.List.{flat_map, join_by, list_all, zip}
 use Rattle.deb_relation.specs.Relationship.{AtomText, printed}
 use Rattle.deb_index.specs.declared.constraint.Constraint.{Constraint}
@@ -18,8 +18,11 @@ unfoldable pub line : List ℕ → List ℕ → List ℕ
 line title text = title ++ text ++ (10 ∷ [])
 
 -- name and version
-unfoldable pub label_of : PackageView → List ℕ
-label_of deb = deb.name ++ (32 ∷ deb.version)
+unfoldable pub label_text : List ℕ → List ℕ → List ℕ
+label_text name version = name ++ (32 ∷ version)
+
+abbrev pub label_of : PackageView → List ℕ
+label_of deb = label_text deb.name deb.version
 
 -- the line of a package of the set that was found
 unfoldable pub place_line : IndexView → ℕ → List ℕ
@@ -47,35 +50,30 @@ group_field deb number = if nat_lt number (length deb.pre_depends) then codes "P
 unfoldable pub entry_field : PackageView → ℕ → List ℕ
 entry_field deb number = if nat_lt number (length deb.conflicts) then codes "Conflicts" else codes "Breaks"
 
--- the start of a line on a relation of a package
-unfoldable pub relation_start : List ℕ → PackageView → List ℕ → List ℕ
-relation_start title deb field = title ++ label_of deb ++ (32 ∷ field) ++ codes ": "
+-- what is told of a constraint: of what kind it is, and the name that it is of, or the relation of a package, with its field
+pub data ReasonView : Type 0 where
+  OfName : (kind name : List ℕ) → ReasonView
+  OfRelation : (kind : List ℕ) (deb : PackageView) (field : List ℕ) (relation : List AtomText) → ReasonView
 
--- how the line of a group begins
-unfoldable pub need_title : Bool → List ℕ
-need_title missing = if missing then codes "   - missing: " else codes "   - depends: "
+-- what is told of a group of a package, which may be missing
+abbrev pub need_reason : Bool → PackageView → ℕ → List AtomText → ReasonView
+need_reason missing deb number group = OfRelation (if missing then codes "missing" else codes "depends") deb (group_field deb number) group
 
--- a group that is not met
-unfoldable pub need_line : IndexView → ℕ → ℕ → List ℕ
-need_line index place number =
-    let deb = package_at index place in
-    let group = need_at index place number in
-    relation_start (need_title (is_missing index group)) deb (group_field deb number)
-    ++ group_text group ++ (10 ∷ [])
+-- what is told of a constraint
+unfoldable pub reason_of : IndexView → Constraint → ReasonView
+reason_of index (Essential name) = OfName (codes "essential") (name_at index name)
+reason_of index (Need place number) = let group = need_at index place number in need_reason (is_missing index group) (package_at index place) number group
+reason_of index (Apart place number) = let deb = package_at index place in OfRelation (codes "conflict") deb (entry_field deb number) (apart_at index place number ∷ [])
+reason_of index (Only name) = OfName (codes "versions") (name_at index name)
 
--- an entry that is met
-unfoldable pub apart_line : IndexView → ℕ → ℕ → List ℕ
-apart_line index place number =
-    let deb = package_at index place in
-    relation_start (codes "   - conflict: ") deb (entry_field deb number)
-    ++ printed (apart_at index place number) ++ (10 ∷ [])
+-- its line
+unfoldable pub reason_line : ReasonView → List ℕ
+reason_line (OfName kind name) = codes "   - " ++ kind ++ codes ": " ++ name ++ codes "\n"
+reason_line (OfRelation kind deb field relation) = codes "   - " ++ kind ++ codes ": " ++ label_of deb ++ codes " " ++ field ++ codes ": " ++ group_text relation ++ codes "\n"
 
 -- the line of a constraint
-unfoldable pub reason_of : IndexView → Constraint → List ℕ
-reason_of index (Essential name) = line (codes "   - essential: ") (name_at index name)
-reason_of index (Need place number) = need_line index place number
-reason_of index (Apart place number) = apart_line index place number
-reason_of index (Only name) = line (codes "   - versions: ") (name_at index name)
+abbrev pub constraint_line : IndexView → Constraint → List ℕ
+constraint_line index constraint = reason_line (reason_of index constraint)
 
 -- ---- blocks
 
@@ -95,10 +93,22 @@ is_shown All verdict = true
 is_shown Failures verdict = is_broken verdict
 is_shown Successes verdict = not (is_broken verdict)
 
+-- the asked places that are shown, with their verdicts
+abbrev pub shown_of : Show → List ℕ → List VerdictView → List (ℕ × VerdictView)
+shown_of show asked verdicts = filter (λ one. is_shown show one.1) (zip asked verdicts)
+
+-- the broken ones
+abbrev pub broken_ones : List ℕ → List VerdictView → List (ℕ × VerdictView)
+broken_ones asked verdicts = shown_of Failures asked verdicts
+
+-- lines under a title
+abbrev pub titled : List ℕ → List ℕ → List ℕ
+titled title lines = line title [] ++ lines
+
 -- the set that was found, or what stands against each set
 unfoldable pub explanation : IndexView → VerdictView → List ℕ
-explanation index (Found places) = line (codes "  installation-set:") [] ++ flat_map (place_line index) places
-explanation index (Blocked constraints) = line (codes "  reasons:") [] ++ flat_map (reason_of index) constraints
+explanation index (Found places) = titled (codes "  installation-set:") (flat_map (place_line index) places)
+explanation index (Blocked constraints) = titled (codes "  reasons:") (flat_map (constraint_line index) constraints)
 
 -- the status of a package
 unfoldable pub status_of : VerdictView → List ℕ
@@ -112,45 +122,41 @@ heading deb = line (codes " -") []
     ++ line (codes "  version: ") deb.version
     ++ line (codes "  architecture: ") deb.architecture
 
--- the lines of a package
-unfoldable pub block_of : IndexView → Bool → ℕ → VerdictView → List ℕ
-block_of index explain place verdict = heading (package_at index place)
-    ++ line (codes "  status: ") (status_of verdict)
-    ++ (if explain then explanation index verdict else [])
+-- the lines of an asked place and its verdict
+unfoldable pub block_of : IndexView → Bool → ℕ × VerdictView → List ℕ
+block_of index explain asked = heading (package_at index asked.0)
+    ++ line (codes "  status: ") (status_of asked.1)
+    ++ (if explain then explanation index asked.1 else [])
 
--- the block of an asked place, where it is shown
-unfoldable pub shown_block : IndexView → Bool → Show → ℕ × VerdictView → List ℕ
-shown_block index explain show asked = if is_shown show asked.1 then block_of index explain asked.0 asked.1 else []
+-- ---- numbers
 
--- ---- the whole
-
--- the line of the background's packages, where a background is read
-unfoldable pub background_line : Bool → ℕ → List ℕ
-background_line background count = if background then line (codes "background: ") (decimal count) else []
-
--- the last lines
-unfoldable pub summary_text : Bool → Summary → List ℕ
-summary_text background summary = line (codes "stanzas: ") (decimal summary.stanzas)
-    ++ line (codes "skipped: ") (decimal summary.skipped)
-    ++ line (codes "duplicates: ") (decimal summary.duplicates)
-    ++ background_line background summary.background
-    ++ line (codes "asked: ") (decimal summary.asked)
-    ++ line (codes "broken: ") (decimal summary.broken)
-
--- the numbers of a report; the packages behind the foreground are the background's
-abbrev pub summary_of : IndexView → List ℕ → List VerdictView → Summary
-summary_of index asked verdicts = record {
+-- the numbers of a report, with how many are newly broken, where that is asked; the packages behind the foreground are the background's
+abbrev pub summary_with : IndexView → List ℕ → List VerdictView → Option ℕ → Summary
+summary_with index asked verdicts newly_broken = record {
   stanzas = index.stanzas;
   skipped = index.skipped;
   duplicates = index.duplicates;
   background = length index.packages - index.foreground;
   asked = length asked;
   broken = count_by is_broken verdicts;
+  newly_broken = newly_broken;
 }
 
--- the report on the asked places: its head, the blocks in the order of the list, the numbers
-unfoldable pub report_text : IndexView → List ℕ → List VerdictView → Bool → Show → Bool → List ℕ
-report_text index asked verdicts explain show background = line (codes "architecture: ") index.arch
-    ++ line (codes "report:") []
-    ++ flat_map (shown_block index explain show) (zip asked verdicts)
-    ++ summary_text background (summary_of index asked verdicts)
+-- the numbers of a report without an earlier index
+abbrev pub summary_of : IndexView → List ℕ → List VerdictView → Summary
+summary_of index asked verdicts = summary_with index asked verdicts None
+
+-- a number with its title, where there is one
+abbrev pub number_if : List ℕ → Option ℕ → List (List ℕ × ℕ)
+number_if title None = []
+number_if title (Some number) = (title, number) ∷ []
+
+-- these numbers, each with its title; the background's where one is read
+unfoldable pub numbers_of : Bool → Summary → List (List ℕ × ℕ)
+numbers_of background summary = (codes "stanzas", summary.stanzas) ∷ (codes "skipped", summary.skipped) ∷ (codes "duplicates", summary.duplicates)
+    ∷ (if background then (codes "background", summary.background) ∷ [] else []) ++ (codes "asked", summary.asked) ∷ (codes "broken", summary.broken)
+    ∷ number_if (codes "newly-broken") summary.newly_broken
+
+-- the line of a number
+unfoldable pub number_line : List ℕ × ℕ → List ℕ
+number_line number = number.0 ++ codes ": " ++ decimal number.1 ++ codes "\n"

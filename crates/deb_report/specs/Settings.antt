@@ -11,7 +11,7 @@ use Rattle.deb_report.specs.declared.config.Show.{Show}
 use Rattle.deb_report.specs.declared.config.Show.TheVariants.{All, Failures, Successes}
 
 -- what a report depends on: the architecture, what is shown, whether names may be essential, the names that are asked, whether a background is read, whether causes are told, and the report's form;
--- not how the work is dealt out, which file the background is, or whether a run tells how far it has come
+-- not how the work is dealt out, which files the background and an earlier index are, or whether a run tells how far it has come
 pub record Settings : Type 0 where
   pub arch : List ℕ
   pub explain : Bool

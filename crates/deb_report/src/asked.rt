@@ -5,7 +5,7 @@ ghost use Rattle.std.specs.List.{list_any};
 ghost use Rattle.deb_index.specs.Constraints.{below};
 ghost use Rattle.deb_index.specs.Packages.{package_at, places_where};
 ghost use Rattle.deb_report.specs.declared.asked.AskedFault.TheVariants.{Memory};
-ghost use Rattle.deb_report.specs.Asked.{FailsToAsk, asked_places, foreground_packages, is_listed, is_unknown};
+ghost use Rattle.deb_report.specs.Asked.{FailsToAsk, asked_places, foreground_packages, is_listed, is_unknown, listed_places, unknown_in};
 ghost use Rattle.deb_report.specs.Settings.{settings_of};
 
 use crate::config::Config;
@@ -67,7 +67,7 @@ fn first_unknown<'n>(index: &Index, names: &'n [Vec<u8>]) -> Option<&'n Vec<u8>>
 }
 
 // Whether no package of the foreground has the name: the first of its places tells.
-fn is_unknown(index: &Index, name: &[u8]) -> bool
+pub(crate) fn is_unknown(index: &Index, name: &[u8]) -> bool
     ensures { result ≡ is_unknown index.now name.now }
 {
     match index.places_of(name).first() {
@@ -78,7 +78,8 @@ fn is_unknown(index: &Index, name: &[u8]) -> bool
 
 // Marks those of these places that there is a mark for.
 fn mark_places(marks: &mut [bool], places: &[u32])
-    ensures { (k : ℕ) → k < length marks.old → slice_index_or marks.new k false ≡ (slice_index_or marks.old k false || list_any (λ place. place == k) places.now) }
+    ensures { (k : ℕ) → k < length marks.old → slice_index_or marks.new k false ≡
+        (slice_index_or marks.old k false || list_any (λ place. place == k) places.now) }
 {
     for place in places {
         if (*place as usize) < marks.len() {
@@ -123,6 +124,31 @@ fn listed_places(alloc: Global, index: &Index, names: &[Vec<u8>]) -> Result<Vec<
     Ok(marked_places(alloc, marks.as_slice())?)
 }
 
+/// The places that are asked of an earlier index, rising, each once: all places of the foreground, or with `only` those of its named packages.
+/// A name that no package has is no fault there.
+pub fn earlier_places(alloc: Global, index: &Index, config: &Config) -> Result<Vec<u32>, AllocError>
+    ensures places { IfOk result (λ places. places.items ≡ listed_places index.now (settings_of config.now).only) }
+    ensures few { IfOk result (λ places. length places.items < 2 ^ 32) }
+    ensures within { IfOk result (λ places. All (λ place. place < length index.now.packages) places.items) }
+{
+    let foreground = index.foreground();
+    match &config.only {
+        None => places_below(alloc, foreground),
+        Some(names) => listed_places(alloc, index, names.as_slice()),
+    }
+}
+
+// The first of the listed names that no package of the foreground has.
+fn unknown_of<'c>(index: &Index, config: &'c Config) -> Option<&'c Vec<u8>>
+    ensures { let unknown = unknown_in index.now (settings_of config.now).only in
+        MatchOption result (unknown ≡ None) (λ name. unknown ≡ Some name.now.items) }
+{
+    match &config.only {
+        None => None,
+        Some(names) => first_unknown(index, names.as_slice()),
+    }
+}
+
 /// The places that are asked, rising, each once: all places of the foreground, or with `only` those of its named packages. What the background has
 /// is never asked.
 ///
@@ -133,13 +159,8 @@ pub fn asked_places(alloc: Global, index: &Index, config: &Config) -> Result<Vec
     ensures within { IfOk result (λ asked. All (λ place. place < length index.now.packages) asked.items) }
     ensures refused { IfErr result (FailsToAsk index.now (settings_of config.now).only) }
 {
-    let count = index.foreground();
-    let names = match &config.only {
-        None => return Ok(places_below(alloc, count)?),
-        Some(names) => names.as_slice(),
-    };
-    match first_unknown(index, names) {
-        None => Ok(listed_places(alloc, index, names)?),
+    match unknown_of(index, config) {
+        None => Ok(earlier_places(alloc, index, config)?),
         Some(name) => Err(AskedFault::Unknown {
             name: Vec::from_slice(alloc, name.as_slice())?,
         }),

@@ -46,6 +46,8 @@ pub struct Config {
     pub only: Option<Vec<Vec<u8>>>,
     /// The file of a second index, whose packages may be used and are not asked; no second index without it.
     pub bg: Option<String>,
+    /// The file of an earlier index, whose broken packages a report since then compares with; no such report without it.
+    pub since: Option<String>,
     /// Whether the report ends with the causes of what is broken.
     pub causes: bool,
     pub format: Format,
@@ -54,12 +56,13 @@ pub struct Config {
 }
 
 impl Config {
-    /// The settings where nothing is said: architecture `amd64`, with explanations, 4 workers and chunks of 64, no second index, and a report in plain text.
+    /// The settings where nothing is said: architecture `amd64`, with explanations, 4 workers and chunks of 64, no second index and no earlier one, and a report in plain text.
     pub fn usual(alloc: Global) -> Result<Config, AllocError>
         ensures settings { IfOk result (λ config. settings_of config ≡ usual_settings) }
         ensures workers { IfOk result (λ config. config.workers ≡ 4) }
         ensures chunk { IfOk result (λ config. config.chunk ≡ 64) }
         ensures background { IfOk result (λ config. config.bg ≡ None) }
+        ensures since { IfOk result (λ config. config.since ≡ None) }
         ensures quiet { IfOk result (λ config. config.quiet ≡ false) }
     {
         Ok(Config {
@@ -71,6 +74,7 @@ impl Config {
             essential: true,
             only: None,
             bg: None,
+            since: None,
             causes: false,
             format: Format::Text,
             quiet: false,

@@ -5,12 +5,20 @@ ghost use Rattle.deb_index.specs.declared.constraint.Constraint.{Constraint};
 ghost use Rattle.deb_index.specs.Tables.{number_in};
 ghost use Rattle.deb_report.specs.CauseKeys.{cause_numbers, constraint_numbers};
 
-use crate::causes::Cause;
 use deb_index::Constraint;
 use indexmap::IndexSet;
 use std::alloc::{AllocError, Global};
 
-// Adds the numbers of a constraint.
+/// What is wrong in the end, and the packages that it breaks.
+#[derive(Drop)]
+pub(crate) struct Cause {
+    /// The constraints of a first core without the needs that some package of the index meets, in the core's order.
+    pub(crate) constraints: Vec<Constraint>,
+    /// The places of the packages that have this cause, in the order in which they were asked.
+    pub(crate) places: Vec<u32>,
+}
+
+/// Adds the numbers of a constraint.
 fn push_numbers(key: &mut Vec<u32>, constraint: Constraint) -> Result<(), AllocError>
     ensures { OnOk result (key.new.items ≡ key.old.items ++ constraint_numbers constraint) }
 {
@@ -22,7 +30,7 @@ fn push_numbers(key: &mut Vec<u32>, constraint: Constraint) -> Result<(), AllocE
     }
 }
 
-// The numbers of a cause's constraints, which tell it from all others.
+/// The numbers of a cause's constraints, which tell it from all others.
 fn key_of(alloc: Global, constraints: &[Constraint]) -> Result<Vec<u32>, AllocError>
     ensures { IfOk result (λ key. key.items ≡ cause_numbers constraints.now) }
 {
@@ -36,7 +44,7 @@ fn key_of(alloc: Global, constraints: &[Constraint]) -> Result<Vec<u32>, AllocEr
 /// Causes in the order of their coming, and the key of each.
 #[derive(Drop)]
 pub(crate) struct Gathered {
-    pub(crate) keys: IndexSet<Vec<u32>>,
+    keys: IndexSet<Vec<u32>>,
     pub(crate) causes: Vec<Cause>,
     ghost listed: { length keys.keys ≤ vec_len causes },
 }
@@ -54,7 +62,7 @@ impl Gathered {
         }
     }
 
-    // The number of the cause with a key.
+    /// The number of the cause with a key.
     fn number(&self, key: &[u32]) -> Option<usize>
         ensures number { result ≡ number_in key.now (map (λ k. k.items) self.now.keys.keys) }
         ensures within { IfSome result (λ i. i < length self.now.keys.keys) }

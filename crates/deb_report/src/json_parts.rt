@@ -1,227 +1,280 @@
-//! The texts, objects and lists that a report in JSON is made of.
+//! What a report in JSON tells: packages, reasons, causes, asked places, numbers, and broken packages of an earlier index.
 
-ghost use Rattle.std.specs.Prelude.{◌≡◌, ◌++◌, ◌<◌, All, OnOk, decimal, length};
-ghost use Rattle.std.specs.Char.{digit_char};
+ghost use Rattle.std.specs.Prelude.{◌≡◌, ◌++◌, ◌<◌, All, OnOk, codes, length, map};
+ghost use Rattle.deb_relation.specs.AtomView.{atom_view};
+ghost use Rattle.deb_relation.specs.Relationship.{printed};
 ghost use Rattle.deb_index.specs.Constraints.{IsOfIndex};
 ghost use Rattle.deb_index.specs.Packages.{package_view};
-ghost use Rattle.deb_report.specs.Json.{apart_json, escaped, escaped_byte, heading_json, label_json, listed, name_json, need_json, need_kind, place_json, reason_json, relation_start_json};
+ghost use Rattle.deb_health.specs.Verdicts.{SpeaksOf, verdict_view};
+ghost use Rattle.deb_report.specs.Causes.{IsCauseOf, cause_view, near_view};
+ghost use Rattle.deb_report.specs.Json.{architecture_json, array, block_json, broken_json, cause_json, constraint_json, explanation_json, label_json, label_members, list_json, member, near_json, number_json, place_json, quoted, reason_json};
+ghost use Rattle.deb_report.specs.Report.{OfRelation, group_text};
+ghost use Rattle.deb_report.specs.Since.{broken_view};
+ghost use Rattle.deb_report.specs.Told.{IsAskedOf, amends_view, number_view, reason_view, shown_view};
 
-use crate::reasons::{entry_field, group_field, is_missing, push_group};
+use crate::amends::Amends;
+use crate::gathered::Cause;
+use crate::json_text::{push_any_text, push_array, push_number, push_text, push_title};
+use crate::near::{NearMiss, near_misses};
+use crate::print::Print;
+use crate::reasons::{Reason, push_group, reason_of};
+use crate::shown::{Shown, status_text};
+use crate::since::BrokenPackage;
+use crate::summary::Number;
+use deb_health::Verdict;
 use deb_index::{Constraint, Index, Package};
+use deb_relation::Atom;
 use std::alloc::{AllocError, Global};
 
-// Adds two texts.
-pub(crate) fn push_both(out: &mut Vec<u8>, title: &str, text: &[u8]) -> Result<(), AllocError>
-    ensures { OnOk result (out.new.items ≡ out.old.items ++ title.now ++ text.now) }
+/// What is told of an index, in JSON.
+#[derive(Drop)]
+pub(crate) struct Json<'i> {
+    pub(crate) alloc: Global,
+    pub(crate) index: &'i Index,
+    /// Whether verdicts are explained.
+    pub(crate) explain: bool,
+}
+
+/// Adds the members that are a package's name and its version.
+#[tactic(auto, unfolding(crate::specs::Json::label_members))]
+fn push_label(out: &mut Vec<u8>, lead: &str, name: &[u8], version: &[u8]) -> Result<(), AllocError>
+    ensures { OnOk result (out.new.items ≡ out.old.items ++ lead.now ++ label_members name.now version.now) }
 {
-    out.extend_from_slice(title.as_bytes())?;
-    out.extend_from_slice(text)?;
+    push_text(out, lead, "package", name)?;
+    push_text(out, ",", "version", version)?;
     Ok(())
 }
 
-// Adds a text and a number.
-pub fn push_number(
-    alloc: Global,
-    out: &mut Vec<u8>,
-    title: &str,
-    number: usize,
-) -> Result<(), AllocError>
-    ensures { OnOk result (out.new.items ≡ out.old.items ++ title.now ++ decimal number) }
+/// Adds the members that tell a package.
+fn push_package(out: &mut Vec<u8>, lead: &str, deb: &Package) -> Result<(), AllocError>
+    ensures { OnOk result (out.new.items ≡ out.old.items ++ lead.now ++ label_json (package_view deb.now)) }
 {
-    push_both(out, title, number.to_string(alloc)?.as_str().as_bytes())?;
-    Ok(())
+    push_label(out, lead, deb.name.as_slice(), deb.version.text())
 }
 
-// The letter of a digit below 16.
-fn hex_digit(digit: u8) -> u8
-    requires { digit < 16 }
-    ensures { result ≡ digit_char digit }
+/// Adds the member that is a package's architecture.
+#[tactic(auto, unfolding(crate::specs::Json::architecture_json))]
+fn push_architecture(out: &mut Vec<u8>, deb: &Package) -> Result<(), AllocError>
+    ensures { OnOk result (out.new.items ≡ out.old.items ++ codes "," ++ architecture_json (package_view deb.now)) }
 {
-    if digit < 10 {
-        b'0' + digit
-    } else {
-        b'a' + digit - 10
+    push_any_text(out, ",", "architecture", deb.architecture.as_slice())
+}
+
+impl<'i> Print<u32> for Json<'i> {
+    ghost fits = { λ json place. place < length json.index.now.packages };
+
+    ghost text = { λ json place. place_json json.index.now place };
+
+    #[tactic(auto, unfolding(crate::specs::Json::place_json))]
+    fn print(&self, out: &mut Vec<u8>, place: &u32) -> Result<(), AllocError> {
+        push_package(out, "{", self.index.package(*place))?;
+        out.extend_from_slice(b"}")?;
+        Ok(())
     }
 }
 
-#[tactic(auto, unfolding(crate::specs::Json::escaped_byte))]
-fn push_escaped_byte(out: &mut Vec<u8>, byte: u8) -> Result<(), AllocError>
-    ensures { OnOk result (out.new.items ≡ out.old.items ++ escaped_byte byte) }
+/// Adds the member that is the text of a relation.
+#[tactic(auto, unfolding(crate::specs::Json::member, crate::specs::Json::quoted))]
+fn push_relation(out: &mut Vec<u8>, relation: &[Atom]) -> Result<(), AllocError>
+    ensures { OnOk result (out.new.items ≡ out.old.items ++ codes "," ++ member (codes "relation") (quoted (group_text (map atom_view relation.now)))) }
 {
-    if byte == b'"' || byte == b'\\' {
-        out.extend_from_slice(&[b'\\', byte])?;
-    } else if byte < 32 {
-        out.extend_from_slice(b"\\u00")?;
-        out.extend_from_slice(&[hex_digit(byte / 16), hex_digit(byte % 16)])?;
-    } else {
-        out.push(byte)?;
-    }
-    Ok(())
-}
-
-// Adds a text as it stands in a string.
-#[tactic(auto, unfolding(crate::specs::Json::escaped))]
-pub fn push_escaped(out: &mut Vec<u8>, text: &[u8]) -> Result<(), AllocError>
-    ensures { OnOk result (out.new.items ≡ out.old.items ++ escaped text.now) }
-{
-    for byte in text {
-        push_escaped_byte(out, *byte)?;
-    }
-    Ok(())
-}
-
-// Adds a package's name and version.
-#[tactic(auto, unfolding(crate::specs::Json::label_json))]
-fn push_label(out: &mut Vec<u8>, deb: &Package) -> Result<(), AllocError>
-    ensures { OnOk result (out.new.items ≡ out.old.items ++ label_json (package_view deb.now)) }
-{
-    push_both(out, "{\"package\":\"", deb.name.as_slice())?;
-    push_both(out, "\",\"version\":\"", deb.version.text())?;
-    out.extend_from_slice(b"\"}")?;
-    Ok(())
-}
-
-// Adds the package at a place.
-fn push_place(out: &mut Vec<u8>, index: &Index, place: u32) -> Result<(), AllocError>
-    requires { place < length index.now.packages }
-    ensures { OnOk result (out.new.items ≡ out.old.items ++ place_json index.now place) }
-{
-    push_label(out, index.package(place))?;
-    Ok(())
-}
-
-// Adds the places that were found.
-pub fn push_places(out: &mut Vec<u8>, index: &Index, places: &[u32]) -> Result<(), AllocError>
-    requires { All (λ place. place < length index.now.packages) places.now }
-    ensures { OnOk result (out.new.items ≡ out.old.items ++ listed (place_json index.now) places.now) }
-{
-    let mut separator: &[u8] = b"";
-    for place in places {
-        out.extend_from_slice(separator)?;
-        push_place(out, index, *place)?;
-        separator = b",";
-    }
-    Ok(())
-}
-
-// Adds the first members of a package's object.
-#[tactic(auto, unfolding(crate::specs::Json::heading_json))]
-pub fn push_heading(out: &mut Vec<u8>, deb: &Package, status: &[u8]) -> Result<(), AllocError>
-    ensures { OnOk result (out.new.items ≡ out.old.items ++ heading_json (package_view deb.now) status.now) }
-{
-    push_both(out, "{\"package\":\"", deb.name.as_slice())?;
-    push_both(out, "\",\"version\":\"", deb.version.text())?;
-    out.extend_from_slice(b"\",\"architecture\":\"")?;
-    push_escaped(out, deb.architecture.as_slice())?;
-    push_both(out, "\",\"status\":\"", status)?;
+    push_title(out, ",", "relation")?;
+    out.extend_from_slice(b"\"")?;
+    push_group(out, relation)?;
     out.extend_from_slice(b"\"")?;
     Ok(())
 }
 
-// Adds the reason that a name is.
-#[tactic(auto, unfolding(crate::specs::Json::name_json))]
-fn push_name(out: &mut Vec<u8>, kind: &str, name: &[u8]) -> Result<(), AllocError>
-    ensures { OnOk result (out.new.items ≡ out.old.items ++ name_json kind.now name.now) }
-{
-    push_both(out, "{\"kind\":\"", kind.as_bytes())?;
-    push_both(out, "\",\"name\":\"", name)?;
-    out.extend_from_slice(b"\"}")?;
-    Ok(())
-}
-
-#[tactic(auto, unfolding(crate::specs::Json::need_kind))]
-fn need_kind(missing: bool) -> &'static str
-    ensures { result.now ≡ need_kind missing }
-{
-    if missing { "missing" } else { "depends" }
-}
-
-// Adds the reason that a relation of a package is, but for the relation's text and the end.
-#[tactic(auto, unfolding(crate::specs::Json::relation_start_json))]
-fn push_relation_start(
+/// Adds the reason that a relation of a package is.
+fn push_of_package(
     out: &mut Vec<u8>,
-    kind: &str,
+    kind: &[u8],
     deb: &Package,
-    field: &str,
+    field: &[u8],
+    relation: &[Atom],
 ) -> Result<(), AllocError>
-    ensures { OnOk result (out.new.items ≡ out.old.items ++ relation_start_json kind.now (package_view deb.now) field.now) }
+    ensures { OnOk result (out.new.items ≡ out.old.items ++ reason_json (OfRelation kind.now (package_view deb.now) field.now (map atom_view relation.now))) }
 {
-    push_both(out, "{\"kind\":\"", kind.as_bytes())?;
-    push_both(out, "\",\"package\":\"", deb.name.as_slice())?;
-    push_both(out, "\",\"version\":\"", deb.version.text())?;
-    push_both(out, "\",\"field\":\"", field.as_bytes())?;
-    out.extend_from_slice(b"\",\"relation\":\"")?;
+    push_text(out, "{", "kind", kind)?;
+    push_package(out, ",", deb)?;
+    push_text(out, ",", "field", field)?;
+    push_relation(out, relation)?;
+    out.extend_from_slice(b"}")?;
     Ok(())
 }
 
-// Adds a group that is not met.
-#[tactic(auto, unfolding(crate::specs::Json::need_json))]
-fn push_need(
-    alloc: Global,
-    out: &mut Vec<u8>,
-    index: &Index,
-    place: u32,
-    number: u32,
-) -> Result<(), AllocError>
-    requires { IsOfIndex index.now (Constraint.Need place number) }
-    ensures { OnOk result (out.new.items ≡ out.old.items ++ need_json index.now place number) }
-{
-    let group = index.need(place, number);
-    let deb = index.package(place);
-    let missing = is_missing(alloc, index, place, number)?;
-    push_relation_start(out, need_kind(missing), deb, group_field(deb, number))?;
-    push_group(out, group)?;
-    out.extend_from_slice(b"\"}")?;
-    Ok(())
-}
-
-// Adds an entry that is met.
-#[tactic(auto, unfolding(crate::specs::Json::apart_json))]
-fn push_apart(out: &mut Vec<u8>, index: &Index, place: u32, number: u32) -> Result<(), AllocError>
-    requires { IsOfIndex index.now (Constraint.Apart place number) }
-    ensures { OnOk result (out.new.items ≡ out.old.items ++ apart_json index.now place number) }
-{
-    let deb = index.package(place);
-    push_relation_start(out, "conflict", deb, entry_field(deb, number))?;
-    index.apart(place, number).append_to(out)?;
-    out.extend_from_slice(b"\"}")?;
-    Ok(())
-}
-
-// Adds a constraint.
+/// Adds a reason.
 #[tactic(auto, unfolding(crate::specs::Json::reason_json))]
-fn push_reason(
-    alloc: Global,
-    out: &mut Vec<u8>,
-    index: &Index,
-    constraint: Constraint,
-) -> Result<(), AllocError>
-    requires { IsOfIndex index.now constraint }
-    ensures { OnOk result (out.new.items ≡ out.old.items ++ reason_json index.now constraint) }
+fn push_reason(out: &mut Vec<u8>, reason: &Reason<'_>) -> Result<(), AllocError>
+    ensures { OnOk result (out.new.items ≡ out.old.items ++ reason_json (reason_view reason.now)) }
 {
-    match constraint {
-        Constraint::Essential(name) => push_name(out, "essential", index.name_text(name)),
-        Constraint::Need(place, number) => push_need(alloc, out, index, place, number),
-        Constraint::Apart(place, number) => push_apart(out, index, place, number),
-        Constraint::Only(name) => push_name(out, "versions", index.name_text(name)),
+    match reason {
+        Reason::Name { kind, name } => {
+            push_text(out, "{", "kind", kind)?;
+            push_text(out, ",", "name", name)?;
+            out.extend_from_slice(b"}")?;
+        }
+        Reason::Relation {
+            kind,
+            deb,
+            field,
+            relation,
+        } => push_of_package(out, kind, deb, field, relation)?,
+    }
+    Ok(())
+}
+
+impl<'i> Print<Constraint> for Json<'i> {
+    ghost fits = { λ json constraint. IsOfIndex json.index.now constraint };
+
+    ghost text = { λ json constraint. constraint_json json.index.now constraint };
+
+    fn print(&self, out: &mut Vec<u8>, constraint: &Constraint) -> Result<(), AllocError> {
+        let reason = reason_of(self.alloc, self.index, *constraint)?;
+        push_reason(out, &reason)
     }
 }
 
-// Adds the constraints that no set meets.
-pub fn push_reasons(
-    alloc: Global,
-    out: &mut Vec<u8>,
-    index: &Index,
-    constraints: &[Constraint],
-) -> Result<(), AllocError>
-    requires { All (IsOfIndex index.now) constraints.now }
-    ensures { OnOk result (out.new.items ≡ out.old.items ++ listed (reason_json index.now) constraints.now) }
-{
-    let mut separator: &[u8] = b"";
-    for constraint in constraints {
-        out.extend_from_slice(separator)?;
-        push_reason(alloc, out, index, *constraint)?;
-        separator = b",";
+impl<'i, 'm> Print<&'m Atom> for Json<'i> {
+    ghost fits = { λ _ _. Unit {0} };
+
+    ghost text = { λ _ atom. quoted (printed (atom_view atom.now)) };
+
+    #[tactic(auto, unfolding(crate::specs::Json::quoted))]
+    fn print(&self, out: &mut Vec<u8>, atom: &&'m Atom) -> Result<(), AllocError> {
+        out.extend_from_slice(b"\"")?;
+        atom.append_to(out)?;
+        out.extend_from_slice(b"\"")?;
+        Ok(())
     }
-    Ok(())
+}
+
+impl<'i, 'm> Print<NearMiss<'m>> for Json<'i> {
+    ghost fits = { λ _ _. Unit {0} };
+
+    ghost text = { λ _ miss. near_json (near_view miss) };
+
+    #[tactic(auto, unfolding(crate::specs::Json::near_json, crate::specs::Json::provides_json))]
+    fn print(&self, out: &mut Vec<u8>, miss: &NearMiss<'m>) -> Result<(), AllocError> {
+        push_package(out, "{", miss.deb)?;
+        if !miss.provides.is_empty() {
+            self.push_provides(out, miss.provides.as_slice())?;
+        }
+        out.extend_from_slice(b"}")?;
+        Ok(())
+    }
+}
+
+impl<'i> Print<Cause> for Json<'i> {
+    ghost fits = { λ json cause. IsCauseOf json.index.now (cause_view cause) };
+
+    ghost text = { λ json cause. cause_json json.index.now (cause_view cause) };
+
+    #[tactic(auto, unfolding(crate::specs::Json::cause_json, crate::specs::Json::array))]
+    fn print(&self, out: &mut Vec<u8>, cause: &Cause) -> Result<(), AllocError> {
+        let constraints = cause.constraints.as_slice();
+        let places = cause.places.as_slice();
+        let misses = near_misses(self.alloc, self.index, constraints)?;
+        push_number(self.alloc, out, "\n{", "packages", places.len())?;
+        push_array(out, ",", "reasons", self, constraints, "]")?;
+        self.push_present(out, misses.as_slice())?;
+        push_array(out, ",", "broken", self, places, "]")?;
+        out.extend_from_slice(b"}")?;
+        Ok(())
+    }
+}
+
+impl<'i> Json<'i> {
+    /// Adds the entries that a package provides.
+    #[tactic(auto, using(crate::proofs::JoinLemmas::joined_map), unfolding(crate::specs::Json::array))]
+    fn push_provides(&self, out: &mut Vec<u8>, provides: &[&Atom]) -> Result<(), AllocError>
+        ensures { OnOk result (out.new.items ≡ out.old.items ++ codes "," ++ member (codes "provides")
+            (array (λ entry. quoted (printed entry)) (map (λ entry. atom_view entry.now) provides.now))) }
+    {
+        push_array(out, ",", "provides", self, provides, "]")
+    }
+
+    /// Adds the member with the near misses.
+    #[tactic(auto, using(crate::proofs::JoinLemmas::joined_map), unfolding(crate::specs::Json::array))]
+    fn push_present(&self, out: &mut Vec<u8>, misses: &[NearMiss<'_>]) -> Result<(), AllocError>
+        ensures { OnOk result (out.new.items ≡ out.old.items ++ codes "," ++ member (codes "present") (array near_json (map near_view misses.now))) }
+    {
+        push_array(out, ",", "present", self, misses, "]")
+    }
+
+    /// Adds what explains a verdict.
+    #[tactic(auto, unfolding(crate::specs::Json::explanation_json, crate::specs::Json::array))]
+    fn push_explanation(&self, out: &mut Vec<u8>, verdict: &Verdict) -> Result<(), AllocError>
+        requires { SpeaksOf self.now.index.now (verdict_view verdict.now) }
+        ensures { OnOk result (out.new.items ≡ out.old.items ++ codes "," ++ explanation_json self.now.index.now (verdict_view verdict.now)) }
+    {
+        match verdict {
+            Verdict::Ok(places) => {
+                push_array(out, ",", "installation-set", self, places.as_slice(), "]")
+            }
+            Verdict::Broken(constraints) => {
+                push_array(out, ",", "reasons", self, constraints.as_slice(), "]")
+            }
+        }
+    }
+}
+
+impl<'i, 'v> Print<Shown<'v>> for Json<'i> {
+    ghost fits = { λ json shown. IsAskedOf json.index.now (shown_view shown) };
+
+    ghost text = { λ json shown. block_json json.index.now json.explain (shown_view shown) };
+
+    #[tactic(auto, unfolding(crate::specs::Json::block_json))]
+    fn print(&self, out: &mut Vec<u8>, shown: &Shown<'v>) -> Result<(), AllocError> {
+        let deb = self.index.package(shown.place);
+        push_package(out, "\n{", deb)?;
+        push_architecture(out, deb)?;
+        push_text(out, ",", "status", status_text(shown.verdict))?;
+        if self.explain {
+            self.push_explanation(out, shown.verdict)?;
+        }
+        out.extend_from_slice(b"}")?;
+        Ok(())
+    }
+}
+
+impl<'i> Print<Number> for Json<'i> {
+    ghost fits = { λ _ _. Unit {0} };
+
+    ghost text = { λ _ number. codes "," ++ number_json (number_view number) };
+
+    fn print(&self, out: &mut Vec<u8>, number: &Number) -> Result<(), AllocError> {
+        push_number(self.alloc, out, ",", number.title, number.number)
+    }
+}
+
+impl<'i, 'b> Print<&'b BrokenPackage> for Json<'i> {
+    ghost fits = { λ _ _. Unit {0} };
+
+    ghost text = { λ _ deb. broken_json (broken_view deb.now) };
+
+    #[tactic(auto, unfolding(crate::specs::Json::broken_json))]
+    fn print(&self, out: &mut Vec<u8>, deb: &&'b BrokenPackage) -> Result<(), AllocError> {
+        push_label(out, "{", deb.name.as_slice(), deb.version.as_slice())?;
+        out.extend_from_slice(b"}")?;
+        Ok(())
+    }
+}
+
+impl<'i, 'b> Print<Amends<'b>> for Json<'i> {
+    ghost fits = { λ _ _. Unit {0} };
+
+    ghost text = { λ _ amends. codes "," ++ list_json (amends_view amends) };
+
+    #[tactic(auto, using(crate::proofs::JoinLemmas::joined_map), unfolding(crate::specs::Json::array))]
+    fn print(&self, out: &mut Vec<u8>, amends: &Amends<'b>) -> Result<(), AllocError> {
+        push_array(
+            out,
+            ",",
+            amends.title,
+            self,
+            amends.packages.as_slice(),
+            "]",
+        )
+    }
 }

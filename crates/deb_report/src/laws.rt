@@ -1,15 +1,18 @@
 //! Laws of the definitions: functions without work, whose contracts say what holds.
 
-ghost use Rattle.std.specs.Prelude.{◌≡◌, ◌≢◌, ℕ, Bool, List, [], Ok, true};
+ghost use Rattle.std.specs.Prelude.{◌≡◌, ◌≢◌, ◌<◌, ◌∷◌, ℕ, Bool, List, [], All, Ok, codes, length, map, true};
 ghost use Rattle.std.specs.List.{list_all};
 ghost use Rattle.deb_index.specs.declared.constraint.Constraint.{Constraint};
 ghost use Rattle.deb_index.specs.Packages.{IndexView, names};
 ghost use Rattle.deb_index.specs.Reading.{index_of_both};
-ghost use Rattle.deb_health.specs.Verdicts.{IsVerdict, Blocked};
+ghost use Rattle.deb_health.specs.Verdicts.{IsVerdict, Blocked, VerdictView};
+ghost use Rattle.deb_report.specs.Asked.{foreground_packages};
 ghost use Rattle.deb_report.specs.Causes.{cause_in};
 ghost use Rattle.deb_report.specs.Json.{escaped};
 ghost use Rattle.deb_report.specs.Plain.{has_plain_texts, is_plain};
+ghost use Rattle.deb_report.specs.Report.{broken_ones, is_broken};
 ghost use Rattle.deb_report.specs.Settings.{is_architecture};
+ghost use Rattle.deb_report.specs.Since.{amends_of, broken_of, news_of};
 
 /// What a report in JSON takes of an index stands in its strings as it is: names, versions and relations have no byte that needs an escape,
 /// whatever texts were read. Architectures are escaped, and one that a command line may name is left as it is.
@@ -23,4 +26,13 @@ pub fn plain_texts()
 /// The cause of a broken package is never empty, since the set of all packages meets each need that some package meets.
 pub fn causes_have_reasons()
     ensures { (index : IndexView) (place : ℕ) (core : List Constraint) → IsVerdict index place (Blocked core) → cause_in index core ≢ [] }
+{}
+
+/// Since an index itself, where the same places are asked, all of the foreground, and are found broken, nothing is newly broken, mended or gone.
+pub fn nothing_since_itself()
+    ensures news { (index : IndexView) (asked : List ℕ) (earlier verdicts : List VerdictView) → map is_broken earlier ≡ map is_broken verdicts
+        → news_of index asked verdicts (broken_of index asked earlier) ≡ [] }
+    ensures amends { (index : IndexView) (asked : List ℕ) (earlier verdicts : List VerdictView) → map is_broken earlier ≡ map is_broken verdicts
+        → All (λ place. place < length (foreground_packages index)) asked
+        → amends_of index asked (broken_ones asked verdicts) (broken_of index asked earlier) ≡ (codes "mended", []) ∷ (codes "gone", []) ∷ [] }
 {}

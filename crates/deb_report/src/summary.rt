@@ -1,5 +1,15 @@
 //! What a run counts.
 
+ghost use Rattle.std.specs.Prelude.{◌≡◌, ◌-◌, ◌^◌, ◌<◌, ◌++◌, ◌∷◌, [], IfOk, OnOk, count_by, length, map};
+ghost use Rattle.deb_health.specs.Verdicts.{verdict_view};
+ghost use Rattle.deb_report.specs.Report.{is_broken, numbers_of, summary_of, summary_with};
+ghost use Rattle.deb_report.specs.Told.{number_view};
+
+use crate::shown::is_broken;
+use deb_health::Verdict;
+use deb_index::Index;
+use std::alloc::{AllocError, Global};
+
 /// The numbers of a report's last lines.
 #[derive(Clone, Copy, Debug, PartialEq, Eq)]
 pub struct Summary {
@@ -15,4 +25,95 @@ pub struct Summary {
     pub asked: u32,
     /// Those of the asked that cannot be installed, shown or not.
     pub broken: u32,
+    /// Those of the broken of whose name no package was broken in an earlier index; none where no such index is read.
+    pub newly_broken: Option<u32>,
+}
+
+/// How many packages are the background's.
+fn background_count(index: &Index) -> u32
+    ensures { result ≡ length index.now.packages - index.now.foreground }
+{
+    index.len() - index.foreground()
+}
+
+/// How many verdicts are broken.
+fn broken_count(verdicts: &[Verdict]) -> usize
+    ensures { result ≡ count_by is_broken (map verdict_view verdicts.now) }
+{
+    verdicts.iter().filter(|verdict| is_broken(verdict)).count()
+}
+
+/// The numbers of a report on the asked places, with how many are newly broken, where that is asked.
+pub(crate) fn summary_with(
+    index: &Index,
+    asked: &[u32],
+    verdicts: &[Verdict],
+    newly_broken: Option<u32>,
+) -> Summary
+    requires few { length asked.now < 2 ^ 32 }
+    requires same { length asked.now ≡ length verdicts.now }
+    ensures { result ≡ summary_with index.now asked.now (map verdict_view verdicts.now) newly_broken }
+{
+    Summary {
+        stanzas: index.stanzas(),
+        skipped: index.skipped(),
+        duplicates: index.duplicates(),
+        background: background_count(index),
+        asked: asked.len() as u32,
+        broken: broken_count(verdicts) as u32,
+        newly_broken,
+    }
+}
+
+/// The numbers of a report on the asked places.
+pub fn summary_of(index: &Index, asked: &[u32], verdicts: &[Verdict]) -> Summary
+    requires few { length asked.now < 2 ^ 32 }
+    requires same { length asked.now ≡ length verdicts.now }
+    ensures { result ≡ summary_of index.now asked.now (map verdict_view verdicts.now) }
+{
+    summary_with(index, asked, verdicts, None)
+}
+
+/// A number of a report, with its title.
+#[derive(Drop)]
+pub(crate) struct Number {
+    pub(crate) title: &'static str,
+    pub(crate) number: usize,
+}
+
+/// Adds a number.
+fn push(numbers: &mut Vec<Number>, title: &'static str, number: usize) -> Result<(), AllocError>
+    ensures { OnOk result (map number_view numbers.new.items ≡ map number_view numbers.old.items ++ (title.now, number) ∷ []) }
+{
+    numbers.push(Number { title, number })?;
+    Ok(())
+}
+
+/// The numbers of a report, of any count of asked places, each with its title: with a background its packages, and how many are newly broken,
+/// where that is asked.
+#[tactic(auto, unfolding(crate::specs::Report::numbers_of))]
+pub(crate) fn numbers_of(
+    alloc: Global,
+    index: &Index,
+    asked: &[u32],
+    verdicts: &[Verdict],
+    background: bool,
+    newly_broken: Option<usize>,
+) -> Result<Vec<Number>, AllocError>
+    ensures { IfOk result (λ numbers. map number_view numbers.items ≡
+        numbers_of background (summary_with index.now asked.now (map verdict_view verdicts.now) newly_broken)) }
+{
+    let mut numbers = Vec::new(alloc);
+    push(&mut numbers, "stanzas", index.stanzas() as usize)?;
+    push(&mut numbers, "skipped", index.skipped() as usize)?;
+    push(&mut numbers, "duplicates", index.duplicates() as usize)?;
+    if background {
+        push(&mut numbers, "background", background_count(index) as usize)?;
+    }
+    push(&mut numbers, "asked", asked.len())?;
+    push(&mut numbers, "broken", broken_count(verdicts))?;
+    if let Some(number) = newly_broken {
+        push(&mut numbers, "newly-broken", number)?;
+    }
+    Ok(numbers)
 }

@@ -13,6 +13,7 @@ pub struct Asked<'a> {
     pub explain: bool,
     pub show: Show,
     pub only: Option<&'a [&'a [u8]]>,
+    pub background: bool,
     pub causes: bool,
     pub format: Format,
 }
@@ -22,27 +23,32 @@ pub const USUAL: Asked<'static> = Asked {
     explain: true,
     show: Show::All,
     only: None,
+    background: false,
     causes: false,
     format: Format::Text,
 };
 
-fn config_of(alloc: Global, asked: &Asked<'_>) -> Result<Config, AllocError> {
+pub fn config_of(alloc: Global, asked: &Asked<'_>) -> Result<Config, AllocError> {
     let mut config = Config::usual(alloc)?;
     config.explain = asked.explain;
     config.show = asked.show;
     config.causes = asked.causes;
     config.format = asked.format;
+    if asked.background {
+        config.bg = Some(String::from_str(alloc, "background")?);
+    }
     if let Some(names) = asked.only {
         config.only = Some(named(alloc, names)?);
     }
     Ok(config)
 }
 
-fn index_of(alloc: Global, text: &str) -> Result<Index, Fail> {
-    if text.len() > 2_000 {
+pub fn index_of(alloc: Global, text: &str, background: &str) -> Result<Index, Fail> {
+    if text.len() > 2_000 || background.len() > 2_000 {
         return Err("a longer text".into());
     }
-    Ok(Index::read(alloc, text.as_bytes(), "amd64", true)?)
+    let bytes = background.as_bytes();
+    Ok(Index::read_both(alloc, text.as_bytes(), bytes, "amd64", true)?)
 }
 
 /// Makes the index of a text, lends it to what asks of it, and gives the answer.
@@ -53,7 +59,16 @@ where
     F: FnOnce(&Index) -> Result<(), Fail> + Drop,
     requires { F.IsAlwaysCallable ask }
 {
-    let index = index_of(alloc, text)?;
+    on_both(alloc, text, "", ask)
+}
+
+/// The same of the index of a text with a background.
+pub fn on_both<F>(alloc: Global, text: &str, background: &str, ask: F) -> Result<(), Fail>
+where
+    F: FnOnce(&Index) -> Result<(), Fail> + Drop,
+    requires { F.IsAlwaysCallable ask }
+{
+    let index = index_of(alloc, text, background)?;
     ask(&index)
 }
 
@@ -63,7 +78,7 @@ fn report_for(alloc: Global, index: &Index, asked: &Asked<'_>) -> Result<Vec<u8>
 }
 
 /// Whether a text is its parts, one behind the other.
-fn is_made_of(text: &[u8], parts: &[&str]) -> bool {
+pub fn is_made_of(text: &[u8], parts: &[&str]) -> bool {
     let mut rest = text;
     for part in parts {
         match rest.strip_prefix(part.as_bytes()) {

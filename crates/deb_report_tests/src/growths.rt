@@ -1,8 +1,9 @@
-//! One test for each call that can want memory; bench/growths runs them with each growth refused in turn.
+//! One test for each call that can want memory; trials/growths runs them with each growth refused in turn.
 
 use crate::asking::{
     Answer, Asked, USUAL, expect_places, expect_report, expect_report_on, on_index,
 };
+use crate::since::{BLOCKS, EARLIER, HEAD, LATER, NUMBERS, ONE_CAUSE, expect_since};
 use deb_index::Index;
 use deb_report::{Config, Format, Show};
 use std::alloc::Global;
@@ -18,6 +19,7 @@ fn is_usual(config: &Config) -> bool {
         && config.essential
         && config.only.is_none()
         && config.bg.is_none()
+        && config.since.is_none()
         && !config.causes
         && config.format == Format::Text
         && !config.quiet
@@ -191,4 +193,34 @@ fn of_json_report(rt: HostRuntime) -> Result<(), Fail> {
         ..USUAL
     };
     expect_report(&rt, CHAIN, &asked, &[CHAIN_DOCUMENT])
+}
+
+/// The broken packages of an earlier index, and what became of them, with the causes of what is newly broken.
+#[test]
+fn of_report_since(rt: HostRuntime) -> Result<(), Fail> {
+    let asked = Asked {
+        causes: true,
+        ..USUAL
+    };
+    let wanted = [HEAD, BLOCKS, NUMBERS, ONE_CAUSE];
+    expect_since(&rt, EARLIER, LATER, &asked, &wanted)
+}
+
+const SINCE_DOCUMENT: &str = r#"{"architecture":"amd64","report":[
+{"package":"c","version":"1","architecture":"amd64","status":"broken","reasons":[{"kind":"missing","package":"c","version":"1","field":"Depends","relation":"lib"}]},
+{"package":"d","version":"1","architecture":"all","status":"broken","reasons":[{"kind":"missing","package":"c","version":"1","field":"Depends","relation":"lib"},{"kind":"depends","package":"d","version":"1","field":"Depends","relation":"c"}]}
+],"stanzas":3,"skipped":0,"duplicates":0,"asked":3,"broken":2,"newly-broken":2,"mended":[{"package":"a","version":"1"}],"gone":[{"package":"b","version":"2"}],"causes":[
+{"packages":2,"reasons":[{"kind":"missing","package":"c","version":"1","field":"Depends","relation":"lib"}],"present":[],"broken":[{"package":"c","version":"1"},{"package":"d","version":"1"}]}
+]}
+"#;
+
+/// The same in JSON.
+#[test]
+fn of_json_report_since(rt: HostRuntime) -> Result<(), Fail> {
+    let asked = Asked {
+        causes: true,
+        format: Format::Json,
+        ..USUAL
+    };
+    expect_since(&rt, EARLIER, LATER, &asked, &[SINCE_DOCUMENT])
 }

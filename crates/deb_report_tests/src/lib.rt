@@ -1,8 +1,8 @@
 //! Tests of the public calls of `deb_report`.
 //!
 //! `reporting` makes the report on what is asked of an index, `asking` compares what is asked of the index of a text with what is expected.
-//! `parts` has the asked places and the report, each by itself, `causes` the block of causes, `growths` a test for each call that can want
-//! memory.
+//! `parts` has the asked places and the report, each by itself, `causes` the block of causes, `since` the report since an earlier index,
+//! `growths` a test for each call that can want memory.
 #![tactic(auto)]
 
 #[cfg(test)]
@@ -15,3 +15,5 @@ mod growths;
 mod parts;
 #[cfg(test)]
 mod reporting;
+#[cfg(test)]
+mod since;

@@ -1,5 +1,5 @@
 -- Sets of places cut down to those that matter.
-use Rattle.std.proofs.Common.{◌≡◌, ℕ, ◌<◌, true, false, refl, sym, ◌∙◌, ap, inl, inr}
+use Rattle.std.proofs.Common.{◌≡◌, ◌⊎◌, ℕ, ◌<◌, true, false, refl, sym, ◌∙◌, ap, inl, inr}
 use Rattle.std.specs.Prelude.{length, slice_index_or}
 use Rattle.std.specs.List.{list_any}
 use Rattle.std.proofs.lemmas.Bool.{cases_Bool, false≢true, true≢false, and_parts, and_from, both_ways}
@@ -7,14 +7,20 @@ use Rattle.std.proofs.lemmas.Option.{slice_get-get_or}
 use Rattle.deb_index.specs.declared.constraint.Constraint.{Constraint}
 use Rattle.deb_index.specs.declared.constraint.Constraint.TheVariants.{Essential, Need, Apart, Only}
 use Rattle.deb_index.specs.Packages.{IndexView, places_of, name_at}
-use Rattle.deb_index.specs.Constraints.{Holds, constraints_of}
-use Rattle.sat_solve.specs.Sets.{NumberSet, IsFirst}
-use Rattle.core_extract.specs.Reduction.{all_of, IsWithin}
-use Rattle.sat_solve.proofs.SetLemmas.{first_within}
-use Rattle.deb_verdict.specs.Gathering.{IsEnough}
+use Rattle.deb_index.specs.Constraints.{Holds, constraints_of, answers}
+use Rattle.number_sets.specs.Sets.{NumberSet, IsFirst, all_of, IsWithin}
+use Rattle.number_sets.proofs.SetLemmas.{first_within}
 use Rattle.deb_health.specs.Health.{IsHealthy, IsInstallation, MeetsAt, Admits, AdmitsNone}
+use Rattle.deb_verdict.specs.Gathering.{HasNames}
 use Rattle.deb_verdict.specs.Closure.{cut, IsClosed, is_kept, is_kept_there, kept}
 use Rattle.deb_encode.proofs.IndexFacts.{All-at, IsRight, all_right, some_named}
+
+-- a part of the places in which a forced place answers each need of a member, or else all that may answer it are members too
+pub record IsEnough (index : IndexView) (forced within : NumberSet) : Type 0 where
+  pub has_forced : IsWithin forced within
+  pub essential : HasNames index forced within
+  pub answered : (member j : ℕ) → within member ≡ true
+      → ((q : ℕ) × (forced q ≡ true) × (answers index member j q ≡ true)) ⊎ IsWithin (answers index member j) within
 
 -- a constraint that a set meets, it meets when cut down to such a part
 pub cut_holds : (index : IndexView) (forced within : NumberSet) → IsEnough index forced within → (set : NumberSet) → IsWithin forced set

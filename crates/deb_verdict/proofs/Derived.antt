@@ -10,17 +10,17 @@ use Rattle.deb_index.specs.Meets.{group_satisfiers}
 use Rattle.deb_index.specs.Constraints.{constraints_of, has_name, hits}
 use Rattle.deb_index.proofs.FirstLemmas.{name-itself}
 use Rattle.deb_index.proofs.PositionLemmas.{essential_position}
-use Rattle.sat_solve.specs.Sets.{NumberSet, members_of}
-use Rattle.sat_solve.proofs.MembersLemmas.{members_of_push}
+use Rattle.number_sets.specs.Sets.{NumberSet, members_of, IsWithin}
+use Rattle.number_sets.proofs.MembersLemmas.{members_of_push}
 use Rattle.deb_verdict.specs.declared.derivation.Outcome.{Outcome}
 use Rattle.deb_verdict.specs.declared.derivation.Outcome.TheVariants.{Forced, Contradiction}
 use Rattle.deb_verdict.specs.Deriving.{row_of, Comes, Gives}
 use Rattle.deb_health.specs.Health.{AdmitsNone, MeetsAt}
-use Rattle.deb_encode.specs.PlaceSets.{with_place}
-use Rattle.core_extract.specs.Reduction.{IsWithin, IsRefutation}
+use Rattle.number_sets.specs.SparseSets.{with_number}
+use Rattle.core_extract.specs.Reduction.{IsRefutation}
 use Rattle.deb_encode.proofs.IndexFacts.{member_named}
 use Rattle.deb_verdict.proofs.Forcing.{member_answers}
-use Rattle.deb_encode.proofs.Placing.{with_place_only}
+use Rattle.number_sets.proofs.Placing.{with_number_only}
 use Rattle.deb_verdict.proofs.ReachLemmas.{essential_below}
 
 -- ---- one constraint
@@ -119,7 +119,7 @@ module _ (index : IndexView) (p : ℕ) (part : NumberSet) where
         let old = derived.follows set has_p (λ k constraint asked there. meets k constraint (push_old positions position k asked) there) in
         gives.gives set old (meets position gives.constraint (push_new positions position) gives.stands)
 
-    pub derived_more : (q : ℕ) (positions_then forced_then : List ℕ) → Gives index (members_of forced) position (Forced q) → positions_then ≡ positions ++ position ∷ [] → forced_then ≡ with_place forced q
+    pub derived_more : (q : ℕ) (positions_then forced_then : List ℕ) → Gives index (members_of forced) position (Forced q) → positions_then ≡ positions ++ position ∷ [] → forced_then ≡ with_number forced q
         → Derived positions_then forced_then
     derived_more q positions_then forced_then gives pushed inserted =
         subst (λ list. Derived list forced_then) (sym pushed)
@@ -129,7 +129,7 @@ module _ (index : IndexView) (p : ℕ) (part : NumberSet) where
           follows = λ set has_p meets.
               (let old = derived.follows set has_p (λ k constraint asked there. meets k constraint (push_old positions position k asked) there) in
               λ number is_in.
-              elim (with_place_only forced q number is_in) [
+              elim (with_number_only forced q number is_in) [
                 | inl before ↦ old number before
                 | inr here ↦ ap set (sym here) ∙ step_gives (Forced q) gives set has_p meets
               ]);

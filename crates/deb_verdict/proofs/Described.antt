@@ -1,30 +1,56 @@
 -- What all that is told of the places in play says together.
-use Rattle.std.proofs.Common.{◌≡◌, ℕ, ◌<◌, true, false, List, [], length, All, ◌↔◌, sym, subst, inl, inr, arith}
+use Rattle.std.proofs.Common.{◌≡◌, ℕ, ◌<◌, ◌⊎◌, true, false, Contains, List, [], length, All, ◌↔◌, sym, subst, inl, inr, arith}
 use Rattle.std.proofs.lemmas.Bool.{cases_Bool, or_cases, or_left, or_right}
 use Rattle.std.proofs.lemmas.List.Elements.{All-weaker, All-contains}
 use Rattle.deb_index.specs.declared.constraint.Constraint.TheVariants.{Essential, Need, Apart}
-use Rattle.deb_index.specs.Packages.{IndexView, essential_names, aparts_at}
-use Rattle.deb_index.specs.Constraints.{Holds}
-use Rattle.sat_solve.specs.Sets.{NumberSet, members_of}
+use Rattle.deb_index.specs.Packages.{IndexView, essential_names, needs_at, aparts_at}
+use Rattle.deb_index.specs.Constraints.{Holds, IsOfIndex, answers}
+use Rattle.number_sets.specs.Sets.{NumberSet, members_of, positions_of}
 use Rattle.sat_solve.specs.Clauses.{Clauses}
 use Rattle.deb_encode.specs.Adding.{Adds}
-use Rattle.deb_verdict.specs.declared.unmet.UnmetNeed.{UnmetNeed}
-use Rattle.deb_encode.specs.Play.{places_in_play, positions_of, placed, AddsPlaces}
+use Rattle.deb_verdict.specs.declared.gather.UnmetNeed.{UnmetNeed}
+use Rattle.deb_encode.specs.Play.{places_in_play, placed, AddsPlaces}
 use Rattle.deb_verdict.specs.Encoding.{IsDescription}
 use Rattle.deb_health.specs.Health.{IsHealthy}
 use Rattle.deb_encode.specs.declared.encoder.Encoder.{Encoder}
 use Rattle.deb_encode.specs.declared.play.Play.{Play}
 use Rattle.deb_encode.specs.Encoders.{IsSame, Tells}
 use Rattle.deb_encode.specs.Standings.{has_row, HasOneVersion, MeetsNarrow}
-use Rattle.deb_verdict.specs.Meeting.{MeetsNeeds, MeetsEntries, MeetsPlace}
-use Rattle.deb_verdict.specs.Unmet.{IsUnmet, AreUnmet}
-use Rattle.sat_solve.proofs.ListMembers.{members_of_at}
+use Rattle.deb_verdict.proofs.Healthy.{MeetsNeeds, MeetsEntries, MeetsPlace}
+use Rattle.deb_verdict.specs.declared.gather.Candidates.{Candidates}
+use Rattle.deb_verdict.specs.Gathering.{IsGathered}
+use Rattle.number_sets.proofs.ListMembers.{members_of_at}
 use Rattle.deb_encode.proofs.AddLemmas.{adds_both, adds_as}
 use Rattle.deb_encode.proofs.Told.{placed_in_play}
-use Rattle.deb_verdict.proofs.UnmetNeeds.{unmet_moved}
 use Rattle.deb_verdict.proofs.Healthy.{healthy_parts, healthy_from_parts}
 use Rattle.deb_encode.proofs.Each.{meaning_of_essential, meaning_of_narrow, added_vars, added_groups, added_in_group, added_says}
 use Rattle.deb_encode.proofs.EncoderLemmas.{same_still, adds_since}
+
+-- the list has needs of the index, and of the places in play all that no forced place answers
+abbrev pub AreUnmet : IndexView → List ℕ → List ℕ → List UnmetNeed → Type 0
+AreUnmet index forced candidates unmet =
+    All (λ need. IsOfIndex index (Need need.place need.number)) unmet
+    × ((place j : ℕ) → j < length (needs_at index place) → places_in_play (members_of forced) candidates place ≡ true
+    → ((q : ℕ) × (members_of forced q ≡ true) × (answers index place j q ≡ true)) ⊎ Contains unmet (record { place = place; number = j }))
+
+pub unmet_of : (index : IndexView) (forced : List ℕ) (candidates : Candidates) → IsGathered index (members_of forced) candidates → AreUnmet index forced candidates.places candidates.unmet.items
+unmet_of index forced candidates gathered = (
+  gathered.needs,
+  λ place j less is_in.
+      elim (gathered.told place j less is_in) [
+        | inl one ↦ inl one
+        | inr all ↦ inr all.1
+      ],
+)
+
+-- in another scene of the same places
+pub unmet_moved : (a b : IndexView) (forced forced_too members members_too : List ℕ) (listed : List UnmetNeed) → b ≡ a → forced_too ≡ forced → members_too ≡ members
+    → AreUnmet a forced members listed → AreUnmet b forced_too members_too listed
+unmet_moved a b forced forced_too members members_too listed same_index same_forced same_members are =
+    let Of : IndexView → Type 0 = λ index. AreUnmet index forced members listed in
+    let Ins : List ℕ → Type 0 = λ list. AreUnmet b list members listed in
+    let Members : List ℕ → Type 0 = λ list. AreUnmet b forced_too list listed in
+    subst Members (sym same_members) (subst Ins (sym same_forced) (subst Of (sym same_index) are))
 
 module _ (index : IndexView) (forced candidates : List ℕ) where
   -- the needs of a list
@@ -61,19 +87,19 @@ module _ (index : IndexView) (forced candidates : List ℕ) where
     λ entries. (λ q in_play j less short. entries q in_play j less, λ q in_play j less long. entries q in_play j less),
   )
 
-  module _ (unmet : List UnmetNeed) (are : AreUnmet index (members_of forced) (places_in_play (members_of forced) candidates) unmet) (vars : NumberSet) where
+  module _ (unmet : List UnmetNeed) (are : AreUnmet index forced candidates unmet) (vars : NumberSet) where
     -- where the unmet needs of the places in play are met, all their needs are
     needs_met : Needs unmet vars → (q : ℕ) → places_in_play (members_of forced) candidates q ≡ true → MeetsNeeds index (placed forced candidates vars) q
     needs_met all q in_play j less =
-        elim (are.all q j in_play less) [
+        elim (are.1 q j less in_play) [
           | inl found ↦ λ has. (found.0, or_left (members_of forced found.0) (positions_of candidates vars found.0) found.1, found.2)
           | inr listed ↦ All-contains (λ need. meaning_of_unmet need vars) unmet (record { place = q; number = j }) all listed
         ]
 
     unmet_met : ((p : ℕ) → p < length index.packages → MeetsPlace index (placed forced candidates vars) p) → Needs unmet vars
     unmet_met each =
-        All-weaker (IsUnmet index (members_of forced)) (λ need. meaning_of_unmet need vars)
-        (λ need is_unmet. (each need.place is_unmet.is_place).needs need.number is_unmet.is_need) unmet are.only
+        All-weaker (λ need. IsOfIndex index (Need need.place need.number)) (λ need. meaning_of_unmet need vars)
+        (λ need is_need. (each need.place is_need.0).needs need.number is_need.1) unmet are.0
         -- the essential names, the unmet needs, and what the places in play keep out: these constraints are all that matter
 
     healthy_in_play : All (λ q. q < length index.packages) forced → All (λ q. q < length index.packages) candidates
@@ -100,7 +126,7 @@ module _ (index : IndexView) (forced candidates : List ℕ) where
         )
 
   module _ (forced_within : All (λ q. q < length index.packages) forced) (candidates_within : All (λ q. q < length index.packages) candidates) (unmet : List UnmetNeed)
-      (are : AreUnmet index (members_of forced) (places_in_play (members_of forced) candidates) unmet) (group : ℕ) where
+      (are : AreUnmet index forced candidates unmet) (group : ℕ) where
     pub healthy_added : (before first second third fourth after : Clauses) → Adds group Essentials before first → Adds group (Needs unmet) first second → Adds group Narrow second third → Adds group Wide third fourth → Adds group Versions fourth after
         → AddsPlaces group forced candidates (IsHealthy index) before after
     healthy_added before first second third fourth after one two three four five =
@@ -136,7 +162,7 @@ HealthyOf play vars = IsHealthy play.index.now (placed play.forced.now play.cand
 module _ (index : IndexView) (forced candidates : List ℕ) (unmet : List UnmetNeed) (before : Clauses) (made first second third fourth last : Encoder)
     (same_index : made.play.index.now ≡ index) (same_forced : made.play.forced.now ≡ forced) (same_candidates : made.play.candidates.now ≡ candidates) (same_group : made.group ≡ 0) (is_before : made.formula.now ≡ before)
     (empty : before ≡ record { vars = length candidates; groups = 1; clauses = [] })
-    (are : AreUnmet index (members_of forced) (places_in_play (members_of forced) candidates) unmet)
+    (are : AreUnmet index forced candidates unmet)
     (one : Tells EssentialsOf made first) (two : Tells (NeedsOf unmet) first second) (three : Tells NarrowOf second third) (four : Tells WideOf third fourth) (five : Tells VersionsOf fourth last) where
   to_second : IsSame made second
   to_second = same_still made first second one.same two.same

@@ -9,13 +9,13 @@ use Rattle.deb_index.specs.declared.constraint.Constraint.{Constraint}
 use Rattle.deb_index.specs.declared.constraint.Constraint.TheVariants.{Only}
 use Rattle.deb_index.specs.Packages.{IndexView}
 use Rattle.deb_index.specs.Constraints.{constraints_of}
-use Rattle.sat_solve.specs.Sets.{NumberSet, members_of}
+use Rattle.number_sets.specs.Sets.{NumberSet, members_of}
 use Rattle.sat_solve.specs.Clauses.{Clause, MeetsKept, IsTrueSet}
 use Rattle.deb_encode.specs.Play.{placed, TellsPlaces}
 use Rattle.deb_verdict.specs.Closure.{cut, IsClosed}
-use Rattle.deb_verdict.specs.Encoding.{IsChosen}
+use Rattle.deb_verdict.specs.Formulas.{IsChosen}
 use Rattle.deb_health.specs.Health.{MeetsAt, AdmitsNone}
-use Rattle.deb_encode.proofs.PositionsOf.{position_in}
+use Rattle.number_sets.proofs.PositionsOf.{position_in}
 use Rattle.deb_verdict.proofs.Cutting.{none_of, closure_meets}
 use Rattle.deb_verdict.proofs.FirstSet.{pulled_beside, placed_beside}
 

@@ -1,24 +1,21 @@
 -- The first true set of the variables stands for the first healthy set with a package.
-use Rattle.std.proofs.Common.{◌≡◌, ℕ, ◌<◌, Bool, true, false, ◌&&◌, ◌||◌, cond, ltb, List, All, [], ◌∷◌, length, get_or, Some, slice_get, refl, sym, ◌∙◌, ap, subst, inl, inr, arith}
+use Rattle.std.proofs.Common.{◌≡◌, ◌↔◌, ℕ, ◌<◌, Bool, true, false, ◌&&◌, ◌||◌, cond, ltb, List, All, [], ◌∷◌, length, get_or, Some, slice_get, refl, sym, ◌∙◌, ap, subst, inl, inr, arith}
 use mathlib.Core.Path.{fun_ext}
 use Rattle.std.specs.List.Sorted.{IsStrictlyIncreasing}
 use Rattle.std.proofs.lemmas.Bool.{cases_Bool, and_parts, and_from, or_cases, or_left, or_right, both_ways, ltb-true, lt-ltb, false_from_ne_true}
 use Rattle.std.proofs.lemmas.Option.{slice_get_within, get_or_from_slice_get}
 use Rattle.deb_index.specs.Packages.{IndexView}
-use Rattle.sat_solve.specs.Sets.{NumberSet, members_of, IsFirst}
+use Rattle.number_sets.specs.Sets.{NumberSet, members_of, IsFirst, IsWithin, all_of, positions_of}
 use Rattle.sat_solve.specs.Clauses.{Clause, IsTrueSet}
-use Rattle.core_extract.specs.Reduction.{IsWithin, all_of}
 use Rattle.deb_health.specs.Health.{IsHealthy, IsInstallation}
 use Rattle.deb_verdict.specs.Closure.{cut, is_kept}
-use Rattle.deb_encode.specs.Play.{places_in_play, positions_of, placed}
-use Rattle.deb_verdict.specs.Gathering.{IsEnough, Follows}
-use Rattle.deb_verdict.specs.Encoding.{Describes}
+use Rattle.deb_encode.specs.Play.{places_in_play, placed}
+use Rattle.deb_encode.specs.Adding.{AllHold}
 use Rattle.deb_health.specs.Verdicts.{IsFirstInstallation}
-use Rattle.sat_solve.proofs.ListMembers.{members_of_at, at_members_of, same_test}
-use Rattle.deb_verdict.proofs.Cutting.{cut_installation}
-use Rattle.sat_solve.proofs.RisingLists.{rising_lt}
-use Rattle.deb_encode.proofs.PositionsOf.{position_in, group_at, same_position}
-use Rattle.deb_encode.proofs.AddSteps.{below_members}
+use Rattle.number_sets.proofs.ListMembers.{members_of_at, at_members_of, same_test, below_members}
+use Rattle.deb_verdict.proofs.Cutting.{IsEnough, cut_installation}
+use Rattle.number_sets.proofs.RisingLists.{rising_lt}
+use Rattle.number_sets.proofs.PositionsOf.{position_in, group_at, same_position}
 
 -- what the variables say: the known ones at places that are in anyway, a set of places at the others
 abbrev pub pulled_beside : List ℕ → List ℕ → NumberSet → NumberSet → NumberSet
@@ -74,26 +71,19 @@ module _ (forced candidates : List ℕ) (known set : NumberSet) where
 abbrev pub kept_one : List Bool
 kept_one = true ∷ []
 
-module _ (index : IndexView) (p : ℕ) (forced free candidates : List ℕ) (clauses : List Clause) (must : ℕ)
-    (follows : Follows index p (members_of forced))
-    (gathered : IsEnough index (members_of forced) (places_in_play (members_of forced) free))
-    (same : (q : ℕ) → members_of candidates q ≡ members_of free q)
+module _ (index : IndexView) (p : ℕ) (forced candidates : List ℕ) (clauses : List Clause) (must : ℕ)
+    (follows : (set : NumberSet) → IsInstallation index p set → IsWithin (members_of forced) set)
+    (enough : IsEnough index (members_of forced) (places_in_play (members_of forced) candidates))
     (rising : IsStrictlyIncreasing candidates) (must_is : slice_get candidates must ≡ Some p)
-    (in_group : All (λ clause. clause.group ≡ 0) clauses) (describes : Describes index forced candidates clauses) where
+    (in_group : All (λ clause. clause.group ≡ 0) clauses) (describes : (vars : NumberSet) → (AllHold clauses vars ↔ IsHealthy index (placed forced candidates vars))) where
   abbrev IsTrueHere : NumberSet → Type 0
   IsTrueHere = IsTrueSet (length candidates) clauses kept_one must
-
-  enough : IsEnough index (members_of forced) (places_in_play (members_of forced) candidates)
-  enough = subst (IsEnough index (members_of forced)) (fun_ext (λ q. ap (λ b. members_of forced q || b) (sym (same q)))) gathered
 
   must_at : (must < length candidates) × (get_or candidates must 0 ≡ p)
   must_at = (slice_get_within candidates must p must_is, get_or_from_slice_get candidates must p 0 must_is)
 
   p_in_play : places_in_play (members_of forced) candidates p ≡ true
   p_in_play = or_right (members_of forced p) (members_of candidates p) (sym (ap (members_of candidates) must_at.1) ∙ at_members_of candidates must must_at.0)
-
-  has_forced : (set : NumberSet) → IsInstallation index p set → IsWithin (members_of forced) set
-  has_forced set installed = follows set installed
 
   -- a healthy set with p gives a true set of variables
   beside_true : (known set : NumberSet) → known must ≡ true → IsInstallation index p set → IsTrueHere (pulled_beside forced candidates known set)
@@ -133,7 +123,7 @@ module _ (index : IndexView) (p : ℕ) (forced free candidates : List ℕ) (clau
     true_healthy vars first.0,
     λ set installed before.
         elim (or_cases (members_of forced before.0) (positions_of candidates vars before.0) before.3) [
-          | inl is_in ↦ both_ways (set before.0) before.2 (has_forced set installed before.0 is_in)
+          | inl is_in ↦ both_ways (set before.0) before.2 (follows set installed before.0 is_in)
           | inr stands ↦
               let at = group_at candidates vars before.0 stands in
               first.1 (pulled_beside forced candidates vars set) (beside_true vars set first.0.has_must installed) (
@@ -148,7 +138,7 @@ module _ (index : IndexView) (p : ℕ) (forced free candidates : List ℕ) (clau
                           ∙ (before.1 (get_or candidates lower 0) below ∙ placed_out vars lower inside out)
                     ]),
                 beside_out forced candidates vars set at.0 at.1 (false_from_ne_true (members_of forced (get_or candidates at.0 0)) (λ is_in.
-                    both_ways (set before.0) before.2 (has_forced set installed before.0 (ap (members_of forced) (sym at.3) ∙ is_in))))
+                    both_ways (set before.0) before.2 (follows set installed before.0 (ap (members_of forced) (sym at.3) ∙ is_in))))
                     ∙ (ap set at.3 ∙ before.2),
                 at.2,
               )

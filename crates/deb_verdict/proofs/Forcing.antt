@@ -1,24 +1,22 @@
 -- Places that are in every healthy set with p: one step more.
-use Rattle.std.proofs.Common.{◌≡◌, ℕ, ◌<◌, true, false, eqb, List, [], ◌∷◌, length, get_or, Option, Some, None, slice_get, refl, sym, subst, ◌∙◌, ap, inl, inr, Contains}
+use Rattle.std.proofs.Common.{◌≡◌, ◌⊎◌, ℕ, ◌<◌, true, false, eqb, List, [], ◌∷◌, length, get_or, Option, Some, None, slice_get, refl, sym, subst, ◌∙◌, ap, inl, inr, Contains}
 use Rattle.std.specs.List.{list_any}
 use Rattle.std.specs.Option.{option_map_or}
 use Rattle.std.proofs.lemmas.Bool.{false≢true, or_cases, or_left, or_right, eqb-true, eq-eqb}
 use Rattle.std.proofs.lemmas.List.Elements.{Contains-get_or}
 use Rattle.deb_relation.specs.Relationship.{AtomText}
+use Rattle.deb_index.specs.declared.constraint.Constraint.TheVariants.{Essential, Need}
 use Rattle.deb_index.specs.Packages.{IndexView, PackageView, name_at, places_of, essential_names, needs_at, need_at}
 use Rattle.deb_index.specs.Meets.{meets_need, group_satisfiers}
-use Rattle.deb_index.specs.Constraints.{has_name, answers}
+use Rattle.deb_index.specs.Constraints.{Holds, constraints_of, has_name, answers}
 use Rattle.deb_index.proofs.MemberLemmas.{member-places_where}
-use Rattle.sat_solve.specs.Sets.{members_of}
-use Rattle.core_extract.specs.Reduction.{IsWithin}
-use Rattle.deb_encode.specs.PlaceSets.{with_place}
-use Rattle.deb_verdict.specs.Gathering.{Follows}
-use Rattle.deb_verdict.specs.Growing.{KeepsForced, TakesOnly}
-use Rattle.deb_verdict.specs.Growing.TakesOnly.{Same, Took}
-use Rattle.deb_encode.proofs.IndexFacts.{member_named, named_is_place, answers_is_place}
-use Rattle.deb_encode.proofs.Placing.{grows_none, grows_both, grows_with, with_place_only}
+use Rattle.number_sets.specs.Sets.{NumberSet, members_of, IsWithin}
+use Rattle.number_sets.specs.SparseSets.{with_number}
+use Rattle.deb_health.specs.Health.{IsHealthy}
+use Rattle.deb_verdict.specs.Groundwork.{KeepsForced}
+use Rattle.deb_encode.proofs.IndexFacts.{All-at, member_named, named_is_place, answers_is_place}
+use Rattle.number_sets.proofs.Placing.{grows_none, grows_both, grows_with, with_number_only}
 use Rattle.deb_verdict.proofs.Standing.{need_stands, essential_stands}
-use Rattle.deb_verdict.proofs.Units.{with_one, one_in, last_answer, last_essential}
 
 -- ---- what stands in a row
 
@@ -50,26 +48,12 @@ single_has only = or_left (eqb only only) false (eq-eqb only only refl)
 -- ---- steps
 
 pub forced_none : (index : IndexView) (places : List ℕ) → KeepsForced index places places
-forced_none index places = record { grows = grows_none (length index.packages) places; forced = λ p forced. forced }
+forced_none index places = record { grows = grows_none (length index.packages) places; forced = λ set healthy within. within }
 
 pub forced_both : (index : IndexView) (before between after : List ℕ) → KeepsForced index before between → KeepsForced index between after → KeepsForced index before after
 forced_both index before between after first second = record {
   grows = grows_both (length index.packages) before between after first.grows second.grows;
-  forced = λ p forced. second.forced p (first.forced p forced);
-}
-
-follows_with : (index : IndexView) (p q : ℕ) (places : List ℕ) → Follows index p (with_one (members_of places) q) → Follows index p (members_of (with_place places q))
-follows_with index p q places follows set installed number is_in =
-    elim (with_place_only places q number is_in) [
-      | inl before ↦ follows set installed number (or_left (members_of places number) (eqb q number) before)
-      | inr here ↦ follows set installed number (or_right (members_of places number) (eqb q number) (eq-eqb q number here))
-    ]
-
-forced_with : (index : IndexView) (places : List ℕ) (q : ℕ) → q < length index.packages
-    → ((p : ℕ) → Follows index p (members_of places) → Follows index p (with_one (members_of places) q)) → KeepsForced index places (with_place places q)
-forced_with index places q is_place follows = record {
-  grows = grows_with (length index.packages) places q is_place;
-  forced = λ p forced. follows_with index p q places (follows p forced);
+  forced = λ set healthy within. second.forced set healthy (first.forced set healthy within);
 }
 
 pub forced_moved : (index : IndexView) (before after other : List ℕ) → after ≡ other → KeepsForced index before other → KeepsForced index before after
@@ -77,31 +61,49 @@ forced_moved index before after other same keeps =
     let To : List ℕ → Type 0 = λ list. KeepsForced index before list in
     subst To (sym same) keeps
 
+-- a place that each healthy set has with those that are in
+forced_with : (index : IndexView) (places : List ℕ) (q : ℕ) → q < length index.packages
+    → ((set : NumberSet) → IsHealthy index set → IsWithin (members_of places) set → set q ≡ true) → KeepsForced index places (with_number places q)
+forced_with index places q is_place has = record {
+  grows = grows_with (length index.packages) places q is_place;
+  forced = λ set healthy within number is_in.
+      elim (with_number_only places q number is_in) [
+        | inl before ↦ within number before
+        | inr here ↦ ap set (sym here) ∙ has set healthy within
+      ];
+}
+
+-- nothing came, or the only place of a row
+abbrev TakesOnly : List ℕ → List ℕ → List ℕ → Type 0
+TakesOnly row before after = (after ≡ before) ⊎ ((only : ℕ) × (row ≡ only ∷ []) × (after ≡ with_number before only))
+
 -- the only answer to a need of a place that is in
 pub forced_by_need : (index : IndexView) (member j : ℕ) (row before after : List ℕ) → member < length index.packages → j < length (needs_at index member) → members_of before member ≡ true
     → row ≡ group_satisfiers index (need_at index member j) → TakesOnly row before after → KeepsForced index before after
-forced_by_need index member j row before after is_place inside is_in row_is (Same same) = forced_moved index before after before same (forced_none index before)
-forced_by_need index member j row before after is_place inside is_in row_is (Took only single taken) =
-    let alone : (q : ℕ) → members_of (only ∷ []) q ≡ answers index member j q = λ q. ap (λ list. members_of list q) (sym single ∙ row_is) ∙ member_answers index member j q in
+forced_by_need index member j row before after is_place inside is_in row_is (inl same) = forced_moved index before after before same (forced_none index before)
+forced_by_need index member j row before after is_place inside is_in row_is (inr took) =
+    let only : ℕ = took.0 in
+    let alone : (q : ℕ) → members_of (only ∷ []) q ≡ answers index member j q = λ q. ap (λ list. members_of list q) (sym took.1 ∙ row_is) ∙ member_answers index member j q in
     let there = need_stands index member j is_place inside in
-    forced_moved index before after (with_place before only) taken
+    forced_moved index before after (with_number before only) took.2
     (forced_with index before only (answers_is_place index member j only (sym (alone only) ∙ single_has only))
-    (λ p forced.
-    last_answer index p (members_of before) forced there.0 member j only there.1 is_in
-    (λ other answered. in_single only other (alone other ∙ answered))))
+    (λ set healthy within.
+    (let found = All-at (Holds index set) (constraints_of index) there.0 (Need member j) healthy there.1 (within member is_in) in
+    ap set (sym (in_single only found.0 (alone found.0 ∙ found.2))) ∙ found.1)))
 
 -- the only package of an essential name
-pub forced_by_name : (index : IndexView) (number : ℕ) (row before after : List ℕ) → Contains (essential_names index) number → row ≡ places_of index (name_at index number)
+forced_by_name : (index : IndexView) (number : ℕ) (row before after : List ℕ) → Contains (essential_names index) number → row ≡ places_of index (name_at index number)
     → TakesOnly row before after → KeepsForced index before after
-forced_by_name index number row before after named row_is (Same same) = forced_moved index before after before same (forced_none index before)
-forced_by_name index number row before after named row_is (Took only single taken) =
-    let alone : (q : ℕ) → members_of (only ∷ []) q ≡ has_name index q number = λ q. ap (λ list. members_of list q) (sym single ∙ row_is) ∙ member_named index number q in
+forced_by_name index number row before after named row_is (inl same) = forced_moved index before after before same (forced_none index before)
+forced_by_name index number row before after named row_is (inr took) =
+    let only : ℕ = took.0 in
+    let alone : (q : ℕ) → members_of (only ∷ []) q ≡ has_name index q number = λ q. ap (λ list. members_of list q) (sym took.1 ∙ row_is) ∙ member_named index number q in
     let there = essential_stands index number named in
-    forced_moved index before after (with_place before only) taken
+    forced_moved index before after (with_number before only) took.2
     (forced_with index before only (named_is_place index only number (sym (alone only) ∙ single_has only))
-    (λ p forced.
-    last_essential index p (members_of before) forced there.0 number only there.1
-    (λ other has. in_single only other (alone other ∙ has))))
+    (λ set healthy within.
+    (let found = All-at (Holds index set) (constraints_of index) there.0 (Essential number) healthy there.1 in
+    ap set (sym (in_single only found.0 (alone found.0 ∙ found.2))) ∙ found.1)))
 
 pub forced_by_names : (index : IndexView) (list : List ℕ) (number : ℕ) (row before between after : List ℕ) → number < length list → list ≡ essential_names index
     → row ≡ places_of index (name_at index (get_or list number 0)) → KeepsForced index before between → TakesOnly row between after → KeepsForced index before after
@@ -109,14 +111,3 @@ forced_by_names index list number row before between after inside list_is row_is
     let In : List ℕ → Type 0 = λ xs. Contains xs (get_or list number 0) in
     forced_both index before between after so_far
     (forced_by_name index (get_or list number 0) row between after (subst In list_is (Contains-get_or list number 0 inside)) row_is taken)
-
--- ---- what is known before p comes, and p
-
--- of a list with fewer places no more is known
-pub forced_fewer : (index : IndexView) (p : ℕ) (places fewer : List ℕ) → IsWithin (members_of fewer) (members_of places) → Follows index p (members_of places)
-    → Follows index p (members_of fewer)
-forced_fewer index p places fewer within follows set installed number is_in = follows set installed number (within number is_in)
-
-pub forced_start : (index : IndexView) (p : ℕ) (places : List ℕ) → Follows index p (members_of places) → Follows index p (members_of (with_place places p))
-forced_start index p places follows =
-    follows_with index p p places (one_in index p (members_of places) follows p (λ set installed. installed.1))

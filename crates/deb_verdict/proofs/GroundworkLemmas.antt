@@ -1,5 +1,5 @@
 -- What is found of an index once for all verdicts.
-use Rattle.std.proofs.Common.{◌≡◌, ℕ, ◌+◌, ◌<◌, ◌≤◌, Bool, true, eqb, List, [], ◌∷◌, ◌++◌, length, get_or, Some, refl, sym, subst, ◌∙◌, ap, inl, inr, arith}
+use Rattle.std.proofs.Common.{◌≡◌, ◌⊎◌, ℕ, ◌+◌, ◌<◌, ◌≤◌, Bool, true, eqb, List, [], ◌∷◌, ◌++◌, length, get_or, All, Some, refl, sym, subst, ◌∙◌, ap, inl, inr, arith}
 use Rattle.std.specs.List.{list_any, list_all}
 use Rattle.std.proofs.lemmas.Bool.{cases_lt, false≢true, eqb-true}
 use Rattle.std.proofs.lemmas.List.{get_or_append_left, get_or_push, length_push}
@@ -7,15 +7,15 @@ use Rattle.std.proofs.lemmas.Option.{slice_get_within, get_or_from_slice_get, sl
 use Rattle.deb_index.specs.Packages.{IndexView, package_at, places_of, aparts_at, need_at, apart_at}
 use Rattle.deb_index.specs.Meets.{satisfiers, group_satisfiers}
 use Rattle.deb_index.specs.Constraints.{answers, hits}
-use Rattle.sat_solve.specs.Sets.{NumberSet, members_of}
-use Rattle.deb_verdict.specs.Groundwork.{IsInAll, IsMet, HasAnswers}
-use Rattle.deb_encode.specs.Alone.{IsAlone, MarksOnly}
-use Rattle.deb_encode.specs.PlaceSets.{ArePlaces}
-use Rattle.deb_verdict.specs.Growing.{KeepsForced}
+use Rattle.number_sets.specs.Sets.{NumberSet, members_of, MarksOnly, IsWithin}
+use Rattle.deb_verdict.specs.Groundwork.{IsInAll, KeepsForced}
+use Rattle.deb_encode.specs.Alone.{IsAlone}
+use Rattle.number_sets.specs.SparseSets.{AreNumbers, Grows, with_number}
+use Rattle.deb_health.specs.Health.{IsInstallation}
 use Rattle.deb_verdict.proofs.Forcing.{member_answers}
 use Rattle.deb_encode.proofs.IndexFacts.{member_satisfiers}
-use Rattle.deb_encode.proofs.Placing.{places_empty}
-use Rattle.sat_solve.proofs.ListMembers.{any_member, member_any, all_member}
+use Rattle.number_sets.proofs.Placing.{numbers_empty, grows_with, grows_keeps, with_number_has, with_number_only}
+use Rattle.number_sets.proofs.ListMembers.{any_member, member_any, all_member}
 
 -- ---- needs that are answered by what is in
 
@@ -27,15 +27,6 @@ pub answered_by_row : (index : IndexView) (forced : NumberSet) (place j : ℕ) (
 answered_by_row index forced place j row row_is holds =
     let at = any_member forced row holds in
     (at.0, at.1, sym (ap (λ list. members_of list at.0) row_is ∙ member_answers index place j at.0) ∙ at.2)
-
--- the two ways to say that each need is answered
-pub answers_from_met : (index : IndexView) (forced : NumberSet) (place : ℕ) → IsMet index forced place → HasAnswers index forced place
-answers_from_met index forced place met j inside =
-    let at = met j inside in
-    member_any forced (group_satisfiers index (need_at index place j)) at.0 at.1 (member_answers index place j at.0 ∙ at.2)
-
-pub met_from_answers : (index : IndexView) (forced : NumberSet) (place : ℕ) → HasAnswers index forced place → IsMet index forced place
-met_from_answers index forced place has j inside = answered_by_row index forced place j (group_satisfiers index (need_at index place j)) refl (has j inside)
 
 -- ---- entries that hit no other place, and names that no earlier place has
 
@@ -79,15 +70,45 @@ one_mark_more Property before after place mark appended here first =
 
 -- ---- places that are in every set
 
-pub empty_are_places : (count : ℕ) (places : List ℕ) → places ≡ [] → ArePlaces count places
+pub empty_are_places : (count : ℕ) (places : List ℕ) → places ≡ [] → AreNumbers count places
 empty_are_places count places empty =
-    let Are : List ℕ → Type 0 = λ list. ArePlaces count list in
-    subst Are (sym empty) (places_empty count)
-
-none_in_all : (index : IndexView) (places : List ℕ) → places ≡ [] → IsInAll index (members_of places)
-none_in_all index places empty =
-    let For : List ℕ → Type 0 = λ list. IsInAll index (members_of list) in
-    subst For (sym empty) (λ p set installed q never. absurd (false≢true never))
+    let Are : List ℕ → Type 0 = λ list. AreNumbers count list in
+    subst Are (sym empty) (numbers_empty count)
 
 pub forced_in_all : (index : IndexView) (start between after : List ℕ) → start ≡ [] → KeepsForced index start between → KeepsForced index between after → IsInAll index (members_of after)
-forced_in_all index start between after empty first second p = second.forced p (first.forced p (none_in_all index start empty p))
+forced_in_all index start between after empty first second set healthy =
+    second.forced set healthy (first.forced set healthy (λ q is_in. absurd (false≢true (sym (ap (λ list. members_of list q) empty) ∙ is_in))))
+
+-- ---- and those that are in every set with p
+
+module _ (index : IndexView) (p : ℕ) (forced row empty extended started : List ℕ) (row_is : row ≡ forced) (empty_is : empty ≡ []) (started_is : started ≡ with_number extended p) where
+  pub first_places : p < length index.packages → AreNumbers (length index.packages) forced
+      → ((count : ℕ) → All (λ place. place < count) row → Grows count empty extended) → AreNumbers (length index.packages) started
+  first_places is_place are grows =
+      let count : ℕ = length index.packages in
+      let Within : List ℕ → Type 0 = λ list. All (λ place. place < count) list in
+      let Are : List ℕ → Type 0 = λ list. AreNumbers count list in
+      let extends : Grows count empty extended = grows count (subst Within (sym row_is) are.within) in
+      subst Are (sym started_is) ((grows_with count extended p is_place).places (extends.places (subst Are (sym empty_is) (numbers_empty count))))
+
+  module _ (after : List ℕ) (keeps : KeepsForced index started after) where
+    pub first_start : members_of after p ≡ true
+    first_start = grows_keeps (length index.packages) started after keeps.grows p (ap (λ list. members_of list p) started_is ∙ with_number_has extended p)
+
+    pub first_forced : IsInAll index (members_of forced) → ((q : ℕ) → members_of extended q ≡ true → (members_of empty q ≡ true) ⊎ (members_of row q ≡ true))
+        → (set : NumberSet) → IsInstallation index p set → IsWithin (members_of after) set
+    first_forced in_all only set installed =
+        keeps.forced set installed.0 (λ q is_in.
+        elim (with_number_only extended p q (sym (ap (λ list. members_of list q) started_is) ∙ is_in)) [
+          | inl old ↦ elim (only q old) [
+            | inl never ↦ absurd (false≢true (sym (ap (λ list. members_of list q) empty_is) ∙ never))
+            | inr listed ↦ in_all set installed.0 q (sym (ap (λ list. members_of list q) row_is) ∙ listed)
+          ]
+          | inr it ↦ ap set (sym it) ∙ installed.1
+        ])
+
+    pub first_ground : IsWithin (members_of row) (members_of extended) → IsWithin (members_of forced) (members_of after)
+    first_ground has q is_in =
+        grows_keeps (length index.packages) started after keeps.grows q
+        (ap (λ list. members_of list q) started_is
+        ∙ grows_keeps (p + 1) extended (with_number extended p) (grows_with (p + 1) extended p (omega arith)) q (has q (ap (λ list. members_of list q) row_is ∙ is_in)))

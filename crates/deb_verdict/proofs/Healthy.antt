@@ -15,13 +15,33 @@ use Rattle.deb_index.specs.Packages.{IndexView, PackageView, first_of_each, no_p
 use Rattle.deb_index.specs.Constraints.{Holds, constraints_at, constraints_of, below, has_name}
 use Rattle.deb_index.proofs.FirstLemmas.{same-name, name-itself, names-turned, any-filter}
 use Rattle.deb_index.proofs.MemberLemmas.{member-places_where}
-use Rattle.sat_solve.specs.Sets.{NumberSet, members_of}
+use Rattle.number_sets.specs.Sets.{NumberSet, members_of}
 use Rattle.deb_health.specs.Health.{IsHealthy}
-use Rattle.deb_verdict.specs.Meeting.{HasNoEarlier, MeetsPlace}
+use Rattle.deb_verdict.specs.Parts.{HasNoEarlier}
 use Rattle.deb_encode.specs.Standings.{HasOneOf, HasOneVersion}
-use Rattle.sat_solve.proofs.ListMembers.{members_of_at, at_members_of}
+use Rattle.number_sets.proofs.ListMembers.{members_of_at, at_members_of}
 use Rattle.deb_encode.proofs.IndexFacts.{member_named, named_is_place, only_says_once}
 use Rattle.deb_encode.proofs.AddLemmas.{All-front, All-back}
+
+-- ---- what a set meets of all that the package at a place asks for
+
+-- the set meets each need of the package at a place
+abbrev pub MeetsNeeds : IndexView → NumberSet → ℕ → Type 0
+MeetsNeeds index set place = (j : ℕ) → j < length (needs_at index place) → Holds index set (Need place j)
+
+-- the set has nothing that an entry of the package at a place hits
+abbrev pub MeetsEntries : IndexView → NumberSet → ℕ → Type 0
+MeetsEntries index set place = (j : ℕ) → j < length (aparts_at index place) → Holds index set (Apart place j)
+
+-- the set has nothing that an entry of the package at a place hits, and one package of its name at most
+pub record MeetsConflicts (index : IndexView) (set : NumberSet) (place : ℕ) : Type 0 where
+  pub entries : MeetsEntries index set place
+  pub once : HasOneVersion index set place
+
+-- the set meets all that the package at a place asks for, and has one package of its name at most
+pub record MeetsPlace (index : IndexView) (set : NumberSet) (place : ℕ) : Type 0 where
+  pub needs : MeetsNeeds index set place
+  pub conflicts : MeetsConflicts index set place
 
 -- ---- lists
 
@@ -101,11 +121,6 @@ module _ (index : IndexView) where
 
   has_version : (number p q : ℕ) → name_at index number ≡ (package_at index p).name → members_of (places_of index (package_at index p).name) q ≡ has_name index q number
   has_version number p q same = ap (λ name. members_of (places_of index name) q) (sym same) ∙ member_named index number q
-
-  itself_version : (p : ℕ) → p < length index.packages → members_of (places_of index (package_at index p).name) p ≡ true
-  itself_version p inside =
-      member-places_where (is_named (package_at index p).name) index.packages p
-      ∙ (ap (λ there. option_map_or (is_named (package_at index p).name) there false) (slice_get-get_or index.packages p no_package inside) ∙ name-itself (package_at index p).name)
 
   module _ (set : NumberSet) where
     no_two : (number q r : ℕ) → has_name index q number ≡ true → has_name index r number ≡ true → set q ≡ true → set r ≡ true → HasNoEarlier index set r → q < r → ⊥

@@ -3,35 +3,37 @@ use Rattle.std.proofs.Common.{◌≡◌, ℕ, ◌<◌, true, List, get_or, lengt
 use Rattle.std.specs.List.{list_all}
 use Rattle.std.proofs.lemmas.List.Elements.{Contains-get_or}
 use Rattle.deb_index.specs.declared.constraint.Constraint.TheVariants.{Essential, Need}
-use Rattle.deb_index.specs.Packages.{IndexView, name_at, places_of, essential_names, need_at}
+use Rattle.deb_index.specs.Packages.{IndexView, name_at, places_of, essential_names, needs_at, need_at}
 use Rattle.deb_index.specs.Meets.{group_satisfiers}
-use Rattle.deb_index.specs.Constraints.{Holds, constraints_of}
-use Rattle.sat_solve.specs.Sets.{NumberSet, members_of}
-use Rattle.deb_encode.specs.PlaceSets.{with_place}
-use Rattle.deb_verdict.specs.Hopeless.{IsHopeless, AreHopeless, IsUnanswered, HasUnanswered}
+use Rattle.deb_index.specs.Constraints.{Holds, constraints_of, answers}
+use Rattle.number_sets.specs.Sets.{NumberSet, members_of, IsWithin}
+use Rattle.number_sets.specs.SparseSets.{with_number}
+use Rattle.deb_health.specs.Health.{IsHopeless}
+use Rattle.deb_verdict.specs.Hopeless.{AreHopeless}
 use Rattle.deb_verdict.proofs.Forcing.{member_answers}
 use Rattle.deb_encode.proofs.IndexFacts.{All-at, member_named}
-use Rattle.sat_solve.proofs.ListMembers.{all_member}
-use Rattle.deb_encode.proofs.Placing.{with_place_only}
+use Rattle.number_sets.proofs.ListMembers.{all_member}
+use Rattle.number_sets.proofs.Placing.{with_number_only}
 use Rattle.deb_verdict.proofs.Standing.{need_stands, essential_stands}
 
 -- a need whose row has such places alone
 pub unanswered_row : (index : IndexView) (places : NumberSet) (place number : ℕ) (row : List ℕ) → row ≡ group_satisfiers index (need_at index place number)
-    → list_all places row ≡ true → IsUnanswered index places place number
+    → list_all places row ≡ true → IsWithin (answers index place number) places
 unanswered_row index places place number row row_is all q answered =
     all_member places row q all (ap (λ list. members_of list q) row_is ∙ (member_answers index place number q ∙ answered))
 
 -- a place that needs such places is one too
-pub hopeless_by_need : (index : IndexView) (places : NumberSet) (place : ℕ) → place < length index.packages → AreHopeless index places → HasUnanswered index places place → IsHopeless index place
-hopeless_by_need index places place is_place hopeless lost set installed =
-    let there = need_stands index place lost.0 is_place lost.1 in
-    let found = All-at (Holds index set) (constraints_of index) there.0 (Need place lost.0) installed.0 there.1 installed.1 in
-    hopeless found.0 (lost.2 found.0 found.2) set (installed.0, found.1)
+pub hopeless_by_need : (index : IndexView) (places : NumberSet) (place number : ℕ) → place < length index.packages → number < length (needs_at index place) → AreHopeless index places
+    → IsWithin (answers index place number) places → IsHopeless index place
+hopeless_by_need index places place number is_place is_need hopeless lost set installed =
+    let there = need_stands index place number is_place is_need in
+    let found = All-at (Holds index set) (constraints_of index) there.0 (Need place number) installed.0 there.1 installed.1 in
+    hopeless found.0 (lost found.0 found.2) set (installed.0, found.1)
 
-pub hopeless_with : (index : IndexView) (before after : List ℕ) (place : ℕ) → after ≡ with_place before place → AreHopeless index (members_of before) → IsHopeless index place
+pub hopeless_with : (index : IndexView) (before after : List ℕ) (place : ℕ) → after ≡ with_number before place → AreHopeless index (members_of before) → IsHopeless index place
     → AreHopeless index (members_of after)
 hopeless_with index before after place placed hopeless here q is_in =
-    elim (with_place_only before place q (sym (ap (λ list. members_of list q) placed) ∙ is_in)) [
+    elim (with_number_only before place q (sym (ap (λ list. members_of list q) placed) ∙ is_in)) [
       | inl old ↦ hopeless q old
       | inr same ↦ subst (IsHopeless index) same here
     ]

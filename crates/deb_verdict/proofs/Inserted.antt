@@ -1,15 +1,13 @@
--- Places that go into a set one by one.
+-- Places that come to a list one by one.
 use Rattle.std.proofs.Common.{◌≡◌, ℕ, zero, suc, ◌+◌, ◌<◌, ◌≤◌, Bool, true, false, ◌||◌, cond, eqb, List, All, [], ◌∷◌, ◌++◌, length, get_or, sym, ◌∙◌, ap, refl, inl, inr, ◌⊎◌, arith}
 use Rattle.std.specs.List.Sorted.{IsStrictlyIncreasing}
-use Rattle.std.proofs.lemmas.Bool.{cases_Bool, cases_lt, or_cases, or_left, or_right, eqb-true, eq-eqb}
+use Rattle.std.proofs.lemmas.Bool.{cases_lt, or_cases, or_left, or_right, eqb-true, eq-eqb}
 use Rattle.std.proofs.lemmas.List.Folds.{list_any-append}
-use Rattle.sat_solve.specs.Sets.{members_of}
-use Rattle.deb_encode.specs.Play.{positions_of, placed}
-use Rattle.deb_encode.specs.PlaceSets.{with_place}
-use Rattle.sat_solve.proofs.ListMembers.{members_of_at, at_members_of, same_test}
-use Rattle.deb_encode.proofs.PositionsOf.{position_in, group_at}
-use Rattle.deb_encode.proofs.AddSteps.{below_members}
-use Rattle.deb_encode.proofs.PlaceSetLemmas.{position_at_most}
+use Rattle.number_sets.specs.Sets.{members_of, positions_of}
+use Rattle.deb_encode.specs.Play.{placed}
+use Rattle.number_sets.proofs.ListMembers.{members_of_at, at_members_of, same_test, below_members}
+use Rattle.number_sets.proofs.PositionsOf.{position_in, group_at}
+use Rattle.number_sets.proofs.SparseSetLemmas.{position_at_most}
 
 count_le : (numbers : List ℕ) (bound : ℕ) → IsStrictlyIncreasing numbers → All (λ number. number < bound) numbers → (count : ℕ) → count ≤ length numbers → count ≤ bound
 count_le numbers bound rising below zero short = omega arith
@@ -30,20 +28,8 @@ module _ (places : List ℕ) (place q : ℕ) where
   or_nothing false = refl
 
   -- a place that is put in is there, and so is what was there before
-  pub with_place_is : members_of (with_place places place) q ≡ (members_of places q || eqb place q)
-  with_place_is =
-      elim (cases_Bool (members_of places place)) [
-        | inl there ↦
-            ap (λ b. members_of (cond {A = List ℕ} b places (places ++ place ∷ [])) q) there
-            ∙ same_test (members_of places q) (members_of places q || eqb place q) (λ is_in. or_left (members_of places q) (eqb place q) is_in)
-            (λ either. elim (or_cases (members_of places q) (eqb place q) either) [
-              | inl is_in ↦ is_in
-              | inr it ↦ ap (members_of places) (sym (eqb-true place q it)) ∙ there
-            ])
-        | inr new_one ↦
-            ap (λ b. members_of (cond {A = List ℕ} b places (places ++ place ∷ [])) q) new_one
-            ∙ (list_any-append (λ m. eqb m q) places (place ∷ []) ∙ ap (λ b. members_of places q || b) (or_nothing (eqb place q)))
-      ]
+  pub with_place_is : members_of (places ++ place ∷ []) q ≡ (members_of places q || eqb place q)
+  with_place_is = list_any-append (λ m. eqb m q) places (place ∷ []) ∙ ap (λ b. members_of places q || b) (or_nothing (eqb place q))
 
 -- the candidates with the first of these numbers went in
 pub record Inserted (old candidates vars : List ℕ) (count : ℕ) (new : List ℕ) : Type 0 where
@@ -53,8 +39,11 @@ pub record Inserted (old candidates vars : List ℕ) (count : ℕ) (new : List �
       → (members_of old q ≡ true) ⊎ ((j : ℕ) × (j < count) × (j < length vars) × (get_or candidates (get_or vars j 0) 0 ≡ q))
 
 module _ (old candidates vars : List ℕ) where
+  pub inserted_none : Inserted old candidates vars 0 old
+  inserted_none = record { keeps = λ q is_in. is_in; has = λ j below. absurd (omega (arith, below)); only = λ q is_in. inl is_in }
+
   pub inserted_more : (count : ℕ) (new : List ℕ) → count < length vars → Inserted old candidates vars count new
-      → Inserted old candidates vars (count + 1) (with_place new (get_or candidates (get_or vars count 0) 0))
+      → Inserted old candidates vars (count + 1) (new ++ get_or candidates (get_or vars count 0) 0 ∷ [])
   inserted_more count new inside before =
       let place : ℕ = get_or candidates (get_or vars count 0) 0 in
       record {

@@ -1,15 +1,12 @@
 -- Sets that are healthy, and marks of their members.
-use Rattle.std.proofs.Common.{◌≡◌, ◌≢◌, ℕ, ◌<◌, Bool, true, false, eqb, leb, if◌then◌else◌, List, [], ◌∷◌, ◌++◌, length, get_or, set, All, Some, refl, sym, subst, ◌∙◌, ap, inl, inr, arith}
+use Rattle.std.proofs.Common.{◌≡◌, ◌≢◌, ℕ, ◌<◌, Bool, true, false, eqb, leb, List, [], length, get_or, set, All, Some, refl, sym, subst, ◌∙◌, ap, inl, inr, arith}
 use Rattle.std.proofs.lemmas.Bool.{cases_Bool, or_right, le-leb, eqb-true, eq-eqb, both_ways}
 use Rattle.std.proofs.lemmas.List.{get_or-set_other, length-set}
-use Rattle.std.proofs.lemmas.List.Elements.{All-push}
 use Rattle.std.proofs.lemmas.List.Folds.{list_any_at}
 use Rattle.std.proofs.lemmas.Option.{slice_get_within, get_or_from_slice_get, slice_get-get_or}
 use Rattle.deb_index.specs.Packages.{IndexView}
-use Rattle.sat_solve.specs.Sets.{members_of}
-use Rattle.deb_encode.specs.Alone.{MarksOnly}
+use Rattle.number_sets.specs.Sets.{members_of, MarksOnly}
 use Rattle.deb_health.specs.Health.{IsHealthy, IsInstallable, MeetsAt}
-use Rattle.deb_encode.specs.PlaceSets.{with_place}
 use Rattle.core_extract.specs.Reduction.{left}
 use Rattle.deb_verdict.proofs.Cutting.{healthy_from_meets}
 
@@ -22,14 +19,6 @@ healthy_from_all index set meets =
 pub members_installable : (index : IndexView) (set : List ℕ) → IsHealthy index (members_of set) → All (IsInstallable index) set
 members_installable index set healthy k d inside =
     (members_of set, (healthy, list_any_at (λ member. eqb member (get_or set k d)) set k d inside (eq-eqb (get_or set k d) (get_or set k d) refl)))
-
--- a place that is put in lies where the others do
-pub within_with_place : (count : ℕ) (places : List ℕ) (place : ℕ) → place < count → All (λ q. q < count) places → All (λ q. q < count) (with_place places place)
-within_with_place count places place inside within = by (members_of places place)
-  where
-    by : (b : Bool) → All (λ q. q < count) (if b then places else (places ++ place ∷ []))
-    by true = within
-    by false = All-push (λ q. q < count) places place within inside
 
 -- one mark more
 pub marks_set : (Property : ℕ → Type 0) (marks : List Bool) (place : ℕ) → Property place → MarksOnly Property marks → MarksOnly Property (set marks place true)

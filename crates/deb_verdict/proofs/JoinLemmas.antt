@@ -6,9 +6,8 @@ use Rattle.std.specs.List.{list_any}
 use Rattle.std.proofs.lemmas.Bool.{cases_Bool, cond-true, cond-false, false≢true, or_cases, or_left, or_right, or_parts, or_from, eqb-true, eqb-false, ne_eqb}
 use Rattle.std.proofs.lemmas.List.Folds.{list_any_more, list_any-append}
 use Rattle.std.proofs.lemmas.Map.Keys.{IsDistinct-push}
-use Rattle.sat_solve.specs.Sets.{NumberSet, members_of}
-use Rattle.core_extract.specs.Reduction.{IsWithin}
-use Rattle.deb_encode.specs.PlaceSets.{with_place}
+use Rattle.number_sets.specs.Sets.{NumberSet, members_of, IsWithin}
+use Rattle.number_sets.specs.SparseSets.{with_number}
 use Rattle.deb_verdict.specs.Reach.{Joins}
 
 -- what was there still is
@@ -97,7 +96,7 @@ new_place before place is_new = record {
       ];
 }
 
-pub joins_place : (before after : List ℕ) (place : ℕ) → after ≡ with_place before place → Joins (λ q. eqb place q) before after
+pub joins_place : (before after : List ℕ) (place : ℕ) → after ≡ with_number before place → Joins (λ q. eqb place q) before after
 joins_place before after place is_that =
     subst (λ list. Joins (λ q. eqb place q) before list) (sym is_that)
     (elim (cases_Bool (members_of before place)) [

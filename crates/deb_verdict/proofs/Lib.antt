@@ -1,13 +1,13 @@
 pub mod Answered
-pub mod Bringing
 pub mod Cutting
 pub mod Derived
 pub mod Described
 pub mod Encoded
 pub mod FirstExists
+pub mod FirstOfSets
 pub mod FirstSet
 pub mod Forcing
-pub mod Gathered
+pub mod GatherLemmas
 pub mod GroundworkLemmas
 pub mod Healthy
 pub mod HopelessLemmas
@@ -23,7 +23,6 @@ pub mod Reaching
 pub mod Searched
 pub mod Settled
 pub mod Standing
-pub mod Units
-pub mod UnmetNeeds
+pub mod ToldLemmas
 pub mod Whole
 pub mod WitnessLemmas

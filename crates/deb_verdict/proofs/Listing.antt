@@ -1,6 +1,6 @@
--- Positions of a part of the constraints, listed one after another.
-use Rattle.std.proofs.Common.{◌≡◌, ◌⊎◌, ℕ, ◌+◌, ◌<◌, ◌≤◌, Bool, true, false, cond, ◌||◌, eqb, List, [], ◌∷◌, ◌++◌, take, length, get_or, Option, Some, None, slice_get, Contains, refl, sym, subst, ◌∙◌, ap, inl, inr, arith}
-use Rattle.std.proofs.lemmas.Bool.{cases_lt, false≢true, and_parts, or_cases, or_left, eqb-true, both_ways}
+-- Positions of constraints, listed one after another.
+use Rattle.std.proofs.Common.{◌≡◌, ◌⊎◌, ℕ, ◌+◌, ◌<◌, ◌≤◌, Bool, true, false, ◌||◌, eqb, List, [], ◌∷◌, ◌++◌, take, length, get_or, Option, Some, None, slice_get, Contains, refl, sym, subst, ◌∙◌, ap, inl, inr, arith}
+use Rattle.std.proofs.lemmas.Bool.{cases_lt, false≢true, or_cases, or_left, eqb-true}
 use Rattle.std.proofs.lemmas.List.Folds.{list_any_more}
 use Rattle.std.proofs.lemmas.Option.{slice_get-get_or, slice_get_within, same_Some}
 use Rattle.deb_index.specs.declared.constraint.Constraint.{Constraint}
@@ -9,16 +9,25 @@ use Rattle.deb_index.specs.Packages.{IndexView, names, name_at, package_at, plac
 use Rattle.deb_index.specs.Constraints.{constraints_of, IsOfIndex, has_name}
 use Rattle.deb_index.proofs.ConstraintLemmas.{constraints-within}
 use Rattle.deb_index.proofs.PositionLemmas.{one_position, essential_position}
-use Rattle.sat_solve.specs.Sets.{NumberSet, members_of}
-use Rattle.core_extract.specs.Reduction.{IsWithin}
-use Rattle.sat_solve.proofs.MembersLemmas.{members_of_push}
-use Rattle.deb_verdict.specs.Closure.{cut, kept, is_kept, is_kept_there}
-use Rattle.deb_verdict.specs.Listing.{Lists, IsAnEssential, IsNeedOf, IsApartOf}
+use Rattle.number_sets.specs.Sets.{members_of, IsWithin}
+use Rattle.number_sets.proofs.MembersLemmas.{members_of_push}
+use Rattle.deb_verdict.specs.Closure.{kept, is_kept, is_kept_there}
+use Rattle.deb_verdict.specs.Listing.{Lists}
 use Rattle.deb_verdict.proofs.Healthy.{name_is}
 use Rattle.deb_encode.proofs.IndexFacts.{All-at, IsRight, all_right, member_named}
 use Rattle.core_extract.proofs.Kept.{pushed_has}
-use Rattle.sat_solve.proofs.ListMembers.{any_member}
+use Rattle.number_sets.proofs.ListMembers.{any_member}
 use Rattle.deb_verdict.proofs.Names.{one_number}
+
+-- what constraints ask for: an essential name; a need, or a conflict, of the package at a place
+abbrev pub IsAnEssential : Constraint → Type 0
+IsAnEssential constraint = (n : ℕ) × (constraint ≡ Essential n)
+
+abbrev pub IsNeedOf : ℕ → Constraint → Type 0
+IsNeedOf p constraint = (j : ℕ) × (constraint ≡ Need p j)
+
+abbrev pub IsApartOf : ℕ → Constraint → Type 0
+IsApartOf p constraint = (j : ℕ) × (constraint ≡ Apart p j)
 
 -- the constraints that are told by numbers below a count
 abbrev pub IsBelow : (ℕ → Constraint) → ℕ → Constraint → Type 0
@@ -39,17 +48,17 @@ IsAskedIn index places constraint = IsAnEssential constraint ⊎ ((p : ℕ) × (
 abbrev pub essential_at : IndexView → ℕ → Constraint
 essential_at index i = Essential (get_or (essential_names index) i 0)
 
-module _ (index : IndexView) (part : NumberSet) where
+module _ (index : IndexView) where
   abbrev Listed : (Constraint → Type 0) → List ℕ → List ℕ → Type 0
-  Listed IsAsked before after = Lists index part IsAsked before after
+  Listed IsAsked before after = Lists index IsAsked before after
 
   -- the same of fewer constraints
   pub lists_as : (P Q : Constraint → Type 0) → ((c : Constraint) → IsOfIndex index c → IsRight index c → Q c → P c) → (before after : List ℕ) → Listed P before after → Listed Q before after
   lists_as P Q weaker before after lists = record {
     has_old = lists.has_old;
     only = lists.only;
-    all = λ k c there asked is_q.
-        lists.all k c there asked
+    all = λ k c there is_q.
+        lists.all k c there
         (weaker c (All-at (IsOfIndex index) (constraints_of index) k c (constraints-within index) there) (All-at (IsRight index) (constraints_of index) k c (all_right index) there) is_q);
   }
 
@@ -57,7 +66,7 @@ module _ (index : IndexView) (part : NumberSet) where
   lists_none P none before = record {
     has_old = λ k is_in. is_in;
     only = λ k is_in. inl is_in;
-    all = λ k c there asked is_p. absurd (none c is_p);
+    all = λ k c there is_p. absurd (none c is_p);
   }
 
   pub lists_both : (P Q : Constraint → Type 0) (before between after : List ℕ) → Listed P before between → Listed Q between after → Listed (λ c. P c ⊎ Q c) before after
@@ -68,10 +77,10 @@ module _ (index : IndexView) (part : NumberSet) where
           | inl old ↦ first.only k old
           | inr new ↦ inr new
         ];
-    all = λ k c there asked either.
+    all = λ k c there either.
         elim either [
-          | inl is_p ↦ second.has_old k (first.all k c there asked is_p)
-          | inr is_q ↦ second.all k c there asked is_q
+          | inl is_p ↦ second.has_old k (first.all k c there is_p)
+          | inr is_q ↦ second.all k c there is_q
         ];
   }
 
@@ -79,14 +88,12 @@ module _ (index : IndexView) (part : NumberSet) where
     pushed_old : (k : ℕ) → members_of before k ≡ true → members_of (before ++ position ∷ []) k ≡ true
     pushed_old k is_in = members_of_push before position k ∙ or_left (members_of before k) (eqb position k || false) is_in
 
-    pushed_only : part position ≡ true → (k : ℕ) → members_of (before ++ position ∷ []) k ≡ true → (members_of before k ≡ true) ⊎ ((part k ≡ true) × (k < length (constraints_of index)))
-    pushed_only has k is_in =
+    pushed_only : (k : ℕ) → members_of (before ++ position ∷ []) k ≡ true → (members_of before k ≡ true) ⊎ (k < length (constraints_of index))
+    pushed_only k is_in =
         elim (or_cases (members_of before k) (eqb position k || false) (sym (members_of_push before position k) ∙ is_in)) [
           | inl old ↦ inl old
           | inr new ↦ elim (or_cases (eqb position k) false new) [
-            | inl here ↦
-                let same : position ≡ k = eqb-true position k here in
-                inr (sym (ap part same) ∙ has, omega (arith, same, slice_get_within (constraints_of index) position constraint stands))
+            | inl here ↦ inr (omega (arith, eqb-true position k here, slice_get_within (constraints_of index) position constraint stands))
             | inr never ↦ absurd (false≢true never)
           ]
         ]
@@ -94,25 +101,17 @@ module _ (index : IndexView) (part : NumberSet) where
     is_it : (k : ℕ) (c : Constraint) → slice_get (constraints_of index) k ≡ Some c → c ≡ constraint → k ≡ position
     is_it k c there same = one_position index k position constraint (there ∙ ap Some same) stands
 
-    -- one position, if the part has it
-    lists_by : (has : Bool) → part position ≡ has → Listed (λ c. c ≡ constraint) before (cond has (before ++ position ∷ []) before)
-    lists_by true has = record {
+    -- one position
+    pub lists_one : (after : List ℕ) → after ≡ before ++ position ∷ [] → Listed (λ c. c ≡ constraint) before after
+    lists_one after pushed = subst (Listed (λ c. c ≡ constraint) before) (sym pushed) (record {
       has_old = pushed_old;
-      only = pushed_only has;
-      all = λ k c there asked same. ap (members_of (before ++ position ∷ [])) (is_it k c there same) ∙ pushed_has before position;
-    }
-    lists_by false lacks = record {
-      has_old = λ k is_in. is_in;
-      only = λ k is_in. inl is_in;
-      all = λ k c there asked same. absurd (both_ways (part k) (ap part (is_it k c there same) ∙ lacks) asked);
-    }
-
-    pub lists_one : (after : List ℕ) → after ≡ cond (part position) (before ++ position ∷ []) before → Listed (λ c. c ≡ constraint) before after
-    lists_one after pushed = subst (Listed (λ c. c ≡ constraint) before) (sym pushed) (lists_by (part position) refl)
+      only = pushed_only;
+      all = λ k c there same. ap (members_of (before ++ position ∷ [])) (is_it k c there same) ∙ pushed_has before position;
+    })
 
   -- the constraint with the next number
   pub lists_next : (asked : ℕ → Constraint) (count position : ℕ) → slice_get (constraints_of index) position ≡ Some (asked count) → (before between after : List ℕ)
-      → Listed (IsBelow asked count) before between → after ≡ cond (part position) (between ++ position ∷ []) between → Listed (IsBelow asked (count + 1)) before after
+      → Listed (IsBelow asked count) before between → after ≡ between ++ position ∷ [] → Listed (IsBelow asked (count + 1)) before after
   lists_next asked count position stands before between after so_far pushed =
       lists_as (λ c. IsBelow asked count c ⊎ (c ≡ asked count)) (IsBelow asked (count + 1))
       (λ c of_index right below.
@@ -157,7 +156,7 @@ module _ (index : IndexView) (part : NumberSet) where
 
   -- the constraint that the package at a place is the one of its name
   pub lists_only : (p number position : ℕ) → number < length (names index) → name_at index number ≡ (package_at index p).name
-      → slice_get (constraints_of index) position ≡ Some (Only number) → (before after : List ℕ) → after ≡ cond (part position) (before ++ position ∷ []) before → Listed (IsOnlyOf index p) before after
+      → slice_get (constraints_of index) position ≡ Some (Only number) → (before after : List ℕ) → after ≡ before ++ position ∷ [] → Listed (IsOnlyOf index p) before after
   lists_only p number position of_index named stands before after pushed =
       lists_as (λ c. c ≡ Only number) (IsOnlyOf index p)
       (λ c within right only.
@@ -202,24 +201,16 @@ module _ (index : IndexView) (part : NumberSet) where
       let at = any_member (members_of places) (places_of index (name_at index n)) is_one in
       inr (at.0, at.1, inr (inr (n, refl, sym (member_named index n at.0) ∙ at.2)))
 
-  pub listed_all : (places positions : List ℕ) → Listed (IsAskedIn index places) [] positions → IsWithin (cut part (kept index (members_of places))) (members_of positions)
-  listed_all places positions lists k both =
-      let parts = and_parts (part k) (kept index (members_of places) k) both in
-      by (slice_get (constraints_of index) k) refl parts.1
+  pub listed_all : (places positions : List ℕ) → Listed (IsAskedIn index places) [] positions → IsWithin (kept index (members_of places)) (members_of positions)
+  listed_all places positions lists k is_one = by (slice_get (constraints_of index) k) refl is_one
     where
       by : (found : Option Constraint) → slice_get (constraints_of index) k ≡ found → is_kept_there index (members_of places) found ≡ true → members_of positions k ≡ true
-      by (Some c) there is_one = lists.all k c there (and_parts (part k) (kept index (members_of places) k) both).0 (asked_of_kept places c is_one)
+      by (Some c) there is_one = lists.all k c there (asked_of_kept places c is_one)
       by None there is_one = absurd (false≢true is_one)
 
-  listed_only : (IsAsked : Constraint → Type 0) (positions : List ℕ) → Listed IsAsked [] positions → (k : ℕ) → members_of positions k ≡ true → (part k ≡ true) × (k < length (constraints_of index))
-  listed_only IsAsked positions lists k is_in =
+  pub listed_below : (IsAsked : Constraint → Type 0) (positions : List ℕ) → Listed IsAsked [] positions → (k : ℕ) → members_of positions k ≡ true → k < length (constraints_of index)
+  listed_below IsAsked positions lists k is_in =
       elim (lists.only k is_in) [
         | inl never ↦ absurd (false≢true never)
         | inr there ↦ there
       ]
-
-  pub listed_within : (IsAsked : Constraint → Type 0) (positions : List ℕ) → Listed IsAsked [] positions → IsWithin (members_of positions) part
-  listed_within IsAsked positions lists k is_in = (listed_only IsAsked positions lists k is_in).0
-
-  pub listed_below : (IsAsked : Constraint → Type 0) (positions : List ℕ) → Listed IsAsked [] positions → (k : ℕ) → members_of positions k ≡ true → k < length (constraints_of index)
-  listed_below IsAsked positions lists k is_in = (listed_only IsAsked positions lists k is_in).1

@@ -4,9 +4,9 @@ use Rattle.std.proofs.lemmas.Option.{same_Some}
 use Rattle.deb_index.specs.declared.constraint.Constraint.{Constraint}
 use Rattle.deb_index.specs.Packages.{IndexView}
 use Rattle.deb_index.specs.Constraints.{constraints_of}
-use Rattle.sat_solve.specs.Sets.{NumberSet, members_of}
-use Rattle.sat_solve.proofs.SetLemmas.{first_once}
-use Rattle.sat_solve.proofs.RisingLists.{rising_once}
+use Rattle.number_sets.specs.Sets.{NumberSet, members_of}
+use Rattle.number_sets.proofs.SetLemmas.{first_once}
+use Rattle.number_sets.proofs.RisingLists.{rising_once}
 use Rattle.deb_health.specs.Health.{IsInstallation, AdmitsNone}
 use Rattle.deb_health.specs.Verdicts.{IsFirstInstallation, IsFirstCore}
 

@@ -4,13 +4,13 @@ use Rattle.std.proofs.lemmas.Bool.{or_left, eq-eqb}
 use Rattle.deb_index.specs.Packages.{IndexView, names, name_at, is_essential, places_of, essential_names, need_at}
 use Rattle.deb_index.specs.Meets.{group_satisfiers}
 use Rattle.deb_index.proofs.MemberLemmas.{rising-places_where, below-places_where}
-use Rattle.sat_solve.specs.Sets.{members_of}
+use Rattle.number_sets.specs.Sets.{members_of}
 use Rattle.deb_verdict.specs.Deriving.{row_of}
 use Rattle.deb_verdict.specs.declared.derivation.Outcome.TheVariants.{Forced}
-use Rattle.deb_encode.specs.PlaceSets.{Grows, with_place}
+use Rattle.number_sets.specs.SparseSets.{Grows, with_number}
 use Rattle.deb_verdict.proofs.Forcing.{member_answers}
 use Rattle.deb_encode.proofs.IndexFacts.{member_named, named_is_place, answers_is_place}
-use Rattle.deb_encode.proofs.Placing.{grows_with}
+use Rattle.number_sets.proofs.Placing.{grows_with}
 use Rattle.deb_encode.proofs.PlayLemmas.{rising_length}
 
 single_has : (only : ℕ) → members_of (only ∷ []) only ≡ true
@@ -34,5 +34,5 @@ module _ (index : IndexView) where
       rising_length (essential_names index) (rising-places_where (is_essential index) (names index)) (length (names index)) (below-places_where (is_essential index) (names index)) in
       omega (arith, few, ap length list_is)
 
-pub grows_inserted : (count place : ℕ) (before after : List ℕ) → after ≡ with_place before place → place < count → Grows count before after
+pub grows_inserted : (count place : ℕ) (before after : List ℕ) → after ≡ with_number before place → place < count → Grows count before after
 grows_inserted count place before after inserted inside = subst (λ list. Grows count before list) (sym inserted) (grows_with count before place inside)

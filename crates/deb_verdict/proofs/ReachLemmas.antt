@@ -9,18 +9,17 @@ use Rattle.std.proofs.lemmas.List.{get_or_past, drop_more, drop-append-le, drop_
 use Rattle.std.proofs.lemmas.List.Folds.{list_any_at, list_any-append, Any-from_list_any}
 use Rattle.deb_relation.specs.Relationship.{AtomText}
 use Rattle.deb_index.specs.Packages.{IndexView, PackageView, needs_at, names, name_at, essential_names, is_essential, places_of}
-use Rattle.deb_index.specs.Meets.{meets_need, group_satisfiers}
+use Rattle.deb_index.specs.Meets.{meets_need, meets_need_at, group_satisfiers}
 use Rattle.deb_index.specs.Constraints.{has_name, answers}
 use Rattle.deb_index.proofs.MemberLemmas.{below-places_where, member-places_where}
-use Rattle.sat_solve.specs.Sets.{NumberSet, members_of}
+use Rattle.number_sets.specs.Sets.{NumberSet, members_of, IsWithin, all_below}
 use Rattle.deb_verdict.specs.Closure.{IsClosed, IsClosure}
-use Rattle.core_extract.specs.Reduction.{IsWithin, all_below}
-use Rattle.deb_verdict.specs.Reach.{Joins, meeting, meeting_any, IsReaching}
-use Rattle.deb_encode.proofs.AddSteps.{take_whole, below_members}
+use Rattle.deb_verdict.specs.Reach.{Joins, meeting_any}
+use Rattle.number_sets.proofs.ListMembers.{take_whole, below_members}
 use Rattle.deb_encode.proofs.IndexFacts.{member_named, named_is_place, answers_is_place}
 use Rattle.deb_verdict.proofs.JoinLemmas.{joins_as, joins_both, joins_keep, joins_more}
-use Rattle.deb_encode.proofs.PlaceSetLemmas.{few_below}
-use Rattle.deb_verdict.proofs.Reaching.{IsVisit, visit_reaches, reached}
+use Rattle.number_sets.proofs.SparseSetLemmas.{few_below}
+use Rattle.deb_verdict.proofs.Reaching.{IsReaching, IsVisit, visit_reaches, reached}
 
 -- ---- what comes in
 
@@ -49,9 +48,9 @@ start_joined index p first last with_p list i past list_is with_names =
     (λ q. ap (list_any (has_name index q)) (take_whole list i past ∙ list_is)) with_names)
 
 -- a row of places that meet a group
-pub row_joined : (index : IndexView) (group : List AtomText) (row before after : List ℕ) → row ≡ group_satisfiers index group → Joins (members_of row) before after → Joins (meeting index group) before after
+pub row_joined : (index : IndexView) (group : List AtomText) (row before after : List ℕ) → row ≡ group_satisfiers index group → Joins (members_of row) before after → Joins (λ q. list_any (meets_need_at index q) group) before after
 row_joined index group row before after is_that joins =
-    joins_as (members_of row) (meeting index group) before after
+    joins_as (members_of row) (λ q. list_any (meets_need_at index q) group) before after
     (λ q. ap (λ list. members_of list q) is_that ∙ (member-places_where (λ item. list_any (meets_need index.arch item) group) index.packages q ∙ at_place (slice_get index.packages q) group)) joins
   where
     none : (group : List AtomText) → false ≡ list_any (λ atom. option_map_or (λ item. meets_need index.arch item atom) None false) group
@@ -69,15 +68,15 @@ row_joined index group row before after is_that joins =
 any_answer : (index : IndexView) (p j q : ℕ) → answers index p j q ≡ true → meeting_any index (needs_at index p) q ≡ true
 any_answer index p j q answered =
     elim (cases_lt j (length (needs_at index p))) [
-      | inl inside ↦ list_any_at (λ group. meeting index group q) (needs_at index p) j [] inside answered
-      | inr past ↦ absurd (false≢true (sym (ap (λ group. meeting index group q) (get_or_past (needs_at index p) j [] past)) ∙ answered))
+      | inl inside ↦ list_any_at (λ group. list_any (meets_need_at index q) group) (needs_at index p) j [] inside answered
+      | inr past ↦ absurd (false≢true (sym (ap (λ group. list_any (meets_need_at index q) group) (get_or_past (needs_at index p) j [] past)) ∙ answered))
     ]
 
 answered_by : (index : IndexView) (p q : ℕ) → meeting_any index (needs_at index p) q ≡ true → (j : ℕ) × (answers index p j q ≡ true)
 answered_by index p q met =
-    let at = Any-from_list_any (λ group. meeting index group q) (needs_at index p) met in
+    let at = Any-from_list_any (λ group. list_any (meets_need_at index q) group) (needs_at index p) met in
     let here : get_or (needs_at index p) at.0 [] ≡ at.1 = get_or_default (needs_at index p) at.0 [] at.1 at.2 ∙ at.3 in
-    (at.0, ap (λ group. meeting index group q) here ∙ at.4)
+    (at.0, ap (λ group. list_any (meets_need_at index q) group) here ∙ at.4)
 
 -- the members before a position are visited, those from it on are to be visited; none is there twice
 pub record IsVisitedTo (index : IndexView) (p : ℕ) (members : List ℕ) (visited : ℕ) : Type 0 where

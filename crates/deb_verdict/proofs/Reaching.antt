@@ -1,11 +1,16 @@
 -- A closure found by marking places and visiting each marked one.
-use Rattle.std.proofs.Common.{◌≡◌, ◌⊎◌, ℕ, true, false, ap, sym, ◌∙◌, inl, inr}
-use Rattle.deb_index.specs.Packages.{IndexView}
-use Rattle.deb_index.specs.Constraints.{answers}
-use Rattle.sat_solve.specs.Sets.{NumberSet}
-use Rattle.core_extract.specs.Reduction.{IsWithin}
-use Rattle.deb_verdict.specs.Closure.{IsClosure}
-use Rattle.deb_verdict.specs.Reach.{IsReaching}
+use Rattle.std.proofs.Common.{◌≡◌, ◌⊎◌, ℕ, true, false, Contains, ap, sym, ◌∙◌, inl, inr}
+use Rattle.deb_index.specs.Packages.{IndexView, essential_names}
+use Rattle.deb_index.specs.Constraints.{has_name, answers}
+use Rattle.number_sets.specs.Sets.{NumberSet, IsWithin}
+use Rattle.deb_verdict.specs.Closure.{IsClosed, IsClosure}
+
+-- the places that are in so far, and those of them that are still to be visited
+pub record IsReaching (index : IndexView) (p : ℕ) (marked waiting : NumberSet) : Type 0 where
+  pub start : marked p ≡ true
+  pub essential : (number q : ℕ) → Contains (essential_names index) number → has_name index q number ≡ true → marked q ≡ true
+  pub visited : (member j q : ℕ) → marked member ≡ true → waiting member ≡ false → answers index member j q ≡ true → marked q ≡ true
+  pub least : (other : NumberSet) → IsClosed index p other → IsWithin marked other
 
 -- a waiting place was visited: what answers it is marked, and what is new waits
 pub record IsVisit (index : IndexView) (place : ℕ) (marked waiting marked_then waiting_then : NumberSet) : Type 0 where

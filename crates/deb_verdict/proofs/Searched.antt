@@ -4,10 +4,10 @@ use Rattle.std.specs.List.Sorted.{IsStrictlyIncreasing, IsBinarySearchResult}
 use Rattle.std.specs.Ordering.{nat_cmp}
 use Rattle.std.proofs.lemmas.Bool.{cases_lt, lt-leb, false_from_ne_true}
 use Rattle.std.proofs.lemmas.List.Sorted.{searched}
-use Rattle.sat_solve.specs.Sets.{members_of}
+use Rattle.number_sets.specs.Sets.{members_of}
 use Rattle.core_extract.specs.Reduction.{left}
-use Rattle.sat_solve.proofs.ListMembers.{members_of_at, at_members_of}
-use Rattle.sat_solve.proofs.RisingLists.{rising_lt}
+use Rattle.number_sets.proofs.ListMembers.{members_of_at, at_members_of}
+use Rattle.number_sets.proofs.RisingLists.{rising_lt}
 
 never_falls : (xs : List ℕ) → IsStrictlyIncreasing xs → (i j : ℕ) → i ≤ j → j < length xs → get_or xs i 0 ≤ get_or xs j 0
 never_falls xs rising i j before inside =

@@ -10,11 +10,11 @@ use Rattle.deb_index.specs.Constraints.{constraints_of}
 use Rattle.deb_index.specs.Reading.{stanza_limit}
 use Rattle.deb_index.specs.Tables.{asked_count, asked_limit}
 use Rattle.deb_index.proofs.ConstraintLemmas.{constraints-few}
-use Rattle.sat_solve.specs.Sets.{NumberSet, members_of, IsFirst}
-use Rattle.sat_solve.proofs.SetLemmas.{first_within}
+use Rattle.number_sets.specs.Sets.{NumberSet, members_of, IsFirst, all_of, all_below}
+use Rattle.number_sets.proofs.SetLemmas.{first_within}
 use Rattle.deb_verdict.specs.Closure.{cut}
 use Rattle.deb_health.specs.Health.{IsInstallation, AdmitsNone}
-use Rattle.core_extract.specs.Reduction.{all_of, all_below, listed, IsRefutation}
+use Rattle.core_extract.specs.Reduction.{listed, IsRefutation}
 use Rattle.deb_verdict.proofs.Cutting.{healthy_from_meets}
 use Rattle.deb_encode.proofs.IndexFacts.{All-at}
 use Rattle.deb_verdict.proofs.Encoded.{sizes}
@@ -25,7 +25,7 @@ module _ (index : IndexView) (p : ℕ) where
   all_admit_none none admits = none admits.0 (healthy_from_meets index admits.0 all_of (λ k below. refl) admits.2, admits.1)
 
   -- positions behind the list keep out no set
-  none_in_list : (positions list : NumberSet) → ((k : ℕ) → k < length (constraints_of index) → list k ≡ true) → AdmitsNone index p positions → AdmitsNone index p (cut positions list)
+  pub none_in_list : (positions list : NumberSet) → ((k : ℕ) → k < length (constraints_of index) → list k ≡ true) → AdmitsNone index p positions → AdmitsNone index p (cut positions list)
   none_in_list positions list whole none admits =
       none (admits.0, admits.1, λ k constraint asked there. admits.2 k constraint (and_from (positions k) (list k) asked (whole k (slice_get_within (constraints_of index) k constraint there))) there)
 

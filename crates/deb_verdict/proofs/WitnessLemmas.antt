@@ -9,11 +9,12 @@ use Rattle.deb_index.specs.Meets.{satisfiers}
 use Rattle.deb_index.specs.Constraints.{Holds, IsOfIndex, constraints_of}
 use Rattle.deb_index.proofs.ConstraintLemmas.{constraints-within}
 use Rattle.deb_index.proofs.PositionLemmas.{one_position, essential_position}
-use Rattle.sat_solve.specs.Sets.{NumberSet, members_of}
+use Rattle.number_sets.specs.Sets.{NumberSet, members_of}
 use Rattle.deb_health.specs.Health.{MeetsAt}
-use Rattle.deb_verdict.specs.Meeting.{HasNoEarlier}
-use Rattle.deb_verdict.specs.Witnesses.{IsAsked, MeetsAsked, MeetsAskedOf, StandsOnce}
-use Rattle.sat_solve.proofs.ListMembers.{members_of_at, any_member, member_any, contains_member}
+use Rattle.deb_verdict.specs.Parts.{HasNoEarlier}
+use Rattle.deb_verdict.specs.declared.part.Part.{Part}
+use Rattle.deb_verdict.specs.Parts.{positions_in, IsAsked, MeetsAsked, MeetsAskedOf, StandsOnce}
+use Rattle.number_sets.proofs.ListMembers.{members_of_at, any_member, member_any, contains_member}
 use Rattle.deb_verdict.proofs.Healthy.{only_says, name_is}
 use Rattle.deb_encode.proofs.IndexFacts.{All-at, IsRight, all_right, member_named, member_satisfiers}
 use Rattle.deb_verdict.proofs.Names.{one_number}
@@ -52,45 +53,45 @@ module _ (index : IndexView) (set : NumberSet) where
 pub essential_is_name : (index : IndexView) (at number : ℕ) → slice_get (essential_names index) at ≡ Some number → number < length (names index)
 essential_is_name index at number there = All-at (IsOfIndex index) (constraints_of index) at (Essential number) (constraints-within index) (essential_position index at number there)
 
-module _ (index : IndexView) (set positions : NumberSet) where
+module _ (part : Part) (set : NumberSet) where
   -- nothing is asked where the constraint stands at no position of the part
-  pub unasked : (constraint : Constraint) (at : ℕ) (has : Bool) → slice_get (constraints_of index) at ≡ Some constraint → has ≡ positions at → has ≡ false → MeetsAsked index set positions constraint
+  pub unasked : (constraint : Constraint) (at : ℕ) (has : Bool) → slice_get (constraints_of part.index.now) at ≡ Some constraint → has ≡ positions_in part at → has ≡ false → MeetsAsked part set constraint
   unasked constraint at has there has_is lacks asked =
-      absurd (false≢true (sym lacks ∙ (has_is ∙ (ap positions (one_position index at asked.0 constraint there asked.2) ∙ asked.1))))
+      absurd (false≢true (sym lacks ∙ (has_is ∙ (ap (positions_in part) (one_position part.index.now at asked.0 constraint there asked.2) ∙ asked.1))))
 
-  pub unasked_essential : (at number : ℕ) (has : Bool) → slice_get (essential_names index) at ≡ Some number → has ≡ positions at → has ≡ false → MeetsAsked index set positions (Essential number)
-  unasked_essential at number has there = unasked (Essential number) at has (essential_position index at number there)
+  pub unasked_essential : (at number : ℕ) (has : Bool) → slice_get (essential_names part.index.now) at ≡ Some number → has ≡ positions_in part at → has ≡ false → MeetsAsked part set (Essential number)
+  unasked_essential at number has there = unasked (Essential number) at has (essential_position part.index.now at number there)
 
-  module _ (place number : ℕ) (within : number < length (names index)) (is : name_at index number ≡ (package_at index place).name) where
-    pub once_unasked : (at : ℕ) (has : Bool) → slice_get (constraints_of index) at ≡ Some (Only number) → has ≡ positions at → has ≡ false → StandsOnce index set positions place
+  module _ (place number : ℕ) (within : number < length (names part.index.now)) (is : name_at part.index.now number ≡ (package_at part.index.now place).name) where
+    pub once_unasked : (at : ℕ) (has : Bool) → slice_get (constraints_of part.index.now) at ≡ Some (Only number) → has ≡ positions_in part at → has ≡ false → StandsOnce part set place
     once_unasked at has there has_is lacks =
-        (number, within, is, λ asked. absurd (false≢true (sym lacks ∙ (has_is ∙ (ap positions (one_position index at asked.0 (Only number) there asked.2) ∙ asked.1)))))
+        (number, within, is, λ asked. absurd (false≢true (sym lacks ∙ (has_is ∙ (ap (positions_in part) (one_position part.index.now at asked.0 (Only number) there asked.2) ∙ asked.1)))))
 
-    pub once_held : HasNoEarlier index set place → StandsOnce index set positions place
+    pub once_held : HasNoEarlier part.index.now set place → StandsOnce part set place
     once_held none = (number, within, is, λ asked. none)
 
   -- ---- the whole part
 
-  pub essentials_held : (items : List ℕ) (count : ℕ) → items ≡ essential_names index → length items ≤ count
-      → ((k : ℕ) → k < count → MeetsAsked index set positions (Essential (get_or items k 0))) → (number : ℕ) → MeetsAsked index set positions (Essential number)
+  pub essentials_held : (items : List ℕ) (count : ℕ) → items ≡ essential_names part.index.now → length items ≤ count
+      → ((k : ℕ) → k < count → MeetsAsked part set (Essential (get_or items k 0))) → (number : ℕ) → MeetsAsked part set (Essential number)
   essentials_held items count items_is past each number asked =
       let listed : members_of items number ≡ true =
-      ap (λ list. members_of list number) items_is ∙ contains_member (essential_names index) number (All-at (IsRight index) (constraints_of index) asked.0 (Essential number) (all_right index) asked.2) in
-      of_members (λ n. MeetsAsked index set positions (Essential n)) items count past each number listed asked
+      ap (λ list. members_of list number) items_is ∙ contains_member (essential_names part.index.now) number (All-at (IsRight part.index.now) (constraints_of part.index.now) asked.0 (Essential number) (all_right part.index.now) asked.2) in
+      of_members (λ n. MeetsAsked part set (Essential n)) items count past each number listed asked
 
-  only_held : ((q : ℕ) → set q ≡ true → StandsOnce index set positions q) → (number : ℕ) → number < length (names index) → MeetsAsked index set positions (Only number)
+  only_held : ((q : ℕ) → set q ≡ true → StandsOnce part set q) → (number : ℕ) → number < length (names part.index.now) → MeetsAsked part set (Only number)
   only_held each number within asked =
-      (only_says index set number).0 (λ q is_place is_in.
+      (only_says part.index.now set number).0 (λ q is_place is_in.
       let once = each q is_in in
-      let named : name_at index number ≡ (package_at index q).name = name_is index q number (sym (member_named index number q) ∙ is_place) in
-      let same : number ≡ once.0 = one_number index number once.0 within once.1 (named ∙ sym once.2) in
-      let Asked : ℕ → Type 0 = λ n. IsAsked index positions (Only n) in
+      let named : name_at part.index.now number ≡ (package_at part.index.now q).name = name_is part.index.now q number (sym (member_named part.index.now number q) ∙ is_place) in
+      let same : number ≡ once.0 = one_number part.index.now number once.0 within once.1 (named ∙ sym once.2) in
+      let Asked : ℕ → Type 0 = λ n. IsAsked part (Only n) in
       once.3 (subst Asked same asked) is_in)
 
-  pub part_held : ((number : ℕ) → MeetsAsked index set positions (Essential number)) → ((q : ℕ) → set q ≡ true → MeetsAskedOf index set positions q) → MeetsAt index set positions
-  part_held essentials each k constraint has there = by constraint there (All-at (IsOfIndex index) (constraints_of index) k constraint (constraints-within index) there)
+  pub part_held : ((number : ℕ) → MeetsAsked part set (Essential number)) → ((q : ℕ) → set q ≡ true → MeetsAskedOf part set q) → MeetsAt part.index.now set (positions_in part)
+  part_held essentials each k constraint has there = by constraint there (All-at (IsOfIndex part.index.now) (constraints_of part.index.now) k constraint (constraints-within part.index.now) there)
     where
-      by : (c : Constraint) → slice_get (constraints_of index) k ≡ Some c → IsOfIndex index c → Holds index set c
+      by : (c : Constraint) → slice_get (constraints_of part.index.now) k ≡ Some c → IsOfIndex part.index.now c → Holds part.index.now set c
       by (Essential number) at of_index = essentials number (k, has, at)
       by (Need place j) at of_index = λ is_in. (each place is_in).needs j of_index.1 (k, has, at) is_in
       by (Apart place j) at of_index = λ is_in. (each place is_in).aparts j of_index.1 (k, has, at) is_in

@@ -5,8 +5,7 @@ use Rattle.deb_index.specs.declared.constraint.Constraint.{Constraint}
 use Rattle.deb_index.specs.declared.constraint.Constraint.TheVariants.{Essential, Need, Apart, Only}
 use Rattle.deb_index.specs.Packages.{IndexView, name_at, places_of, essential_names}
 use Rattle.deb_index.specs.Constraints.{constraints_of, has_name, answers}
-use Rattle.sat_solve.specs.Sets.{NumberSet}
-use Rattle.core_extract.specs.Reduction.{IsWithin}
+use Rattle.number_sets.specs.Sets.{NumberSet, IsWithin}
 
 -- the members of the one that the other has too
 abbrev pub cut : NumberSet → NumberSet → NumberSet

@@ -1,19 +1,38 @@
--- What is known of all healthy sets with a package, and parts of the index that are enough to look at.
-use Rattle.std.specs.Prelude.{◌≡◌, ◌⊎◌, ℕ, true, Contains}
-use Rattle.deb_index.specs.Packages.{IndexView, essential_names}
-use Rattle.deb_index.specs.Constraints.{has_name, answers}
-use Rattle.sat_solve.specs.Sets.{NumberSet}
-use Rattle.core_extract.specs.Reduction.{IsWithin}
-use Rattle.deb_health.specs.Health.{IsInstallation}
+-- Places and needs that a healthy set's forced places leave open.
+use Rattle.std.specs.Prelude.{◌≡◌, ◌⊎◌, ℕ, ◌<◌, true, List, All, Contains, length}
+use Rattle.std.specs.List.Sorted.{IsStrictlyIncreasing}
+use Rattle.deb_index.specs.declared.constraint.Constraint.TheVariants.{Need}
+use Rattle.deb_index.specs.Packages.{IndexView, essential_names, needs_at}
+use Rattle.deb_index.specs.Constraints.{has_name, answers, IsOfIndex}
+use Rattle.number_sets.specs.Sets.{NumberSet, members_of, IsWithin}
+use Rattle.number_sets.specs.SparseSets.{Grows}
+use Rattle.deb_encode.specs.Play.{places_in_play}
+use Rattle.deb_verdict.specs.declared.gather.UnmetNeed.{UnmetNeed}
+use Rattle.deb_verdict.specs.declared.gather.Candidates.{Candidates}
 
--- each healthy set with p has all these places
-abbrev pub Follows : IndexView → ℕ → NumberSet → Type 0
-Follows index p forced = (set : NumberSet) → IsInstallation index p set → IsWithin forced set
+-- each essential name has a forced place, or else all of its places are in
+abbrev pub HasNames : IndexView → NumberSet → NumberSet → Type 0
+HasNames index forced within =
+    (name : ℕ) → Contains (essential_names index) name
+    → ((q : ℕ) × (forced q ≡ true) × (has_name index q name ≡ true)) ⊎ IsWithin (λ q. has_name index q name) within
 
--- a part of the places in which a forced place answers each need of a member, or else all that may answer it are members too
-pub record IsEnough (index : IndexView) (forced within : NumberSet) : Type 0 where
-  pub has_forced : IsWithin forced within
-  pub essential : (number : ℕ) → Contains (essential_names index) number
-      → ((q : ℕ) × (forced q ≡ true) × (has_name index q number ≡ true)) ⊎ ((q : ℕ) → has_name index q number ≡ true → within q ≡ true)
-  pub answered : (member j : ℕ) → within member ≡ true
-      → ((q : ℕ) × (forced q ≡ true) × (answers index member j q ≡ true)) ⊎ ((q : ℕ) → answers index member j q ≡ true → within q ≡ true)
+-- a forced place answers the need, or else all that may answer it are candidates, and it is listed
+abbrev pub IsTold : IndexView → NumberSet → Candidates → ℕ → ℕ → Type 0
+IsTold index forced candidates place j =
+    ((q : ℕ) × (forced q ≡ true) × (answers index place j q ≡ true))
+    ⊎ (IsWithin (answers index place j) (members_of candidates.places) × Contains candidates.unmet.items (record { place = place; number = j }))
+
+-- candidates and needs of the index came, so that each need that is asked for is told
+pub record Gathers (index : IndexView) (forced : NumberSet) (Asked : ℕ → ℕ → Type 0) (before after : Candidates) : Type 0 where
+  pub grows : Grows (length index.packages) before.places after.places
+  pub keeps : (need : UnmetNeed) → Contains before.unmet.items need → Contains after.unmet.items need
+  pub needs : All (λ need. IsOfIndex index (Need need.place need.number)) before.unmet.items → All (λ need. IsOfIndex index (Need need.place need.number)) after.unmet.items
+  pub told : (place j : ℕ) → j < length (needs_at index place) → Asked place j → IsTold index forced after place j
+
+-- the candidates, rising, are enough beside the forced places, and all needs that these leave open are listed
+pub record IsGathered (index : IndexView) (forced : NumberSet) (candidates : Candidates) : Type 0 where
+  pub rising : IsStrictlyIncreasing candidates.places
+  pub within : All (λ q. q < length index.packages) candidates.places
+  pub names : HasNames index forced (members_of candidates.places)
+  pub needs : All (λ need. IsOfIndex index (Need need.place need.number)) candidates.unmet.items
+  pub told : (place j : ℕ) → j < length (needs_at index place) → places_in_play forced candidates.places place ≡ true → IsTold index forced candidates place j

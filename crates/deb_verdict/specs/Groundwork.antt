@@ -1,20 +1,21 @@
 -- What is known of an index before any of its packages is asked for.
-use Rattle.std.specs.Prelude.{◌≡◌, ℕ, ◌<◌, true, length}
+use Rattle.std.specs.Prelude.{◌≡◌, ℕ, ◌<◌, true, List, length}
 use Rattle.std.specs.List.{list_any}
 use Rattle.deb_index.specs.Packages.{IndexView, needs_at, need_at}
 use Rattle.deb_index.specs.Meets.{group_satisfiers}
-use Rattle.deb_index.specs.Constraints.{answers}
-use Rattle.sat_solve.specs.Sets.{NumberSet}
-use Rattle.deb_verdict.specs.Gathering.{Follows}
+use Rattle.number_sets.specs.Sets.{NumberSet, members_of, IsWithin}
+use Rattle.number_sets.specs.SparseSets.{Grows}
+use Rattle.deb_health.specs.Health.{IsHealthy}
 
--- whatever package is asked for, these places are in every set with it that meets all constraints
+-- each healthy set has these places
 abbrev pub IsInAll : IndexView → NumberSet → Type 0
-IsInAll index forced = (p : ℕ) → Follows index p forced
+IsInAll index forced = (set : NumberSet) → IsHealthy index set → IsWithin forced set
 
--- each need of the place is answered by a place that is in
-abbrev pub IsMet : IndexView → NumberSet → ℕ → Type 0
-IsMet index forced place = (j : ℕ) → j < length (needs_at index place) → (q : ℕ) × (forced q ≡ true) × (answers index place j q ≡ true)
+-- places came to the list; each healthy set that has what it had has all that it has now
+pub record KeepsForced (index : IndexView) (before after : List ℕ) : Type 0 where
+  pub grows : Grows (length index.packages) before after
+  pub forced : (set : NumberSet) → IsHealthy index set → IsWithin (members_of before) set → IsWithin (members_of after) set
 
--- the same by the rows of the needs: a fact with one proof at most, so that a struct may keep it
+-- each need of the place is answered by a place that is in: by the rows of the needs, so that this has one proof at most and a struct may keep it
 abbrev pub HasAnswers : IndexView → NumberSet → ℕ → Type 0
 HasAnswers index forced place = (j : ℕ) → j < length (needs_at index place) → list_any forced (group_satisfiers index (need_at index place j)) ≡ true

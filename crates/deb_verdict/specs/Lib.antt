@@ -1,12 +1,13 @@
+-- what public contracts cite, with the definitions of deb_health
 pub mod Closure
+pub mod Told
+-- ---- the inside: what contracts of single functions cite
 pub mod Deriving
 pub mod Encoding
+pub mod Formulas
 pub mod Gathering
 pub mod Groundwork
-pub mod Growing
 pub mod Hopeless
 pub mod Listing
-pub mod Meeting
+pub mod Parts
 pub mod Reach
-pub mod Unmet
-pub mod Witnesses

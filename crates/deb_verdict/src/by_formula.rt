@@ -1,13 +1,14 @@
-//! Whether a part of the constraints admits a package, by a formula.
+//! The formula of a package that no healthy set has: it is made once, and says of each part of the constraints whether a set with the package
+//! meets it.
 
-ghost use Rattle.std.specs.Prelude.{◌≡◌, ◌<◌, ◌^◌, true, false, IfOk, OnOk, length};
-ghost use Rattle.std.specs.List.Sorted.{IsStrictlyIncreasing};
-ghost use Rattle.sat_solve.specs.Sets.{members_of};
-ghost use Rattle.deb_verdict.specs.Encoding.{IsChosen};
+ghost use Rattle.std.specs.Prelude.{◌≡◌, ◌<◌, true, false, IfOk, OnOk, length, map};
+ghost use Rattle.std.specs.Option.{ForSome};
+ghost use Rattle.number_sets.specs.Sets.{members_of};
 ghost use Rattle.deb_health.specs.Health.{AdmitsNone};
-ghost use Rattle.deb_verdict.specs.Listing.{TellsPart};
-ghost use Rattle.core_extract.specs.Reduction.{left, IsRefutation};
+ghost use Rattle.deb_verdict.specs.Parts.{positions_in, IsRefutedBy};
+ghost use Rattle.deb_verdict.specs.Formulas.{IsChosen, Tells};
 
+use crate::core_formula::CoreFormula;
 use crate::first_set::count_of;
 use crate::kept_positions::{list_constraints, list_positions};
 use crate::part::Part;
@@ -15,85 +16,62 @@ use crate::reach::reach;
 use crate::workspace::Workspace;
 use deb_encode::{Play, encode_each};
 use deb_index::Index;
+use number_sets::SparseSet;
+use sat_solve::Formula;
 use std::alloc::{AllocError, Global};
 
-/// Whether a part of the constraints admits no set with the package at a place. Where it admits none, the workspace's `used` then has, rising,
-/// the positions of constraints of the part that already do; where it admits one, `used` stays.
-///
-/// Constraints that speak of nothing in the package's closure don't matter: the formula has a group for each of the others.
-pub(crate) fn refute_by_formula(
+/// Makes the formula of a package: it has a variable for each place of the package's closure, and a group for each constraint that speaks of
+/// one. Other constraints don't matter.
+fn describe(
     alloc: Global,
     index: &Index,
-    part: Part<'_>,
     p: u32,
     workspace: &mut Workspace,
-) -> Result<bool, AllocError>
+) -> Result<CoreFormula, AllocError>
     requires { p < length index.now.packages }
-    ensures refuted { IfOk result (λ refuted. refuted ≡ true → IsRefutation (AdmitsNone index.now p) (left (members_of part.entry.kept.now) part.entry.rest) (members_of workspace.new.used.items)) }
-    ensures rising { IfOk result (λ refuted. refuted ≡ true → IsStrictlyIncreasing workspace.new.used.items) }
-    ensures admitted { IfOk result (λ refuted. refuted ≡ false → AdmitsNone index.now p (left (members_of part.entry.kept.now) part.entry.rest) → ⊥) }
-    ensures still { IfOk result (λ refuted. refuted ≡ false → workspace.new.used ≡ workspace.old.used) }
-{
-    describe_part(alloc, index, part, p, workspace)?;
-    let must = workspace.candidates.number_of(p).unwrap();
-    workspace.keep.clear();
-    workspace.keep.resize(workspace.positions.len(), true)?;
-    let found = workspace.formula.solve_marked(
-        alloc,
-        &mut workspace.solver,
-        &workspace.keep,
-        must as u32,
-        &mut workspace.marks,
-    )?;
-    match found {
-        Some(_) => Ok(false),
-        None => {
-            take_marked(&workspace.positions, &workspace.marks, &mut workspace.used)?;
-            Ok(true)
-        }
-    }
-}
-
-/// The workspace's formula becomes that of a part, over the closure of a package, which are the workspace's candidates then: nothing is forced.
-fn describe_part(
-    alloc: Global,
-    index: &Index,
-    part: Part<'_>,
-    p: u32,
-    workspace: &mut Workspace,
-) -> Result<(), AllocError>
-    requires { p < length index.now.packages }
-    ensures tells { OnOk result (TellsPart index.now p (left (members_of part.entry.kept.now) part.entry.rest) workspace.new.candidates workspace.new.positions.items workspace.new.formula) }
-    ensures few { OnOk result (length workspace.new.candidates < 2 ^ 32) }
+    ensures tells { IfOk result (Tells index.now p) }
     ensures still { OnOk result (workspace.new.used ≡ workspace.old.used) }
 {
-    reach(alloc, index, p, &mut workspace.candidates)?;
-    workspace.candidates.sort();
-    let members = workspace.candidates.as_slice();
-    list_positions(index, part, members, &mut workspace.positions)?;
-    list_constraints(index, &workspace.positions, &mut workspace.constraints)?;
-    let vars = count_of(index, members);
-    let groups = workspace.positions.len() as u32;
-    workspace.formula.restart(vars, groups);
-    workspace.forced.clear();
-    let play = Play::new(index, &workspace.forced, &workspace.candidates, &[]);
+    let nothing = SparseSet::new(alloc);
+    let mut positions = Vec::new(alloc);
+    reach(alloc, index, p, &mut workspace.closure)?;
+    workspace.closure.sort();
+    let members = workspace.closure.as_slice();
+    list_positions(index, members, &mut positions)?;
+    list_constraints(index, &positions, &mut workspace.constraints)?;
+    let mut formula = Formula::new(alloc, count_of(index, members), positions.len() as u32)?;
+    let play = Play::new(index, &nothing, &workspace.closure, &[]);
     encode_each(
         &play,
         &workspace.constraints,
         &mut workspace.clause,
         &mut workspace.found,
         &mut workspace.versions,
-        &mut workspace.formula,
+        &mut formula,
     )?;
+    let must = workspace.closure.position_of(p).unwrap();
+    Ok(CoreFormula {
+        positions,
+        formula,
+        must: must as u32,
+    })
+}
+
+/// Marks the positions that a part has.
+fn mark_kept(part: &Part<'_>, positions: &[u32], keep: &mut Vec<bool>) -> Result<(), AllocError>
+    ensures { OnOk result (keep.new.items ≡ map (positions_in part.now) positions.now) }
+{
+    keep.clear();
+    for position in positions {
+        keep.push(part.has(*position))?;
+    }
     Ok(())
 }
 
 /// Lists the positions of marked groups.
 fn take_marked(positions: &[u32], marks: &[bool], used: &mut Vec<u32>) -> Result<(), AllocError>
-    requires rising { IsStrictlyIncreasing positions.now }
-    requires sized { length marks.now ≡ length positions.now }
-    ensures rising { OnOk result (IsStrictlyIncreasing used.new.items) }
-    ensures chosen { OnOk result (IsChosen positions.now marks.now (members_of used.new.items)) }
+    requires { length marks.now ≡ length positions.now }
+    ensures { OnOk result (IsChosen positions.now marks.now (members_of used.new.items)) }
 {
     used.clear();
     for group in 0..positions.len() {
@@ -102,4 +80,76 @@ fn take_marked(positions: &[u32], marks: &[bool], used: &mut Vec<u32>) -> Result
         }
     }
     Ok(())
+}
+
+/// Whether a part admits no set with the package whose formula this is.
+fn refute_described(
+    alloc: Global,
+    part: &Part<'_>,
+    p: u32,
+    described: &CoreFormula,
+    workspace: &mut Workspace,
+) -> Result<bool, AllocError>
+    requires { Tells part.now.index.now p described.now }
+    ensures refuted { IfOk result (λ refuted. refuted ≡ true → IsRefutedBy workspace.new.used.items part.now p) }
+    ensures admitted { IfOk result (λ refuted. refuted ≡ false → AdmitsNone part.now.index.now p (positions_in part.now) → ⊥) }
+    ensures still { IfOk result (λ refuted. refuted ≡ false → workspace.new.used ≡ workspace.old.used) }
+{
+    mark_kept(part, &described.positions, &mut workspace.keep)?;
+    let found = described.formula.solve_marked(
+        alloc,
+        &mut workspace.solver,
+        &workspace.keep,
+        described.must,
+        &mut workspace.marks,
+    )?;
+    if found.is_some() {
+        return Ok(false);
+    }
+    take_marked(&described.positions, &workspace.marks, &mut workspace.used)?;
+    Ok(true)
+}
+
+/// Takes the formula of a package, which is made where it isn't there yet.
+fn take_formula(
+    alloc: Global,
+    index: &Index,
+    p: u32,
+    formula: &mut Option<CoreFormula>,
+    workspace: &mut Workspace,
+) -> Result<CoreFormula, AllocError>
+    requires place { p < length index.now.packages }
+    requires formula { ForSome formula.old (Tells index.now p) }
+    ensures formula { ForSome formula.new (Tells index.now p) }
+    ensures tells { IfOk result (Tells index.now p) }
+    ensures still { OnOk result (workspace.new.used ≡ workspace.old.used) }
+{
+    match formula.take() {
+        Some(described) => Ok(described),
+        None => describe(alloc, index, p, workspace),
+    }
+}
+
+/// Whether a part of the constraints admits no set with the package at a place. Where it admits none, the workspace's `used` then has the
+/// positions of constraints of the part that already do; where it admits one, `used` stays.
+///
+/// The package's formula is made where it isn't there yet.
+pub(crate) fn refute_by_formula(
+    alloc: Global,
+    part: &Part<'_>,
+    p: u32,
+    formula: &mut Option<CoreFormula>,
+    workspace: &mut Workspace,
+) -> Result<bool, AllocError>
+    requires place { p < length part.now.index.now.packages }
+    requires formula { ForSome formula.old (Tells part.now.index.now p) }
+    ensures formula { ForSome formula.new (Tells part.now.index.now p) }
+    ensures refuted { IfOk result (λ refuted. refuted ≡ true → IsRefutedBy workspace.new.used.items part.now p) }
+    ensures admitted { IfOk result (λ refuted. refuted ≡ false → AdmitsNone part.now.index.now p (positions_in part.now) → ⊥) }
+    ensures still { IfOk result (λ refuted. refuted ≡ false → workspace.new.used ≡ workspace.old.used) }
+{
+    let described = take_formula(alloc, part.index, p, formula, workspace)?;
+    let refuted = refute_described(alloc, part, p, &described, workspace)?;
+    *formula = Some(described);
+    Ok(refuted)
 }

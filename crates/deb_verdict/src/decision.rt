@@ -1,21 +1,25 @@
 //! The closure and the verdict of a package: whether some set of packages of the index contains it and meets every dependency of a
 //! member and no conflict, and what stands in its way (Debian Policy 7.2 to 7.5; dose-debcheck(1)).
 
-ghost use Rattle.std.specs.Prelude.{◌<◌, IfOk, length};
+ghost use Rattle.std.specs.Prelude.{◌≡◌, ◌<◌, false, true, All, IfNone, IfOk, IfSome, length};
 ghost use Rattle.std.specs.List.Sorted.{IsStrictlyIncreasing};
-ghost use Rattle.sat_solve.specs.Sets.{members_of};
+ghost use Rattle.number_sets.specs.Sets.{members_of};
+ghost use Rattle.deb_index.specs.Constraints.{IsOfIndex};
 ghost use Rattle.deb_verdict.specs.Closure.{IsClosure};
-ghost use Rattle.deb_verdict.specs.Hopeless.{IsHopeless};
+ghost use Rattle.deb_verdict.specs.Told.{IsToldCore, IsToldSet, IsToldVerdict};
+ghost use Rattle.deb_health.specs.Health.{IsHopeless, IsInstallable};
 ghost use Rattle.deb_health.specs.Verdicts.{IsVerdict, SpeaksOf, verdict_view};
 
 use crate::first_core::first_core;
 use crate::first_set::first_set;
 use crate::groundwork::Groundwork;
+use crate::installable::is_seen_installable;
 use crate::reach::reach;
+use crate::wanted::Wanted;
 use crate::workspace::Workspace;
-use deb_encode::PlaceSet;
 use deb_health::Verdict;
-use deb_index::Index;
+use deb_index::{Constraint, Index};
+use number_sets::SparseSet;
 use std::alloc::{AllocError, Global};
 
 /// The dependency closure of the package at a place: the least set of places that has it, all packages of essential names, and with each
@@ -28,7 +32,7 @@ pub fn closure(alloc: Global, index: &Index, p: u32) -> Result<Vec<u32>, AllocEr
     ensures rising { IfOk result (λ members. IsStrictlyIncreasing members.items) }
     ensures least { IfOk result (λ members. IsClosure index.now p (members_of members.items)) }
 {
-    let mut members = PlaceSet::new(alloc);
+    let mut members = SparseSet::new(alloc);
     reach(alloc, index, p, &mut members)?;
     members.sort();
     Vec::from_slice(alloc, members.as_slice())
@@ -48,20 +52,99 @@ pub fn verdict(alloc: Global, index: &Index, p: u32) -> Result<Verdict, AllocErr
     verdict_in(alloc, &mut workspace, &groundwork, p)
 }
 
-/// The verdict of a package that no healthy set has.
-fn broken(
+/// Whether some healthy set has the package at a place of the index of a groundwork: `true` exactly where one has it.
+///
+/// It is found in the buffers of an earlier verdict, of whatever package and index, without a search where a set is seen at once. `p` is
+/// below the index's `len()`. The one error is want of memory.
+pub fn is_installable_in(
+    alloc: Global,
+    workspace: &mut Workspace,
+    groundwork: &Groundwork<'_>,
+    p: u32,
+) -> Result<bool, AllocError>
+    requires { p < length groundwork.now.index.now.packages }
+    ensures has { IfOk result (λ found. found ≡ true → IsInstallable groundwork.now.index.now p) }
+    ensures lacks { IfOk result (λ found. found ≡ false → IsHopeless groundwork.now.index.now p) }
+{
+    if groundwork.is_hopeless(p) {
+        return Ok(false);
+    }
+    if is_seen_installable(groundwork, p, &mut workspace.installation)? {
+        return Ok(true);
+    }
+    let found = first_set(alloc, workspace, groundwork, p)?;
+    Ok(found.is_some())
+}
+
+/// The places of the first healthy set that has the package at a place, or none where sets are not told. `None` where no healthy set has it.
+fn told_set(
+    alloc: Global,
+    workspace: &mut Workspace,
+    groundwork: &Groundwork<'_>,
+    p: u32,
+    sets: bool,
+) -> Result<Option<Vec<u32>>, AllocError>
+    requires { p < length groundwork.now.index.now.packages }
+    ensures told { IfOk result (λ found. IfSome found (λ places. IsToldSet sets groundwork.now.index.now p places.items)) }
+    ensures within { IfOk result (λ found. IfSome found (λ places. All (λ place. place < length groundwork.now.index.now.packages) places.items)) }
+    ensures none { IfOk result (λ found. IfNone found (IsHopeless groundwork.now.index.now p)) }
+{
+    if sets {
+        if groundwork.is_hopeless(p) {
+            return Ok(None);
+        }
+        return first_set(alloc, workspace, groundwork, p);
+    }
+    if is_installable_in(alloc, workspace, groundwork, p)? {
+        Ok(Some(Vec::new(alloc)))
+    } else {
+        Ok(None)
+    }
+}
+
+/// The first core of a package that no healthy set has, or no constraints where cores are not told.
+fn told_core(
     alloc: Global,
     workspace: &mut Workspace,
     index: &Index,
     p: u32,
-) -> Result<Verdict, AllocError>
+    cores: bool,
+) -> Result<Vec<Constraint>, AllocError>
     requires place { p < length index.now.packages }
     requires hopeless { IsHopeless index.now p }
-    ensures verdict { IfOk result (λ found. IsVerdict index.now p (verdict_view found)) }
-    ensures within { IfOk result (λ found. SpeaksOf index.now (verdict_view found)) }
+    ensures told { IfOk result (λ core. IsToldCore cores index.now p core.items) }
+    ensures within { IfOk result (λ core. All (IsOfIndex index.now) core.items) }
 {
-    let core = first_core(alloc, workspace, index, p)?;
-    Ok(Verdict::Broken(core))
+    if cores {
+        first_core(alloc, workspace, index, p)
+    } else {
+        Ok(Vec::new(alloc))
+    }
+}
+
+/// As much of a verdict as is wanted, of the package at a place of the index of a groundwork: whether it can be installed, and then its set or its
+/// core where these are told. Where no set is told none need be found, and where no core is, none is looked for.
+///
+/// It is found in the buffers of an earlier verdict, of whatever package and index, which change no answer. `p` is below the index's `len()`. The
+/// one error is want of memory.
+pub fn told_verdict_in(
+    alloc: Global,
+    workspace: &mut Workspace,
+    groundwork: &Groundwork<'_>,
+    p: u32,
+    wanted: Wanted,
+) -> Result<Verdict, AllocError>
+    requires { p < length groundwork.now.index.now.packages }
+    ensures told { IfOk result (λ found. IsToldVerdict wanted groundwork.now.index.now p (verdict_view found)) }
+    ensures within { IfOk result (λ found. SpeaksOf groundwork.now.index.now (verdict_view found)) }
+{
+    match told_set(alloc, workspace, groundwork, p, wanted.sets)? {
+        Some(places) => Ok(Verdict::Ok(places)),
+        None => {
+            let core = told_core(alloc, workspace, groundwork.index, p, wanted.cores)?;
+            Ok(Verdict::Broken(core))
+        }
+    }
 }
 
 /// What `verdict` gives for the index of a groundwork, found in the buffers of an earlier verdict, of whatever package and index.
@@ -78,11 +161,5 @@ pub fn verdict_in(
     ensures verdict { IfOk result (λ found. IsVerdict groundwork.now.index.now p (verdict_view found)) }
     ensures within { IfOk result (λ found. SpeaksOf groundwork.now.index.now (verdict_view found)) }
 {
-    if groundwork.is_hopeless(p) {
-        return broken(alloc, workspace, groundwork.index, p);
-    }
-    match first_set(alloc, workspace, groundwork, p)? {
-        Some(places) => Ok(Verdict::Ok(places)),
-        None => broken(alloc, workspace, groundwork.index, p),
-    }
+    told_verdict_in(alloc, workspace, groundwork, p, Wanted::everything())
 }

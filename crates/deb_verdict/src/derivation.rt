@@ -1,16 +1,16 @@
 //! A refutation of a part of the constraints as a list of steps, and its check.
 
 ghost use Rattle.std.specs.Prelude.{◌≡◌, ◌≢◌, ℕ, ◌<◌, true, IfOk, IfSome, length};
-ghost use Rattle.sat_solve.specs.Sets.{NumberSet, members_of};
+ghost use Rattle.number_sets.specs.Sets.{NumberSet, members_of};
 ghost use Rattle.deb_index.specs.Packages.{names, name_at, places_of, needs_at, aparts_at, need_at};
 ghost use Rattle.deb_index.specs.Meets.{group_satisfiers};
 ghost use Rattle.deb_health.specs.Health.{AdmitsNone};
-ghost use Rattle.core_extract.specs.Reduction.{left, IsRefutation};
+ghost use Rattle.deb_verdict.specs.Parts.{IsRefutedBy};
 ghost use Rattle.deb_verdict.specs.Deriving.{row_of, Gives};
 
 use crate::part::Part;
-use deb_encode::PlaceSet;
 use deb_index::Index;
+use number_sets::SparseSet;
 use std::alloc::AllocError;
 
 /// A step of a refutation: a constraint, and the places that it is held against.
@@ -100,7 +100,7 @@ fn by_essential(index: &Index, number: u32) -> Option<Conclusion>
 }
 
 /// What a need gives where its owner is in.
-fn by_need(index: &Index, place: u32, number: u32, forced: &PlaceSet) -> Option<Conclusion>
+fn by_need(index: &Index, place: u32, number: u32, forced: &SparseSet) -> Option<Conclusion>
     ensures { IfSome result (λ found. Gives index.now (members_of forced.now) found.position found.outcome) }
 {
     if !has_need(index, place, number) || !forced.contains(place) {
@@ -114,7 +114,7 @@ fn by_need(index: &Index, place: u32, number: u32, forced: &PlaceSet) -> Option<
 }
 
 /// Whether two places are in, and are not one.
-fn are_two(forced: &PlaceSet, first: u32, second: u32) -> bool
+fn are_two(forced: &SparseSet, first: u32, second: u32) -> bool
     ensures { result ≡ true → (members_of forced.now first ≡ true) × (members_of forced.now second ≡ true) × (second ≢ first) }
 {
     second != first && forced.contains(first) && forced.contains(second)
@@ -126,7 +126,7 @@ fn by_apart(
     place: u32,
     number: u32,
     other: u32,
-    forced: &PlaceSet,
+    forced: &SparseSet,
 ) -> Option<Conclusion>
     ensures { IfSome result (λ found. Gives index.now (members_of forced.now) found.position found.outcome) }
 {
@@ -143,7 +143,7 @@ fn by_apart(
 }
 
 /// What it gives that no name is there twice, where two places of one name are in.
-fn by_only(index: &Index, first: u32, second: u32, forced: &PlaceSet) -> Option<Conclusion>
+fn by_only(index: &Index, first: u32, second: u32, forced: &SparseSet) -> Option<Conclusion>
     ensures { IfSome result (λ found. Gives index.now (members_of forced.now) found.position found.outcome) }
 {
     if first >= index.len() || second >= index.len() {
@@ -160,7 +160,7 @@ fn by_only(index: &Index, first: u32, second: u32, forced: &PlaceSet) -> Option<
 }
 
 /// What a step gives for the places that are in; `None` where it doesn't hold of them.
-fn conclude(index: &Index, step: Step, forced: &PlaceSet) -> Option<Conclusion>
+fn conclude(index: &Index, step: Step, forced: &SparseSet) -> Option<Conclusion>
     ensures { IfSome result (λ found. Gives index.now (members_of forced.now) found.position found.outcome) }
 {
     match step {
@@ -174,20 +174,19 @@ fn conclude(index: &Index, step: Step, forced: &PlaceSet) -> Option<Conclusion>
 /// Whether the steps, each with a constraint of the part, lead from the package at a place to a contradiction. `positions` then has their
 /// constraints; `forced` is a buffer.
 pub(crate) fn is_refutation(
-    index: &Index,
-    part: Part<'_>,
+    part: &Part<'_>,
     p: u32,
     steps: &[Step],
-    forced: &mut PlaceSet,
+    forced: &mut SparseSet,
     positions: &mut Vec<u32>,
 ) -> Result<bool, AllocError>
-    ensures { IfOk result (λ holds. holds ≡ true → IsRefutation (AdmitsNone index.now p) (left (members_of part.entry.kept.now) part.entry.rest) (members_of positions.new.items)) }
+    ensures { IfOk result (λ holds. holds ≡ true → IsRefutedBy positions.new.items part.now p) }
 {
     forced.clear();
     forced.insert(p)?;
     positions.clear();
     for step in steps {
-        let Some(found) = conclude(index, *step, forced) else {
+        let Some(found) = conclude(part.index, *step, forced) else {
             return Ok(false);
         };
         if !part.has(found.position) {

@@ -1,26 +1,25 @@
 //! The constraints of an index as clauses over the places in play, which hold in just the healthy sets.
 
 ghost use Rattle.std.specs.Prelude.{◌≡◌, ℕ, ◌<◌, [], true, All, OnOk, length};
-ghost use Rattle.std.specs.List.Sorted.{IsStrictlyIncreasing};
-ghost use Rattle.deb_index.specs.Constraints.{Holds};
-ghost use Rattle.sat_solve.specs.Sets.{members_of};
+ghost use Rattle.deb_index.specs.Constraints.{Holds, IsOfIndex};
+ghost use Rattle.number_sets.specs.Sets.{members_of};
 ghost use Rattle.deb_encode.specs.Encoders.{Tells};
-ghost use Rattle.deb_encode.specs.Play.{places_in_play};
 ghost use Rattle.deb_verdict.specs.Encoding.{IsDescription};
-ghost use Rattle.deb_verdict.specs.Unmet.{IsUnmet, AreUnmet};
+ghost use Rattle.deb_verdict.specs.Gathering.{IsGathered};
 
+use crate::gather::{Candidates, UnmetNeed};
 use crate::groundwork::Groundwork;
-use crate::unmet::UnmetNeed;
-use deb_encode::{Encoder, PlaceSet, Play, Rivals, Versions};
+use deb_encode::{Encoder, Play, Rivals, Versions};
 use deb_index::Constraint;
+use number_sets::SparseSet;
 use sat_solve::{Formula, Lit};
 use std::alloc::AllocError;
 
 /// Adds what these needs say.
 fn add_needs(encoder: &mut Encoder<'_>, unmet: &[UnmetNeed]) -> Result<(), AllocError>
-    requires { All (IsUnmet encoder.old.play.index.now (members_of encoder.old.play.forced.now)) unmet.now }
+    requires { All (λ need. IsOfIndex encoder.old.play.index.now (Constraint.Need need.place need.number)) unmet.now }
     ensures same_formula { encoder.new.formula.ghost_name ≡ encoder.old.formula.ghost_name }
-    ensures adds { OnOk result (Tells (λ play set. All (λ need. Holds play.index.now set (Constraint.Need need.place need.number)) unmet.now) encoder.old encoder.new) }
+    ensures adds { OnOk result (Tells (λ p set. All (λ need. Holds p.index.now set (Constraint.Need need.place need.number)) unmet.now) encoder.old encoder.new) }
 {
     for need in unmet {
         encoder.add_need(need.place, need.number)?;
@@ -31,29 +30,31 @@ fn add_needs(encoder: &mut Encoder<'_>, unmet: &[UnmetNeed]) -> Result<(), Alloc
 /// Adds the clauses of all constraints of the essential names and of the places in play, in one group: they hold in just the sets of
 /// variables whose places are healthy.
 ///
-/// `unmet` has the needs of these places that no forced place answers. What stands between it and the formula are buffers.
+/// What stands between the candidates and the formula are buffers.
 pub(crate) fn describe(
     groundwork: &Groundwork<'_>,
-    forced: &PlaceSet,
-    candidates: &PlaceSet,
-    unmet: &[UnmetNeed],
+    forced: &SparseSet,
+    candidates: &Candidates,
     clause: &mut Vec<Lit>,
     found: &mut Vec<u32>,
     rivals: &mut Rivals,
     versions: &mut Versions,
     formula: &mut Formula,
 ) -> Result<(), AllocError>
-    requires empty { formula.old ≡ record { vars = length candidates.now; groups = 1; clauses = [] } }
-    requires unmet { AreUnmet groundwork.now.index.now (members_of forced.now) (places_in_play (members_of forced.now) candidates.now) unmet.now }
+    requires empty { formula.old ≡ record { vars = length candidates.now.places; groups = 1; clauses = [] } }
+    requires gathered { IsGathered groundwork.now.index.now (members_of forced.now) candidates.now }
     requires forced_within { All (λ q. q < length groundwork.now.index.now.packages) forced.now }
-    requires candidates_within { All (λ q. q < length groundwork.now.index.now.packages) candidates.now }
-    requires rising { IsStrictlyIncreasing candidates.now }
-    ensures { OnOk result (IsDescription groundwork.now.index.now forced.now candidates.now formula.new) }
+    ensures { OnOk result (IsDescription groundwork.now.index.now forced.now candidates.now.places formula.new) }
 {
-    let play = Play::new(groundwork.index, forced, candidates, &groundwork.alone);
+    let play = Play::new(
+        groundwork.index,
+        forced,
+        &candidates.places,
+        &groundwork.alone,
+    );
     let mut encoder = Encoder::new(play, formula, 0, clause, found);
     encoder.add_essentials()?;
-    add_needs(&mut encoder, unmet)?;
+    add_needs(&mut encoder, &candidates.unmet)?;
     encoder.add_narrow()?;
     encoder.add_wide(rivals)?;
     encoder.add_versions(versions)?;

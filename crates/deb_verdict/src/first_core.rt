@@ -1,9 +1,8 @@
 //! The first set of constraints that admits no set with a package.
 
 ghost use Rattle.std.specs.Prelude.{◌<◌, All, IfOk, length};
-ghost use Rattle.sat_solve.specs.Sets.{NumberSet};
 ghost use Rattle.deb_index.specs.Constraints.{IsOfIndex};
-ghost use Rattle.deb_health.specs.Health.{IsInstallation};
+ghost use Rattle.deb_health.specs.Health.{IsHopeless};
 ghost use Rattle.deb_health.specs.Verdicts.{IsFirstCore};
 
 use crate::kept_positions::list_constraints;
@@ -22,7 +21,7 @@ pub(crate) fn first_core(
     p: u32,
 ) -> Result<Vec<Constraint>, AllocError>
     requires place { p < length index.now.packages }
-    requires none { (set : NumberSet) → IsInstallation index.now p set → ⊥ }
+    requires hopeless { IsHopeless index.now p }
     ensures first { IfOk result (λ core. IsFirstCore index.now p core.items) }
     ensures within { IfOk result (λ core. All (IsOfIndex index.now) core.items) }
 {
@@ -30,6 +29,7 @@ pub(crate) fn first_core(
         index,
         p,
         workspace,
+        formula: None,
     };
     let positions = first_failing(alloc, &mut question)?;
     let mut core = Vec::new(alloc);

@@ -1,17 +1,17 @@
 //! Places that are in every healthy set.
 
-ghost use Rattle.std.specs.Prelude.{◌≡◌, ◌<◌, true, OnOk, length};
-ghost use Rattle.sat_solve.specs.Sets.{members_of};
-ghost use Rattle.deb_encode.specs.PlaceSets.{ArePlaces};
-ghost use Rattle.deb_verdict.specs.Growing.{KeepsForced, TakesOnly};
+ghost use Rattle.std.specs.Prelude.{◌≡◌, ◌⊎◌, ℕ, ◌<◌, ◌∷◌, [], true, OnOk, length};
+ghost use Rattle.number_sets.specs.Sets.{members_of};
+ghost use Rattle.number_sets.specs.SparseSets.{AreNumbers, with_number};
+ghost use Rattle.deb_verdict.specs.Groundwork.{KeepsForced};
 
-use deb_encode::PlaceSet;
 use deb_index::Index;
+use number_sets::SparseSet;
 use std::alloc::AllocError;
 
 /// Puts in the only place of a row, if it has one only.
-fn take_only(row: &[u32], forced: &mut PlaceSet) -> Result<(), AllocError>
-    ensures { OnOk result (TakesOnly row.now forced.old forced.new) }
+fn take_only(row: &[u32], forced: &mut SparseSet) -> Result<(), AllocError>
+    ensures { OnOk result ((forced.new ≡ forced.old) ⊎ ((only : ℕ) × (row.now ≡ only ∷ []) × (forced.new ≡ with_number forced.old only))) }
 {
     match row {
         [only] => forced.insert(*only)?,
@@ -33,7 +33,7 @@ fn force_needs(
     index: &Index,
     met: &[bool],
     place: u32,
-    forced: &mut PlaceSet,
+    forced: &mut SparseSet,
 ) -> Result<(), AllocError>
     requires place { place < length index.now.packages }
     requires known { members_of forced.old place ≡ true }
@@ -51,7 +51,7 @@ fn force_needs(
 }
 
 /// Puts in the only package of each essential name that has one only.
-pub(crate) fn force_essential(index: &Index, forced: &mut PlaceSet) -> Result<(), AllocError>
+pub(crate) fn force_essential(index: &Index, forced: &mut SparseSet) -> Result<(), AllocError>
     ensures { OnOk result (KeepsForced index.now forced.old forced.new) }
 {
     for name in index.essential_names() {
@@ -67,9 +67,9 @@ pub(crate) fn force_from(
     index: &Index,
     met: &[bool],
     start: usize,
-    forced: &mut PlaceSet,
+    forced: &mut SparseSet,
 ) -> Result<(), AllocError>
-    requires { ArePlaces (length index.now.packages) forced.old }
+    requires { AreNumbers (length index.now.packages) forced.old }
     ensures { OnOk result (KeepsForced index.now forced.old forced.new) }
 {
     let mut visited = start;

@@ -1,21 +1,23 @@
 //! What the verdicts of an index have in common.
 
-ghost use Rattle.std.specs.Prelude.{◌≡◌, ℕ, ◌<◌, ◌==◌, true, IfOk, length};
+ghost use Rattle.std.specs.Prelude.{◌≡◌, ℕ, ◌<◌, ◌==◌, true, All, IfOk, OnOk, length};
 ghost use Rattle.std.specs.List.{list_all};
 ghost use Rattle.std.proofs.Props.{props};
-ghost use Rattle.deb_index.specs.Packages.{needs_at, aparts_at};
-ghost use Rattle.deb_index.specs.Constraints.{answers, hits};
-ghost use Rattle.sat_solve.specs.Sets.{members_of};
-ghost use Rattle.deb_encode.specs.PlaceSets.{ArePlaces};
-ghost use Rattle.deb_verdict.specs.Groundwork.{IsInAll, IsMet, HasAnswers};
-ghost use Rattle.deb_encode.specs.Alone.{IsAlone, MarksOnly};
-ghost use Rattle.deb_verdict.specs.Hopeless.{IsHopeless, AreHopeless};
+ghost use Rattle.deb_index.specs.Packages.{aparts_at};
+ghost use Rattle.deb_index.specs.Constraints.{hits};
+ghost use Rattle.number_sets.specs.Sets.{NumberSet, members_of, MarksOnly, IsWithin};
+ghost use Rattle.number_sets.specs.SparseSets.{AreNumbers};
+ghost use Rattle.deb_verdict.specs.Groundwork.{IsInAll, HasAnswers};
+ghost use Rattle.deb_encode.specs.Alone.{IsAlone};
+ghost use Rattle.deb_health.specs.Health.{IsInstallation};
+ghost use Rattle.deb_health.specs.Health.{IsHopeless};
+ghost use Rattle.deb_verdict.specs.Hopeless.{AreHopeless};
 
 use crate::forced::{force_essential, force_from};
-use crate::gather::has_any;
 use crate::hopeless::find_hopeless;
-use deb_encode::PlaceSet;
+use crate::rows::is_answered;
 use deb_index::Index;
+use number_sets::SparseSet;
 use std::alloc::{AllocError, Global};
 
 /// What the verdicts of an index have in common, found once for all of them: which packages its essential ones ask for, which packages
@@ -25,36 +27,24 @@ use std::alloc::{AllocError, Global};
 pub struct Groundwork<'a> {
     pub(crate) index: &'a Index,
     /// Places that are in every healthy set.
-    pub(crate) forced: PlaceSet,
+    pub(crate) forced: SparseSet,
     /// Places that no healthy set has.
-    hopeless: PlaceSet,
+    hopeless: SparseSet,
     /// By place: what is in every healthy set answers each need.
     pub(crate) met: Vec<bool>,
     /// By place: no other package is hit by an entry, and none has the name.
     pub(crate) alone: Vec<bool>,
-    ghost places: { ArePlaces (length index.now.packages) forced } by { Prim.hlevel props },
+    ghost places: { AreNumbers (length index.now.packages) forced } by { Prim.hlevel props },
     ghost in_all: { IsInAll index.now (members_of forced) },
     ghost in_none: { AreHopeless index.now (members_of hopeless) },
     ghost marks_met: { MarksOnly (HasAnswers index.now (members_of forced)) met.items },
     ghost marks_alone: { MarksOnly (IsAlone index.now) alone.items },
 }
 
-/// Whether a place that is in answers a need. `false` where the answers are too many for a row.
-pub(crate) fn is_answered(index: &Index, forced: &PlaceSet, place: u32, number: u32) -> bool
-    requires place { place < length index.now.packages }
-    requires number { number < length (needs_at index.now place) }
-    ensures { result ≡ true → (q : ℕ) × (members_of forced.now q ≡ true) × (answers index.now place number q ≡ true) }
-{
-    match index.answer_row(place, number) {
-        Some(row) => has_any(forced, row),
-        None => false,
-    }
-}
-
 /// Whether places that are in answer each need of a place.
-fn is_met(index: &Index, forced: &PlaceSet, place: u32) -> bool
+fn is_met(index: &Index, forced: &SparseSet, place: u32) -> bool
     requires { place < length index.now.packages }
-    ensures { result ≡ true → IsMet index.now (members_of forced.now) place }
+    ensures { result ≡ true → HasAnswers index.now (members_of forced.now) place }
 {
     for number in 0..index.need_count(place) {
         if !is_answered(index, forced, place, number) {
@@ -97,8 +87,8 @@ fn is_alone(index: &Index, place: u32) -> bool
 }
 
 /// Marks the places whose needs are answered by places that are in.
-fn mark_met(alloc: Global, index: &Index, forced: &PlaceSet) -> Result<Vec<bool>, AllocError>
-    ensures { IfOk result (λ marks. MarksOnly (IsMet index.now (members_of forced.now)) marks.items) }
+fn mark_met(alloc: Global, index: &Index, forced: &SparseSet) -> Result<Vec<bool>, AllocError>
+    ensures { IfOk result (λ marks. MarksOnly (HasAnswers index.now (members_of forced.now)) marks.items) }
 {
     let mut marks = Vec::with_capacity(alloc, index.len() as usize)?;
     for place in 0..index.len() {
@@ -119,21 +109,21 @@ fn mark_alone(alloc: Global, index: &Index) -> Result<Vec<bool>, AllocError>
 }
 
 /// Finds places that are in every healthy set.
-fn force(alloc: Global, index: &Index) -> Result<PlaceSet, AllocError>
-    ensures places { IfOk result (λ forced. ArePlaces (length index.now.packages) forced) }
+fn force_all(alloc: Global, index: &Index) -> Result<SparseSet, AllocError>
+    ensures places { IfOk result (λ forced. AreNumbers (length index.now.packages) forced) }
     ensures in_all { IfOk result (λ forced. IsInAll index.now (members_of forced)) }
 {
-    let mut forced = PlaceSet::new(alloc);
+    let mut forced = SparseSet::new(alloc);
     force_essential(index, &mut forced)?;
     force_from(index, &[], 0, &mut forced)?;
     Ok(forced)
 }
 
 /// Finds places that no healthy set has.
-fn find_hopeless_places(alloc: Global, index: &Index) -> Result<PlaceSet, AllocError>
+fn find_hopeless_places(alloc: Global, index: &Index) -> Result<SparseSet, AllocError>
     ensures { IfOk result (λ hopeless. AreHopeless index.now (members_of hopeless)) }
 {
-    let mut hopeless = PlaceSet::new(alloc);
+    let mut hopeless = SparseSet::new(alloc);
     find_hopeless(index, &mut hopeless)?;
     Ok(hopeless)
 }
@@ -144,7 +134,7 @@ impl<'a> Groundwork<'a> {
         ensures { IfOk result (λ groundwork. groundwork.index.now ≡ index.now) }
     {
         let hopeless = find_hopeless_places(alloc, index)?;
-        let forced = force(alloc, index)?;
+        let forced = force_all(alloc, index)?;
         let met = mark_met(alloc, index, &forced)?;
         let alone = mark_alone(alloc, index)?;
         Ok(Groundwork {
@@ -165,11 +155,27 @@ impl<'a> Groundwork<'a> {
 
     /// Whether what is in every healthy set is known to answer each need of a place.
     pub(crate) fn is_met(&self, place: u32) -> bool
-        ensures { result ≡ true → IsMet self.now.index.now (members_of self.now.forced) place }
+        ensures { result ≡ true → HasAnswers self.now.index.now (members_of self.now.forced) place }
     {
         match self.met.get(place as usize) {
             Some(met) => *met,
             None => false,
         }
+    }
+
+    /// Finds places that are in every healthy set with the package at a place, those of the groundwork among them.
+    pub(crate) fn force(&self, p: u32, forced: &mut SparseSet) -> Result<(), AllocError>
+        requires { p < length self.now.index.now.packages }
+        ensures start { OnOk result (members_of forced.new p ≡ true) }
+        ensures follows { OnOk result ((set : NumberSet) → IsInstallation self.now.index.now p set → IsWithin (members_of forced.new) set) }
+        ensures ground { OnOk result (IsWithin (members_of self.now.forced) (members_of forced.new)) }
+        ensures within { OnOk result (All (λ q. q < length self.now.index.now.packages) forced.new) }
+    {
+        forced.clear();
+        forced.extend(self.forced.as_slice())?;
+        let start = forced.as_slice().len();
+        forced.insert(p)?;
+        force_from(self.index, &self.met, start, forced)?;
+        Ok(())
     }
 }

@@ -1,30 +1,25 @@
 //! Places that no healthy set has, since something that they need without a choice has a need that nothing meets.
 
 ghost use Rattle.std.specs.Prelude.{◌≡◌, ◌<◌, ℕ, true, OnOk, length};
-ghost use Rattle.std.specs.List.{list_all};
 ghost use Rattle.deb_index.specs.Packages.{needs_at};
-ghost use Rattle.sat_solve.specs.Sets.{members_of};
-ghost use Rattle.deb_verdict.specs.Hopeless.{IsHopeless, AreHopeless, IsUnanswered, HasUnanswered};
+ghost use Rattle.deb_index.specs.Constraints.{answers};
+ghost use Rattle.number_sets.specs.Sets.{members_of, IsWithin};
+ghost use Rattle.deb_health.specs.Health.{IsHopeless};
+ghost use Rattle.deb_verdict.specs.Hopeless.{AreHopeless};
 
-use deb_encode::PlaceSet;
+use crate::rows::has_all;
 use deb_index::Index;
+use number_sets::SparseSet;
 use std::alloc::AllocError;
 
 /// How often at most all places are gone through, in rising order and then in falling order.
 const ROUNDS: u32 = 16;
 
-/// Whether all places of a row are in the set.
-fn has_all(places: &PlaceSet, row: &[u32]) -> bool
-    ensures { result ≡ list_all (members_of places.now) row.now }
-{
-    row.iter().all(|place| places.contains(*place))
-}
-
 /// Whether hopeless places alone answer a need, or none. `false` where the answers are too many for a row.
-fn is_unanswered(index: &Index, hopeless: &PlaceSet, place: u32, number: u32) -> bool
+fn is_unanswered(index: &Index, hopeless: &SparseSet, place: u32, number: u32) -> bool
     requires place { place < length index.now.packages }
     requires number { number < length (needs_at index.now place) }
-    ensures { result ≡ true → IsUnanswered index.now (members_of hopeless.now) place number }
+    ensures { result ≡ true → IsWithin (answers index.now place number) (members_of hopeless.now) }
 {
     match index.answer_row(place, number) {
         Some(row) => has_all(hopeless, row),
@@ -33,9 +28,10 @@ fn is_unanswered(index: &Index, hopeless: &PlaceSet, place: u32, number: u32) ->
 }
 
 /// Whether hopeless places alone answer some need of a place, or none.
-fn has_unanswered(index: &Index, hopeless: &PlaceSet, place: u32) -> bool
-    requires { place < length index.now.packages }
-    ensures { result ≡ true → HasUnanswered index.now (members_of hopeless.now) place }
+fn has_unanswered(index: &Index, hopeless: &SparseSet, place: u32) -> bool
+    requires place { place < length index.now.packages }
+    requires hopeless { AreHopeless index.now (members_of hopeless.now) }
+    ensures { result ≡ true → IsHopeless index.now place }
 {
     for number in 0..index.need_count(place) {
         if is_unanswered(index, hopeless, place, number) {
@@ -46,7 +42,7 @@ fn has_unanswered(index: &Index, hopeless: &PlaceSet, place: u32) -> bool
 }
 
 /// Puts in a place that is seen to be hopeless.
-fn visit(index: &Index, place: u32, hopeless: &mut PlaceSet) -> Result<(), AllocError>
+fn visit(index: &Index, place: u32, hopeless: &mut SparseSet) -> Result<(), AllocError>
     requires place { place < length index.now.packages }
     requires hopeless { AreHopeless index.now (members_of hopeless.old) }
     ensures { OnOk result (AreHopeless index.now (members_of hopeless.new)) }
@@ -58,7 +54,7 @@ fn visit(index: &Index, place: u32, hopeless: &mut PlaceSet) -> Result<(), Alloc
 }
 
 /// Visits all places in rising order.
-fn visit_rising(index: &Index, hopeless: &mut PlaceSet) -> Result<(), AllocError>
+fn visit_rising(index: &Index, hopeless: &mut SparseSet) -> Result<(), AllocError>
     requires { AreHopeless index.now (members_of hopeless.old) }
     ensures { OnOk result (AreHopeless index.now (members_of hopeless.new)) }
 {
@@ -69,7 +65,7 @@ fn visit_rising(index: &Index, hopeless: &mut PlaceSet) -> Result<(), AllocError
 }
 
 /// Visits all places in falling order.
-fn visit_falling(index: &Index, hopeless: &mut PlaceSet) -> Result<(), AllocError>
+fn visit_falling(index: &Index, hopeless: &mut SparseSet) -> Result<(), AllocError>
     requires { AreHopeless index.now (members_of hopeless.old) }
     ensures { OnOk result (AreHopeless index.now (members_of hopeless.new)) }
 {
@@ -81,7 +77,7 @@ fn visit_falling(index: &Index, hopeless: &mut PlaceSet) -> Result<(), AllocErro
 }
 
 /// Puts in places that are hopeless, round by round, until none comes. After the last round some may be left out.
-fn spread(index: &Index, hopeless: &mut PlaceSet) -> Result<(), AllocError>
+fn spread(index: &Index, hopeless: &mut SparseSet) -> Result<(), AllocError>
     requires { AreHopeless index.now (members_of hopeless.old) }
     ensures { OnOk result (AreHopeless index.now (members_of hopeless.new)) }
 {
@@ -97,7 +93,7 @@ fn spread(index: &Index, hopeless: &mut PlaceSet) -> Result<(), AllocError>
 }
 
 /// Whether all packages of some essential name are hopeless.
-fn lacks_essential(index: &Index, hopeless: &PlaceSet) -> bool
+fn lacks_essential(index: &Index, hopeless: &SparseSet) -> bool
     requires { AreHopeless index.now (members_of hopeless.now) }
     ensures { result ≡ true → (place : ℕ) → IsHopeless index.now place }
 {
@@ -110,7 +106,7 @@ fn lacks_essential(index: &Index, hopeless: &PlaceSet) -> bool
 }
 
 /// Puts in all places, where each of them is hopeless.
-fn insert_all(index: &Index, hopeless: &mut PlaceSet) -> Result<(), AllocError>
+fn insert_all(index: &Index, hopeless: &mut SparseSet) -> Result<(), AllocError>
     requires { (place : ℕ) → IsHopeless index.now place }
     ensures { OnOk result (AreHopeless index.now (members_of hopeless.new)) }
 {
@@ -121,7 +117,7 @@ fn insert_all(index: &Index, hopeless: &mut PlaceSet) -> Result<(), AllocError>
 }
 
 /// Finds places that no healthy set has. Where all packages of an essential name are hopeless, all places are.
-pub(crate) fn find_hopeless(index: &Index, hopeless: &mut PlaceSet) -> Result<(), AllocError>
+pub(crate) fn find_hopeless(index: &Index, hopeless: &mut SparseSet) -> Result<(), AllocError>
     requires { AreHopeless index.now (members_of hopeless.old) }
     ensures { OnOk result (AreHopeless index.now (members_of hopeless.new)) }
 {

@@ -1,16 +1,16 @@
-//! Places that some healthy set is seen to have: a few large sets are found without a search, and each is looked up to be healthy.
+//! Places that some healthy set is seen to have: a few large sets for all, or two for one package, are found without a search, and each is looked up
+//! to be healthy.
 
 ghost use Rattle.std.specs.Prelude.{◌≡◌, ◌<◌, true, All, IfOk, OnOk, length};
-ghost use Rattle.sat_solve.specs.Sets.{members_of};
-ghost use Rattle.deb_encode.specs.Alone.{MarksOnly};
+ghost use Rattle.number_sets.specs.Sets.{members_of, MarksOnly};
 ghost use Rattle.deb_health.specs.Health.{IsHealthy, IsInstallable};
 
+use crate::check::meets_part;
 use crate::groundwork::Groundwork;
-use crate::installation::{Installation, weight};
+use crate::installation::{Installation, Lead, weight};
 use crate::part::Part;
-use crate::witness::meets_part;
-use deb_encode::PlaceSet;
 use deb_index::Index;
+use number_sets::SparseSet;
 use std::alloc::{AllocError, Global};
 
 /// How many sets are found at most.
@@ -19,13 +19,20 @@ const SETS: u32 = 64;
 /// How often at most, in all, as much as the whole index comes to them, or is taken out again.
 const TIMES: u64 = 8;
 
+/// How much may come to a set that is grown for one package.
+const SPARE_OF_ONE: u64 = 65_536;
+
 /// Whether a set is seen to be healthy. `false` where it isn't, or where there is too much to look at.
-fn is_healthy(index: &Index, set: &PlaceSet) -> bool
+fn is_healthy(index: &Index, set: &SparseSet) -> bool
     requires { All (λ q. q < length index.now.packages) set.now }
     ensures { result ≡ true → IsHealthy index.now (members_of set.now) }
 {
-    let all = Part { kept: &[], rest: 0 };
-    meets_part(index, &all, set)
+    let all = Part {
+        index,
+        kept: &[],
+        rest: 0,
+    };
+    meets_part(&all, set)
 }
 
 /// Makes a set of a package, of essential ones, and of those asked ones that are not marked and fit. `false` where the package doesn't fit by itself.
@@ -41,7 +48,7 @@ fn grow(
     requires marks { length marks.now ≡ length groundwork.now.index.now.packages }
     ensures { OnOk result (All (λ member. member < length groundwork.now.index.now.packages) installation.new.members) }
 {
-    installation.clear();
+    installation.clear(Lead::First);
     if !installation.add(groundwork, start)? {
         return Ok(false);
     }
@@ -130,6 +137,21 @@ fn mark_installable(
     Ok(())
 }
 
+/// What `find_installable` gives for the index of a groundwork, of which `asked` has places.
+pub fn find_installable_on(
+    alloc: Global,
+    groundwork: &Groundwork<'_>,
+    asked: &[u32],
+) -> Result<Vec<bool>, AllocError>
+    requires { All (λ place. place < length groundwork.now.index.now.packages) asked.now }
+    ensures marks { IfOk result (λ marks. MarksOnly (IsInstallable groundwork.now.index.now) marks.items) }
+    ensures count { IfOk result (λ marks. length marks.items ≡ length groundwork.now.index.now.packages) }
+{
+    let mut marks = no_marks(alloc, groundwork.index)?;
+    mark_installable(alloc, groundwork, asked, &mut marks)?;
+    Ok(marks)
+}
+
 /// Marks, by place, packages that some healthy set is seen to have, of those that are asked and of what they need; others may be installable, too.
 /// It finds a few large sets, each without a search, and looks up that they are healthy (Debian Policy 7.2 to 7.5; dose-debcheck(1) calls such a
 /// package installable). How many are marked is no promise.
@@ -147,7 +169,40 @@ pub fn find_installable(
     ensures count { IfOk result (λ marks. length marks.items ≡ length index.now.packages) }
 {
     let groundwork = Groundwork::new(alloc, index)?;
-    let mut marks = no_marks(alloc, index)?;
-    mark_installable(alloc, &groundwork, asked, &mut marks)?;
-    Ok(marks)
+    find_installable_on(alloc, &groundwork, asked)
+}
+
+/// Whether a set that is grown for the package at a place, with essential ones, is seen to be healthy.
+fn is_seen_in(
+    groundwork: &Groundwork<'_>,
+    p: u32,
+    lead: Lead,
+    installation: &mut Installation,
+) -> Result<bool, AllocError>
+    requires { p < length groundwork.now.index.now.packages }
+    ensures { IfOk result (λ seen. seen ≡ true → IsInstallable groundwork.now.index.now p) }
+{
+    installation.clear(lead);
+    installation.spare = SPARE_OF_ONE;
+    if !installation.add(groundwork, p)? || !installation.add_essentials(groundwork)? {
+        return Ok(false);
+    }
+    let members = &installation.members;
+    Ok(members.contains(p) && is_healthy(groundwork.index, members))
+}
+
+/// Whether the package at a place is seen to be installable, without a search: two sets are grown for it, one by the first answers of each need, one
+/// by the last.
+pub(crate) fn is_seen_installable(
+    groundwork: &Groundwork<'_>,
+    p: u32,
+    installation: &mut Installation,
+) -> Result<bool, AllocError>
+    requires { p < length groundwork.now.index.now.packages }
+    ensures { IfOk result (λ seen. seen ≡ true → IsInstallable groundwork.now.index.now p) }
+{
+    if is_seen_in(groundwork, p, Lead::First, installation)? {
+        return Ok(true);
+    }
+    is_seen_in(groundwork, p, Lead::Last, installation)
 }

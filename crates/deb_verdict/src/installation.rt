@@ -1,31 +1,51 @@
-//! A set of packages that grows: each need takes what is in, or else its first answer that fits. No claim rests on how it grew.
+//! A set of packages that grows: each need takes what is in, or else its first answer that fits, or its last one. No claim rests on how it grew.
 
 ghost use Rattle.std.specs.Prelude.{◌≡◌, [], ◌<◌, All, OnOk, length, take};
 ghost use Rattle.deb_index.specs.Packages.{aparts_at};
 
-use crate::gather::has_any;
 use crate::groundwork::Groundwork;
-use crate::witness::{FEW, hits_no_other};
-use deb_encode::PlaceSet;
+use crate::rows::{FEW, has_any, hits_no_other};
 use deb_index::Index;
+use number_sets::SparseSet;
 use std::alloc::{AllocError, Global};
 
 /// How often at most a package is tried in one set.
 const TRIES: u32 = 8;
 
+/// Which answer of a need is tried first.
+#[derive(Clone, Copy)]
+pub(crate) enum Lead {
+    First,
+    Last,
+}
+
+impl Lead {
+    /// The answer that is tried after so many others, by its number in a row of so many.
+    fn number(self, tried: usize, count: usize) -> usize
+        requires { tried < count }
+        ensures { result < count }
+    {
+        match self {
+            Lead::First => tried,
+            Lead::Last => count - 1 - tried,
+        }
+    }
+}
+
 /// Members with names of their own, of which no entry hits another one, and what was seen on the way to them.
 #[derive(Drop)]
 pub(crate) struct Installation {
-    pub(crate) members: PlaceSet,
+    pub(crate) members: SparseSet,
     // What entries of members hit.
-    barred: PlaceSet,
+    barred: SparseSet,
     // What was seen not to fit, though it may fit by now.
-    unfit: PlaceSet,
+    unfit: SparseSet,
     // Of so many members the needs with one answer alone were gone through, and of so many all needs.
     forced: usize,
     answered: usize,
-    // How much may still come, by the weights of packages.
-    spare: u64,
+    lead: Lead,
+    /// How much may still come, by the weights of packages.
+    pub(crate) spare: u64,
 }
 
 /// How much a package asks for: itself, its needs and its entries.
@@ -36,7 +56,7 @@ pub(crate) fn weight(index: &Index, place: u32) -> u64
 }
 
 /// Whether no entry of a package hits a member. `false` where what one hits is too much for a row.
-fn stands_apart(index: &Index, members: &PlaceSet, place: u32) -> bool
+fn stands_apart(index: &Index, members: &SparseSet, place: u32) -> bool
     requires { place < length index.now.packages }
 {
     for number in 0..index.apart_count(place) {
@@ -48,7 +68,7 @@ fn stands_apart(index: &Index, members: &PlaceSet, place: u32) -> bool
 }
 
 /// Whether no member has the name of a package. `false` where very many packages have it.
-fn has_free_name(index: &Index, members: &PlaceSet, place: u32) -> bool
+fn has_free_name(index: &Index, members: &SparseSet, place: u32) -> bool
     requires { place < length index.now.packages }
 {
     let versions = index.versions_of(place);
@@ -61,17 +81,18 @@ impl Installation {
         ensures { result.members ≡ [] }
     {
         Installation {
-            members: PlaceSet::new(alloc),
-            barred: PlaceSet::new(alloc),
-            unfit: PlaceSet::new(alloc),
+            members: SparseSet::new(alloc),
+            barred: SparseSet::new(alloc),
+            unfit: SparseSet::new(alloc),
             forced: 0,
             answered: 0,
+            lead: Lead::First,
             spare,
         }
     }
 
-    /// Begins anew.
-    pub(crate) fn clear(&mut self)
+    /// Begins anew. As much may come as before.
+    pub(crate) fn clear(&mut self, lead: Lead)
         ensures { self.new.members ≡ [] }
     {
         self.members.clear();
@@ -79,6 +100,7 @@ impl Installation {
         self.unfit.clear();
         self.forced = 0;
         self.answered = 0;
+        self.lead = lead;
     }
 
     /// Whether a package may come to the members.
@@ -131,7 +153,7 @@ impl Installation {
         Ok(())
     }
 
-    /// Puts in the first place of a row that fits, where none is in. `false` where none fits.
+    /// Puts in the place of a row that fits and is tried first, where none is in. `false` where none fits.
     fn take_one(&mut self, groundwork: &Groundwork<'_>, row: &[u32]) -> Result<bool, AllocError>
         requires row { All (λ place. place < length groundwork.now.index.now.packages) row.now }
         requires members { All (λ member. member < length groundwork.now.index.now.packages) self.old.members }
@@ -140,9 +162,10 @@ impl Installation {
         if has_any(&self.members, row) {
             return Ok(true);
         }
-        for place in row {
-            if self.fits(groundwork, *place)? {
-                self.insert(groundwork.index, *place)?;
+        for tried in 0..row.len() {
+            let place = row[self.lead.number(tried, row.len())];
+            if self.fits(groundwork, place)? {
+                self.insert(groundwork.index, place)?;
                 return Ok(true);
             }
         }

@@ -3,8 +3,7 @@
 ghost use Rattle.std.specs.Prelude.{◌≡◌, ◌↔◌, ℕ, true, List};
 ghost use Rattle.deb_index.specs.declared.constraint.Constraint.{Constraint};
 ghost use Rattle.deb_index.specs.Packages.{IndexView};
-ghost use Rattle.sat_solve.specs.Sets.{NumberSet, IsFirst};
-ghost use Rattle.core_extract.specs.Reduction.{IsWithin};
+ghost use Rattle.number_sets.specs.Sets.{NumberSet, IsFirst, IsWithin};
 ghost use Rattle.deb_health.specs.Health.{IsInstallation, MeetsAt, Admits, AdmitsNone};
 ghost use Rattle.deb_verdict.specs.Closure.{cut, IsClosure, kept};
 ghost use Rattle.deb_health.specs.Verdicts.{IsFirstInstallation, IsFirstCore};

@@ -1,18 +1,14 @@
 //! Refutes a part of the constraints by forcing alone: what the package asks for with no choice, down to a contradiction.
 
 ghost use Rattle.std.specs.Prelude.{◌≡◌, ℕ, ◌<◌, true, false, IfOk, OnOk, length};
-ghost use Rattle.std.specs.List.Sorted.{IsStrictlyIncreasing};
-ghost use Rattle.sat_solve.specs.Sets.{members_of};
 ghost use Rattle.deb_index.specs.Packages.{names, needs_at, aparts_at};
-ghost use Rattle.deb_encode.specs.PlaceSets.{ArePlaces, Grows};
-ghost use Rattle.deb_health.specs.Health.{AdmitsNone};
-ghost use Rattle.core_extract.specs.Reduction.{left, IsRefutation};
+ghost use Rattle.number_sets.specs.SparseSets.{AreNumbers, Grows};
+ghost use Rattle.deb_verdict.specs.Parts.{IsRefutedBy};
 
 use crate::derivation::{Outcome, Step, is_refutation, name_outcome, need_outcome};
-use crate::kept_positions::sort_once;
 use crate::part::Part;
-use deb_encode::PlaceSet;
 use deb_index::Index;
+use number_sets::SparseSet;
 use std::alloc::{AllocError, Global};
 use std::mem;
 
@@ -20,7 +16,7 @@ use std::mem;
 #[derive(Drop)]
 pub(crate) struct Propagation {
     /// What is forced, in the order in which it came.
-    forced: PlaceSet,
+    forced: SparseSet,
     /// The step that forced each of these but the first.
     causes: Vec<Step>,
     /// Which of these steps the contradiction rests on.
@@ -28,13 +24,13 @@ pub(crate) struct Propagation {
     /// The steps that it rests on, with its own.
     steps: Vec<Step>,
     /// What is in by the steps that are checked.
-    checked: PlaceSet,
+    checked: SparseSet,
     /// The positions of their constraints.
     positions: Vec<u32>,
 }
 
 /// A place of a row, other than this one, that is in.
-fn other_in(row: &[u32], place: u32, forced: &PlaceSet) -> Option<u32> {
+fn other_in(row: &[u32], place: u32, forced: &SparseSet) -> Option<u32> {
     for other in row {
         if *other != place && forced.contains(*other) {
             return Some(*other);
@@ -44,7 +40,7 @@ fn other_in(row: &[u32], place: u32, forced: &PlaceSet) -> Option<u32> {
 }
 
 /// Another place that is in and that an entry hits. `None` where what it hits is too much for a row.
-fn hit_in(index: &Index, place: u32, number: u32, forced: &PlaceSet) -> Option<u32>
+fn hit_in(index: &Index, place: u32, number: u32, forced: &SparseSet) -> Option<u32>
     requires place { place < length index.now.packages }
     requires number { number < length (aparts_at index.now place) }
 {
@@ -55,7 +51,7 @@ fn hit_in(index: &Index, place: u32, number: u32, forced: &PlaceSet) -> Option<u
 }
 
 /// Another place of the name that is in. `None` where the name has more places than are in.
-fn version_in(index: &Index, place: u32, forced: &PlaceSet) -> Option<u32>
+fn version_in(index: &Index, place: u32, forced: &SparseSet) -> Option<u32>
     requires { place < length index.now.packages }
 {
     let row = index.versions_of(place);
@@ -66,9 +62,10 @@ fn version_in(index: &Index, place: u32, forced: &PlaceSet) -> Option<u32>
 }
 
 /// A constraint of the part that keeps a place that is in from another one.
-fn conflict_of(index: &Index, part: Part<'_>, place: u32, forced: &PlaceSet) -> Option<Step>
-    requires { place < length index.now.packages }
+fn conflict_of(part: &Part<'_>, place: u32, forced: &SparseSet) -> Option<Step>
+    requires { place < length part.now.index.now.packages }
 {
+    let index = part.index;
     for number in 0..index.apart_count(place) {
         if part.has(index.apart_position(place, number)) {
             if let Some(other) = hit_in(index, place, number, forced) {
@@ -84,11 +81,11 @@ fn conflict_of(index: &Index, part: Part<'_>, place: u32, forced: &PlaceSet) -> 
 }
 
 /// A constraint of the part that keeps two places apart that are in.
-fn conflict_in(index: &Index, part: Part<'_>, forced: &PlaceSet) -> Option<Step>
-    requires { ArePlaces (length index.now.packages) forced.now }
+fn conflict_in(part: &Part<'_>, forced: &SparseSet) -> Option<Step>
+    requires { AreNumbers (length part.now.index.now.packages) forced.now }
 {
     for place in forced.as_slice() {
-        if let Some(step) = conflict_of(index, part, *place, forced) {
+        if let Some(step) = conflict_of(part, *place, forced) {
             return Some(step);
         }
     }
@@ -96,10 +93,10 @@ fn conflict_in(index: &Index, part: Part<'_>, forced: &PlaceSet) -> Option<Step>
 }
 
 /// Marks the step that forced a place; the first place needs none.
-fn mark(forced: &PlaceSet, place: u32, needed: &mut [bool])
+fn mark(forced: &SparseSet, place: u32, needed: &mut [bool])
     ensures { length needed.new ≡ length needed.old }
 {
-    if let Some(number) = forced.number_of(place) {
+    if let Some(number) = forced.position_of(place) {
         if number > 0 && number <= needed.len() {
             needed[number - 1] = true;
         }
@@ -107,7 +104,7 @@ fn mark(forced: &PlaceSet, place: u32, needed: &mut [bool])
 }
 
 /// Marks the steps that forced the places that a step is held against.
-fn mark_places(forced: &PlaceSet, step: Step, needed: &mut [bool])
+fn mark_places(forced: &SparseSet, step: Step, needed: &mut [bool])
     ensures { length needed.new ≡ length needed.old }
 {
     match step {
@@ -125,7 +122,7 @@ fn mark_places(forced: &PlaceSet, step: Step, needed: &mut [bool])
 }
 
 /// Marks the steps that marked ones rest on: these are earlier.
-fn mark_causes(forced: &PlaceSet, causes: &[Step], needed: &mut [bool])
+fn mark_causes(forced: &SparseSet, causes: &[Step], needed: &mut [bool])
     requires { length needed.old ≡ length causes.now }
     ensures { length needed.new ≡ length needed.old }
 {
@@ -140,11 +137,11 @@ impl Propagation {
     /// Buffers with no room yet.
     pub(crate) fn new(alloc: Global) -> Propagation {
         Propagation {
-            forced: PlaceSet::new(alloc),
+            forced: SparseSet::new(alloc),
             causes: Vec::new(alloc),
             needed: Vec::new(alloc),
             steps: Vec::new(alloc),
-            checked: PlaceSet::new(alloc),
+            checked: SparseSet::new(alloc),
             positions: Vec::new(alloc),
         }
     }
@@ -161,17 +158,12 @@ impl Propagation {
     }
 
     /// Forces what alone answers a need, if the part has it. `true`: nothing answers it.
-    fn force_need(
-        &mut self,
-        index: &Index,
-        part: Part<'_>,
-        place: u32,
-        number: u32,
-    ) -> Result<bool, AllocError>
-        requires place { place < length index.now.packages }
-        requires number { number < length (needs_at index.now place) }
-        ensures { OnOk result (Grows (length index.now.packages) self.old.forced self.new.forced) }
+    fn force_need(&mut self, part: &Part<'_>, place: u32, number: u32) -> Result<bool, AllocError>
+        requires place { place < length part.now.index.now.packages }
+        requires number { number < length (needs_at part.now.index.now place) }
+        ensures { OnOk result (Grows (length part.now.index.now.packages) self.old.forced self.new.forced) }
     {
+        let index = part.index;
         if !part.has(index.need_position(place, number)) {
             return Ok(false);
         }
@@ -186,17 +178,12 @@ impl Propagation {
     }
 
     /// Forces what alone answers a need of a place. A need that nothing answers is a contradiction.
-    fn visit(
-        &mut self,
-        index: &Index,
-        part: Part<'_>,
-        place: u32,
-    ) -> Result<Option<Step>, AllocError>
-        requires { place < length index.now.packages }
-        ensures { OnOk result (Grows (length index.now.packages) self.old.forced self.new.forced) }
+    fn visit(&mut self, part: &Part<'_>, place: u32) -> Result<Option<Step>, AllocError>
+        requires { place < length part.now.index.now.packages }
+        ensures { OnOk result (Grows (length part.now.index.now.packages) self.old.forced self.new.forced) }
     {
-        for number in 0..index.need_count(place) {
-            if self.force_need(index, part, place, number)? {
+        for number in 0..part.index.need_count(place) {
+            if self.force_need(part, place, number)? {
                 return Ok(Some(Step::Need(place, number)));
             }
         }
@@ -204,73 +191,63 @@ impl Propagation {
     }
 
     /// Forces from the first places on that are not visited, and looks for a contradiction.
-    fn propagate(
-        &mut self,
-        index: &Index,
-        part: Part<'_>,
-        start: usize,
-    ) -> Result<Option<Step>, AllocError>
-        requires { ArePlaces (length index.now.packages) self.old.forced }
-        ensures { OnOk result (ArePlaces (length index.now.packages) self.new.forced) }
+    fn propagate(&mut self, part: &Part<'_>, start: usize) -> Result<Option<Step>, AllocError>
+        requires { AreNumbers (length part.now.index.now.packages) self.old.forced }
+        ensures { OnOk result (AreNumbers (length part.now.index.now.packages) self.new.forced) }
     {
         let mut visited = start;
         while visited < self.forced.as_slice().len() {
             let place = self.forced.as_slice()[visited];
-            if let Some(step) = self.visit(index, part, place)? {
+            if let Some(step) = self.visit(part, place)? {
                 return Ok(Some(step));
             }
             visited += 1;
         }
-        Ok(conflict_in(index, part, &self.forced))
+        Ok(conflict_in(part, &self.forced))
     }
 
     /// Forces the package of an essential name that has one only, if the part has the name.
-    fn force_name(
-        &mut self,
-        index: &Index,
-        part: Part<'_>,
-        number: u32,
-        name: u32,
-    ) -> Result<(), AllocError>
-        requires { name < length (names index.now) }
-        ensures { OnOk result (Grows (length index.now.packages) self.old.forced self.new.forced) }
+    fn force_name(&mut self, part: &Part<'_>, number: u32, name: u32) -> Result<(), AllocError>
+        requires { name < length (names part.now.index.now) }
+        ensures { OnOk result (Grows (length part.now.index.now.packages) self.old.forced self.new.forced) }
     {
         if !part.has(number) {
             return Ok(());
         }
-        if let Some(Outcome::Forced(only)) = name_outcome(index, name) {
+        if let Some(Outcome::Forced(only)) = name_outcome(part.index, name) {
             self.force(only, Step::Essential(number))?;
         }
         Ok(())
     }
 
     /// Forces the packages of essential names that have one only.
-    fn force_essential(&mut self, index: &Index, part: Part<'_>) -> Result<(), AllocError>
-        ensures { OnOk result (Grows (length index.now.packages) self.old.forced self.new.forced) }
+    fn force_essential(&mut self, part: &Part<'_>) -> Result<(), AllocError>
+        ensures { OnOk result (Grows (length part.now.index.now.packages) self.old.forced self.new.forced) }
     {
+        let index = part.index;
         let _names = index.name_count();
         for (number, name) in index.essential_names().iter().enumerate() {
-            self.force_name(index, part, number as u32, *name)?;
+            self.force_name(part, number as u32, *name)?;
         }
         Ok(())
     }
 
     /// The step that contradicts, where forcing leads to one. What the package itself asks for goes first.
-    fn find(&mut self, index: &Index, part: Part<'_>, p: u32) -> Result<Option<Step>, AllocError>
-        requires { p < length index.now.packages }
+    fn find(&mut self, part: &Part<'_>, p: u32) -> Result<Option<Step>, AllocError>
+        requires { p < length part.now.index.now.packages }
     {
         self.forced.clear();
         self.causes.clear();
         self.forced.insert(p)?;
-        if let Some(step) = self.propagate(index, part, 0)? {
+        if let Some(step) = self.propagate(part, 0)? {
             return Ok(Some(step));
         }
         let visited = self.forced.as_slice().len();
-        self.force_essential(index, part)?;
+        self.force_essential(part)?;
         if self.forced.as_slice().len() == visited {
             return Ok(None);
         }
-        self.propagate(index, part, visited)
+        self.propagate(part, visited)
     }
 
     /// Writes down the steps that a contradiction rests on.
@@ -291,20 +268,17 @@ impl Propagation {
 }
 
 /// Whether the steps that forcing took last, for whatever package and part, show that a part of the constraints admits no set with the package
-/// at a place. Where they do, `used` has, rising, the positions of constraints of the part that already admit none.
+/// at a place. Where they do, `used` has the positions of constraints of the part that already admit none.
 pub(crate) fn refute_by_last_steps(
-    index: &Index,
-    part: Part<'_>,
+    part: &Part<'_>,
     p: u32,
     buffers: &mut Propagation,
     used: &mut Vec<u32>,
 ) -> Result<bool, AllocError>
-    ensures refuted { IfOk result (λ refuted. refuted ≡ true → IsRefutation (AdmitsNone index.now p) (left (members_of part.entry.kept.now) part.entry.rest) (members_of used.new.items)) }
-    ensures rising { IfOk result (λ refuted. refuted ≡ true → IsStrictlyIncreasing used.new.items) }
+    ensures refuted { IfOk result (λ refuted. refuted ≡ true → IsRefutedBy used.new.items part.now p) }
     ensures still { IfOk result (λ refuted. refuted ≡ false → used.new.items ≡ used.old.items) }
 {
     let holds = is_refutation(
-        index,
         part,
         p,
         &buffers.steps,
@@ -314,28 +288,25 @@ pub(crate) fn refute_by_last_steps(
     if !holds {
         return Ok(false);
     }
-    sort_once(&mut buffers.positions);
     mem::swap(&mut buffers.positions, used);
     Ok(true)
 }
 
-/// Whether a part of the constraints is seen to admit no set with the package at a place, by forcing alone. Where it is, `used` has, rising,
-/// the positions of constraints of the part that already admit none.
+/// Whether a part of the constraints is seen to admit no set with the package at a place, by forcing alone. Where it is, `used` has the
+/// positions of constraints of the part that already admit none.
 pub(crate) fn refute_by_forcing(
-    index: &Index,
-    part: Part<'_>,
+    part: &Part<'_>,
     p: u32,
     buffers: &mut Propagation,
     used: &mut Vec<u32>,
 ) -> Result<bool, AllocError>
-    requires { p < length index.now.packages }
-    ensures refuted { IfOk result (λ refuted. refuted ≡ true → IsRefutation (AdmitsNone index.now p) (left (members_of part.entry.kept.now) part.entry.rest) (members_of used.new.items)) }
-    ensures rising { IfOk result (λ refuted. refuted ≡ true → IsStrictlyIncreasing used.new.items) }
+    requires { p < length part.now.index.now.packages }
+    ensures refuted { IfOk result (λ refuted. refuted ≡ true → IsRefutedBy used.new.items part.now p) }
     ensures still { IfOk result (λ refuted. refuted ≡ false → used.new.items ≡ used.old.items) }
 {
-    let Some(conflict) = buffers.find(index, part, p)? else {
+    let Some(conflict) = buffers.find(part, p)? else {
         return Ok(false);
     };
     buffers.derive(conflict)?;
-    refute_by_last_steps(index, part, p, buffers, used)
+    refute_by_last_steps(part, p, buffers, used)
 }

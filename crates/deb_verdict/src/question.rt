@@ -1,11 +1,13 @@
 //! The question whether a part of the constraints admits no set with a package.
 
 ghost use Rattle.std.specs.Prelude.{◌≡◌, ◌<◌, true, false, IfOk, length};
-ghost use Rattle.sat_solve.specs.Sets.{members_of};
+ghost use Rattle.std.specs.Option.{ForSome};
 ghost use Rattle.deb_health.specs.Health.{AdmitsNone};
-ghost use Rattle.core_extract.specs.Reduction.{left, IsRefutation};
+ghost use Rattle.deb_verdict.specs.Parts.{positions_in, IsRefutedBy};
+ghost use Rattle.deb_verdict.specs.Formulas.{Tells};
 
 use crate::by_formula::refute_by_formula;
+use crate::core_formula::CoreFormula;
 use crate::part::Part;
 use crate::propagation::{refute_by_forcing, refute_by_last_steps};
 use crate::witness::is_seen_to_admit;
@@ -18,30 +20,32 @@ use std::alloc::{AllocError, Global};
 /// positions of constraints of the part that already do; where it admits one, `used` stays.
 fn refute_part(
     alloc: Global,
-    index: &Index,
-    part: Part<'_>,
+    part: &Part<'_>,
     p: u32,
+    formula: &mut Option<CoreFormula>,
     workspace: &mut Workspace,
 ) -> Result<bool, AllocError>
-    requires { p < length index.now.packages }
-    ensures refuted { IfOk result (λ refuted. refuted ≡ true → IsRefutation (AdmitsNone index.now p) (left (members_of part.entry.kept.now) part.entry.rest) (members_of workspace.new.used.items)) }
-    ensures admitted { IfOk result (λ refuted. refuted ≡ false → AdmitsNone index.now p (left (members_of part.entry.kept.now) part.entry.rest) → ⊥) }
+    requires place { p < length part.now.index.now.packages }
+    requires formula { ForSome formula.old (Tells part.now.index.now p) }
+    ensures formula { ForSome formula.new (Tells part.now.index.now p) }
+    ensures refuted { IfOk result (λ refuted. refuted ≡ true → IsRefutedBy workspace.new.used.items part.now p) }
+    ensures admitted { IfOk result (λ refuted. refuted ≡ false → AdmitsNone part.now.index.now p (positions_in part.now) → ⊥) }
     ensures still { IfOk result (λ refuted. refuted ≡ false → workspace.new.used.items ≡ workspace.old.used.items) }
 {
     let propagation = &mut workspace.propagation;
     let used = &mut workspace.used;
     // What broke the last package often breaks this one.
-    if refute_by_last_steps(index, part, p, propagation, used)? {
+    if refute_by_last_steps(part, p, propagation, used)? {
         return Ok(true);
     }
     // Each package whose core is looked for is broken, so only without some constraints is there a set.
-    if part.rest > 0 && is_seen_to_admit(index, &part, p, &mut workspace.witness)? {
+    if part.rest > 0 && is_seen_to_admit(part, p, &mut workspace.witness)? {
         return Ok(false);
     }
-    if refute_by_forcing(index, part, p, propagation, used)? {
+    if refute_by_forcing(part, p, propagation, used)? {
         return Ok(true);
     }
-    refute_by_formula(alloc, index, part, p, workspace)
+    refute_by_formula(alloc, part, p, formula, workspace)
 }
 
 /// Whether positions of the index's list of constraints admit no set with the package at a place.
@@ -50,7 +54,10 @@ pub(crate) struct Blocking<'a> {
     pub(crate) index: &'a Index,
     pub(crate) p: u32,
     pub(crate) workspace: &'a mut Workspace,
+    /// The package's formula, once a question needed it.
+    pub(crate) formula: Option<CoreFormula>,
     ghost place: { p < length index.now.packages },
+    ghost told: { ForSome formula (Tells index.now p) },
 }
 
 impl<'a> Question for Blocking<'a> {
@@ -65,8 +72,12 @@ impl<'a> Question for Blocking<'a> {
 
     fn refute(&mut self, alloc: Global, kept: &[u32], rest: u32) -> Result<bool, AllocError> {
         let _limit = self.index.len();
-        let part = Part { kept, rest };
-        refute_part(alloc, self.index, part, self.p, self.workspace)
+        let part = Part {
+            index: self.index,
+            kept,
+            rest,
+        };
+        refute_part(alloc, &part, self.p, &mut self.formula, self.workspace)
     }
 
     fn next_used(&self, from: u32) -> Option<u32> {

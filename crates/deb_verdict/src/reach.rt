@@ -4,16 +4,16 @@ ghost use Rattle.std.specs.Prelude.{◌≡◌, ◌<◌, ◌||◌, ◌==◌, [], 
 ghost use Rattle.std.specs.List.{list_any};
 ghost use Rattle.deb_index.specs.Packages.{needs_at, essential_names};
 ghost use Rattle.deb_index.specs.Constraints.{has_name, answers};
-ghost use Rattle.sat_solve.specs.Sets.{members_of};
+ghost use Rattle.number_sets.specs.Sets.{members_of};
 ghost use Rattle.deb_verdict.specs.Closure.{IsClosure};
 ghost use Rattle.deb_verdict.specs.Reach.{Joins, meeting_any};
 
-use deb_encode::PlaceSet;
 use deb_index::Index;
+use number_sets::SparseSet;
 use std::alloc::{AllocError, Global};
 
 /// Puts in places.
-fn insert_all(places: &[u32], members: &mut PlaceSet) -> Result<(), AllocError>
+fn insert_all(places: &[u32], members: &mut SparseSet) -> Result<(), AllocError>
     ensures { OnOk result (Joins (members_of places.now) members.old members.new) }
 {
     for place in places {
@@ -28,7 +28,7 @@ fn insert_answers(
     place: u32,
     number: u32,
     found: &mut Vec<u32>,
-    members: &mut PlaceSet,
+    members: &mut SparseSet,
 ) -> Result<(), AllocError>
     requires place { place < length index.now.packages }
     requires number { number < length (needs_at index.now place) }
@@ -43,7 +43,7 @@ fn visit(
     index: &Index,
     place: u32,
     found: &mut Vec<u32>,
-    members: &mut PlaceSet,
+    members: &mut SparseSet,
 ) -> Result<(), AllocError>
     requires { place < length index.now.packages }
     ensures { OnOk result (Joins (meeting_any index.now (needs_at index.now place)) members.old members.new) }
@@ -55,7 +55,7 @@ fn visit(
 }
 
 /// At first a place and those of essential names are in, and nothing else.
-fn start(index: &Index, p: u32, members: &mut PlaceSet) -> Result<(), AllocError>
+fn start(index: &Index, p: u32, members: &mut SparseSet) -> Result<(), AllocError>
     ensures { OnOk result (Joins (λ q. (p == q) || list_any (has_name index.now q) (essential_names index.now)) [] members.new) }
 {
     members.clear();
@@ -73,7 +73,7 @@ pub(crate) fn reach(
     alloc: Global,
     index: &Index,
     p: u32,
-    members: &mut PlaceSet,
+    members: &mut SparseSet,
 ) -> Result<(), AllocError>
     requires { p < length index.now.packages }
     ensures least { OnOk result (IsClosure index.now p (members_of members.new)) }

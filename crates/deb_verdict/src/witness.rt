@@ -1,189 +1,25 @@
 //! A set of packages that meets a part of the constraints, found without a search: each need takes what is in, or else one of its answers.
 //! Whether the set meets the part is then looked up, and no claim rests on how it grew.
 
-ghost use Rattle.std.specs.Prelude.{◌≡◌, ℕ, ◌<◌, ◌&&◌, ◌==◌, not, ltb, Some, true, All, IfOk, IfSome, OnOk, length, slice_get};
-ghost use Rattle.std.specs.List.{list_any};
-ghost use Rattle.deb_index.specs.Packages.{essential_names, needs_at, aparts_at};
-ghost use Rattle.deb_index.specs.Constraints.{Holds};
-ghost use Rattle.sat_solve.specs.Sets.{members_of};
-ghost use Rattle.deb_encode.specs.PlaceSets.{ArePlaces, Grows};
-ghost use Rattle.deb_health.specs.Health.{Admits, MeetsAt};
-ghost use Rattle.core_extract.specs.Reduction.{left};
-ghost use Rattle.deb_verdict.specs.Meeting.{HasNoEarlier};
-ghost use Rattle.deb_verdict.specs.Witnesses.{MeetsAsked, MeetsAskedOf, StandsOnce};
+ghost use Rattle.std.specs.Prelude.{◌≡◌, ◌<◌, true, All, IfOk, IfSome, OnOk, length};
+ghost use Rattle.deb_index.specs.Packages.{needs_at};
+ghost use Rattle.number_sets.specs.SparseSets.{AreNumbers, Grows};
+ghost use Rattle.deb_health.specs.Health.{Admits};
+ghost use Rattle.deb_verdict.specs.Parts.{positions_in};
 
+use crate::check::{meets_part, meets_place};
 use crate::derivation::has_need;
-use crate::gather::has_any;
-use crate::groundwork::is_answered;
 use crate::part::Part;
-use deb_encode::PlaceSet;
-use deb_index::{Constraint, Index};
+use crate::rows::{FEW, has_any};
+use deb_index::Index;
+use number_sets::SparseSet;
 use std::alloc::{AllocError, Global};
-
-/// Of a package at most so many versions, needs and entries are looked at, where that is no more than a hint.
-pub(crate) const FEW: u32 = 64;
 
 /// How many sets are tried at most.
 const TRIES: u32 = 16;
 
-/// Whether the set has some package of an essential name, where the part asks for it.
-fn meets_essential(index: &Index, part: &Part<'_>, set: &PlaceSet, position: u32, name: u32) -> bool
-    requires { slice_get (essential_names index.now) position ≡ Some name }
-    ensures { result ≡ true → MeetsAsked index.now (members_of set.now) (left (members_of part.now.kept.now) part.now.rest) (Constraint.Essential name) }
-{
-    if !part.has(position) {
-        return true;
-    }
-    has_any(set, index.places_named(name))
-}
-
-/// Whether the set has some package of each essential name that the part asks for.
-fn meets_essentials(index: &Index, part: &Part<'_>, set: &PlaceSet) -> bool
-    ensures { result ≡ true → (number : ℕ) → MeetsAsked index.now (members_of set.now) (left (members_of part.now.kept.now) part.now.rest) (Constraint.Essential number) }
-{
-    // An essential name is a name, so its number fits 32 bits.
-    let _names = index.name_count();
-    for (position, name) in index.essential_names().iter().enumerate() {
-        if !meets_essential(index, part, set, position as u32, *name) {
-            return false;
-        }
-    }
-    true
-}
-
-/// Whether the set answers a need of a place, where the part asks for it.
-fn meets_need(index: &Index, part: &Part<'_>, set: &PlaceSet, place: u32, number: u32) -> bool
-    requires place { place < length index.now.packages }
-    requires number { number < length (needs_at index.now place) }
-    ensures { result ≡ true → MeetsAsked index.now (members_of set.now) (left (members_of part.now.kept.now) part.now.rest) (Constraint.Need place number) }
-{
-    if !part.has(index.need_position(place, number)) {
-        return true;
-    }
-    is_answered(index, set, place, number)
-}
-
-/// Whether the set answers each need of a place that the part asks for.
-fn meets_needs(index: &Index, part: &Part<'_>, set: &PlaceSet, place: u32) -> bool
-    requires { place < length index.now.packages }
-    ensures { result ≡ true → (j : ℕ) → j < length (needs_at index.now place) → MeetsAsked index.now (members_of set.now) (left (members_of part.now.kept.now) part.now.rest) (Constraint.Need place j) }
-{
-    for number in 0..index.need_count(place) {
-        if !meets_need(index, part, set, place, number) {
-            return false;
-        }
-    }
-    true
-}
-
-/// Whether the set has another place of a row.
-fn has_other(set: &PlaceSet, row: &[u32], place: u32) -> bool
-    ensures { result ≡ list_any (λ other. not (other == place) && members_of set.now other) row.now }
-{
-    row.iter()
-        .any(|other| *other != place && set.contains(*other))
-}
-
-/// Whether an entry of a place hits no other one of the set. `false` where what it hits is too much for a row.
-pub(crate) fn hits_no_other(index: &Index, set: &PlaceSet, place: u32, number: u32) -> bool
-    requires place { place < length index.now.packages }
-    requires number { number < length (aparts_at index.now place) }
-    ensures { result ≡ true → Holds index.now (members_of set.now) (Constraint.Apart place number) }
-{
-    match index.hit_row(place, number) {
-        Some(row) => !has_other(set, row, place),
-        None => false,
-    }
-}
-
-/// Whether an entry of a place hits no other one of the set, where the part asks for it.
-fn meets_apart(index: &Index, part: &Part<'_>, set: &PlaceSet, place: u32, number: u32) -> bool
-    requires place { place < length index.now.packages }
-    requires number { number < length (aparts_at index.now place) }
-    ensures { result ≡ true → MeetsAsked index.now (members_of set.now) (left (members_of part.now.kept.now) part.now.rest) (Constraint.Apart place number) }
-{
-    if !part.has(index.apart_position(place, number)) {
-        return true;
-    }
-    hits_no_other(index, set, place, number)
-}
-
-/// Whether no entry of a place that the part asks for hits another one of the set.
-fn meets_aparts(index: &Index, part: &Part<'_>, set: &PlaceSet, place: u32) -> bool
-    requires { place < length index.now.packages }
-    ensures { result ≡ true → (j : ℕ) → j < length (aparts_at index.now place) → MeetsAsked index.now (members_of set.now) (left (members_of part.now.kept.now) part.now.rest) (Constraint.Apart place j) }
-{
-    for number in 0..index.apart_count(place) {
-        if !meets_apart(index, part, set, place, number) {
-            return false;
-        }
-    }
-    true
-}
-
-/// Whether the set has an earlier place of a row.
-fn has_earlier_in(set: &PlaceSet, row: &[u32], place: u32) -> bool
-    ensures { result ≡ list_any (λ other. ltb other place && members_of set.now other) row.now }
-{
-    row.iter()
-        .any(|other| *other < place && set.contains(*other))
-}
-
-/// Whether the set has no earlier package of the name of the one at a place. `false` where there are many of the name.
-fn has_no_earlier(index: &Index, set: &PlaceSet, place: u32) -> bool
-    requires { place < length index.now.packages }
-    ensures { result ≡ true → HasNoEarlier index.now (members_of set.now) place }
-{
-    let row = index.versions_of(place);
-    if row.len() > FEW as usize {
-        return false;
-    }
-    !has_earlier_in(set, row, place)
-}
-
-/// Whether the set has no earlier package of the name of the one at a place, where the part asks that one alone is in.
-fn stands_once(index: &Index, part: &Part<'_>, set: &PlaceSet, place: u32) -> bool
-    requires { place < length index.now.packages }
-    ensures { result ≡ true → StandsOnce index.now (members_of set.now) (left (members_of part.now.kept.now) part.now.rest) place }
-{
-    if !part.has(index.only_position(index.name_of(place))) {
-        return true;
-    }
-    has_no_earlier(index, set, place)
-}
-
-/// Whether the set meets what the part asks of the package at a place.
-fn meets_place(index: &Index, part: &Part<'_>, set: &PlaceSet, place: u32) -> bool
-    requires { place < length index.now.packages }
-    ensures { result ≡ true → MeetsAskedOf index.now (members_of set.now) (left (members_of part.now.kept.now) part.now.rest) place }
-{
-    if !meets_needs(index, part, set, place) {
-        return false;
-    }
-    if !meets_aparts(index, part, set, place) {
-        return false;
-    }
-    stands_once(index, part, set, place)
-}
-
-/// Whether the set is seen to meet the part. `false` where it isn't, or where there is too much to look at.
-pub(crate) fn meets_part(index: &Index, part: &Part<'_>, set: &PlaceSet) -> bool
-    requires { All (λ q. q < length index.now.packages) set.now }
-    ensures { result ≡ true → MeetsAt index.now (members_of set.now) (left (members_of part.now.kept.now) part.now.rest) }
-{
-    if !meets_essentials(index, part, set) {
-        return false;
-    }
-    for place in set.as_slice() {
-        if !meets_place(index, part, set, *place) {
-            return false;
-        }
-    }
-    true
-}
-
 /// Whether the set has a package of the name of the one at a place. `false` where there are many of the name.
-fn has_version(index: &Index, set: &PlaceSet, place: u32) -> bool
+fn has_version(index: &Index, set: &SparseSet, place: u32) -> bool
     requires { place < length index.now.packages }
 {
     let row = index.versions_of(place);
@@ -191,10 +27,11 @@ fn has_version(index: &Index, set: &PlaceSet, place: u32) -> bool
 }
 
 /// Whether nothing answers a need that the part asks for.
-fn is_unanswerable(index: &Index, part: &Part<'_>, place: u32, number: u32) -> bool
-    requires place { place < length index.now.packages }
-    requires number { number < length (needs_at index.now place) }
+fn is_unanswerable(part: &Part<'_>, place: u32, number: u32) -> bool
+    requires place { place < length part.now.index.now.packages }
+    requires number { number < length (needs_at part.now.index.now place) }
 {
+    let index = part.index;
     match index.answer_row(place, number) {
         Some(row) => row.is_empty() && part.has(index.need_position(place, number)),
         None => false,
@@ -202,14 +39,15 @@ fn is_unanswerable(index: &Index, part: &Part<'_>, place: u32, number: u32) -> b
 }
 
 /// Whether nothing is seen to speak against a package: it has no version in the set, and no need that the part asks for lacks an answer.
-fn is_fit(index: &Index, part: &Part<'_>, set: &PlaceSet, place: u32) -> bool
-    requires { place < length index.now.packages }
+fn is_fit(part: &Part<'_>, set: &SparseSet, place: u32) -> bool
+    requires { place < length part.now.index.now.packages }
 {
+    let index = part.index;
     if has_version(index, set, place) {
         return false;
     }
     for number in 0..index.need_count(place).min(FEW) {
-        if is_unanswerable(index, part, place, number) {
+        if is_unanswerable(part, place, number) {
             return false;
         }
     }
@@ -227,30 +65,30 @@ struct Cause {
 #[derive(Drop)]
 pub(crate) struct Witness {
     /// Its places, in the order in which they came.
-    set: PlaceSet,
+    set: SparseSet,
     /// What each of them came for; none for the first one, and for those of essential names.
     causes: Vec<Option<Cause>>,
     /// What was seen to lead nowhere.
-    unfit: PlaceSet,
+    unfit: SparseSet,
 }
 
 impl Witness {
     /// Buffers with no room yet.
     pub(crate) fn new(alloc: Global) -> Witness {
         Witness {
-            set: PlaceSet::new(alloc),
+            set: SparseSet::new(alloc),
             causes: Vec::new(alloc),
-            unfit: PlaceSet::new(alloc),
+            unfit: SparseSet::new(alloc),
         }
     }
 
     /// The first place of a row that nothing is seen to speak against, or else the first that isn't known to lead nowhere.
-    fn choose(&self, index: &Index, part: &Part<'_>, row: &[u32]) -> Option<u32>
-        requires { All (λ q. q < length index.now.packages) row.now }
-        ensures { IfSome result (λ q. q < length index.now.packages) }
+    fn choose(&self, part: &Part<'_>, row: &[u32]) -> Option<u32>
+        requires { All (λ q. q < length part.now.index.now.packages) row.now }
+        ensures { IfSome result (λ q. q < length part.now.index.now.packages) }
     {
         for place in row {
-            if !self.unfit.contains(*place) && is_fit(index, part, &self.set, *place) {
+            if !self.unfit.contains(*place) && is_fit(part, &self.set, *place) {
                 return Some(*place);
             }
         }
@@ -265,18 +103,17 @@ impl Witness {
     /// Puts in a place of the row, where none is in. `false` where it has none that may lead somewhere.
     fn take_one(
         &mut self,
-        index: &Index,
         part: &Part<'_>,
         row: &[u32],
         cause: Option<Cause>,
     ) -> Result<bool, AllocError>
-        requires { All (λ q. q < length index.now.packages) row.now }
-        ensures { OnOk result (Grows (length index.now.packages) self.old.set self.new.set) }
+        requires { All (λ q. q < length part.now.index.now.packages) row.now }
+        ensures { OnOk result (Grows (length part.now.index.now.packages) self.old.set self.new.set) }
     {
         if has_any(&self.set, row) {
             return Ok(true);
         }
-        match self.choose(index, part, row) {
+        match self.choose(part, row) {
             Some(place) => {
                 self.set.insert(place)?;
                 self.causes.push(cause)?;
@@ -287,36 +124,26 @@ impl Witness {
     }
 
     /// Puts in an answer of a need. `false` where it has none, or too many for a row.
-    fn take_answer(
-        &mut self,
-        index: &Index,
-        part: &Part<'_>,
-        place: u32,
-        number: u32,
-    ) -> Result<bool, AllocError>
-        requires place { place < length index.now.packages }
-        requires number { number < length (needs_at index.now place) }
-        ensures { OnOk result (Grows (length index.now.packages) self.old.set self.new.set) }
+    fn take_answer(&mut self, part: &Part<'_>, place: u32, number: u32) -> Result<bool, AllocError>
+        requires place { place < length part.now.index.now.packages }
+        requires number { number < length (needs_at part.now.index.now place) }
+        ensures { OnOk result (Grows (length part.now.index.now.packages) self.old.set self.new.set) }
     {
-        match index.answer_row(place, number) {
-            Some(row) => self.take_one(index, part, row, Some(Cause { place, number })),
+        match part.index.answer_row(place, number) {
+            Some(row) => self.take_one(part, row, Some(Cause { place, number })),
             None => Ok(false),
         }
     }
 
     /// Puts in an answer of each need of a place that the part asks for. `false` where one has none, or too many for a row.
-    fn take_answers(
-        &mut self,
-        index: &Index,
-        part: &Part<'_>,
-        place: u32,
-    ) -> Result<bool, AllocError>
-        requires { place < length index.now.packages }
-        ensures { OnOk result (Grows (length index.now.packages) self.old.set self.new.set) }
+    fn take_answers(&mut self, part: &Part<'_>, place: u32) -> Result<bool, AllocError>
+        requires { place < length part.now.index.now.packages }
+        ensures { OnOk result (Grows (length part.now.index.now.packages) self.old.set self.new.set) }
     {
+        let index = part.index;
         for number in 0..index.need_count(place) {
             if part.has(index.need_position(place, number)) {
-                if !self.take_answer(index, part, place, number)? {
+                if !self.take_answer(part, place, number)? {
                     return Ok(false);
                 }
             }
@@ -325,14 +152,15 @@ impl Witness {
     }
 
     /// Puts in a package of each essential name that the part asks for.
-    fn take_essentials(&mut self, index: &Index, part: &Part<'_>) -> Result<bool, AllocError>
-        ensures { OnOk result (Grows (length index.now.packages) self.old.set self.new.set) }
+    fn take_essentials(&mut self, part: &Part<'_>) -> Result<bool, AllocError>
+        ensures { OnOk result (Grows (length part.now.index.now.packages) self.old.set self.new.set) }
     {
+        let index = part.index;
         // An essential name is a name, so its number fits 32 bits.
         let _names = index.name_count();
         for (position, name) in index.essential_names().iter().enumerate() {
             if part.has(position as u32) {
-                if !self.take_one(index, part, index.places_named(*name), None)? {
+                if !self.take_one(part, index.places_named(*name), None)? {
                     return Ok(false);
                 }
             }
@@ -341,14 +169,14 @@ impl Witness {
     }
 
     /// Puts in what the places of the set need, as long as places come. Where a need isn't answered, the place that has it.
-    fn take_needs(&mut self, index: &Index, part: &Part<'_>) -> Result<Option<u32>, AllocError>
-        requires { ArePlaces (length index.now.packages) self.old.set }
-        ensures { OnOk result (Grows (length index.now.packages) self.old.set self.new.set) }
+    fn take_needs(&mut self, part: &Part<'_>) -> Result<Option<u32>, AllocError>
+        requires { AreNumbers (length part.now.index.now.packages) self.old.set }
+        ensures { OnOk result (Grows (length part.now.index.now.packages) self.old.set self.new.set) }
     {
         let mut visited = 0;
         while visited < self.set.as_slice().len() {
             let place = self.set.as_slice()[visited];
-            if !self.take_answers(index, part, place)? {
+            if !self.take_answers(part, place)? {
                 return Ok(Some(place));
             }
             visited += 1;
@@ -357,27 +185,27 @@ impl Witness {
     }
 
     /// Makes a set of the package at a place and what the part asks for with it. Where something wasn't found, the place that needs it.
-    fn grow(&mut self, index: &Index, part: &Part<'_>, p: u32) -> Result<Option<u32>, AllocError>
-        requires { p < length index.now.packages }
-        ensures { OnOk result (ArePlaces (length index.now.packages) self.new.set) }
+    fn grow(&mut self, part: &Part<'_>, p: u32) -> Result<Option<u32>, AllocError>
+        requires { p < length part.now.index.now.packages }
+        ensures { OnOk result (AreNumbers (length part.now.index.now.packages) self.new.set) }
     {
         self.set.clear();
         self.causes.clear();
         self.set.insert(p)?;
         self.causes.push(None)?;
-        if !self.take_essentials(index, part)? {
+        if !self.take_essentials(part)? {
             return Ok(Some(p));
         }
-        let lacking = self.take_needs(index, part)?;
+        let lacking = self.take_needs(part)?;
         Ok(lacking)
     }
 
     /// A place of the set that doesn't meet what the part asks of it.
-    fn amiss(&self, index: &Index, part: &Part<'_>) -> Option<u32>
-        requires { All (λ q. q < length index.now.packages) self.now.set }
+    fn amiss(&self, part: &Part<'_>) -> Option<u32>
+        requires { All (λ q. q < length part.now.index.now.packages) self.now.set }
     {
         for place in self.set.as_slice() {
-            if !meets_place(index, part, &self.set, *place) {
+            if !meets_place(part, &self.set, *place) {
                 return Some(*place);
             }
         }
@@ -397,7 +225,7 @@ impl Witness {
 
     /// What a place came for.
     fn cause_of(&self, place: u32) -> Option<Cause> {
-        let number = self.set.number_of(place)?;
+        let number = self.set.position_of(place)?;
         *self.causes.get(number)?
     }
 
@@ -420,11 +248,11 @@ impl Witness {
 }
 
 /// Whether a set has the package at a place, and is seen to meet the part.
-fn is_witness(index: &Index, part: &Part<'_>, p: u32, set: &PlaceSet) -> bool
-    requires { All (λ q. q < length index.now.packages) set.now }
-    ensures { result ≡ true → Admits index.now p (left (members_of part.now.kept.now) part.now.rest) }
+fn is_witness(part: &Part<'_>, p: u32, set: &SparseSet) -> bool
+    requires { All (λ q. q < length part.now.index.now.packages) set.now }
+    ensures { result ≡ true → Admits part.now.index.now p (positions_in part.now) }
 {
-    set.contains(p) && meets_part(index, part, set)
+    set.contains(p) && meets_part(part, set)
 }
 
 /// Whether a set with the package at a place is seen to meet a part of the constraints.
@@ -432,27 +260,26 @@ fn is_witness(index: &Index, part: &Part<'_>, p: u32, set: &PlaceSet) -> bool
 /// A set that is found without a search is enough: each need takes what is in, or else one of its answers. Where that leads nowhere, the
 /// next try goes without what led there.
 pub(crate) fn is_seen_to_admit(
-    index: &Index,
     part: &Part<'_>,
     p: u32,
     witness: &mut Witness,
 ) -> Result<bool, AllocError>
-    requires { p < length index.now.packages }
-    ensures { IfOk result (λ seen. seen ≡ true → Admits index.now p (left (members_of part.now.kept.now) part.now.rest)) }
+    requires { p < length part.now.index.now.packages }
+    ensures { IfOk result (λ seen. seen ≡ true → Admits part.now.index.now p (positions_in part.now)) }
 {
     witness.unfit.clear();
     for _ in 0..TRIES {
-        let mut lacking = witness.grow(index, part, p)?;
+        let mut lacking = witness.grow(part, p)?;
         if lacking.is_none() {
-            if is_witness(index, part, p, &witness.set) {
+            if is_witness(part, p, &witness.set) {
                 return Ok(true);
             }
-            lacking = witness.amiss(index, part);
+            lacking = witness.amiss(part);
         }
         let Some(place) = lacking else {
             return Ok(false);
         };
-        if !witness.rule_out(index, place)? {
+        if !witness.rule_out(part.index, place)? {
             return Ok(false);
         }
     }

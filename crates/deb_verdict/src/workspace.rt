@@ -1,23 +1,23 @@
 //! The buffers of a verdict.
 
+use crate::gather::Candidates;
+use crate::installation::Installation;
 use crate::propagation::Propagation;
-use crate::unmet::UnmetNeed;
 use crate::witness::Witness;
-use deb_encode::{PlaceSet, Rivals, Versions};
+use deb_encode::{Rivals, Versions};
 use deb_index::Constraint;
+use number_sets::SparseSet;
 use sat_solve::{Formula, Lit};
 use std::alloc::{AllocError, Global};
 
-/// The buffers in which `verdict_in` finds a verdict, and which it takes over for the next one, of whatever package and index.
+/// The buffers in which a verdict is found, and which are taken over for the next one, of whatever package and index.
 ///
 /// What an earlier verdict left in them changes no answer.
 #[derive(Drop)]
 pub struct Workspace {
     /// The places that are in every set that is looked for, and those that have a variable each.
-    pub(crate) forced: PlaceSet,
-    pub(crate) candidates: PlaceSet,
-    /// The needs of these that no forced place answers.
-    pub(crate) unmet: Vec<UnmetNeed>,
+    pub(crate) forced: SparseSet,
+    pub(crate) candidates: Candidates,
     pub(crate) formula: Formula,
     /// A clause in the making, and the places that answer a need.
     pub(crate) clause: Vec<Lit>,
@@ -27,8 +27,10 @@ pub struct Workspace {
     pub(crate) solver: sat_solve::Workspace,
     pub(crate) propagation: Propagation,
     pub(crate) witness: Witness,
-    /// The constraints that a formula has a group each for, and where they stand.
-    pub(crate) positions: Vec<u32>,
+    /// A set that is grown for a package whose set need not be shown.
+    pub(crate) installation: Installation,
+    /// The closure of a broken package, and the constraints that speak of it.
+    pub(crate) closure: SparseSet,
     pub(crate) constraints: Vec<Constraint>,
     /// The groups that a solve keeps, and those that it used.
     pub(crate) keep: Vec<bool>,
@@ -41,9 +43,8 @@ impl Workspace {
     /// Buffers with no room yet. The error is want of memory.
     pub fn new(alloc: Global) -> Result<Workspace, AllocError> {
         Ok(Workspace {
-            forced: PlaceSet::new(alloc),
-            candidates: PlaceSet::new(alloc),
-            unmet: Vec::new(alloc),
+            forced: SparseSet::new(alloc),
+            candidates: Candidates::new(alloc),
             formula: Formula::new(alloc, 0, 0)?,
             clause: Vec::new(alloc),
             found: Vec::new(alloc),
@@ -52,7 +53,8 @@ impl Workspace {
             solver: sat_solve::Workspace::new(alloc),
             propagation: Propagation::new(alloc),
             witness: Witness::new(alloc),
-            positions: Vec::new(alloc),
+            installation: Installation::new(alloc, 0),
+            closure: SparseSet::new(alloc),
             constraints: Vec::new(alloc),
             keep: Vec::new(alloc),
             marks: Vec::new(alloc),

@@ -47,7 +47,7 @@ fn found(alloc: Global, index: &Index, p: u32, wanted: &str) -> Result<String, A
 }
 
 /// The place that a line begins with, and the answer that is expected there.
-fn parts(line: &str) -> Option<(u32, &str)> {
+pub fn parts(line: &str) -> Option<(u32, &str)> {
     let (place, wanted) = line.split_once(' ')?;
     let place = place.parse::<u32>().ok()?;
     Some((place, wanted))

@@ -5,7 +5,7 @@ ghost use Rattle.std.specs.Prelude.{◌≡◌, ◌<◌, length};
 use crate::expected::{compare, written};
 use crate::lent::on_index;
 use deb_index::Index;
-use deb_verdict::{Groundwork, Workspace, verdict_in};
+use deb_verdict::{Groundwork, Wanted, Workspace, is_installable_in, told_verdict_in, verdict_in};
 use std::alloc::{AllocError, Global};
 use std::process::Abort;
 use std::test::Fail;
@@ -36,6 +36,32 @@ impl<'a> Grounded<'a> {
     {
         let found = verdict_in(alloc, workspace, &self.groundwork, p)?;
         written(alloc, &found)
+    }
+
+    /// As much of the verdict of the package at a place as is wanted, as it is written. The error is want of memory.
+    pub fn find_told(
+        &self,
+        alloc: Global,
+        workspace: &mut Workspace,
+        p: u32,
+        wanted: Wanted,
+    ) -> Result<String, AllocError>
+        requires { p < length self.now.index.now.packages }
+    {
+        let found = told_verdict_in(alloc, workspace, &self.groundwork, p, wanted)?;
+        written(alloc, &found)
+    }
+
+    /// Whether the package at a place can be installed. The error is want of memory.
+    pub fn is_installable(
+        &self,
+        alloc: Global,
+        workspace: &mut Workspace,
+        p: u32,
+    ) -> Result<bool, AllocError>
+        requires { p < length self.now.index.now.packages }
+    {
+        is_installable_in(alloc, workspace, &self.groundwork, p)
     }
 
     /// Compares the verdict of the package at a place with what is expected.

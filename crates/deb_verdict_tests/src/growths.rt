@@ -1,9 +1,10 @@
-//! One test for each call that can want memory; bench/growths runs them with each growth refused in turn.
+//! One test for each call that can want memory; trials/growths runs them with each growth refused in turn.
 
 use crate::expected::{compare, expect, expect_lines};
 use crate::grounded::{Grounded, on_ground, on_two, on_workspace};
 use crate::installable::expect_marks;
 use crate::lent::on_index;
+use crate::told::{ANSWER_BETWEEN, expect_all};
 use deb_verdict::Workspace;
 use std::alloc::Global;
 use std::process::Abort;
@@ -129,6 +130,15 @@ fn of_groundwork(rt: HostRuntime) -> Result<(), Fail> {
 #[test]
 fn of_find_installable(rt: HostRuntime) -> Result<(), Fail> {
     expect_marks(&rt, ALTERNATIVES, &[0, 1, 2], &[true, true, true])
+}
+
+/// A package that is found to be installable though it isn't seen, a broken one, and one that is seen.
+#[test]
+fn of_told_verdict_in(rt: HostRuntime) -> Result<(), Fail> {
+    let verdicts = "0 set [0, 2, 4]
+1 core [Essential(4), Apart(1, 0)]
+2 set [2, 4]";
+    expect_all(&rt, ANSWER_BETWEEN, verdicts)
 }
 
 #[test]

@@ -2,7 +2,8 @@
 //!
 //! `reading` makes an index of a text and `lent` lends it, `expected` compares what is found with what is expected, `grounded` has an index
 //! with its groundwork. `verdicts`, `first_sets`, `cores` and `qualifiers` have worked examples, `installable` those of the packages that are
-//! marked as installable; `workspaces` asks for verdicts by turns in one workspace; `comparison` compares what is found in the indexes of
+//! marked as installable, `told` those of verdicts of which not all is wanted; `workspaces` asks for verdicts by turns in one workspace;
+//! `comparison` compares what is found in the indexes of
 //! `generated` with what `trial` comes to, and `growths` has a test for each call that can want memory.
 #![tactic(auto)]
 
@@ -28,6 +29,8 @@ mod lent;
 mod qualifiers;
 #[cfg(test)]
 mod reading;
+#[cfg(test)]
+mod told;
 #[cfg(test)]
 mod trial;
 #[cfg(test)]

@@ -7,7 +7,7 @@ use Rattle.deb_index.specs.Packages.{IndexView}
 use Rattle.deb_index.specs.Reading.{in_fore, index_of, index_of_both}
 use Rattle.deb_index.proofs.BackgroundLemmas.{both-empty}
 use Rattle.debcheck.specs.declared.fault.RunFault.{RunFault}
-use Rattle.debcheck.specs.declared.fault.RunFault.TheVariants.{Read, TooLong, BackgroundRead, BackgroundTooLong, Index, Background, UnknownAsked, Memory, Write}
+use Rattle.debcheck.specs.declared.fault.RunFault.TheVariants.{Read, TooLong, BackgroundRead, BackgroundTooLong, EarlierRead, EarlierTooLong, Index, Background, Earlier, UnknownAsked, Memory, Write}
 use Rattle.deb_report.specs.declared.summary.Summary.{Summary}
 use Rattle.deb_report.specs.Settings.{Settings}
 use Rattle.debcheck.specs.Run.{Fails, Input, IsReadAs, IsReport, IsReportOn, behind, input, is_of_background}
@@ -47,7 +47,7 @@ report-alone settings text background output summary index none is report =
     let both = subst P (report.no_background none) report.is_index in
     let same : report.index ≡ index = same-alone (index_of text settings.arch settings.essential) report.index index (sym (both-empty text settings.arch settings.essential) ∙ both) is in
     let Q : IndexView → Type 0 = λ view. IsReportOn settings view output summary in
-    subst Q same report.is_report
+    subst Q same report.holds
 
 no-input : (asked : Bool) (background : Input) → asked ≡ false → (if asked then background else input (Some []) false) ≡ input (Some []) false
 no-input true background none = absurd cc
@@ -64,10 +64,13 @@ fails-alone settings text background w BackgroundRead none h =
 fails-alone settings text background w BackgroundTooLong none h =
     let over = (rw (no-input settings.background background none) at h.1).1 in
     absurd (omega arith)
+fails-alone settings text background w EarlierRead none h = refl
+fails-alone settings text background w EarlierTooLong none h = refl
 fails-alone settings text background w (Index fault) none h = refl
 fails-alone settings text background w (Background fault) none h =
     let asked = h.0 in
     absurd cc
+fails-alone settings text background w (Earlier fault) none h = refl
 fails-alone settings text background w (UnknownAsked name) none h = refl
 fails-alone settings text background w Memory none h = refl
 fails-alone settings text background w Write none h = refl

@@ -7,5 +7,7 @@ mod LineLemmas
 mod MergeLemmas
 mod OneReport
 mod PhaseLemmas
+mod ProgramLemmas
 mod RunLemmas
+mod SinceLemmas
 mod StandingLemmas

@@ -14,7 +14,7 @@ use Rattle.deb_report.specs.declared.config.Config.{Config}
 use Rattle.debcheck.specs.declared.line.LineFault.{LineFault}
 use Rattle.debcheck.specs.declared.line.LineFault.TheVariants.{Refused, Help, Memory}
 use Rattle.deb_report.specs.Settings.{is_architecture, settings_of}
-use Rattle.debcheck.specs.Line.{Accepts, IsFaultOf, RefusesLine, RefusesUnless, Request, asked_by, format_of, has_good_background, has_good_names, has_good_values, is_count, is_help, is_version, line_app, line_faults, line_rows, names_in, request_of, value_of}
+use Rattle.debcheck.specs.Line.{Accepts, IsFaultOf, RefusesLine, RefusesUnless, Request, asked_by, format_of, has_good_file, has_good_names, has_good_since, has_good_values, is_count, is_help, is_version, line_app, line_faults, line_rows, names_in, request_of, value_of}
 use Rattle.debcheck.proofs.LineLemmas.{count-least}
 
 -- ---- the program's command
@@ -103,13 +103,13 @@ both : (a b : Bool) → (a && b) ≡ true → (a ≡ true) × (b ≡ true)
 both true b e = (refl, e)
 both false b e = absurd (true≢false (sym e))
 
--- the first four of six that hold
-first-four : (a b c d e f : Bool) → (a && b && c && d && e && f) ≡ true → (a ≡ true) × (b ≡ true) × (c ≡ true) × (d ≡ true)
-first-four true true true true e f is = (refl, refl, refl, refl)
-first-four true true true false e f is = absurd (true≢false (sym is))
-first-four true true false d e f is = absurd (true≢false (sym is))
-first-four true false c d e f is = absurd (true≢false (sym is))
-first-four false b c d e f is = absurd (true≢false (sym is))
+-- the first four of seven that hold
+first-four : (a b c d e f g : Bool) → (a && b && c && d && e && f && g) ≡ true → (a ≡ true) × (b ≡ true) × (c ≡ true) × (d ≡ true)
+first-four true true true true e f g is = (refl, refl, refl, refl)
+first-four true true true false e f g is = absurd (true≢false (sym is))
+first-four true true false d e f g is = absurd (true≢false (sym is))
+first-four true false c d e f g is = absurd (true≢false (sym is))
+first-four false b c d e f g is = absurd (true≢false (sym is))
 
 abbrev HasGoodParts : List Row → Type 0
 HasGoodParts rows = (is_architecture (value_of (codes "arch") rows) ≡ true) × (is_count 64 (value_of (codes "workers") rows) ≡ true)
@@ -117,7 +117,8 @@ HasGoodParts rows = (is_architecture (value_of (codes "arch") rows) ≡ true) ×
 
 good-parts : (rows : List Row) → has_good_values rows ≡ true → HasGoodParts rows
 good-parts rows good = first-four (is_architecture (value_of (codes "arch") rows)) (is_count 64 (value_of (codes "workers") rows))
-    (is_count 1000000 (value_of (codes "chunk") rows)) (has_good_names rows) (has_good_background rows) (is_some (format_of (value_of (codes "format") rows))) good
+    (is_count 1000000 (value_of (codes "chunk") rows)) (has_good_names rows)
+    (has_good_file (codes "bg") rows) (has_good_since rows) (is_some (format_of (value_of (codes "format") rows))) good
 
 accepted-parts : (words : List Text) (word : Text) (config : Config) → Accepts (word ∷ words) config → HasGoodParts (line_rows (word ∷ words))
 accepted-parts words word config accepted = good-parts (line_rows (word ∷ words)) (both _ _ accepted.0).1

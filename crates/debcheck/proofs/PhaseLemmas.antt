@@ -1,17 +1,16 @@
 -- From the phases of a run to the whole run.
-use Rattle.std.proofs.Common.{◌≡◌, ◌∙◌, ℕ, ◌≤◌, Bool, true, false, List, [], Option, Some, None, Ok, Err, IfSome, if◌then◌else◌, ◌++◌, append-nil, ap, length, refl, sym, subst, ◌≢◌}
+use Rattle.std.proofs.Common.{◌≡◌, ◌∙◌, ℕ, ◌≤◌, Bool, true, false, List, [], Option, Some, None, Ok, Err, IfSome, if◌then◌else◌, ◌++◌, append-nil, ap, length, refl, sym, subst}
 use Rattle.std.specs.Io.KnownBytes.{Appends, Consumes, IsAtEnd, Keeps}
 use Rattle.deb_index.specs.Packages.{IndexView}
 use Rattle.deb_index.specs.Reading.{byte_limit, index_of, index_of_both}
-use Rattle.deb_index.specs.declared.error.BothError.TheVariants.{Fore}
-use Rattle.deb_index.specs.declared.error.IndexError.{IndexError}
-use Rattle.deb_index.specs.declared.error.IndexError.TheVariants as index_error
+use Rattle.deb_index.specs.declared.error.BothError.TheVariants.{Back}
 use Rattle.debcheck.specs.declared.fault.RunFault.{RunFault}
-use Rattle.debcheck.specs.declared.fault.RunFault.TheVariants.{Read, TooLong, BackgroundRead, BackgroundTooLong, Index, Background, UnknownAsked, Memory, Write}
+use Rattle.debcheck.specs.declared.fault.RunFault.TheVariants.{Read, TooLong, BackgroundRead, BackgroundTooLong, EarlierRead, EarlierTooLong, Index, Background, Earlier, UnknownAsked, Memory, Write}
 use Rattle.deb_report.specs.declared.summary.Summary.{Summary}
 use Rattle.debcheck.specs.Devices.{AppendsPart}
 use Rattle.deb_report.specs.Settings.{Settings}
-use Rattle.debcheck.specs.Run.{Fails, FailsToIndex, FailsToReport, HasAsked, IfTold, Input, IsRead, IsReadAs, IsReport, IsReportOn, Leaves, ReadsAs, TellsReport, WritesFront, WritesReport, behind, input}
+use Rattle.debcheck.specs.Run.{Fails, FailsToAccept, FailsToIndex, FailsToReport, HasAsked, HasIndex, IfIndexed, IfTold, Input, IsRead, IsReadAs, IsReport, IsReportOn, Leaves, ReadsAs, Reports, TellsReport, WritesBy, WritesFrontBy, behind, input}
+use Rattle.debcheck.proofs.BackgroundLemmas.{back-asked}
 use Rattle.debcheck.proofs.IndexLemmas.{both-fore}
 
 -- ---- reading
@@ -37,13 +36,43 @@ told_text : (told : Option (List ℕ)) (bytes : List ℕ) (P : List ℕ → Type
 told_text None bytes P same h = tt
 told_text (Some all) bytes P same h = subst P (sym same) h
 
--- the fault of the index
-pub fore-refused : (settings : Settings) (text background : Input) (bytes more : List ℕ) (fault : IndexError) → IsReadAs text bytes → IsReadAs (behind settings background) more → fault ≢ index_error.Memory
-    → index_of_both bytes more settings.arch settings.essential ≡ Err (Fore fault) → FailsToIndex settings text background (Index fault)
-fore-refused settings text background bytes more fault first second other h = (
-  other,
+-- and of both texts
+told_both : (settings : Settings) (text background : Input) (bytes more : List ℕ) (P : List ℕ → List ℕ → Type 0) → IsReadAs text bytes → IsReadAs (behind settings background) more → P bytes more
+    → IfTold settings text background P
+told_both settings text background bytes more P first second h =
+    told_text text.text bytes (λ (a : List ℕ). IfSome (behind settings background).text (P a)) first.1 (told_text (behind settings background).text more (P bytes) second.1 h)
+
+-- texts that were read and are no index
+pub accept-fails : (settings : Settings) (text background : Input) (bytes more : List ℕ) (fault : RunFault) → IsReadAs text bytes → IsReadAs (behind settings background) more
+    → FailsToAccept settings bytes more fault → FailsToIndex settings text background fault
+accept-fails settings text background bytes more Read first second h = absurd h
+accept-fails settings text background bytes more TooLong first second h = absurd h
+accept-fails settings text background bytes more BackgroundRead first second h = absurd h
+accept-fails settings text background bytes more BackgroundTooLong first second h = absurd h
+accept-fails settings text background bytes more EarlierRead first second h = absurd h
+accept-fails settings text background bytes more EarlierTooLong first second h = absurd h
+accept-fails settings text background bytes more (Index fault) first second h = (
+  h.0,
   (read-as text bytes first, read-as (behind settings background) more second),
-  told_text text.text bytes (λ (a : List ℕ). index_of a settings.arch settings.essential ≡ Err fault) first.1 (both-fore bytes more settings.arch settings.essential fault h),
+  told_text text.text bytes (λ (a : List ℕ). index_of a settings.arch settings.essential ≡ Err fault) first.1 (both-fore bytes more settings.arch settings.essential fault h.1),
+)
+accept-fails settings text background bytes more (Background fault) first second h = (
+  back-asked settings background bytes more fault second h.1,
+  h.0,
+  (read-as text bytes first, read-as (behind settings background) more second),
+  told_both settings text background bytes more (λ (a b : List ℕ). index_of_both a b settings.arch settings.essential ≡ Err (Back fault)) first second h.1,
+)
+accept-fails settings text background bytes more (Earlier fault) first second h = absurd h
+accept-fails settings text background bytes more (UnknownAsked name) first second h = absurd h
+accept-fails settings text background bytes more Memory first second h = (first.0, second.0)
+accept-fails settings text background bytes more Write first second h = absurd h
+
+-- texts that were read and have an index
+pub accepted-as : (settings : Settings) (text background : Input) (bytes more : List ℕ) (index : IndexView) → IsReadAs text bytes → IsReadAs (behind settings background) more
+    → index_of_both bytes more settings.arch settings.essential ≡ Ok index → ReadsAs settings text background index
+accepted-as settings text background bytes more index first second is = (
+  (read-as text bytes first, read-as (behind settings background) more second),
+  told_both settings text background bytes more (λ (a b : List ℕ). index_of_both a b settings.arch settings.essential ≡ Ok index) first second is,
 )
 
 -- ---- failing
@@ -54,8 +83,11 @@ indexing-fails settings text background Read h = h
 indexing-fails settings text background TooLong h = h
 indexing-fails settings text background BackgroundRead h = h
 indexing-fails settings text background BackgroundTooLong h = h
+indexing-fails settings text background EarlierRead h = absurd h
+indexing-fails settings text background EarlierTooLong h = absurd h
 indexing-fails settings text background (Index fault) h = h
 indexing-fails settings text background (Background fault) h = h
+indexing-fails settings text background (Earlier fault) h = absurd h
 indexing-fails settings text background (UnknownAsked name) h = absurd h
 indexing-fails settings text background Memory h = h
 indexing-fails settings text background Write h = absurd h
@@ -65,17 +97,18 @@ kept-itself None = tt
 kept-itself (Some bytes) = refl
 
 -- a property of what is told follows from another one
-told_weaker : (first second : Option (List ℕ)) (P Q : List ℕ → List ℕ → Type 0) → ((a b : List ℕ) → P a b → Q a b) → IfSome first (λ a. IfSome second (P a)) → IfSome first (λ a. IfSome second (Q a))
+pub told_weaker : (first second : Option (List ℕ)) (P Q : List ℕ → List ℕ → Type 0) → ((a b : List ℕ) → P a b → Q a b) → IfSome first (λ a. IfSome second (P a)) → IfSome first (λ a. IfSome second (Q a))
 told_weaker None second P Q f h = tt
 told_weaker (Some a) None P Q f h = tt
 told_weaker (Some a) (Some b) P Q f h = f a b h
 
 -- an index that was read, with a property that it has
-indexed : (settings : Settings) (text background : Input) (index : IndexView) (P : IndexView → Type 0) → ReadsAs settings text background index → P index
-    → IfTold settings text background (λ bytes more. (view : IndexView) × (index_of_both bytes more settings.arch settings.essential ≡ Ok view) × P view)
-indexed settings text background index P reads h =
-    told_weaker text.text (behind settings background).text (λ (a b : List ℕ). index_of_both a b settings.arch settings.essential ≡ Ok index)
-    (λ (a b : List ℕ). (view : IndexView) × (index_of_both a b settings.arch settings.essential ≡ Ok view) × P view) (λ a b is. (index, is, h)) reads.1
+pub as-indexed : (settings : Settings) (text background : Input) (index : IndexView) (P : IndexView → Type 0) → ReadsAs settings text background index → P index → IfIndexed settings text background P
+as-indexed settings text background index P reads h = (
+  reads.0,
+  told_weaker text.text (behind settings background).text (λ (a b : List ℕ). index_of_both a b settings.arch settings.essential ≡ Ok index)
+      (λ (a b : List ℕ). (view : IndexView) × (index_of_both a b settings.arch settings.essential ≡ Ok view) × P view) (λ a b is. (index, is, h)) reads.1,
+)
 
 -- what fails once the index is there, fails as a run
 pub report-fails : (settings : Settings) (text background : Input) (index : IndexView) (fault : RunFault) → ReadsAs settings text background index → FailsToReport settings index fault
@@ -84,9 +117,12 @@ report-fails settings text background index Read reads h = absurd h
 report-fails settings text background index TooLong reads h = absurd h
 report-fails settings text background index BackgroundRead reads h = absurd h
 report-fails settings text background index BackgroundTooLong reads h = absurd h
+report-fails settings text background index EarlierRead reads h = absurd h
+report-fails settings text background index EarlierTooLong reads h = absurd h
 report-fails settings text background index (Index fault) reads h = absurd h
 report-fails settings text background index (Background fault) reads h = absurd h
-report-fails settings text background index (UnknownAsked name) reads h = (reads.0, indexed settings text background index (λ view. FailsToReport settings view (UnknownAsked name)) reads h)
+report-fails settings text background index (Earlier fault) reads h = absurd h
+report-fails settings text background index (UnknownAsked name) reads h = as-indexed settings text background index (λ view. FailsToReport settings view (UnknownAsked name)) reads h
 report-fails settings text background index Memory reads h = (reads.0.0.0, reads.0.1.0)
 report-fails settings text background index Write reads h = absurd h
 
@@ -96,8 +132,11 @@ fails-unwritten settings text background w Read h = h
 fails-unwritten settings text background w TooLong h = h
 fails-unwritten settings text background w BackgroundRead h = h
 fails-unwritten settings text background w BackgroundTooLong h = h
+fails-unwritten settings text background w EarlierRead h = h
+fails-unwritten settings text background w EarlierTooLong h = h
 fails-unwritten settings text background w (Index fault) h = h
 fails-unwritten settings text background w (Background fault) h = h
+fails-unwritten settings text background w (Earlier fault) h = h
 fails-unwritten settings text background w (UnknownAsked name) h = h
 fails-unwritten settings text background w Memory h = h
 fails-unwritten settings text background w Write h =
@@ -110,8 +149,11 @@ leaves-unwritten settings text background held Read h = kept-itself held
 leaves-unwritten settings text background held TooLong h = kept-itself held
 leaves-unwritten settings text background held BackgroundRead h = kept-itself held
 leaves-unwritten settings text background held BackgroundTooLong h = kept-itself held
+leaves-unwritten settings text background held EarlierRead h = kept-itself held
+leaves-unwritten settings text background held EarlierTooLong h = kept-itself held
 leaves-unwritten settings text background held (Index fault) h = kept-itself held
 leaves-unwritten settings text background held (Background fault) h = kept-itself held
+leaves-unwritten settings text background held (Earlier fault) h = kept-itself held
 leaves-unwritten settings text background held (UnknownAsked name) h = kept-itself held
 leaves-unwritten settings text background held Memory h = kept-itself held
 leaves-unwritten settings text background held Write h =
@@ -129,31 +171,37 @@ unread_if : (read : Bool) (background : Input) → IfSome (if read then backgrou
 unread_if true background = no_bytes background.text
 unread_if false background = λ unread. refl
 
--- a report on the index is one on the texts
-reported : (settings : Settings) (first second : Option (List ℕ)) (index : IndexView) (output : List ℕ) (summary : Summary)
+-- texts that are told have the index that was read, with a property that it has
+has_index : (settings : Settings) (first second : Option (List ℕ)) (P : IndexView → Type 0)
     → IfSome first (λ bytes. length bytes ≤ byte_limit) → IfSome second (λ bytes. length bytes ≤ byte_limit) → IfSome second (λ bytes. settings.background ≡ false → bytes ≡ [])
-    → IfSome first (λ a. IfSome second (λ b. index_of_both a b settings.arch settings.essential ≡ Ok index)) → IsReportOn settings index output summary
-    → IfSome first (λ a. IfSome second (λ b. IsReport settings a b output summary))
-reported settings None second index output summary short small none is on = tt
-reported settings (Some a) None index output summary short small none is on = tt
-reported settings (Some a) (Some b) index output summary short small none is on = record { index = index; within = short; background_within = small; no_background = none; is_index = is; is_report = on }
+    → IfSome first (λ a. IfSome second (λ b. (index : IndexView) × (index_of_both a b settings.arch settings.essential ≡ Ok index) × P index))
+    → IfSome first (λ a. IfSome second (λ b. HasIndex settings a b P))
+has_index settings None second P short small none is = tt
+has_index settings (Some a) None P short small none is = tt
+has_index settings (Some a) (Some b) P short small none is = record { index = is.0; within = short; background_within = small; no_background = none; is_index = is.1; holds = is.2 }
+
+pub told_index : (settings : Settings) (text background : Input) (P : IndexView → Type 0) → IfIndexed settings text background P
+    → IfTold settings text background (λ bytes more. HasIndex settings bytes more P)
+told_index settings text background P indexed =
+    has_index settings text.text (behind settings background).text P indexed.0.0.1 indexed.0.1.1 (unread_if settings.background background) indexed.1
 
 pub report-told : (settings : Settings) (text background : Input) (index : IndexView) (output : List ℕ) (summary : Summary) → ReadsAs settings text background index → IsReportOn settings index output summary
     → TellsReport settings text background output summary
 report-told settings text background index output summary reads on =
-    (reads.0, reported settings text.text (behind settings background).text index output summary reads.0.0.1 reads.0.1.1 (unread_if settings.background background) reads.1 on)
+    (reads.0, told_index settings text background (λ view. IsReportOn settings view output summary) (as-indexed settings text background index (λ view. IsReportOn settings view output summary) reads on))
 
-pub report-written : (settings : Settings) (text background : Input) (old new : Option (List ℕ)) (output : List ℕ) (summary : Summary) → TellsReport settings text background output summary → Appends old new output
-    → WritesReport settings text background old new summary
-report-written settings text background old new output summary tells h =
-    told_weaker text.text (behind settings background).text (λ (a b : List ℕ). IsReport settings a b output summary)
-    (λ (a b : List ℕ). (output : List ℕ) × IsReport settings a b output summary × Appends old new output) (λ a b report. (output, report, h)) tells.1
+-- a report that is told was added, or its front
+pub report-added : (Is : Reports) (settings : Settings) (text background : Input) (old new : Option (List ℕ)) (output : List ℕ) (summary : Summary)
+    → IfTold settings text background (λ bytes more. Is bytes more output summary) → Appends old new output → WritesBy Is settings text background old new summary
+report-added Is settings text background old new output summary tells h =
+    told_weaker text.text (behind settings background).text (λ (a b : List ℕ). Is a b output summary)
+    (λ (a b : List ℕ). (output : List ℕ) × Is a b output summary × Appends old new output) (λ a b report. (output, report, h)) tells
 
-pub front-written : (settings : Settings) (text background : Input) (old new : Option (List ℕ)) (output : List ℕ) (summary : Summary) → TellsReport settings text background output summary → AppendsPart old new output
-    → WritesFront settings text background old new
-front-written settings text background old new output summary tells h =
-    told_weaker text.text (behind settings background).text (λ (a b : List ℕ). IsReport settings a b output summary)
-    (λ (a b : List ℕ). (output : List ℕ) × (summary : Summary) × IsReport settings a b output summary × AppendsPart old new output) (λ a b report. (output, summary, report, h)) tells.1
+pub front-added : (Is : Reports) (settings : Settings) (text background : Input) (old new : Option (List ℕ)) (output : List ℕ) (summary : Summary)
+    → IfTold settings text background (λ bytes more. Is bytes more output summary) → AppendsPart old new output → WritesFrontBy Is settings text background old new
+front-added Is settings text background old new output summary tells h =
+    told_weaker text.text (behind settings background).text (λ (a b : List ℕ). Is a b output summary)
+    (λ (a b : List ℕ). (output : List ℕ) × (summary : Summary) × Is a b output summary × AppendsPart old new output) (λ a b report. (output, summary, report, h)) tells
 
 -- where the report is there, a failed write is why the run fails
 pub writing-fails : (settings : Settings) (text background : Input) (write_failed : Bool) (output : List ℕ) (summary : Summary) → TellsReport settings text background output summary → write_failed ≡ true
@@ -164,6 +212,6 @@ writing-fails settings text background w output summary tells failed = (
     tells.0,
     told_weaker text.text (behind settings background).text (λ (a b : List ℕ). IsReport settings a b output summary)
         (λ (a b : List ℕ). (index : IndexView) × (index_of_both a b settings.arch settings.essential ≡ Ok index) × HasAsked settings index)
-        (λ a b report. (report.index, report.is_index, (report.is_report.asked, report.is_report.is_asked))) tells.1,
+        (λ a b report. (report.index, report.is_index, (report.holds.asked, report.holds.is_asked))) tells.1,
   ),
 )

@@ -3,7 +3,7 @@ use Rattle.std.proofs.Common.{◌≡◌, ℕ, false, List, [], Some, Err, refl, 
 use Rattle.std.proofs.lemmas.Bool.{cases_Bool}
 use Rattle.deb_index.specs.Packages.{IndexView}
 use Rattle.debcheck.specs.declared.fault.RunFault.{RunFault}
-use Rattle.debcheck.specs.declared.fault.RunFault.TheVariants.{Read, TooLong, BackgroundRead, BackgroundTooLong, Index, Background, UnknownAsked, Memory, Write}
+use Rattle.debcheck.specs.declared.fault.RunFault.TheVariants.{Read, TooLong, BackgroundRead, BackgroundTooLong, EarlierRead, EarlierTooLong, Index, Background, Earlier, UnknownAsked, Memory, Write}
 use Rattle.deb_report.specs.declared.summary.Summary.{Summary}
 use Rattle.deb_report.specs.Asked.{asked_places}
 use Rattle.deb_report.specs.Settings.{Settings}
@@ -33,6 +33,8 @@ refused-behind settings text background output summary BackgroundTooLong is repo
     let within = report.background_within in
     let over = (rw is at fails.1).1 in
     absurd (omega arith)
+refused-behind settings text background output summary EarlierRead is report fails = absurd fails
+refused-behind settings text background output summary EarlierTooLong is report fails = absurd fails
 refused-behind settings text background output summary (Index fault) is report fails =
     let refused = fails.2 in
     let accepted = fore-of-both text background settings.arch settings.essential report.index report.is_index in
@@ -41,6 +43,7 @@ refused-behind settings text background output summary (Background fault) is rep
     let refused = rw is at fails.3 in
     let accepted = report.is_index in
     cc
+refused-behind settings text background output summary (Earlier fault) is report fails = absurd fails
 refused-behind settings text background output summary (UnknownAsked name) is report fails =
     let accepted = report.is_index in
     let found = rw is at fails.1 in
@@ -48,7 +51,7 @@ refused-behind settings text background output summary (UnknownAsked name) is re
     let same : found.0 ≡ report.index = cc in
     let P : IndexView → Type 0 = λ index. asked_places index settings.only ≡ Err name.items in
     let unknown = subst P same found.2 in
-    let asked = report.is_report.is_asked in
+    let asked = report.holds.is_asked in
     cc
 refused-behind settings text background output summary Memory is report fails = refl
 refused-behind settings text background output summary Write is report fails =

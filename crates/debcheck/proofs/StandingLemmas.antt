@@ -1,24 +1,30 @@
 -- What is told of the asked places stands for their verdicts, and the report on it is theirs.
-use Rattle.std.proofs.Common.{◌≡◌, ◌∙◌, ℕ, suc, ◌<◌, ◌≤◌, Bool, true, false, List, [], ◌∷◌, Some, Ok, All, get_or, length, map, slice_get, ap, refl, subst, sym, arith, inl, inr}
+use Rattle.std.proofs.Common.{◌≡◌, ◌∙◌, ℕ, suc, ◌<◌, ◌≤◌, Bool, true, false, ◌&&◌, ◌||◌, if◌then◌else◌, List, [], ◌∷◌, Some, Ok, All, get_or, length, map, slice_get, ap, ap₂, refl, subst, sym, arith, inl, inr}
 use Rattle.std.specs.List.{filter, zip}
-use Rattle.std.proofs.lemmas.Bool.{cases_Bool, both_ways}
+use Rattle.std.proofs.lemmas.Bool.{cases_Bool, false≢true, or_right}
 use Rattle.std.proofs.lemmas.List.Elements.{All-cons, All-filter, All-nil, All-same}
 use Rattle.std.proofs.lemmas.List.Sums.{count_by-le-length, length-filter}
 use Rattle.std.proofs.lemmas.Option.{slice_get-get_or}
+use Rattle.deb_index.specs.declared.constraint.Constraint.{Constraint}
 use Rattle.deb_index.specs.Packages.{IndexView}
-use Rattle.deb_encode.specs.Alone.{MarksOnly}
+use Rattle.number_sets.specs.Sets.{MarksOnly}
 use Rattle.deb_health.specs.Health.{IsInstallable}
-use Rattle.deb_health.specs.Verdicts.{Found, IsVerdict, SpeaksOf, VerdictView}
-use Rattle.deb_verdict.proofs.FirstExists.{first_installation}
+use Rattle.deb_health.specs.Verdicts.{Blocked, Found, SpeaksOf, VerdictView}
+use Rattle.deb_verdict.specs.Told.{IsToldVerdict, as_told}
+use Rattle.deb_verdict.specs.declared.wanted.Wanted.{Wanted}
+use Rattle.deb_verdict.proofs.FirstExists.{verdict_behind}
+use Rattle.deb_verdict.proofs.ToldLemmas.{told_without_set}
 use Rattle.work_draw.specs.Checks.{AnswersEach}
+use Rattle.deb_report.specs.declared.config.Show.{Show}
+use Rattle.deb_report.specs.declared.config.Show.TheVariants as show
 use Rattle.deb_report.specs.declared.summary.Summary.{Summary}
 use Rattle.deb_report.specs.Asked.{asked_places}
-use Rattle.deb_report.specs.Report.{summary_of, without_set}
-use Rattle.deb_report.specs.Settings.{Settings, shows_sets}
+use Rattle.deb_report.specs.Report.{is_broken, is_shown, summary_of}
+use Rattle.deb_report.specs.Settings.{Settings, shows_installable, shows_sets}
 use Rattle.deb_report.specs.Written.{written_report}
-use Rattle.deb_report.proofs.Unshown.{sets_unshown, summary_without_sets}
+use Rattle.deb_report.proofs.Unshown.{LeavesTold, report_unchanged, summary_unchanged}
 use Rattle.debcheck.specs.Run.{IsReportOn}
-use Rattle.debcheck.specs.Standing.{Merges, StandFor, is_unmarked}
+use Rattle.debcheck.specs.Standing.{Merges, StandFor, is_unmarked, wanted_by}
 
 -- ---- what is left
 
@@ -32,38 +38,18 @@ module _ (marks : List Bool) (asked held left : List ℕ) (same : left ≡ held)
 
 -- ---- what is told
 
--- what is told of asked places, beside their verdicts
-pub record Told (index : IndexView) (asked : List ℕ) (told : List VerdictView) : Type 0 where
-  pub verdicts : List VerdictView
-  pub are_verdicts : AnswersEach (IsVerdict index) asked verdicts
-  pub same : map without_set told ≡ map without_set verdicts
+-- what is told of asked places tells as much of their verdicts as is wanted
+pub record Told (wanted : Wanted) (index : IndexView) (asked : List ℕ) (told : List VerdictView) : Type 0 where
+  pub each : AnswersEach (IsToldVerdict wanted index) asked told
   pub count : length told ≡ length asked
   pub within : All (SpeaksOf index) told
 
-module _ (index : IndexView) (marks : List Bool) where
-  -- of a package that can be installed no set is told
-  told_installable : (place : ℕ) (places : List ℕ) (told : List VerdictView) → place < length index.packages → IsInstallable index place → Told index places told
-      → Told index (place ∷ places) (Found [] ∷ told)
-  told_installable place places told inside installable rest =
-      let first = first_installation index place inside installable in
-      record {
-        verdicts = Found first.0 ∷ rest.verdicts;
-        are_verdicts = (first.1, rest.are_verdicts);
-        same = ap (λ others. Found [] ∷ others) rest.same;
-        count = ap suc rest.count;
-        within = All-cons (SpeaksOf index) (Found []) told (All-nil (λ q. q < length index.packages)) rest.within;
-      }
-
-  -- of another one what was found is told
-  told_found : (place : ℕ) (places : List ℕ) (found : VerdictView) (told : List VerdictView) → IsVerdict index place found → SpeaksOf index found → Told index places told
-      → Told index (place ∷ places) (found ∷ told)
-  told_found place places found told is speaks rest = record {
-    verdicts = found ∷ rest.verdicts;
-    are_verdicts = (is, rest.are_verdicts);
-    same = ap (λ others. without_set found ∷ others) rest.same;
-    count = ap suc rest.count;
-    within = All-cons (SpeaksOf index) found told speaks rest.within;
-  }
+module _ (wanted : Wanted) (unshown : wanted.sets ≡ false) (index : IndexView) (marks : List Bool) where
+  -- one place more
+  told_more : (place : ℕ) (places : List ℕ) (first : VerdictView) (told : List VerdictView) → IsToldVerdict wanted index place first → SpeaksOf index first → Told wanted index places told
+      → Told wanted index (place ∷ places) (first ∷ told)
+  told_more place places first told is speaks rest =
+      record { each = (is, rest.each); count = ap suc rest.count; within = All-cons (SpeaksOf index) first told speaks rest.within }
 
   -- what is told behind the first place
   merges_rest : (place : ℕ) (places : List ℕ) (found others : List VerdictView) (first : VerdictView) (told : List VerdictView) → Merges marks (place ∷ places) found (first ∷ told)
@@ -74,11 +60,11 @@ module _ (index : IndexView) (marks : List Bool) where
     of_others = are;
   }
 
-  -- what is told of all asked places
+  -- of a package that is marked no set is told, of another one what was found
   told_each : (asked : List ℕ) (found told : List VerdictView) → length marks ≡ length index.packages → MarksOnly (IsInstallable index) marks
-      → All (λ place. place < length index.packages) asked → AnswersEach (IsVerdict index) (filter (is_unmarked marks) asked) found → All (SpeaksOf index) found
-      → Merges marks asked found told → Told index asked told
-  told_each [] found [] count only places each speaks merges = record { verdicts = []; are_verdicts = tt; same = refl; count = refl; within = All-nil (SpeaksOf index) }
+      → All (λ place. place < length index.packages) asked → AnswersEach (IsToldVerdict wanted index) (filter (is_unmarked marks) asked) found → All (SpeaksOf index) found
+      → Merges marks asked found told → Told wanted index asked told
+  told_each [] found [] count only places each speaks merges = record { each = tt; count = refl; within = All-nil (SpeaksOf index) }
   told_each [] found (first ∷ told) count only places each speaks merges = absurd (omega (arith, merges.count))
   told_each (place ∷ asked) found [] count only places each speaks merges = absurd (omega (arith, merges.count))
   told_each (place ∷ asked) found (first ∷ told) count only places each speaks merges =
@@ -89,53 +75,92 @@ module _ (index : IndexView) (marks : List Bool) where
             let there : slice_get marks place ≡ Some true = slice_get-get_or marks place false (omega arith) ∙ ap Some marked in
             let empty : first ≡ Found [] = merges.of_marked 0 (place, first) (omega arith) (rw marked refl) in
             let rest = merges_rest place asked found found first told merges (rw marked at merges.of_others) in
-            rw empty (told_installable place asked told inside (only place there) (told_each asked found told count only behind (rw marked at each) speaks rest))
+            rw empty
+            (told_more place asked (Found []) told (told_without_set wanted index place unshown (only place there)) (All-nil (λ q. q < length index.packages))
+            (told_each asked found told count only behind (rw marked at each) speaks rest))
         | inr unmarked ↦
             let others = map (λ (pair : ℕ × VerdictView). pair.1) (filter (λ (pair : ℕ × VerdictView). is_unmarked marks pair.0) (zip asked told)) in
             let are : found ≡ first ∷ others = sym (rw unmarked at merges.of_others) in
-            let answers : AnswersEach (IsVerdict index) (place ∷ filter (is_unmarked marks) asked) (first ∷ others) = rw are at (rw unmarked at each) in
+            let answers : AnswersEach (IsToldVerdict wanted index) (place ∷ filter (is_unmarked marks) asked) (first ∷ others) = rw are at (rw unmarked at each) in
             let speak : All (SpeaksOf index) (first ∷ others) = rw are at speaks in
             let rest = merges_rest place asked found others first told merges refl in
-            told_found place asked first told answers.0 (speak 0 first (omega arith))
+            told_more place asked first told answers.0 (speak 0 first (omega arith))
             (told_each asked others told count only behind answers.1 (λ k d lt. speak (suc k) d (omega arith)) rest)
       ]
 
 -- the same, where the others have an empty set by their marks, and what is left was checked
-pub told_by_marks : (index : IndexView) (marks shown_marks : List Bool) (asked held left : List ℕ) (found told : List VerdictView) → shown_marks ≡ marks → length marks ≡ length index.packages
-    → MarksOnly (IsInstallable index) marks → All (λ place. place < length index.packages) asked → left ≡ held → held ≡ filter (is_unmarked shown_marks) asked
-    → AnswersEach (IsVerdict index) left found → All (SpeaksOf index) found → Merges shown_marks asked found told → Told index asked told
-told_by_marks index marks shown_marks asked held left found told shown count only places same are each speaks merges =
+pub told_by_marks : (wanted : Wanted) → wanted.sets ≡ false → (index : IndexView) (marks shown_marks : List Bool) (asked held left : List ℕ) (found told : List VerdictView) → shown_marks ≡ marks
+    → length marks ≡ length index.packages → MarksOnly (IsInstallable index) marks → All (λ place. place < length index.packages) asked → left ≡ held → held ≡ filter (is_unmarked shown_marks) asked
+    → AnswersEach (IsToldVerdict wanted index) left found → All (SpeaksOf index) found → Merges shown_marks asked found told → Told wanted index asked told
+told_by_marks wanted unshown index marks shown_marks asked held left found told shown count only places same are each speaks merges =
     let only_shown = subst (λ (all : List Bool). MarksOnly (IsInstallable index) all) (sym shown) only in
-    let each_left = subst (λ (others : List ℕ). AnswersEach (IsVerdict index) others found) (same ∙ are) each in
-    told_each index shown_marks asked found told (ap length shown ∙ count) only_shown places each_left speaks merges
+    let each_left = subst (λ (others : List ℕ). AnswersEach (IsToldVerdict wanted index) others found) (same ∙ are) each in
+    told_each wanted unshown index shown_marks asked found told (ap length shown ∙ count) only_shown places each_left speaks merges
 
--- what is told stands for the verdicts where no set is shown
-pub stands-told : (settings : Settings) (index : IndexView) (asked : List ℕ) (told : List VerdictView) → shows_sets settings ≡ false → Told index asked told
-    → StandFor settings index asked told
-stands-told settings index asked told unshown tells = record {
-  verdicts = tells.verdicts;
-  are_verdicts = tells.are_verdicts;
-  same = tells.same;
-  same_sets = λ shown. absurd (both_ways (shows_sets settings) unshown shown);
-}
+-- what tells as much of each verdict as is wanted stands for them
+pub stands-told : (wanted : Wanted) (index : IndexView) (asked : List ℕ) (told : List VerdictView) → All (λ place. place < length index.packages) asked
+    → AnswersEach (IsToldVerdict wanted index) asked told → StandFor wanted index asked told
+stands-told wanted index [] [] within each = record { verdicts = []; are_verdicts = tt; same = refl }
+stands-told wanted index [] (first ∷ told) within each = absurd each
+stands-told wanted index (place ∷ asked) [] within each = absurd each
+stands-told wanted index (place ∷ asked) (first ∷ told) within each =
+    let behind = verdict_behind index place (within 0 place (omega arith)) wanted first each.0 in
+    let rest = stands-told wanted index asked told (λ k d below. within (suc k) d (omega (arith, below))) each.1 in
+    record {
+      verdicts = behind.0 ∷ rest.verdicts;
+      are_verdicts = (behind.1, rest.are_verdicts);
+      same = ap₂ (λ one others. one ∷ others) behind.2 rest.same;
+    }
+
+-- ---- what a report tells
+
+module _ (settings : Settings) where
+  found_shown : (view : Show) (places : List ℕ) → is_shown view (Found places) ≡ shows_installable view
+  found_shown show.All places = refl
+  found_shown show.Failures places = refl
+  found_shown show.Successes places = refl
+
+  blocked_shown : (view : Show) (core : List Constraint) → is_shown view (Blocked core) ≡ is_shown view (Blocked [])
+  blocked_shown show.All core = refl
+  blocked_shown show.Failures core = refl
+  blocked_shown show.Successes core = refl
+
+  same_status : (verdict : VerdictView) → is_broken (as_told (wanted_by settings) verdict) ≡ is_broken verdict
+  same_status (Found places) = refl
+  same_status (Blocked core) = refl
+
+  with_core : (core : List Constraint) → (settings.causes || (settings.explain && is_shown settings.show (Blocked []))) ≡ true → as_told (wanted_by settings) (Blocked core) ≡ Blocked core
+  with_core core told = ap (λ (tells : Bool). Blocked (if tells then core else [])) told
+
+  same_shown : (verdict : VerdictView) → (settings.explain && is_shown settings.show verdict) ≡ true → as_told (wanted_by settings) verdict ≡ verdict
+  same_shown (Found places) there =
+      let told : shows_sets settings ≡ true = ap (λ (shows : Bool). settings.explain && shows) (sym (found_shown settings.show places)) ∙ there in
+      ap (λ (tells : Bool). Found (if tells then places else [])) told
+  same_shown (Blocked core) there =
+      with_core core (or_right settings.causes (settings.explain && is_shown settings.show (Blocked []))
+      (ap (λ (shows : Bool). settings.explain && shows) (sym (blocked_shown settings.show core)) ∙ there))
+
+  same_caused : (verdict : VerdictView) → settings.causes ≡ true → is_broken verdict ≡ true → as_told (wanted_by settings) verdict ≡ verdict
+  same_caused (Found places) told broken = absurd (false≢true broken)
+  same_caused (Blocked core) told broken = with_core core (ap (λ (causes : Bool). causes || (settings.explain && is_shown settings.show (Blocked []))) told)
+
+  leaves_told : LeavesTold settings.explain settings.show settings.causes (as_told (wanted_by settings))
+  leaves_told = record { status = same_status; shown = same_shown; caused = same_caused }
 
 -- ---- the report on it
 
-module _ (settings : Settings) (index : IndexView) (asked : List ℕ) (told : List VerdictView) (stand : StandFor settings index asked told) where
+module _ (settings : Settings) (index : IndexView) (asked : List ℕ) (told : List VerdictView) (stand : StandFor (wanted_by settings) index asked told) where
   same_report : written_report settings index asked told ≡ written_report settings index asked stand.verdicts
-  same_report = elim (cases_Bool (shows_sets settings)) [
-    | inl shown ↦ ap (λ verdicts. written_report settings index asked verdicts) (stand.same_sets shown)
-    | inr unshown ↦
-        sym (sets_unshown settings index asked told unshown)
-        ∙ ap (λ verdicts. written_report settings index asked verdicts) stand.same
-        ∙ sets_unshown settings index asked stand.verdicts unshown
-  ]
+  same_report =
+      sym (report_unchanged settings (as_told (wanted_by settings)) (leaves_told settings) index asked told)
+      ∙ ap (λ verdicts. written_report settings index asked verdicts) stand.same
+      ∙ report_unchanged settings (as_told (wanted_by settings)) (leaves_told settings) index asked stand.verdicts
 
   same_summary : summary_of index asked told ≡ summary_of index asked stand.verdicts
   same_summary =
-      sym (summary_without_sets index asked told)
+      sym (summary_unchanged settings (as_told (wanted_by settings)) (leaves_told settings) index asked told)
       ∙ ap (λ verdicts. summary_of index asked verdicts) stand.same
-      ∙ summary_without_sets index asked stand.verdicts
+      ∙ summary_unchanged settings (as_told (wanted_by settings)) (leaves_told settings) index asked stand.verdicts
 
   pub reported-told : (output : List ℕ) (summary : Summary) → asked_places index settings.only ≡ Ok asked → output ≡ written_report settings index asked told
       → summary ≡ summary_of index asked told → IsReportOn settings index output summary

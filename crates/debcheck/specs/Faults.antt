@@ -1,11 +1,12 @@
 -- The lines and statuses of faults.
-use Rattle.std.specs.Prelude.{ℕ, List, [], ◌∷◌, ◌++◌, codes, decimal, Result, Ok, Err, if◌then◌else◌, ◌==◌}
+use Rattle.std.specs.Prelude.{ℕ, Bool, List, [], ◌∷◌, ◌++◌, codes, decimal, Result, Ok, Err, if◌then◌else◌, ◌==◌}
+use Rattle.std.specs.Option.{unwrap_or}
 use Rattle.deb_index.specs.declared.error.IndexError.{IndexError}
 use Rattle.deb_index.specs.declared.error.IndexError.TheVariants.{BadLine, RepeatedField, MissingField, BadName, BadVersion, BadRelation, TooManyStanzas}
 use Rattle.deb_index.specs.declared.error.IndexError.TheVariants as index
 use Rattle.deb_index.specs.Reading.{field_name}
 use Rattle.debcheck.specs.declared.fault.RunFault.{RunFault}
-use Rattle.debcheck.specs.declared.fault.RunFault.TheVariants.{Read, TooLong, BackgroundRead, BackgroundTooLong, Index, Background, UnknownAsked, Memory, Write}
+use Rattle.debcheck.specs.declared.fault.RunFault.TheVariants.{Read, TooLong, BackgroundRead, BackgroundTooLong, EarlierRead, EarlierTooLong, Index, Background, Earlier, UnknownAsked, Memory, Write}
 use Rattle.deb_report.specs.declared.summary.Summary.{Summary}
 
 -- a fault of a stanza, with its number
@@ -29,8 +30,11 @@ fault_text Read = codes "cannot read the index"
 fault_text TooLong = codes "the index is too long"
 fault_text BackgroundRead = codes "cannot read the background"
 fault_text BackgroundTooLong = codes "the background is too long"
+fault_text EarlierRead = codes "cannot read the earlier index"
+fault_text EarlierTooLong = codes "the earlier index is too long"
 fault_text (Index fault) = index_fault_text fault
 fault_text (Background fault) = codes "background: " ++ index_fault_text fault
+fault_text (Earlier fault) = codes "earlier index: " ++ index_fault_text fault
 fault_text (UnknownAsked name) = codes "unknown package " ++ name.items
 fault_text Memory = codes "out of memory"
 fault_text Write = codes "cannot write the report"
@@ -39,15 +43,26 @@ fault_text Write = codes "cannot write the report"
 unfoldable pub fault_line : RunFault → List ℕ
 fault_line fault = codes "debcheck: " ++ fault_text fault ++ (10 ∷ [])
 
+-- the line that is told of a fault: its own, or that of want of memory
+abbrev pub told_line : Bool → RunFault → List ℕ
+told_line own fault = fault_line (if own then fault else Memory)
+
+-- how many broken packages the status tells of: the newly broken ones, where there is an earlier index, else all
+abbrev pub told_broken : Summary → ℕ
+told_broken summary = unwrap_or summary.newly_broken summary.broken
+
 -- the exit status of a run
 abbrev pub status_of : Result Summary RunFault → ℕ
-status_of (Ok summary) = if summary.broken == 0 then 0 else 1
+status_of (Ok summary) = if told_broken summary == 0 then 0 else 1
 status_of (Err (Index fault)) = 65
 status_of (Err (Background fault)) = 65
+status_of (Err (Earlier fault)) = 65
 status_of (Err (UnknownAsked name)) = 66
 status_of (Err Read) = 67
 status_of (Err TooLong) = 67
 status_of (Err BackgroundRead) = 67
 status_of (Err BackgroundTooLong) = 67
+status_of (Err EarlierRead) = 67
+status_of (Err EarlierTooLong) = 67
 status_of (Err Write) = 68
 status_of (Err Memory) = 69

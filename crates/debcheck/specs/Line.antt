@@ -5,7 +5,8 @@ use Rattle.std.specs.List.{list_all, list_any, slice_split}
 use Rattle.std.specs.Option.{option_map, option_map_or, unwrap_or}
 use Rattle.std.specs.Str.{bytes_eq}
 use Rattle.std.specs.Str.Parse.{digits_value}
-use Rattle.clap.specs.Words.{App, Row, Rule, Text, fault_of, first_of, matches_of, new_app, new_rule}
+use Rattle.clap.specs.Words.{App, Row, Rule, Text, fault_of, first_of, found_of, matches_of, new_app, new_rule, rows_of}
+use Rattle.clap.specs.declared.parser.matches.ArgMatches.{ArgMatches}
 use Rattle.clap.specs.declared.builder.action.ArgAction.TheVariants as action
 use Rattle.clap.specs.declared.error.kind.ErrorKind.{ErrorKind}
 use Rattle.clap.specs.declared.error.kind.ErrorKind.TheVariants as kind
@@ -20,6 +21,7 @@ use Rattle.debcheck.specs.declared.line.LineFault.{LineFault}
 use Rattle.debcheck.specs.declared.line.LineFault.TheVariants.{Refused, Help, Memory}
 use Rattle.std.specs.Io.KnownBytes.{Appends}
 use Rattle.debcheck.specs.declared.fault.RunFault.TheVariants as run_fault
+use Rattle.debcheck.specs.Devices.{AppendsPart}
 use Rattle.debcheck.specs.Faults.{fault_line}
 use Rattle.deb_report.specs.Settings.{Settings, is_architecture, settings_of, usual_settings}
 
@@ -27,12 +29,20 @@ use Rattle.deb_report.specs.Settings.{Settings, is_architecture, settings_of, us
 pub record Request : Type 0 where
   pub settings : Settings
   pub bg : Option Text
+  pub since : Option Text
   pub workers : ℕ
   pub chunk : ℕ
   pub quiet : Bool
 
 abbrev pub request_of : Config → Request
-request_of config = record { settings = settings_of config; bg = option_map string_bytes config.bg; workers = config.workers; chunk = config.chunk; quiet = config.quiet }
+request_of config = record {
+  settings = settings_of config;
+  bg = option_map string_bytes config.bg;
+  since = option_map string_bytes config.since;
+  workers = config.workers;
+  chunk = config.chunk;
+  quiet = config.quiet;
+}
 
 -- ---- the options
 
@@ -44,16 +54,19 @@ value_rule name = record (new_rule name) { long = Some name; action = Some actio
 abbrev pub flag_rule : Text → Rule
 flag_rule name = record (new_rule name) { long = Some name; action = Some action.SetTrue }
 
+-- `-h` is its short name
 abbrev pub help_rule : Rule
-help_rule = record (new_rule (codes "help")) { long = Some (codes "help"); action = Some action.Help }
+help_rule = record (new_rule (codes "help")) { long = Some (codes "help"); short = Some 104; action = Some action.Help }
 
+-- and `-V` this one's
 abbrev pub version_rule : Rule
-version_rule = record (new_rule (codes "version")) { long = Some (codes "version"); action = Some action.Version }
+version_rule = record (new_rule (codes "version")) { long = Some (codes "version"); short = Some 86; action = Some action.Version }
 
 -- the architecture has to be said, the report's form and the numbers have usual values
 abbrev pub value_rules : List Rule
 value_rules = record (value_rule (codes "arch")) { required = true }
     ∷ value_rule (codes "bg")
+    ∷ value_rule (codes "since")
     ∷ value_rule (codes "checkonly")
     ∷ record (value_rule (codes "format")) { defaults = codes "text" ∷ [] }
     ∷ record (value_rule (codes "workers")) { defaults = codes "4" ∷ [] }
@@ -68,7 +81,7 @@ abbrev pub app_with : List Rule → App
 app_with rules = let new = new_app (codes "debcheck") in
     record new { top = record new.top { rules = rules; no_binary_name = true; disable_help_flag = true } }
 
--- each option has its long name alone
+-- each option has a long name; help and the version have a short one, too
 abbrev pub line_app : App
 line_app = app_with (value_rules ++ other_rules)
 
@@ -83,6 +96,10 @@ is_count most text = list_all is_ascii_digit text && not (length text == 0)
 abbrev pub names_in : List ℕ → List (List ℕ)
 names_in text = slice_split (λ b. b == 44) text
 
+-- the options that are given in what was matched
+abbrev pub rows_in : ArgMatches → List Row
+rows_in matches = rows_of (found_of matches)
+
 -- the value of an option that has one
 abbrev pub value_of : Text → List Row → List ℕ
 value_of name rows = unwrap_or (first_of name rows) []
@@ -94,9 +111,13 @@ is_set name rows = option_map_or (λ value. bytes_eq value (codes "true")) (firs
 abbrev pub has_good_names : List Row → Bool
 has_good_names rows = option_map_or (λ text. list_all is_name (names_in text)) (first_of (codes "checkonly") rows) true
 
--- the background's file, where there is one, has a name
-abbrev pub has_good_background : List Row → Bool
-has_good_background rows = option_map_or (λ file. not (length file == 0)) (first_of (codes "bg") rows) true
+-- the file that an option names, where it does, has a name
+abbrev pub has_good_file : Text → List Row → Bool
+has_good_file option rows = option_map_or (λ file. not (length file == 0)) (first_of option rows) true
+
+-- so has that of the earlier index, and the packages that can be installed are not asked for beside it
+abbrev pub has_good_since : List Row → Bool
+has_good_since rows = has_good_file (codes "since") rows && not (is_some (first_of (codes "since") rows) && is_set (codes "successes") rows)
 
 -- the form of the report that a word names
 abbrev pub format_of : List ℕ → Option Format
@@ -108,7 +129,8 @@ has_good_values rows = is_architecture (value_of (codes "arch") rows)
     && is_count 64 (value_of (codes "workers") rows)
     && is_count 1000000 (value_of (codes "chunk") rows)
     && has_good_names rows
-    && has_good_background rows
+    && has_good_file (codes "bg") rows
+    && has_good_since rows
     && is_some (format_of (value_of (codes "format") rows))
 
 -- which packages are shown, by whether failures and successes are asked for: all for both or neither
@@ -131,6 +153,7 @@ asked_by rows = record {
     format = unwrap_or (format_of (value_of (codes "format") rows)) form.Text;
   };
   bg = first_of (codes "bg") rows;
+  since = first_of (codes "since") rows;
   workers = digits_value 10 (value_of (codes "workers") rows);
   chunk = digits_value 10 (value_of (codes "chunk") rows);
   quiet = is_set (codes "quiet") rows;
@@ -140,9 +163,9 @@ asked_by rows = record {
 
 -- the request where nothing is said
 abbrev pub usual_request : Request
-usual_request = record { settings = usual_settings; bg = None; workers = 4; chunk = 64; quiet = false }
+usual_request = record { settings = usual_settings; bg = None; since = None; workers = 4; chunk = 64; quiet = false }
 
--- the options that the words give, by the conventions of long options
+-- the options that the words give, by the conventions of long options and of short ones
 unfoldable pub line_rows : List Text → List Row
 line_rows words = matches_of line_app words
 
@@ -218,6 +241,18 @@ abbrev pub TellsLine : LineFault → Option (List ℕ) → Option (List ℕ) →
 TellsLine (Help text) output now errors later = Appends output now (string_bytes text)
 TellsLine (Refused text) output now errors later = Appends errors later (string_bytes text)
 TellsLine Memory output now errors later = Appends errors later (fault_line run_fault.Memory)
+
+-- and where it is a front of the text that goes there
+abbrev pub TellsFront : LineFault → Option (List ℕ) → Option (List ℕ) → Option (List ℕ) → Option (List ℕ) → Type 0
+TellsFront (Help text) output now errors later = AppendsPart output now (string_bytes text)
+TellsFront (Refused text) output now errors later = AppendsPart errors later (string_bytes text)
+TellsFront Memory output now errors later = AppendsPart errors later (fault_line run_fault.Memory)
+
+-- a mark of the device that the text goes to, of the output's and the errors'
+abbrev pub mark_of : LineFault → Bool → Bool → Bool
+mark_of (Help text) output errors = output
+mark_of (Refused text) output errors = errors
+mark_of Memory output errors = errors
 
 -- the other device is left as it was
 abbrev pub KeepsOther : LineFault → Option (List ℕ) → Option (List ℕ) → Option (List ℕ) → Option (List ℕ) → Type 0

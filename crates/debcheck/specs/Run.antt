@@ -5,7 +5,7 @@ use Rattle.deb_index.specs.Packages.{IndexView}
 use Rattle.deb_index.specs.Reading.{byte_limit, index_of, index_of_both}
 use Rattle.deb_health.specs.Verdicts.{IsVerdict, VerdictView}
 use Rattle.work_draw.specs.Checks.{AnswersEach}
-use Rattle.deb_index.specs.declared.error.BothError.TheVariants.{Back}
+use Rattle.deb_index.specs.declared.error.BothError.TheVariants.{Back, Fore}
 use Rattle.deb_index.specs.declared.error.IndexError.TheVariants as index_error
 use Rattle.debcheck.specs.declared.fault.RunFault.{RunFault}
 use Rattle.debcheck.specs.declared.fault.RunFault.TheVariants.{Read, TooLong, BackgroundRead, BackgroundTooLong, Index, Background, UnknownAsked, Memory, Write}
@@ -16,23 +16,32 @@ use Rattle.deb_report.specs.Report.{summary_of}
 use Rattle.deb_report.specs.Settings.{Settings}
 use Rattle.deb_report.specs.Written.{written_report}
 
--- the report on an index, with its numbers
-pub record IsReportOn (settings : Settings) (index : IndexView) (output : List ℕ) (summary : Summary) : Type 0 where
+-- a report on an index, with its numbers, where these are what is written of asked places and their verdicts, and what is counted
+pub record IsReportBy (written : IndexView → List ℕ → List VerdictView → List ℕ) (counted : IndexView → List ℕ → List VerdictView → Summary)
+    (settings : Settings) (index : IndexView) (output : List ℕ) (summary : Summary) : Type 0 where
   pub asked : List ℕ
   pub verdicts : List VerdictView
   pub is_asked : asked_places index settings.only ≡ Ok asked
   pub are_verdicts : AnswersEach (IsVerdict index) asked verdicts
-  pub is_output : output ≡ written_report settings index asked verdicts
-  pub is_summary : summary ≡ summary_of index asked verdicts
+  pub is_output : output ≡ written index asked verdicts
+  pub is_summary : summary ≡ counted index asked verdicts
 
--- the report on a text and on the background behind it, with its numbers; a background that is not asked for has no bytes
-pub record IsReport (settings : Settings) (text background output : List ℕ) (summary : Summary) : Type 0 where
+-- the report on an index, with its numbers
+abbrev pub IsReportOn : Settings → IndexView → List ℕ → Summary → Type 0
+IsReportOn settings index output summary = IsReportBy (written_report settings) summary_of settings index output summary
+
+-- a text and the background behind it are within the limit, and have an index, with this property; a background that is not asked for has no bytes
+pub record HasIndex (settings : Settings) (text background : List ℕ) (P : IndexView → Type 0) : Type 0 where
   pub index : IndexView
   pub within : length text ≤ byte_limit
   pub background_within : length background ≤ byte_limit
   pub no_background : settings.background ≡ false → background ≡ []
   pub is_index : index_of_both text background settings.arch settings.essential ≡ Ok index
-  pub is_report : IsReportOn settings index output summary
+  pub holds : P index
+
+-- the report on a text and on the background behind it, with its numbers
+abbrev pub IsReport : Settings → List ℕ → List ℕ → List ℕ → Summary → Type 0
+IsReport settings text background output summary = HasIndex settings text background (λ index. IsReportOn settings index output summary)
 
 -- ---- what is read
 
@@ -84,13 +93,25 @@ ReadsAs settings text background index = AreRead settings text background
 abbrev pub TellsReport : Settings → Input → Input → List ℕ → Summary → Type 0
 TellsReport settings text background output summary = AreRead settings text background × IfTold settings text background (λ bytes more. IsReport settings bytes more output summary)
 
+-- what is a report on a text and on the background behind it, with its numbers
+abbrev pub Reports : Type 1
+Reports = List ℕ → List ℕ → List ℕ → Summary → Type 0
+
+-- where the texts are told, such a report on them was added
+abbrev pub WritesBy : Reports → Settings → Input → Input → Option (List ℕ) → Option (List ℕ) → Summary → Type 0
+WritesBy Is settings text background old new summary = IfTold settings text background (λ bytes more. (output : List ℕ) × Is bytes more output summary × Appends old new output)
+
+-- where the texts are told, the front of such a report was added
+abbrev pub WritesFrontBy : Reports → Settings → Input → Input → Option (List ℕ) → Option (List ℕ) → Type 0
+WritesFrontBy Is settings text background old new = IfTold settings text background (λ bytes more. (output : List ℕ) × (summary : Summary) × Is bytes more output summary × AppendsPart old new output)
+
 -- where the texts are told, their report was added
 abbrev pub WritesReport : Settings → Input → Input → Option (List ℕ) → Option (List ℕ) → Summary → Type 0
-WritesReport settings text background old new summary = IfTold settings text background (λ bytes more. (output : List ℕ) × IsReport settings bytes more output summary × Appends old new output)
+WritesReport settings text background old new summary = WritesBy (IsReport settings) settings text background old new summary
 
 -- where the texts are told, the front of their report was added
 abbrev pub WritesFront : Settings → Input → Input → Option (List ℕ) → Option (List ℕ) → Type 0
-WritesFront settings text background old new = IfTold settings text background (λ bytes more. (output : List ℕ) × (summary : Summary) × IsReport settings bytes more output summary × AppendsPart old new output)
+WritesFront settings text background old new = WritesFrontBy (IsReport settings) settings text background old new
 
 -- ---- why there is no report
 
@@ -112,6 +133,13 @@ FailsToReadBehind source BackgroundRead = source.failed ≡ true
 FailsToReadBehind source BackgroundTooLong = IsTooLong source
 FailsToReadBehind source Memory = source.failed ≡ false
 FailsToReadBehind source _ = ⊥
+
+-- why texts that were read are no index: the first has a fault, or it has none, and the one behind it has one; or memory was wanted
+abbrev pub FailsToAccept : Settings → List ℕ → List ℕ → RunFault → Type 0
+FailsToAccept settings bytes more (Index fault) = (fault ≢ index_error.Memory) × (index_of_both bytes more settings.arch settings.essential ≡ Err (Fore fault))
+FailsToAccept settings bytes more (Background fault) = (fault ≢ index_error.Memory) × (index_of_both bytes more settings.arch settings.essential ≡ Err (Back fault))
+FailsToAccept settings bytes more Memory = Unit {0}
+FailsToAccept settings bytes more _ = ⊥
 
 -- why there is no index, in the order in which one cause goes before another: a read of the text failed, or it is too long; it was read, and a read of the background failed, or that is too long; both were read, and
 -- the text has a fault; or it has none, and the background that was asked for has one. Where memory was wanted, no read had failed

@@ -1,17 +1,22 @@
 -- Verdicts that a report may be made of in the place of the true ones.
-use Rattle.std.specs.Prelude.{◌≡◌, ℕ, Bool, false, true, not, List, [], All, filter, length, map, slice_index_or, zip}
+use Rattle.std.specs.Prelude.{◌≡◌, ℕ, Bool, false, not, ◌&&◌, ◌||◌, List, [], All, filter, length, map, slice_index_or, zip}
 use Rattle.deb_index.specs.Packages.{IndexView}
-use Rattle.deb_health.specs.Verdicts.{Found, IsVerdict, VerdictView}
+use Rattle.deb_health.specs.Verdicts.{Blocked, Found, IsVerdict, VerdictView}
+use Rattle.deb_verdict.specs.Told.{as_told}
+use Rattle.deb_verdict.specs.declared.wanted.Wanted.{Wanted}
 use Rattle.work_draw.specs.Checks.{AnswersEach}
-use Rattle.deb_report.specs.Report.{without_set}
+use Rattle.deb_report.specs.Report.{is_shown}
 use Rattle.deb_report.specs.Settings.{Settings, shows_sets}
 
--- they are the same but for sets, and where sets are told, the same
-pub record StandFor (settings : Settings) (index : IndexView) (asked : List ℕ) (told : List VerdictView) : Type 0 where
+-- what a report tells of verdicts: sets where blocks explain and packages that can be installed have one; cores where broken ones do, or causes are told
+abbrev pub wanted_by : Settings → Wanted
+wanted_by settings = record { sets = shows_sets settings; cores = settings.causes || (settings.explain && is_shown settings.show (Blocked [])) }
+
+-- they are the verdicts of the asked places, but for what isn't wanted
+pub record StandFor (wanted : Wanted) (index : IndexView) (asked : List ℕ) (told : List VerdictView) : Type 0 where
   pub verdicts : List VerdictView
   pub are_verdicts : AnswersEach (IsVerdict index) asked verdicts
-  pub same : map without_set told ≡ map without_set verdicts
-  pub same_sets : shows_sets settings ≡ true → told ≡ verdicts
+  pub same : map (as_told wanted) told ≡ map (as_told wanted) verdicts
 
 -- the place has no mark
 abbrev pub is_unmarked : List Bool → ℕ → Bool

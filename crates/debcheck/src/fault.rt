@@ -24,12 +24,21 @@ pub enum RunFault {
     /// The background has more than `deb_index::TEXT_LIMIT` bytes.
     #[error("the background is too long")]
     BackgroundTooLong,
+    /// The reader of the earlier index failed.
+    #[error("cannot read the earlier index")]
+    EarlierRead,
+    /// The earlier index has more than `deb_index::TEXT_LIMIT` bytes.
+    #[error("the earlier index is too long")]
+    EarlierTooLong,
     /// A stanza of the index has a fault: the first that has one. Never want of memory, which is `Memory`.
     #[error("{0}")]
     Index(IndexError),
     /// A stanza of the background has a fault: the first that has one, counted from 1 in the background. Never want of memory.
     #[error("background: {0}")]
     Background(IndexError),
+    /// A stanza of the earlier index has a fault: the first that has one. Never want of memory.
+    #[error("earlier index: {0}")]
+    Earlier(IndexError),
     /// No package of the index has this name, whatever the background has: the first such name of those that were asked.
     #[error("unknown package")]
     UnknownAsked { name: Vec<u8> },
@@ -57,17 +66,19 @@ impl<T: Drop> From<AllocFailed<T>> for RunFault {
     }
 }
 
-/// The exit status of a run: 0 where all asked packages can be installed, 1 where some cannot, 65 for a fault of a text, 66 for an unknown
-/// name, 67 where reading failed or a text is too long, 68 where writing failed, 69 for want of memory.
+/// The exit status of a run: 0 where all asked packages can be installed, 1 where some cannot, or with an earlier index 0 where none is newly
+/// broken, 1 where some are; 65 for a fault of a text, 66 for an unknown name, 67 where reading failed or a text is too long, 68 where writing
+/// failed, 69 for want of memory.
 pub fn status(outcome: &Result<Summary, RunFault>) -> u8
     ensures { result ≡ status_of outcome.now }
 {
     match outcome {
-        Ok(summary) => u8::from(summary.broken != 0),
-        Err(RunFault::Index(_) | RunFault::Background(_)) => 65,
+        Ok(summary) => u8::from(summary.newly_broken.unwrap_or(summary.broken) != 0),
+        Err(RunFault::Index(_) | RunFault::Background(_) | RunFault::Earlier(_)) => 65,
         Err(RunFault::UnknownAsked { .. }) => 66,
         Err(RunFault::Read | RunFault::TooLong) => 67,
         Err(RunFault::BackgroundRead | RunFault::BackgroundTooLong) => 67,
+        Err(RunFault::EarlierRead | RunFault::EarlierTooLong) => 67,
         Err(RunFault::Write) => 68,
         Err(RunFault::Memory) => 69,
     }
@@ -116,9 +127,16 @@ fn push_fault(alloc: Global, out: &mut Vec<u8>, fault: &RunFault) -> Result<(), 
         RunFault::TooLong => out.extend_from_slice(b"the index is too long"),
         RunFault::BackgroundRead => out.extend_from_slice(b"cannot read the background"),
         RunFault::BackgroundTooLong => out.extend_from_slice(b"the background is too long"),
+        RunFault::EarlierRead => out.extend_from_slice(b"cannot read the earlier index"),
+        RunFault::EarlierTooLong => out.extend_from_slice(b"the earlier index is too long"),
         RunFault::Index(fault) => push_index_fault(alloc, out, fault),
         RunFault::Background(fault) => {
             out.extend_from_slice(b"background: ")?;
+            push_index_fault(alloc, out, fault)?;
+            Ok(())
+        }
+        RunFault::Earlier(fault) => {
+            out.extend_from_slice(b"earlier index: ")?;
             push_index_fault(alloc, out, fault)?;
             Ok(())
         }

@@ -4,8 +4,9 @@
 //!
 //! - `line`: what the words of a command line ask for, by the `options` that `clap` reads and the `values` that they take.
 //! - `device`: what a run reads from and writes to; `std_device`: such devices over std's. `input` reads to the end, `output` writes whole texts.
-//! - `phases`: a run, from bytes to bytes; `asked`: the places that are asked in it; `verdicts`: what is found of them for the report.
+//! - `phases`: a run, from bytes to bytes; `since`: one that tells what became of an earlier index; `asked`: the places that are asked in it; `verdicts`: what is found of them for the report.
 //! - `fault`: why a run fails, and the line and the status of that.
+//! - `program`: a program, from its words to its exit status, on the `words` of a process, the files that an `opener` opens, and with its `progress` on a screen.
 //! - `laws`: what holds of runs and of reports.
 #![tactic(auto)]
 
@@ -15,12 +16,17 @@ mod fault;
 mod input;
 pub mod laws;
 mod line;
+mod opener;
 mod options;
 mod output;
 mod phases;
+mod program;
+mod progress;
+mod since;
 mod std_device;
 mod values;
 mod verdicts;
+mod words;
 
 pub use asked::asked_places;
 pub use deb_report::{CHUNK_LIMIT, Config, Format, Show, Summary, report};
@@ -28,6 +34,11 @@ pub use device::{DeviceFault, Sink, Source};
 pub use fault::{RunFault, fault_line, status};
 pub use input::read_all;
 pub use line::{LineFault, VERSION_LINE, line_status, read_line, write_line_fault};
+pub use opener::{Disk, OpenFault, Opener};
 pub use output::write_fault;
 pub use phases::run;
+pub use program::{Ended, run_process, run_program};
+pub use progress::Progress;
+pub use since::run_since;
 pub use std_device::Std;
+pub use words::words_of;

@@ -1,11 +1,11 @@
 //! The command line.
 
-ghost use Rattle.std.specs.Prelude.{◌≡◌, ◌<◌, ◌≤◌, ℕ, All, IfOk, IfErr, IfSome, OnOk, codes, is_some, map, option_map, string_bytes, true, false, unwrap_or};
+ghost use Rattle.std.specs.Prelude.{◌≡◌, ◌<◌, ◌≤◌, ℕ, All, IfOk, IfErr, IfSome, OnErr, OnOk, codes, is_some, map, option_map, string_bytes, true, false, unwrap_or};
 ghost use Rattle.std.specs.Str.Parse.{digits_value};
-ghost use Rattle.clap.specs.Words.{first_of, found_of, kind_of, rows_of};
+ghost use Rattle.clap.specs.Words.{first_of, kind_of};
 ghost use Rattle.deb_relation.specs.Relationship.{is_name};
 ghost use Rattle.deb_report.specs.Settings.{is_architecture, settings_of};
-ghost use Rattle.debcheck.specs.Line.{Accepts, IsFaultOf, IsRefusal, KeepsOther, RefusesLine, RefusesUnless, TellsLine, asked_by, format_of, has_good_background, has_good_names, has_good_values, is_count, is_set, line_status_of, names_in, request_of, show_of, value_of};
+ghost use Rattle.debcheck.specs.Line.{Accepts, IsFaultOf, IsRefusal, KeepsOther, RefusesLine, RefusesUnless, TellsFront, TellsLine, asked_by, format_of, has_good_file, has_good_names, has_good_since, has_good_values, is_count, is_set, line_status_of, mark_of, names_in, request_of, rows_in, show_of, value_of};
 ghost use Rattle.debcheck.specs.declared.line.LineFault.TheVariants.{Memory};
 
 use crate::device::{DeviceFault, Sink};
@@ -93,9 +93,9 @@ fn refusal(alloc: Global, option: &str, value: &str, allowed: &str) -> Result<Li
 }
 
 fn architecture(alloc: Global, matches: &ArgMatches<'_>) -> Result<String, LineFault>
-    ensures value { IfOk result (λ arch. string_bytes arch ≡ value_of (codes "arch") (rows_of (found_of matches.now))) }
-    ensures good { OnOk result (is_architecture (value_of (codes "arch") (rows_of (found_of matches.now))) ≡ true) }
-    ensures refused { IfErr result (RefusesUnless (is_architecture (value_of (codes "arch") (rows_of (found_of matches.now))))) }
+    ensures value { IfOk result (λ arch. string_bytes arch ≡ value_of (codes "arch") (rows_in matches.now)) }
+    ensures good { OnOk result (is_architecture (value_of (codes "arch") (rows_in matches.now)) ≡ true) }
+    ensures refused { IfErr result (RefusesUnless (is_architecture (value_of (codes "arch") (rows_in matches.now)))) }
 {
     let arch = value_of(matches, "arch");
     if is_architecture(arch) {
@@ -106,9 +106,9 @@ fn architecture(alloc: Global, matches: &ArgMatches<'_>) -> Result<String, LineF
 }
 
 fn workers(alloc: Global, matches: &ArgMatches<'_>) -> Result<u32, LineFault>
-    ensures value { IfOk result (λ count. count ≡ digits_value 10 (value_of (codes "workers") (rows_of (found_of matches.now)))) }
-    ensures good { OnOk result (is_count 64 (value_of (codes "workers") (rows_of (found_of matches.now))) ≡ true) }
-    ensures refused { IfErr result (RefusesUnless (is_count 64 (value_of (codes "workers") (rows_of (found_of matches.now))))) }
+    ensures value { IfOk result (λ count. count ≡ digits_value 10 (value_of (codes "workers") (rows_in matches.now))) }
+    ensures good { OnOk result (is_count 64 (value_of (codes "workers") (rows_in matches.now)) ≡ true) }
+    ensures refused { IfErr result (RefusesUnless (is_count 64 (value_of (codes "workers") (rows_in matches.now)))) }
 {
     let value = value_of(matches, "workers");
     match count_of(value, WORKER_LIMIT) {
@@ -118,9 +118,9 @@ fn workers(alloc: Global, matches: &ArgMatches<'_>) -> Result<u32, LineFault>
 }
 
 fn chunk(alloc: Global, matches: &ArgMatches<'_>) -> Result<u32, LineFault>
-    ensures value { IfOk result (λ count. count ≡ digits_value 10 (value_of (codes "chunk") (rows_of (found_of matches.now)))) }
-    ensures good { OnOk result (is_count 1000000 (value_of (codes "chunk") (rows_of (found_of matches.now))) ≡ true) }
-    ensures refused { IfErr result (RefusesUnless (is_count 1000000 (value_of (codes "chunk") (rows_of (found_of matches.now))))) }
+    ensures value { IfOk result (λ count. count ≡ digits_value 10 (value_of (codes "chunk") (rows_in matches.now))) }
+    ensures good { OnOk result (is_count 1000000 (value_of (codes "chunk") (rows_in matches.now)) ≡ true) }
+    ensures refused { IfErr result (RefusesUnless (is_count 1000000 (value_of (codes "chunk") (rows_in matches.now)))) }
 {
     let value = value_of(matches, "chunk");
     match count_of(value, CHUNK_LIMIT) {
@@ -130,9 +130,10 @@ fn chunk(alloc: Global, matches: &ArgMatches<'_>) -> Result<u32, LineFault>
 }
 
 fn only(alloc: Global, matches: &ArgMatches<'_>) -> Result<Option<Vec<Vec<u8>>>, LineFault>
-    ensures value { IfOk result (λ only. option_map (λ names. map (λ name. name.items) names.items) only ≡ option_map names_in (first_of (codes "checkonly") (rows_of (found_of matches.now)))) }
-    ensures good { OnOk result (has_good_names (rows_of (found_of matches.now)) ≡ true) }
-    ensures refused { IfErr result (RefusesUnless (has_good_names (rows_of (found_of matches.now)))) }
+    ensures value { IfOk result (λ only. option_map (λ names. map (λ name. name.items) names.items) only
+        ≡ option_map names_in (first_of (codes "checkonly") (rows_in matches.now))) }
+    ensures good { OnOk result (has_good_names (rows_in matches.now) ≡ true) }
+    ensures refused { IfErr result (RefusesUnless (has_good_names (rows_in matches.now))) }
 {
     let Some(list) = given(matches, "checkonly") else {
         return Ok(None);
@@ -148,22 +149,45 @@ fn only(alloc: Global, matches: &ArgMatches<'_>) -> Result<Option<Vec<Vec<u8>>>,
     }
 }
 
-fn background(alloc: Global, matches: &ArgMatches<'_>) -> Result<Option<String>, LineFault>
-    ensures value { IfOk result (λ bg. option_map string_bytes bg ≡ first_of (codes "bg") (rows_of (found_of matches.now))) }
-    ensures good { OnOk result (has_good_background (rows_of (found_of matches.now)) ≡ true) }
-    ensures refused { IfErr result (RefusesUnless (has_good_background (rows_of (found_of matches.now)))) }
+// The name of a file that an option takes; `shown` is the option as a refusal names it.
+fn file(
+    alloc: Global,
+    matches: &ArgMatches<'_>,
+    option: &str,
+    shown: &str,
+) -> Result<Option<String>, LineFault>
+    ensures value { IfOk result (λ file. option_map string_bytes file ≡ first_of option.now (rows_in matches.now)) }
+    ensures good { OnOk result (has_good_file option.now (rows_in matches.now) ≡ true) }
+    ensures refused { IfErr result (RefusesUnless (has_good_file option.now (rows_in matches.now))) }
 {
-    match given(matches, "bg") {
+    match given(matches, option) {
         None => Ok(None),
-        Some("") => Err(refusal(alloc, "--bg <FILE>", "", "the name of a file")?),
+        Some("") => Err(refusal(alloc, shown, "", "the name of a file")?),
         Some(file) => Ok(Some(String::from_str(alloc, file)?)),
     }
 }
 
+// The name of the earlier index's file. With one, packages that can be installed are not asked for.
+fn earlier(alloc: Global, matches: &ArgMatches<'_>) -> Result<Option<String>, LineFault>
+    ensures value { IfOk result (λ file. option_map string_bytes file ≡ first_of (codes "since") (rows_in matches.now)) }
+    ensures good { OnOk result (has_good_since (rows_in matches.now) ≡ true) }
+    ensures refused { IfErr result (RefusesUnless (has_good_since (rows_in matches.now))) }
+{
+    let since = file(alloc, matches, "since", "--since <FILE>")?;
+    if since.is_some() && is_set(matches, "successes") {
+        let text =
+            "error: the argument '--since <FILE>' cannot be used with '--successes'\n\nFor more information, try '--help'.\n";
+        return Err(LineFault::Refused {
+            text: String::from_str(alloc, text)?,
+        });
+    }
+    Ok(since)
+}
+
 fn report_format(alloc: Global, matches: &ArgMatches<'_>) -> Result<Format, LineFault>
-    ensures value { IfOk result (λ f. f ≡ unwrap_or (format_of (value_of (codes "format") (rows_of (found_of matches.now)))) Format.Text) }
-    ensures good { OnOk result (is_some (format_of (value_of (codes "format") (rows_of (found_of matches.now)))) ≡ true) }
-    ensures refused { IfErr result (RefusesUnless (is_some (format_of (value_of (codes "format") (rows_of (found_of matches.now)))))) }
+    ensures value { IfOk result (λ f. f ≡ unwrap_or (format_of (value_of (codes "format") (rows_in matches.now))) Format.Text) }
+    ensures good { OnOk result (is_some (format_of (value_of (codes "format") (rows_in matches.now))) ≡ true) }
+    ensures refused { IfErr result (RefusesUnless (is_some (format_of (value_of (codes "format") (rows_in matches.now))))) }
 {
     let value = value_of(matches, "format");
     match format_of(value) {
@@ -173,7 +197,7 @@ fn report_format(alloc: Global, matches: &ArgMatches<'_>) -> Result<Format, Line
 }
 
 fn show(matches: &ArgMatches<'_>) -> Show
-    ensures { result ≡ show_of (is_set (codes "failures") (rows_of (found_of matches.now))) (is_set (codes "successes") (rows_of (found_of matches.now))) }
+    ensures { result ≡ show_of (is_set (codes "failures") (rows_in matches.now)) (is_set (codes "successes") (rows_in matches.now)) }
 {
     match (is_set(matches, "failures"), is_set(matches, "successes")) {
         (true, false) => Show::Failures,
@@ -184,9 +208,9 @@ fn show(matches: &ArgMatches<'_>) -> Show
 
 // The configuration that the options and their values say.
 fn config_of(alloc: Global, matches: &ArgMatches<'_>) -> Result<Config, LineFault>
-    ensures good { OnOk result (has_good_values (rows_of (found_of matches.now)) ≡ true) }
-    ensures request { IfOk result (λ config. request_of config ≡ asked_by (rows_of (found_of matches.now))) }
-    ensures refused { IfErr result (RefusesUnless (has_good_values (rows_of (found_of matches.now)))) }
+    ensures good { OnOk result (has_good_values (rows_in matches.now) ≡ true) }
+    ensures request { IfOk result (λ config. request_of config ≡ asked_by (rows_in matches.now)) }
+    ensures refused { IfErr result (RefusesUnless (has_good_values (rows_in matches.now))) }
 {
     Ok(Config {
         arch: architecture(alloc, matches)?,
@@ -196,7 +220,8 @@ fn config_of(alloc: Global, matches: &ArgMatches<'_>) -> Result<Config, LineFaul
         show: show(matches),
         essential: !is_set(matches, "ignore-essential"),
         only: only(alloc, matches)?,
-        bg: background(alloc, matches)?,
+        bg: file(alloc, matches, "bg", "--bg <FILE>")?,
+        since: earlier(alloc, matches)?,
         causes: is_set(matches, "causes"),
         format: report_format(alloc, matches)?,
         quiet: is_set(matches, "quiet"),
@@ -226,12 +251,13 @@ fn read_words(alloc: Global, words: &[String]) -> Result<Config, LineFault>
 /// `--arch A` has to be said: one or more letters, digits and `-`, neither `all` nor `any`. `--workers N` (1 to 64, 4 where it isn't said)
 /// and `--chunk K` (1 to 1,000,000, 64) take decimal digits alone. `--explain` tells sets and reasons, `--failures` and `--successes` say which
 /// packages are shown (all for both or neither), `--ignore-essential` asks for no essential packages, and `--checkonly N1,N2,..` takes
-/// package names with commas between them. `--bg FILE` names the file of a background, which is not empty; `--causes` asks for causes, `--format`
-/// takes `text` (where it isn't said) or `json`, and `--quiet` asks for no progress. A value comes as the next word or after `=`; one that
-/// begins with `-` comes after `=`. No option comes twice.
+/// package names with commas between them. `--bg FILE` names the file of a background, and `--since FILE` that of an earlier index, neither of
+/// which is empty; beside `--since` there is no `--successes`. `--causes` asks for causes, `--format` takes `text` (where it isn't said) or
+/// `json`, and `--quiet` asks for no progress. A value comes as the next word or after `=`; one that begins with `-` comes after `=`. No option
+/// comes twice.
 ///
-/// `Help` is the answer to `--help`, and to `--version` with `VERSION_LINE`, whichever comes first; `Refused` is the answer to words or values of
-/// another form, with a text that says what is wrong. The words are consumed.
+/// `Help` is the answer to `--help` or `-h`, and to `--version` or `-V` with `VERSION_LINE`, whichever comes first; `Refused` is the answer to
+/// words or values of another form, with a text that says what is wrong. The words are consumed.
 pub fn read_line(alloc: Global, words: Vec<String>) -> Result<Config, LineFault>
     ensures accepted { IfOk result (Accepts (map string_bytes words.items)) }
     ensures refused { IfErr result (RefusesLine (map string_bytes words.items)) }
@@ -246,13 +272,16 @@ pub fn read_line(alloc: Global, words: Vec<String>) -> Result<Config, LineFault>
 /// Writes what there is to say of a line that gives no configuration, and flushes: help to the output, a refusal's text or the line of want of
 /// memory to the errors. Nothing comes to the other device.
 ///
-/// `DeviceFault` where the writer failed or took no byte.
+/// `DeviceFault` where the writer failed or took no byte: then a front of the text was written.
 pub fn write_line_fault<K: Sink, E: Sink>(
     output: &mut K,
     errors: &mut E,
     fault: &LineFault,
 ) -> Result<(), DeviceFault>
     ensures told { OnOk result (TellsLine fault.now (K.contents output.old) (K.contents output.new) (E.contents errors.old) (E.contents errors.new)) }
+    ensures flushed { OnOk result (mark_of fault.now (K.flushed output.new) (E.flushed errors.new) ≡ true) }
+    ensures front { OnErr result (TellsFront fault.now (K.contents output.old) (K.contents output.new) (E.contents errors.old) (E.contents errors.new)) }
+    ensures failed { OnErr result (mark_of fault.now (K.failed output.new) (E.failed errors.new) ≡ true) }
     ensures kept { KeepsOther fault.now (K.contents output.old) (K.contents output.new) (E.contents errors.old) (E.contents errors.new) }
 {
     match fault {

@@ -1,8 +1,8 @@
 //! The options of the command line, as `clap` reads them.
 
 ghost use Rattle.std.specs.Prelude.{◌≡◌, IfOk, [], false, option_map};
-ghost use Rattle.clap.specs.Words.{app_of, first_of, found_of, rows_of, rule_of};
-ghost use Rattle.debcheck.specs.Line.{app_with, flag_rule, help_rule, is_set, line_app, value_of, value_rule, value_rules, version_rule};
+ghost use Rattle.clap.specs.Words.{app_of, first_of, rule_of};
+ghost use Rattle.debcheck.specs.Line.{app_with, flag_rule, help_rule, is_set, line_app, rows_in, value_of, value_rule, value_rules, version_rule};
 
 use clap::{Arg, ArgAction, ArgMatches, Command};
 use std::alloc::{AllocError, Global};
@@ -37,6 +37,7 @@ fn help_flag<'a>(alloc: Global) -> Arg<'a>
 {
     Arg::new(alloc, "help")
         .long("help")
+        .short('h')
         .action(ArgAction::Help)
         .help("Prints this help")
 }
@@ -48,11 +49,12 @@ fn version_flag<'a>(alloc: Global) -> Arg<'a>
 {
     Arg::new(alloc, "version")
         .long("version")
+        .short('V')
         .action(ArgAction::Version)
         .help("Prints the program's version")
 }
 
-// The program's command without options. It has no short ones, not even `-h`.
+// The program's command without options.
 fn bare<'a>(alloc: Global) -> Command<'a>
     ensures { app_of result ≡ app_with [] }
 {
@@ -70,6 +72,7 @@ fn with_values<'a>(alloc: Global) -> Result<Command<'a>, AllocError>
 {
     let arch = "The architecture: letters, digits and -, neither all nor any";
     let background = "A second index, whose packages may be used and are not checked";
+    let since = "An earlier index; tells what is newly broken since it, and nothing else";
     let only = "Checks the packages of these names alone";
     let format = "The form of the report, text or json";
     let workers = "How many workers check, 1 to 64";
@@ -77,6 +80,7 @@ fn with_values<'a>(alloc: Global) -> Result<Command<'a>, AllocError>
     bare(alloc)
         .arg(valued(alloc, "arch", "A", arch).required(true))?
         .arg(valued(alloc, "bg", "FILE", background))?
+        .arg(valued(alloc, "since", "FILE", since))?
         .arg(valued(alloc, "checkonly", "N1,N2,..", only))?
         .arg(valued(alloc, "format", "FORM", format).default_value("text"))?
         .arg(valued(alloc, "workers", "N", workers).default_value("4"))?
@@ -106,21 +110,21 @@ pub(crate) fn command<'a>(alloc: Global) -> Result<Command<'a>, AllocError>
 
 // The value of an option, where it has one.
 pub(crate) fn given<'a>(matches: &ArgMatches<'a>, name: &str) -> Option<&'a str>
-    ensures { option_map (λ value. value.now) result ≡ first_of name.now (rows_of (found_of matches.now)) }
+    ensures { option_map (λ value. value.now) result ≡ first_of name.now (rows_in matches.now) }
 {
     matches.get_str(name)
 }
 
 // The value of an option that has one.
 pub(crate) fn value_of<'a>(matches: &ArgMatches<'a>, name: &str) -> &'a str
-    ensures { result.now ≡ value_of name.now (rows_of (found_of matches.now)) }
+    ensures { result.now ≡ value_of name.now (rows_in matches.now) }
 {
     given(matches, name).unwrap_or("")
 }
 
 // Whether an option without a value was given.
 pub(crate) fn is_set(matches: &ArgMatches<'_>, name: &str) -> bool
-    ensures { result ≡ is_set name.now (rows_of (found_of matches.now)) }
+    ensures { result ≡ is_set name.now (rows_in matches.now) }
 {
     match given(matches, name) {
         Some(value) => value == "true",

@@ -1,17 +1,18 @@
 //! A run, from bytes to bytes.
 
-ghost use Rattle.std.specs.Prelude.{◌≡◌, ◌≢◌, ◌<◌, ◌≤◌, IfErr, IfOk, OnOk, false, true};
+ghost use Rattle.std.specs.Prelude.{◌≡◌, ◌≢◌, ◌<◌, ◌≤◌, IfErr, IfOk, Ok, OnOk, false, length, true};
 ghost use Rattle.std.specs.Io.KnownBytes.{IsAtEnd};
+ghost use Rattle.deb_index.specs.Reading.{byte_limit, index_of_both};
 ghost use Rattle.deb_report.specs.Settings.{settings_of};
-ghost use Rattle.debcheck.specs.Run.{Fails, FailsToIndex, FailsToReadBehind, FailsToReport, IsReadAs, IsReportOn, Leaves, ReadsAs, TellsReport, WritesReport, behind, input, is_unread};
+ghost use Rattle.debcheck.specs.Run.{Fails, FailsToAccept, FailsToIndex, FailsToReadBehind, FailsToReport, IsReadAs, IsReportOn, Leaves, TellsReport, WritesReport, behind, input, is_unread};
 
 use crate::asked::asked_places;
 use crate::device::{Sink, Source};
 use crate::fault::RunFault;
 use crate::input::read_all;
 use crate::output::write_all;
-use crate::verdicts::find_verdicts;
-use deb_index::{BothError, Index, TEXT_LIMIT};
+use crate::verdicts::{find_verdicts, wanted_of};
+use deb_index::{BothError, Index, PART_SIZE, TEXT_LIMIT};
 use deb_report::{Config, Summary, report, summary_of};
 use std::alloc::Global;
 use std::thread::Threads;
@@ -27,7 +28,8 @@ fn read_behind<B: Source>(
     ensures end { OnOk result ((settings_of config.now).background ≡ true → IsAtEnd (B.remaining background.new)) }
     ensures spared { (settings_of config.now).background ≡ false → background.new ≡ background.old }
     ensures unfailed { OnOk result (B.failed background.new ≡ false) }
-    ensures bytes { IfOk result (λ bytes. IsReadAs (behind (settings_of config.now) (input (B.remaining background.old) (B.failed background.new))) bytes.items) }
+    ensures bytes { IfOk result (λ bytes.
+        IsReadAs (behind (settings_of config.now) (input (B.remaining background.old) (B.failed background.new))) bytes.items) }
     ensures refused { IfErr result (FailsToReadBehind (behind (settings_of config.now) (input (B.remaining background.old) (B.failed background.new)))) }
 {
     if config.bg.is_none() {
@@ -41,13 +43,13 @@ fn read_behind<B: Source>(
     }
 }
 
-// Reads the index and what stands behind it. The texts are dropped at the end.
-fn read_index<S: Source, B: Source>(
+// Reads a text to its end, and then what stands behind it.
+pub(crate) fn read_texts<S: Source, B: Source>(
     alloc: Global,
     config: &Config,
     reader: &mut S,
     background: &mut B,
-) -> Result<Index, RunFault>
+) -> Result<(Vec<u8>, Vec<u8>), RunFault>
     requires reader { S.failed reader.old ≡ false }
     requires background { B.failed background.old ≡ false }
     ensures end { OnOk result (IsAtEnd (S.remaining reader.new)) }
@@ -55,25 +57,64 @@ fn read_index<S: Source, B: Source>(
     ensures spared { (settings_of config.now).background ≡ false → background.new ≡ background.old }
     ensures unbegun { IfErr result (λ fault. is_unread fault ≡ true → background.new ≡ background.old) }
     ensures unfailed { OnOk result ((S.failed reader.new ≡ false) × (B.failed background.new ≡ false)) }
-    ensures index { IfOk result (λ index. ReadsAs (settings_of config.now)
-        (input (S.remaining reader.old) (S.failed reader.new)) (input (B.remaining background.old) (B.failed background.new)) index) }
+    ensures text { IfOk result (λ texts. IsReadAs (input (S.remaining reader.old) (S.failed reader.new)) texts.0.items) }
+    ensures behind { IfOk result (λ texts.
+        IsReadAs (behind (settings_of config.now) (input (B.remaining background.old) (B.failed background.new))) texts.1.items) }
     ensures refused { IfErr result (FailsToIndex (settings_of config.now)
         (input (S.remaining reader.old) (S.failed reader.new)) (input (B.remaining background.old) (B.failed background.new))) }
 {
     let text = read_all(alloc, reader, TEXT_LIMIT)?;
     let behind = read_behind(alloc, config, background)?;
-    match Index::read_both(
+    Ok((text, behind))
+}
+
+// The index of a text and of what stands behind it, read by the workers side by side.
+pub(crate) fn index_both<R: Threads + Sync>(
+    rt: &R,
+    alloc: Global,
+    config: &Config,
+    text: &[u8],
+    behind: &[u8],
+) -> Result<Index, RunFault>
+    requires text { length text.now ≤ byte_limit }
+    requires behind { length behind.now ≤ byte_limit }
+    ensures index { IfOk result (λ index.
+        index_of_both text.now behind.now (settings_of config.now).arch (settings_of config.now).essential ≡ Ok index) }
+    ensures refused { IfErr result (FailsToAccept (settings_of config.now) text.now behind.now) }
+{
+    let (arch, workers) = (config.arch.as_str(), config.workers);
+    match Index::read_both_on(
+        rt,
         alloc,
-        text.as_slice(),
-        behind.as_slice(),
-        config.arch.as_str(),
+        text,
+        behind,
+        arch,
         config.essential,
+        workers,
+        PART_SIZE,
     ) {
         Ok(index) => Ok(index),
         Err(BothError::Memory) => Err(RunFault::Memory),
         Err(BothError::Fore(fault)) => Err(RunFault::Index(fault)),
         Err(BothError::Back(fault)) => Err(RunFault::Background(fault)),
     }
+}
+
+// The same, of texts that are dropped at the end.
+pub(crate) fn index_from<R: Threads + Sync>(
+    rt: &R,
+    alloc: Global,
+    config: &Config,
+    text: Vec<u8>,
+    behind: Vec<u8>,
+) -> Result<Index, RunFault>
+    requires text { length text.items ≤ byte_limit }
+    requires behind { length behind.items ≤ byte_limit }
+    ensures index { IfOk result (λ index.
+        index_of_both text.items behind.items (settings_of config.now).arch (settings_of config.now).essential ≡ Ok index) }
+    ensures refused { IfErr result (FailsToAccept (settings_of config.now) text.items behind.items) }
+{
+    index_both(rt, alloc, config, text.as_slice(), behind.as_slice())
 }
 
 // Checks the asked places and makes the report.
@@ -91,12 +132,12 @@ fn check_and_report<G: Gate + Sync, R: Threads + Sync>(
 {
     let asked = asked_places(alloc, index, config)?;
     let asked = asked.as_slice();
-    let verdicts = find_verdicts(rt, alloc, config, index, asked, gate)?;
+    let verdicts = find_verdicts(rt, alloc, config, wanted_of(config), index, asked, gate)?;
     let output = report(alloc, index, asked, verdicts.as_slice(), config)?;
     Ok((output, summary_of(index, asked, verdicts.as_slice())))
 }
 
-// Reads the index and what stands behind it, and makes the report. The index is dropped at the end.
+// Reads the index and what stands behind it, and makes the report. All of it is dropped at the end.
 fn read_and_report<S: Source, B: Source, G: Gate + Sync, R: Threads + Sync>(
     rt: &R,
     alloc: Global,
@@ -119,7 +160,8 @@ fn read_and_report<S: Source, B: Source, G: Gate + Sync, R: Threads + Sync>(
     ensures refused { IfErr result (Fails (settings_of config.now)
         (input (S.remaining reader.old) (S.failed reader.new)) (input (B.remaining background.old) (B.failed background.new)) false) }
 {
-    let index = read_index(alloc, config, reader, background)?;
+    let (text, behind) = read_texts(alloc, config, reader, background)?;
+    let index = index_from(rt, alloc, config, text, behind)?;
     check_and_report(rt, alloc, config, &index, gate)
 }
 

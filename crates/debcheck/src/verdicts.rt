@@ -1,16 +1,16 @@
-//! The verdicts that a report is made of: where it tells no set, none is looked for.
+//! The verdicts that a report is made of: where it tells no set, none is looked for, and where it tells no core, none either.
 
 ghost use Rattle.std.specs.Prelude.{◌≡◌, ◌^◌, ◌<◌, ◌≤◌, All, IfOk, filter, length, map};
 ghost use Rattle.deb_report.specs.Settings.{settings_of};
 ghost use Rattle.deb_health.specs.Verdicts.{SpeaksOf, verdict_view};
-ghost use Rattle.debcheck.specs.Standing.{Merges, StandFor, is_unmarked};
+ghost use Rattle.debcheck.specs.Standing.{Merges, StandFor, is_unmarked, wanted_by};
 
 use deb_index::Index;
-use deb_report::Config;
-use deb_verdict::{Verdict, find_installable};
+use deb_report::{Config, Show};
+use deb_verdict::{Verdict, Wanted, find_installable};
 use std::alloc::{AllocError, Global};
 use std::thread::Threads;
-use work_draw::{Gate, check_all};
+use work_draw::{Gate, check_told};
 
 // The places without a mark, in their order.
 fn unmarked(alloc: Global, places: &[u32], marks: &[bool]) -> Result<Vec<u32>, AllocError>
@@ -49,13 +49,24 @@ fn merged(
     Ok(told)
 }
 
-/// The verdicts that the report on the asked places is made of, in their order. Where it tells a set that was found, they are those of
-/// `check_all`. Else it is enough to know that a package can be installed: what `find_installable` marks has a verdict with an empty set, and
-/// only the other places are checked by workers. The chunks that the gate is told of are those of these places.
+// What the report tells of verdicts.
+pub(crate) fn wanted_of(config: &Config) -> Wanted
+    ensures { result ≡ wanted_by (settings_of config.now) }
+{
+    Wanted {
+        sets: config.shows_sets(),
+        cores: config.causes || (config.explain && config.show != Show::Successes),
+    }
+}
+
+// As much of the verdicts of the asked places as is wanted, in their order. Where no set is, it is enough to know that a package can be installed: what
+// `find_installable` marks has a verdict with an empty set, and only the other places are checked by workers. The chunks that the gate is told of are
+// those of these places.
 pub(crate) fn find_verdicts<G: Gate + Sync, R: Threads + Sync>(
     rt: &R,
     alloc: Global,
     config: &Config,
+    wanted: Wanted,
     index: &Index,
     asked: &[u32],
     gate: &G,
@@ -66,17 +77,18 @@ pub(crate) fn find_verdicts<G: Gate + Sync, R: Threads + Sync>(
     requires chunk { 0 < config.now.chunk }
     ensures same { IfOk result (λ v. length v.items ≡ length asked.now) }
     ensures within { IfOk result (λ v. All (SpeaksOf index.now) (map verdict_view v.items)) }
-    ensures stand { IfOk result (λ v. StandFor (settings_of config.now) index.now asked.now (map verdict_view v.items)) }
+    ensures stand { IfOk result (λ v. StandFor wanted index.now asked.now (map verdict_view v.items)) }
 {
     let (workers, chunk) = (config.workers, config.chunk);
-    if config.shows_sets() {
-        let verdicts = check_all(rt, alloc, index, asked, workers, chunk, gate)?;
+    if wanted.sets {
+        let verdicts = check_told(rt, alloc, index, wanted, asked, workers, chunk, gate)?;
         return Ok(verdicts);
     }
     let installable = find_installable(alloc, index, asked)?;
     let marks = installable.as_slice();
     let left = unmarked(alloc, asked, marks)?;
-    let found = check_all(rt, alloc, index, left.as_slice(), workers, chunk, gate)?;
+    let left = left.as_slice();
+    let found = check_told(rt, alloc, index, wanted, left, workers, chunk, gate)?;
     let told = merged(alloc, asked, marks, found)?;
     Ok(told)
 }

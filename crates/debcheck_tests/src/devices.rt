@@ -1,45 +1,46 @@
-//! Readers and a writer over memory, which fail where they are told to.
+//! A reader and a writer over memory, which fail where they are told to. A contract sees the bytes that are left, and those that were written.
+
+ghost use Rattle.std.specs.Prelude.{◌≡◌, Some, false};
 
 use debcheck::{DeviceFault, Sink, Source};
 use std::alloc::Global;
 
-/// Gives the bytes of a text, at most `step` a call, and then fails. A contract sees the bytes that are left.
+/// Gives some bytes of a text at each read. Behind them it ends, or fails at each read.
 #[derive(Drop)]
-pub struct Torn<'a> {
-    rest: &'a [u8],
-    step: usize,
-    failed: bool,
+pub struct Feed<'a> {
+    pub rest: &'a [u8],
+    pub step: usize,
+    pub fails: bool,
+    pub failed: bool,
+    pub reads: u32,
 }
 
-impl<'a> Torn<'a> {
-    ghost use Rattle.std.specs.Prelude.{◌≡◌, false};
-
-    /// Nothing read yet, and no call has failed.
-    pub fn new(text: &'a [u8], step: usize) -> Torn<'a>
-        ensures rest { result.rest.now ≡ text.now }
-        ensures failed { result.failed ≡ false }
-    {
-        Torn {
-            rest: text,
-            step,
-            failed: false,
-        }
+/// Reads a text, so many bytes a call, but at least one; no call has failed.
+pub fn source_of(text: &[u8], step: usize) -> Feed<'_>
+    ensures rest { result.rest.now ≡ text.now }
+    ensures failed { result.failed ≡ false }
+{
+    Feed {
+        rest: text,
+        step,
+        fails: false,
+        failed: false,
+        reads: 0,
     }
 }
 
-impl Source for Torn<'_> {
-    ghost use Rattle.std.specs.Prelude.{Some};
+impl Source for Feed<'_> {
+    ghost remaining = { λ f. Some f.rest.now };
 
-    ghost remaining = { λ s. Some s.rest.now };
-
-    ghost failed = { λ s. s.failed };
+    ghost failed = { λ f. f.failed };
 
     fn read_some(&mut self, buf: &mut [u8]) -> Result<usize, DeviceFault> {
-        let count = self.rest.len().min(self.step).min(buf.len());
-        if count == 0 {
+        self.reads = self.reads.saturating_add(1);
+        if self.fails && self.rest.is_empty() {
             self.failed = true;
             return Err(DeviceFault);
         }
+        let count = self.step.max(1).min(self.rest.len()).min(buf.len());
         let (now, later) = self.rest.split_at(count);
         buf[..count].copy_from_slice(now);
         self.rest = later;
@@ -47,142 +48,55 @@ impl Source for Torn<'_> {
     }
 }
 
-/// Gives one byte a call, without end.
+/// Takes some bytes at each write, and may fail at one of them or at the flush. Writes count from 1.
 #[derive(Drop)]
-pub struct Endless {
-    pub reads: usize,
-    failed: bool,
-}
-
-impl Endless {
-    ghost use Rattle.std.specs.Prelude.{◌≡◌, false};
-
-    /// Nothing read yet.
-    pub fn new() -> Endless
-        ensures { result.failed ≡ false }
-    {
-        Endless {
-            reads: 0,
-            failed: false,
-        }
-    }
-}
-
-impl Source for Endless {
-    ghost use Rattle.std.specs.Prelude.{None};
-
-    ghost remaining = { λ _. None };
-
-    ghost failed = { λ s. s.failed };
-
-    fn read_some(&mut self, buf: &mut [u8]) -> Result<usize, DeviceFault> {
-        self.reads = self.reads.saturating_add(1);
-        Ok(buf.len().min(1))
-    }
-}
-
-/// Gives so many line feeds, as many a call as there is room for.
-#[derive(Drop)]
-pub struct Feeds {
-    left: usize,
-    failed: bool,
-}
-
-impl Feeds {
-    ghost use Rattle.std.specs.Prelude.{◌≡◌, false};
-
-    /// Nothing read yet.
-    pub fn new(count: usize) -> Feeds
-        ensures { result.failed ≡ false }
-    {
-        Feeds {
-            left: count,
-            failed: false,
-        }
-    }
-}
-
-impl Source for Feeds {
-    ghost use Rattle.std.specs.Prelude.{None};
-
-    ghost remaining = { λ _. None };
-
-    ghost failed = { λ s. s.failed };
-
-    fn read_some(&mut self, buf: &mut [u8]) -> Result<usize, DeviceFault> {
-        let count = self.left.min(buf.len());
-        buf[..count].fill(b'\n');
-        self.left -= count;
-        Ok(count)
-    }
-}
-
-/// Where a writer fails. Writes count from 1.
-#[derive(Clone, Copy, Debug, PartialEq, Eq)]
-pub enum Trouble {
-    Never,
-    /// At this write.
-    FailsAt(usize),
-    /// At this write, which takes no byte.
-    TakesNoneAt(usize),
-    /// At each flush.
-    FailsToFlush,
-}
-
-/// Keeps what is written, at most `step` bytes a call, and counts the calls. A contract sees the bytes.
-#[derive(Drop)]
-pub struct Kept {
+pub struct Held {
     pub bytes: Vec<u8>,
-    pub writes: usize,
-    pub flushes: usize,
-    step: usize,
-    trouble: Trouble,
-    failed: bool,
-    flushed: bool,
+    pub step: usize,
+    pub fails_at: u32,
+    /// At this write it takes no byte.
+    pub sticks_at: u32,
+    pub flush_fails: bool,
+    pub calls: u32,
+    pub flushes: u32,
+    pub failed: bool,
+    pub flushed: bool,
 }
 
-impl Kept {
-    ghost use Rattle.std.specs.Prelude.{◌≡◌, [], false};
-
-    /// Nothing written yet, and no call has failed.
-    pub fn new(alloc: Global, step: usize, trouble: Trouble) -> Kept
-        ensures empty { result.bytes.items ≡ [] }
-        ensures failed { result.failed ≡ false }
-    {
-        Kept {
-            bytes: Vec::new(alloc),
-            writes: 0,
-            flushes: 0,
-            step,
-            trouble,
-            failed: false,
-            flushed: false,
-        }
+/// Takes so many bytes a call, and fails at this write or at each flush; no call has failed.
+pub fn sink_of(alloc: Global, step: usize, fails_at: u32, flush_fails: bool) -> Held
+    ensures { result.failed ≡ false }
+{
+    Held {
+        bytes: Vec::new(alloc),
+        step,
+        fails_at,
+        sticks_at: 0,
+        flush_fails,
+        calls: 0,
+        flushes: 0,
+        failed: false,
+        flushed: false,
     }
 }
 
-impl Sink for Kept {
-    ghost use Rattle.std.specs.Prelude.{Some};
+impl Sink for Held {
+    ghost contents = { λ h. Some h.bytes.items };
 
-    ghost contents = { λ s. Some s.bytes.items };
+    ghost failed = { λ h. h.failed };
 
-    ghost failed = { λ s. s.failed };
-
-    ghost flushed = { λ s. s.flushed };
+    ghost flushed = { λ h. h.flushed };
 
     fn write_some(&mut self, bytes: &[u8]) -> Result<usize, DeviceFault> {
         self.flushed = false;
-        self.writes = self.writes.saturating_add(1);
-        let step = match self.trouble {
-            Trouble::FailsAt(call) if call == self.writes => {
-                self.failed = true;
-                return Err(DeviceFault);
-            }
-            Trouble::TakesNoneAt(call) if call == self.writes => 0,
-            _ => self.step,
+        self.calls = self.calls.saturating_add(1);
+        let step = if self.calls == self.sticks_at {
+            0
+        } else {
+            self.step
         };
-        let count = bytes.len().min(step);
-        if self.bytes.extend_from_slice(&bytes[..count]).is_err() {
+        let count = step.min(bytes.len());
+        if self.calls == self.fails_at || self.bytes.extend_from_slice(&bytes[..count]).is_err() {
             self.failed = true;
             return Err(DeviceFault);
         }
@@ -194,7 +108,7 @@ impl Sink for Kept {
 
     fn flush_all(&mut self) -> Result<(), DeviceFault> {
         self.flushes = self.flushes.saturating_add(1);
-        if self.trouble == Trouble::FailsToFlush {
+        if self.flush_fails {
             self.failed = true;
             return Err(DeviceFault);
         }

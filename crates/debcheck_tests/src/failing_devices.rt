@@ -1,252 +1,166 @@
-//! Devices that fail at each place where they can.
+//! Programs on devices that fail at each place where they can.
 
-ghost use Rattle.std.specs.Prelude.{◌≡◌, ◌<◌, ◌+◌, ◌^◌, false};
+ghost use Rattle.std.specs.Prelude.{◌≡◌, false};
 
-use crate::devices::{Endless, Kept, Torn, Trouble};
-use crate::example::{EXPLAINED, Outcome, outcome_behind, outcome_on};
-use crate::relations::EMPTY_REPORT;
-use crate::{backgrounds, sample};
-use debcheck::{RunFault, Source, Std, read_all};
-use std::alloc::Global;
+use crate::cabinets::Cabinet;
+use crate::devices::{Held, sink_of, source_of};
+use crate::programs::{BACKGROUND, Case, INDEX, Left, WITH_BACKGROUND, WITHOUT_BACKGROUND, run_on};
+use debcheck::OpenFault;
 use std::process::Abort;
 use std::test::Fail;
 use std::thread::Threads;
+use std::time::Clock;
 
-/// The bytes that were read, or words for the fault.
-fn told_by(outcome: &Result<Vec<u8>, RunFault>) -> &[u8] {
-    match outcome {
-        Ok(bytes) => bytes.as_slice(),
-        Err(RunFault::TooLong) => b"too long",
-        Err(RunFault::Read) => b"failed",
-        Err(_) => b"no fault of reading",
-    }
-}
-
-/// Whether reading to the end with this limit comes to these bytes, or these words for the fault.
-fn reads<S: Source>(alloc: Global, reader: &mut S, limit: usize, wanted: &[u8]) -> bool
-    requires { limit + 1 < 2 ^ 64 }
-{
-    let outcome = read_all(alloc, reader, limit);
-    told_by(&outcome) == wanted
-}
-
-/// An endless reader is read one byte past the limit.
-#[test]
-fn bytes_within_a_limit_are_read(rt: HostRuntime) {
+/// What a program comes to whose reader fails behind this front of an index. Its background fails at once.
+fn read_in_vain(
+    rt: &(impl Clock + Threads + Sync + AllocGlobal),
+    words: &str,
+    front: &[u8],
+) -> Result<Left, Fail> {
     let alloc = rt.alloc();
-    assert!(rt; reads(alloc, &mut Std::new(b"abc".as_slice()), 3, b"abc"));
-    assert!(rt; reads(alloc, &mut Std::new(b"abcd".as_slice()), 3, b"too long"));
-    assert!(rt; reads(alloc, &mut Torn::new(b"", 1), 3, b"failed"));
-    let mut endless = Endless::new();
-    assert!(rt; reads(alloc, &mut endless, 1_000, b"too long"));
-    assert_eq!(rt; endless.reads, 1_001);
+    let mut files = Cabinet::new("others", Some(b""), OpenFault::Unopened);
+    files.torn = true;
+    let mut reader = source_of(front, 1);
+    reader.fails = true;
+    let (output, errors) = (sink_of(alloc, 50, 0, false), sink_of(alloc, 50, 0, false));
+    Ok(run_on(rt, words, &files, &mut reader, output, errors)?)
 }
 
-const INDEX_UNREAD: &str = "debcheck: cannot read the index\n";
-
-const BACKGROUND_UNREAD: &str = "debcheck: cannot read the background\n";
-
-/// Whether a run without a background tells that the reader failed behind this front of a text.
-fn index_fails<R: Threads + Sync>(rt: &R, alloc: Global, front: &[u8]) -> Result<bool, Fail> {
-    let mut torn = Torn::new(front, 1);
-    let writer = Kept::new(alloc, 100, Trouble::Never);
-    let found = outcome_on(rt, alloc, EXPLAINED, &mut torn, writer)?;
-    Ok(found.is("", INDEX_UNREAD, 67))
+/// Nothing was written to the output, and this line to the errors.
+fn expect_refusal(rt: &impl Abort, left: &Left, status: u8, line: &[u8]) {
+    assert_eq!(rt; left.status, status);
+    assert_eq!(rt; left.output.calls, 0);
+    assert_eq!(rt; left.errors.bytes.as_slice(), line);
 }
 
 #[test]
 fn a_reader_fails_behind_each_byte(rt: HostRuntime) -> Result<(), Fail> {
-    let text = sample::text().as_bytes();
-    for count in 0..=text.len() {
-        assert!(rt;
-            index_fails(&rt, rt.alloc(), &text[..count])?,
-            "behind {count} bytes"
-        );
+    for case in &[WITH_BACKGROUND, WITHOUT_BACKGROUND] {
+        for count in 0..=case.index.len() {
+            let left = read_in_vain(&rt, case.words, &case.index[..count])?;
+            expect_refusal(&rt, &left, 67, b"debcheck: cannot read the index\n");
+        }
     }
     Ok(())
 }
 
-/// Whether the same is told where there is a background, of which nothing is read.
-fn index_fails_first<R: Threads + Sync>(rt: &R, alloc: Global, front: &[u8]) -> Result<bool, Fail> {
-    let mut torn = Torn::new(front, 1);
-    let mut unread = Endless::new();
-    let writer = Kept::new(alloc, 100, Trouble::Never);
-    let found = outcome_behind(rt, alloc, EXPLAINED, &mut torn, &mut unread, writer)?;
-    Ok(found.is("", INDEX_UNREAD, 67) && unread.reads == 0)
-}
-
-#[test]
-fn the_index_fails_before_its_background_is_read(rt: HostRuntime) -> Result<(), Fail> {
-    let text = sample::text().as_bytes();
-    for count in 0..=text.len() {
-        assert!(rt;
-            index_fails_first(&rt, rt.alloc(), &text[..count])?,
-            "behind {count} bytes"
-        );
-    }
-    Ok(())
-}
-
-/// Whether a run on this text tells that the reader of the background failed behind this front of one.
-fn background_fails<R: Threads + Sync>(
-    rt: &R,
-    alloc: Global,
+/// What a program comes to on this index whose background fails behind this front.
+fn read_background_in_vain(
+    rt: &(impl Clock + Threads + Sync + AllocGlobal),
     words: &str,
-    text: &str,
+    index: &[u8],
     front: &[u8],
-) -> Result<bool, Fail> {
-    let mut reader = Std::new(text.as_bytes());
-    let mut torn = Torn::new(front, 1);
-    let writer = Kept::new(alloc, 100, Trouble::Never);
-    let found = outcome_behind(rt, alloc, words, &mut reader, &mut torn, writer)?;
-    Ok(found.is("", BACKGROUND_UNREAD, 67))
+) -> Result<Left, Fail> {
+    let alloc = rt.alloc();
+    let mut files = Cabinet::new("others", Some(front), OpenFault::Unopened);
+    files.torn = true;
+    let mut reader = source_of(index, 11);
+    let (output, errors) = (sink_of(alloc, 50, 0, false), sink_of(alloc, 50, 0, false));
+    Ok(run_on(rt, words, &files, &mut reader, output, errors)?)
 }
 
 #[test]
-fn a_reader_of_the_background_fails_behind_each_byte(rt: HostRuntime) -> Result<(), Fail> {
-    let background = sample::text().as_bytes();
-    for count in 0..=background.len() {
-        let front = &background[..count];
-        assert!(rt;
-            background_fails(&rt, rt.alloc(), EXPLAINED, backgrounds::NEEDS_ONE, front)?,
-            "behind {count} bytes"
-        );
+fn a_background_fails_behind_each_byte(rt: HostRuntime) -> Result<(), Fail> {
+    for count in 0..=BACKGROUND.len() {
+        let front = &BACKGROUND[..count];
+        let left = read_background_in_vain(&rt, WITH_BACKGROUND.words, INDEX, front)?;
+        expect_refusal(&rt, &left, 67, b"debcheck: cannot read the background\n");
     }
     Ok(())
 }
 
 #[test]
 fn a_failed_read_of_the_background_goes_before_the_faults(rt: HostRuntime) -> Result<(), Fail> {
-    for text in [" x", "Package: a!"] {
-        let words = "--arch amd64 --checkonly nobody";
-        assert!(rt; background_fails(&rt, rt.alloc(), words, text, b" x")?);
+    let words = "|--arch|amd64|--bg|others|--checkonly|nobody";
+    for index in [b" x".as_slice(), b"Package: a!"] {
+        let left = read_background_in_vain(&rt, words, index, b" x")?;
+        expect_refusal(&rt, &left, 67, b"debcheck: cannot read the background\n");
     }
     Ok(())
 }
 
-/// A run that writes one byte a call.
-fn outcome_under<R: Threads + Sync>(
-    rt: &R,
-    alloc: Global,
-    text: &str,
-    trouble: Trouble,
-) -> Result<Outcome, Fail> {
-    let mut reader = Std::new(text.as_bytes());
-    let writer = Kept::new(alloc, 1, trouble);
-    outcome_on(rt, alloc, EXPLAINED, &mut reader, writer)
+/// What a program comes to on these devices.
+fn written_to(
+    rt: &(impl Clock + Threads + Sync + AllocGlobal),
+    case: &Case,
+    output: Held,
+    errors: Held,
+) -> Result<Left, Fail>
+    requires output { output.failed ≡ false }
+    requires errors { errors.failed ≡ false }
+{
+    let files = Cabinet::new("others", Some(BACKGROUND), OpenFault::Unopened);
+    let mut reader = source_of(case.index, 11);
+    Ok(run_on(rt, case.words, &files, &mut reader, output, errors)?)
 }
 
-/// Whether the whole report was written, by one write for each byte and one flush.
-fn writes_whole<R: Threads + Sync>(
-    rt: &R,
-    alloc: Global,
-    text: &str,
-    report: &str,
+/// This was written by one write for each byte, and by so many flushes.
+fn expect_bytes(rt: &impl Abort, held: &Held, bytes: &[u8], flushes: u32) {
+    assert_eq!(rt; held.bytes.as_slice(), bytes);
+    assert_eq!(rt; held.flushes, flushes);
+}
+
+/// The report is written byte by byte and flushed once. Where the flush fails, that is told.
+fn expect_each_byte(
+    rt: &(impl Abort + Clock + Threads + Sync + AllocGlobal),
+    case: &Case,
+    flush_fails: bool,
     status: u8,
-) -> Result<bool, Fail> {
-    let found = outcome_under(rt, alloc, text, Trouble::Never)?;
-    Ok(
-        found.is(report, "", status)
-            && found.writer.writes == report.len()
-            && found.writer.flushes == 1,
-    )
+    told: &[u8],
+) -> Result<(), Fail> {
+    let alloc = rt.alloc();
+    let output = sink_of(alloc, 1, 0, flush_fails);
+    let left = written_to(rt, case, output, sink_of(alloc, 50, 0, false))?;
+    assert_eq!(rt; left.status, status);
+    expect_bytes(rt, &left.output, case.output, 1);
+    assert_eq!(rt; left.output.calls as usize, case.output.len());
+    assert_eq!(rt; left.errors.bytes.as_slice(), told);
+    Ok(())
 }
 
-/// Whether the writer failed with this front of the report written: at the flush, or at the write behind the front.
-fn stopped_behind(found: &Outcome, front: &[u8], at_flush: bool) -> bool {
-    found.writer.bytes.as_slice() == front
-        && found.fault.as_slice() == b"debcheck: cannot write the report\n".as_slice()
-        && found.status == 68
-        && found.writer.flushes == usize::from(at_flush)
-        && found.writer.writes == front.len() + usize::from(!at_flush)
-}
+const UNWRITTEN: &[u8] = b"debcheck: cannot write the report\n";
 
-/// Whether a run on this text that writes one byte a call stops behind this front of its report.
-fn stops<R: Threads + Sync>(
-    rt: &R,
-    alloc: Global,
-    text: &str,
-    trouble: Trouble,
-    front: &[u8],
-) -> Result<bool, Fail> {
-    let found = outcome_under(rt, alloc, text, trouble)?;
-    Ok(stopped_behind(&found, front, trouble == Trouble::FailsToFlush))
-}
-
-/// A failed flush behind the whole report is a failed write.
 #[test]
 fn one_byte_a_call_writes_the_whole_report(rt: HostRuntime) -> Result<(), Fail> {
-    let (text, report) = (sample::text(), sample::report());
-    assert!(rt; writes_whole(&rt, rt.alloc(), "", EMPTY_REPORT, 0)?);
-    assert!(rt; writes_whole(&rt, rt.alloc(), text, report, 1)?);
-    let trouble = Trouble::FailsToFlush;
-    assert!(rt; stops(&rt, rt.alloc(), text, trouble, report.as_bytes())?);
+    for case in &[WITH_BACKGROUND, WITHOUT_BACKGROUND] {
+        expect_each_byte(&rt, case, false, 1, b"")?;
+        expect_each_byte(&rt, case, true, 68, UNWRITTEN)?;
+    }
     Ok(())
 }
 
-/// Each write in turn takes no byte, or fails.
-fn expect_fronts<R: Abort + Threads + Sync>(
-    rt: &R,
-    alloc: Global,
-    text: &str,
-    report: &[u8],
-    takes_none: bool,
-) -> Result<(), Fail> {
-    for written in 0..report.len() {
-        let trouble = if takes_none {
-            Trouble::TakesNoneAt(written + 1)
-        } else {
-            Trouble::FailsAt(written + 1)
-        };
-        assert!(rt;
-            stops(rt, alloc, text, trouble, &report[..written])?,
-            "{written} bytes"
-        );
-    }
+/// The output takes this front byte by byte, and at the next write it fails or takes no byte: then nothing more is asked of it.
+fn expect_front(
+    rt: &(impl Abort + Clock + Threads + Sync + AllocGlobal),
+    case: &Case,
+    front: &[u8],
+    mut output: Held,
+) -> Result<(), Fail>
+    requires { output.failed ≡ false }
+{
+    output.step = 1;
+    let errors = sink_of(rt.alloc(), 50, 0, false);
+    let left = written_to(rt, case, output, errors)?;
+    expect_stopped(rt, &left, front);
     Ok(())
+}
+
+fn expect_stopped(rt: &impl Abort, left: &Left, front: &[u8]) {
+    assert_eq!(rt; left.status, 68);
+    expect_bytes(rt, &left.output, front, 0);
+    assert_eq!(rt; left.output.calls as usize, front.len() + 1);
+    assert_eq!(rt; left.errors.bytes.as_slice(), UNWRITTEN);
 }
 
 #[test]
 fn each_write_fails_in_turn(rt: HostRuntime) -> Result<(), Fail> {
-    let report = sample::report().as_bytes();
-    expect_fronts(&rt, rt.alloc(), "", EMPTY_REPORT.as_bytes(), false)?;
-    expect_fronts(&rt, rt.alloc(), sample::text(), report, false)
-}
-
-#[test]
-fn each_write_takes_no_byte_in_turn(rt: HostRuntime) -> Result<(), Fail> {
-    let report = sample::report().as_bytes();
-    expect_fronts(&rt, rt.alloc(), "", EMPTY_REPORT.as_bytes(), true)?;
-    expect_fronts(&rt, rt.alloc(), sample::text(), report, true)
-}
-
-/// Whether a run with a background that writes one byte a call stops behind this front of its report.
-fn stops_with_a_background<R: Threads + Sync>(
-    rt: &R,
-    alloc: Global,
-    trouble: Trouble,
-    front: &[u8],
-) -> Result<bool, Fail> {
-    let mut reader = Std::new(backgrounds::NEEDS_ONE.as_bytes());
-    let mut background = Std::new(backgrounds::HAS_TWO.as_bytes());
-    let writer = Kept::new(alloc, 1, trouble);
-    let found = outcome_behind(rt, alloc, EXPLAINED, &mut reader, &mut background, writer)?;
-    Ok(stopped_behind(&found, front, trouble == Trouble::FailsToFlush))
-}
-
-#[test]
-fn each_write_of_a_report_with_a_background_fails_in_turn(rt: HostRuntime) -> Result<(), Fail> {
-    let report = backgrounds::NEEDS_ONE_REPORT.as_bytes();
-    for written in 0..=report.len() {
-        let trouble = if written < report.len() {
-            Trouble::FailsAt(written + 1)
-        } else {
-            Trouble::FailsToFlush
-        };
-        assert!(rt;
-            stops_with_a_background(&rt, rt.alloc(), trouble, &report[..written])?,
-            "{written} bytes"
-        );
+    let case = &WITHOUT_BACKGROUND;
+    for (call, count) in (1..).zip(0..case.output.len()) {
+        let fails = sink_of(rt.alloc(), 1, call, false);
+        expect_front(&rt, case, &case.output[..count], fails)?;
+        let mut sticks = sink_of(rt.alloc(), 1, 0, false);
+        sticks.sticks_at = call;
+        expect_front(&rt, case, &case.output[..count], sticks)?;
     }
     Ok(())
 }

@@ -1,150 +1,231 @@
-//! One test for each number of workers of a run on the sample, and one of a run with a background; bench/growths runs them with each growth refused in turn.
+//! One test for each call that can want memory; trials/growths runs them with each growth refused in turn.
 
 ghost use Rattle.std.specs.Prelude.{◌≡◌, ◌<◌, ◌≤◌, IfOk, false};
 
-use crate::devices::{Endless, Kept, Trouble};
-use crate::{backgrounds, sample};
-use debcheck::{Config, RunFault, Std, Summary, run, status};
+use crate::command_line::asking::{is_plain, read, sides_of};
+use crate::devices::{Feed, Held, sink_of, source_of};
+use crate::programs::{BACKGROUND, INDEX, WITH_BACKGROUND};
+use crate::progress::{expect_uncrowded, run_beside};
+use crate::runs::{CHAIN, CHAIN_REPORT, EMPTY, run_alone};
+use crate::screens::{Beside, Screen};
+use crate::since_runs::{
+    BACKGROUND as BEHIND, EARLIER, INDEX as LATER, REPORT, run_on, with_background,
+};
+use crate::tally::Tally;
+use crate::whole_texts::told_by;
+use debcheck::{
+    Config, LineFault, RunFault, Summary, fault_line, line_status, read_all, run, status,
+    write_fault,
+};
 use std::alloc::{AllocError, Global};
 use std::process::Abort;
-use std::sync::atomic::{AtomicU32, Ordering};
 use std::test::Fail;
 use std::thread::Threads;
-use work_draw::{Gate, OpenGate};
+use work_draw::OpenGate;
 
-/// How often the gate let each of three chunks begin and end.
-#[derive(Drop)]
-struct Tally {
-    begun: [AtomicU32; 3],
-    ended: [AtomicU32; 3],
-    others: AtomicU32,
-}
-
-impl Tally {
-    fn new() -> Tally {
-        Tally {
-            begun: [AtomicU32::new(0), AtomicU32::new(0), AtomicU32::new(0)],
-            ended: [AtomicU32::new(0), AtomicU32::new(0), AtomicU32::new(0)],
-            others: AtomicU32::new(0),
-        }
+/// Three bytes where three are allowed, one more, and a reader that fails.
+#[test]
+fn of_read_all(rt: HostRuntime) -> Result<(), Fail> {
+    for (text, fails, wanted, reads) in READS {
+        expect_read(&rt, text, fails, wanted, reads)?;
     }
-
-    fn add(&self, counts: &[AtomicU32; 3], number: u32) {
-        if number < 3 {
-            counts[number as usize].fetch_add(1, Ordering::SeqCst);
-        } else {
-            self.others.fetch_add(1, Ordering::SeqCst);
-        }
-    }
-
-    /// Whether each chunk began at most once, ended at most as often, and at least so often.
-    fn has_at_least(&self, least: u32) -> bool {
-        for number in 0..3usize {
-            let begun = self.begun[number].load(Ordering::SeqCst);
-            let ended = self.ended[number].load(Ordering::SeqCst);
-            if begun > 1 || ended > begun || ended < least {
-                return false;
-            }
-        }
-        self.others.load(Ordering::SeqCst) == 0
-    }
-}
-
-impl Gate for Tally {
-    fn before(&self, number: u32) {
-        self.add(&self.begun, number);
-    }
-
-    fn after(&self, number: u32) {
-        self.add(&self.ended, number);
-    }
-}
-
-/// The usual settings, with a number of workers that take six packages at once.
-fn config_with(alloc: Global, workers: u32) -> Result<Config, AllocError>
-    ensures workers { IfOk result (λ config. config.workers ≡ workers) }
-    ensures chunk { IfOk result (λ config. config.chunk ≡ 6) }
-{
-    let mut config = Config::usual(alloc)?;
-    config.workers = workers;
-    config.chunk = 6;
-    Ok(config)
-}
-
-/// A writer that needs no more memory for what is written to it here.
-fn writer_with_room(alloc: Global) -> Result<Kept, AllocError>
-    ensures { IfOk result (λ writer. writer.failed ≡ false) }
-{
-    let mut writer = Kept::new(alloc, 1_000, Trouble::Never);
-    writer.bytes.reserve(10_000)?;
-    Ok(writer)
-}
-
-/// This report was written, or nothing where memory was refused.
-fn expect_report(
-    rt: &impl Abort,
-    output: &Kept,
-    outcome: &Result<Summary, RunFault>,
-    report: &str,
-    code: u8,
-) -> Result<(), Fail> {
-    if matches!(outcome, Err(RunFault::Memory)) {
-        assert!(rt; output.writes == 0 && output.bytes.is_empty());
-        assert_eq!(rt; status(outcome), 69);
-        return Err(Fail::new("out of memory"));
-    }
-    assert!(rt; output.bytes.as_slice() == report.as_bytes() && output.flushes == 1);
-    assert_eq!(rt; status(outcome), code);
     Ok(())
 }
 
-/// Nothing was read from the second reader, and the chunks were told of in order: all three, where there is a report.
-fn expect_in_order(rt: &impl Abort, unread: &Endless, tally: &Tally, has_report: bool) {
-    assert_eq!(rt; unread.reads, 0);
-    assert!(rt; tally.has_at_least(u32::from(has_report)));
+/// A text, whether its reader fails, what reading it comes to, and in how many reads.
+const READS: [(&str, bool, &str, u32); 3] = [
+    ("abc", false, "abc", 4),
+    ("abcd", false, "too long", 4),
+    ("abc", true, "failed", 4),
+];
+
+/// What reading to the end with a limit of three bytes comes to.
+fn expect_read(
+    rt: &(impl Abort + AllocGlobal),
+    text: &str,
+    fails: bool,
+    wanted: &str,
+    reads: u32,
+) -> Result<(), Fail> {
+    let mut reader = source_of(text.as_bytes(), 1);
+    reader.fails = fails;
+    let outcome = read_all(rt.alloc(), &mut reader, 3);
+    expect_told(rt, &reader, told_by(&outcome), wanted, reads)
 }
 
-fn expect_sample_under(
+fn expect_told(
+    rt: &impl Abort,
+    reader: &Feed<'_>,
+    told: &[u8],
+    wanted: &str,
+    reads: u32,
+) -> Result<(), Fail> {
+    if told == b"no memory".as_slice() {
+        assert!(rt; !reader.failed);
+        return Err(Fail::new("out of memory"));
+    }
+    assert_eq!(rt; told, wanted.as_bytes());
+    assert_eq!(rt; reader.reads, reads);
+    Ok(())
+}
+
+/// The usual settings, with a number of workers that take one package at once.
+fn config_with(alloc: Global, workers: u32) -> Result<Config, AllocError>
+    ensures workers { IfOk result (λ config. config.workers ≡ workers) }
+    ensures chunk { IfOk result (λ config. config.chunk ≡ 1) }
+{
+    let mut config = Config::usual(alloc)?;
+    config.workers = workers;
+    config.chunk = 1;
+    Ok(config)
+}
+
+/// A sink that needs no more memory for what is written to it here.
+fn sink_with_room(alloc: Global, step: usize, fails_at: u32) -> Result<Held, AllocError>
+    ensures { IfOk result (λ sink. sink.failed ≡ false) }
+{
+    let mut sink = sink_of(alloc, step, fails_at, false);
+    sink.bytes.reserve(10_000)?;
+    Ok(sink)
+}
+
+/// The whole report was written, or nothing at all.
+fn expect_report(
+    rt: &impl Abort,
+    output: &Held,
+    outcome: &Result<Summary, RunFault>,
+    wanted: &[u8],
+    code: u8,
+) -> Result<(), Fail> {
+    match outcome {
+        Ok(_) => {
+            assert_eq!(rt; output.bytes.as_slice(), wanted);
+            assert!(rt; output.flushed);
+            assert_eq!(rt; status(outcome), code);
+            Ok(())
+        }
+        Err(RunFault::Memory) => {
+            assert_eq!(rt; output.calls, 0);
+            assert!(rt; output.bytes.is_empty());
+            assert_eq!(rt; status(outcome), 69);
+            Err(Fail::new("out of memory"))
+        }
+        Err(_) => {
+            assert!(rt; false, "no device failed");
+            Ok(())
+        }
+    }
+}
+
+/// No text, with a writer that takes one byte a call.
+#[test]
+fn of_run(rt: HostRuntime) -> Result<(), Fail> {
+    let config = config_with(rt.alloc(), 2)?;
+    expect_run(&rt, &config, 0)
+}
+
+/// The same, and the writer fails at its fifth call.
+#[test]
+fn of_run_with_a_failing_writer(rt: HostRuntime) -> Result<(), Fail> {
+    let config = config_with(rt.alloc(), 2)?;
+    expect_run(&rt, &config, 5)
+}
+
+/// What a run comes to whose writer fails at this call, which count from 1.
+fn expect_run(
     rt: &(impl Abort + Threads + Sync + AllocGlobal),
     config: &Config,
-    tally: &Tally,
+    fails_at: u32,
 ) -> Result<(), Fail>
     requires workers { (0 < config.now.workers) × (config.now.workers ≤ 64) }
     requires chunk { 0 < config.now.chunk }
 {
-    let mut output = writer_with_room(rt.alloc())?;
-    let mut text = Std::new(sample::text().as_bytes());
-    let mut unread = Endless::new();
+    let mut output = sink_with_room(rt.alloc(), 1, fails_at)?;
+    let mut nothing = source_of(b"", 1);
+    let outcome = run_alone(rt, config, &mut nothing, &mut output);
+    if fails_at > 0 {
+        expect_front(rt, &output, &outcome)
+    } else {
+        expect_report(rt, &output, &outcome, EMPTY, 0)
+    }
+}
+
+/// An index, a background and an earlier index, each with a package.
+#[test]
+fn of_run_since(rt: HostRuntime) -> Result<(), Fail> {
+    let config = with_background(rt.alloc())?;
+    expect_since(&rt, &config)
+}
+
+fn expect_since(
+    rt: &(impl Abort + Threads + Sync + AllocGlobal),
+    config: &Config,
+) -> Result<(), Fail>
+    requires workers { (0 < config.now.workers) × (config.now.workers ≤ 64) }
+    requires chunk { 0 < config.now.chunk }
+{
+    let mut output = sink_with_room(rt.alloc(), 50, 0)?;
+    let mut index = source_of(LATER, 11);
+    let mut background = source_of(BEHIND, 11);
+    let mut earlier = source_of(EARLIER, 11);
+    let outcome = run_on(
+        rt,
+        config,
+        &mut index,
+        &mut background,
+        &mut earlier,
+        &mut output,
+    );
+    expect_report(rt, &output, &outcome, REPORT, 1)
+}
+
+/// The writer failed behind four bytes, or nothing was written.
+fn expect_front(
+    rt: &impl Abort,
+    output: &Held,
+    outcome: &Result<Summary, RunFault>,
+) -> Result<(), Fail> {
+    if status(outcome) != 68 {
+        return expect_report(rt, output, outcome, b"no report", 68);
+    }
+    assert_eq!(rt; output.bytes.as_slice(), b"arch".as_slice());
+    Ok(())
+}
+
+/// Three packages, two of them broken, in three chunks: no chunk begins twice or ends without a beginning, and all three end where there is a report.
+fn expect_chain(
+    rt: &(impl Abort + Threads + Sync + AllocGlobal),
+    config: &Config,
+) -> Result<(), Fail>
+    requires workers { (0 < config.now.workers) × (config.now.workers ≤ 64) }
+    requires chunk { 0 < config.now.chunk }
+{
+    let mut output = sink_with_room(rt.alloc(), 1_000, 0)?;
+    let (mut reader, mut nothing) = (source_of(CHAIN, 1_000), source_of(b"", 1));
+    let tally = Tally::new();
     let outcome = run(
         rt,
         rt.alloc(),
         config,
-        &mut text,
-        &mut unread,
+        &mut reader,
+        &mut nothing,
         &mut output,
-        tally,
+        &tally,
     );
-    expect_in_order(rt, &unread, tally, outcome.is_ok());
-    expect_report(rt, &output, &outcome, sample::report(), 1)
-}
-
-/// The sample in three chunks: no chunk begins twice or ends without a beginning, and all three end where there is a report.
-fn expect_sample(rt: &(impl Abort + Threads + Sync + AllocGlobal), workers: u32) -> Result<(), Fail>
-    requires { (0 < workers) × (workers ≤ 64) }
-{
-    let config = config_with(rt.alloc(), workers)?;
-    let tally = Tally::new();
-    expect_sample_under(rt, &config, &tally)
+    assert!(rt; tally.has_at_least(u32::from(outcome.is_ok())));
+    expect_report(rt, &output, &outcome, CHAIN_REPORT, 1)
 }
 
 #[test]
 fn of_run_with_one_worker(rt: HostRuntime) -> Result<(), Fail> {
-    expect_sample(&rt, 1)
+    let config = config_with(rt.alloc(), 1)?;
+    expect_chain(&rt, &config)
 }
 
 #[test]
 fn of_run_with_two_workers(rt: HostRuntime) -> Result<(), Fail> {
-    expect_sample(&rt, 2)
+    let config = config_with(rt.alloc(), 2)?;
+    expect_chain(&rt, &config)
 }
 
 fn expect_background(
@@ -154,25 +235,148 @@ fn expect_background(
     requires workers { (0 < config.now.workers) × (config.now.workers ≤ 64) }
     requires chunk { 0 < config.now.chunk }
 {
-    let mut output = writer_with_room(rt.alloc())?;
-    let mut text = Std::new(backgrounds::NEEDS_ONE.as_bytes());
-    let mut background = Std::new(backgrounds::HAS_TWO.as_bytes());
+    let mut output = sink_with_room(rt.alloc(), 1_000, 0)?;
+    let (mut reader, mut background) = (source_of(INDEX, 1_000), source_of(BACKGROUND, 1_000));
     let outcome = run(
         rt,
         rt.alloc(),
         config,
-        &mut text,
+        &mut reader,
         &mut background,
         &mut output,
         &OpenGate,
     );
-    expect_report(rt, &output, &outcome, backgrounds::NEEDS_ONE_REPORT, 0)
+    expect_report(rt, &output, &outcome, WITH_BACKGROUND.output, 1)
 }
 
-/// One package that needs one of the background, in one chunk, by two workers.
+/// A package that needs one of the background, and a broken one, by two workers.
 #[test]
 fn of_run_with_a_background(rt: HostRuntime) -> Result<(), Fail> {
     let mut config = config_with(rt.alloc(), 2)?;
-    config.bg = Some(String::from_str(rt.alloc(), "background")?);
+    config.bg = Some(String::from_str(rt.alloc(), "others")?);
     expect_background(&rt, &config)
+}
+
+/// Where memory is wanted behind the first chunks, the line of progress is gone, too, before that is told.
+#[test]
+fn of_run_program(rt: HostRuntime) -> Result<(), Fail> {
+    let screen = Screen::new(true, b"");
+    let mut errors = Beside::new(&screen, sink_with_room(rt.alloc(), 1_000, 0)?);
+    let output = sink_with_room(rt.alloc(), 1_000, 0)?;
+    let ended = run_beside(&rt, &screen, output, &mut errors)?;
+    expect_uncrowded(&rt, &screen, &ended.output, &errors);
+    expect_ended(&rt, ended.status, &ended.output.held, &errors.held)
+}
+
+fn expect_ended(rt: &impl Abort, status: u8, output: &Held, errors: &Held) -> Result<(), Fail> {
+    if status == 69 {
+        assert_eq!(rt; output.calls, 0);
+        assert_eq!(rt;
+            errors.bytes.as_slice(),
+            b"debcheck: out of memory\n".as_slice()
+        );
+        return Err(Fail::new("out of memory"));
+    }
+    assert_eq!(rt; status, 1);
+    assert_eq!(rt; output.bytes.as_slice(), CHAIN_REPORT);
+    assert!(rt; errors.bytes.is_empty());
+    Ok(())
+}
+
+fn unknown_package(alloc: Global) -> Result<RunFault, AllocError> {
+    let name = Vec::from_slice(alloc, b"zz")?;
+    Ok(RunFault::UnknownAsked { name })
+}
+
+#[test]
+fn of_fault_line(rt: HostRuntime) -> Result<(), Fail> {
+    let fault = unknown_package(rt.alloc())?;
+    expect_line(&rt, &fault)
+}
+
+fn expect_line(rt: &(impl Abort + AllocGlobal), fault: &RunFault) -> Result<(), Fail> {
+    match fault_line(rt.alloc(), fault) {
+        Ok(line) => {
+            let wanted = b"debcheck: unknown package zz\n";
+            assert_eq!(rt; line.as_slice(), wanted.as_slice());
+            Ok(())
+        }
+        Err(AllocError) => Err(Fail::new("out of memory")),
+    }
+}
+
+/// A fault whose line finds no memory is told as want of memory.
+#[test]
+fn of_write_fault(rt: HostRuntime) -> Result<(), Fail> {
+    let fault = unknown_package(rt.alloc())?;
+    let mut errors = sink_with_room(rt.alloc(), 7, 0)?;
+    let written = write_fault(rt.alloc(), &mut errors, &fault).is_ok();
+    expect_errors(&rt, &errors, written)
+}
+
+fn expect_errors(rt: &impl Abort, errors: &Held, written: bool) -> Result<(), Fail> {
+    assert!(rt; written);
+    assert!(rt; errors.flushed);
+    if errors.bytes.as_slice() == b"debcheck: unknown package zz\n".as_slice() {
+        return Ok(());
+    }
+    let wanted = b"debcheck: out of memory\n";
+    assert_eq!(rt; errors.bytes.as_slice(), wanted.as_slice());
+    Err(Fail::new("out of memory"))
+}
+
+/// A word for what reading a line comes to.
+fn told_of_line(outcome: &Result<Config, LineFault>) -> &'static str {
+    match outcome {
+        Ok(config) => told_of_config(config),
+        Err(fault) => match line_status(fault) {
+            64 => "refused",
+            69 => "no memory",
+            _ => "no refusal",
+        },
+    }
+}
+
+/// A word for the usual settings for amd64, with or without explanations.
+fn told_of_config(config: &Config) -> &'static str {
+    if !is_plain(config) || config.arch.as_str() != "amd64" {
+        return "other settings";
+    }
+    if config.explain {
+        return "explained";
+    }
+    "taken"
+}
+
+/// The word for what the line comes to.
+fn word_for(alloc: Global, line: &str) -> Result<&'static str, AllocError> {
+    let outcome = read(alloc, line)?;
+    Ok(told_of_line(&outcome))
+}
+
+/// The line comes to what the word says, or memory was refused.
+fn expect_row(rt: &(impl Abort + AllocGlobal), line: &str, wanted: &str) -> Result<(), Fail> {
+    let told = word_for(rt.alloc(), line)?;
+    if told == "no memory" {
+        return Err(Fail::new("out of memory"));
+    }
+    assert_eq!(rt; told, wanted, "{line}");
+    Ok(())
+}
+
+const LINES: &str = "|--arch|amd64 => taken
+ => explained
+|--workers|2 => refused
+|--arch|all => refused
+|--arch|amd64|--workers|65 => refused
+|--arch|amd64|--checkonly|a,,b => refused";
+
+/// An architecture alone, no words, and four lines that are refused.
+#[test]
+fn of_read_line(rt: HostRuntime) -> Result<(), Fail> {
+    for row in LINES.lines() {
+        let (line, wanted) = sides_of(row)?;
+        expect_row(&rt, line, wanted)?;
+    }
+    Ok(())
 }

@@ -1,41 +1,42 @@
-//! Worked examples over all crates: words and a text go in, and the bytes of the report are compared.
+//! Tests of the public calls of `debcheck`, on devices that fail.
 //!
-//! `devices` has readers and a writer over memory. `example` says what an example is and runs it, `reports` goes over those of
-//! `relations`, `meanings`, `qualifiers`, `settings` and `refusals`; `backgrounds` has those with a second text, `json_reports` documents in JSON, which it reads back;
-//! `cut_texts`, `failing_devices`, `large`, `without_sets`, `workers` and `growths` have inputs of their own.
+//! `devices` has a reader and a writer over memory, `counted` such of std's kind, `cabinets` files, `screens` a screen and a clock, `tally` a gate that counts.
+//! `command_line` has the words of command lines and `environments` those of a process, `whole_texts` and `over_std` read and write whole texts, `fault_lines` has the
+//! lines and statuses of faults, `runs` small runs, `progress` its line, `programs` whole programs, `since_runs` and `since_programs` those since an earlier index,
+//! `failing_devices` those whose devices fail in turn, `growths` a test for each call that can want memory.
 #![tactic(auto)]
 
 #[cfg(test)]
-mod backgrounds;
+mod cabinets;
 #[cfg(test)]
-mod cut_texts;
+mod command_line;
+#[cfg(test)]
+mod counted;
 #[cfg(test)]
 mod devices;
 #[cfg(test)]
-mod example;
+mod environments;
 #[cfg(test)]
 mod failing_devices;
 #[cfg(test)]
+mod fault_lines;
+#[cfg(test)]
 mod growths;
 #[cfg(test)]
-mod json_reports;
+mod over_std;
 #[cfg(test)]
-mod large;
+mod programs;
 #[cfg(test)]
-mod meanings;
+mod progress;
 #[cfg(test)]
-mod qualifiers;
+mod runs;
 #[cfg(test)]
-mod refusals;
+mod screens;
 #[cfg(test)]
-mod relations;
+mod since_programs;
 #[cfg(test)]
-mod reports;
+mod since_runs;
 #[cfg(test)]
-mod sample;
+mod tally;
 #[cfg(test)]
-mod settings;
-#[cfg(test)]
-mod without_sets;
-#[cfg(test)]
-mod workers;
+mod whole_texts;

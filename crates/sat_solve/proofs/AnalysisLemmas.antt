@@ -1,9 +1,9 @@
 -- Conflict analysis: the walk back over the trail from a conflict to the decisions that it rests on.
-use Rattle.std.proofs.Common.{◌≡◌, ℕ, suc, ◌+◌, ◌<◌, ◌≤◌, Bool, true, false, ◌||◌, eqb, Some, List, [], ◌∷◌, ◌++◌, reverse, length, get_or, set, take, drop, refl, sym, ◌∙◌, ap, subst, inl, inr, ◌⊎◌, arith, add-one, drop-cons, get_or-set_same, get_or-set_other}
-use Rattle.std.proofs.lemmas.Bool.{false≢true, cases_lt, cases_eq, eq-eqb, ne_eqb, or_left, or_right}
+use Rattle.std.proofs.Common.{◌≡◌, ℕ, suc, ◌+◌, ◌<◌, ◌≤◌, Bool, true, false, ◌||◌, eqb, Some, List, [], ◌∷◌, ◌++◌, reverse, length, get_or, set, take, drop, refl, sym, ◌∙◌, ap, subst, inl, inr, arith, add-one, drop-cons, get_or-set_same, get_or-set_other}
+use Rattle.std.proofs.lemmas.Bool.{false≢true, cases_lt, cases_eq, eq-eqb, ne_eqb, or_cases, or_left, or_right}
 use Rattle.std.proofs.lemmas.Bool.Decides.{eqb_tells}
 use Rattle.std.proofs.lemmas.List.{take_more, take_all, reverse-append, get_or_past, length-set}
-use Rattle.sat_solve.specs.Sets.{NumberSet, members_of}
+use Rattle.number_sets.specs.Sets.{NumberSet, members_of}
 use Rattle.sat_solve.specs.Trail.{is_decided, IsSound}
 use Rattle.std.specs.List.{list_any}
 use Rattle.std.proofs.lemmas.List.Folds.{list_any_more}
@@ -11,18 +11,11 @@ use Rattle.sat_solve.specs.Reasons.{AgreesOn, LacksAll, FailsOn, RestsOn, AreRea
 use Rattle.sat_solve.specs.declared.trail.Step.{Step}
 use Rattle.sat_solve.specs.declared.trail.Reason.{Reason}
 use Rattle.sat_solve.proofs.TrailLemmas.{value_in_newest, value_in_older}
-use Rattle.sat_solve.proofs.MembersLemmas.{members_of_push}
+use Rattle.number_sets.proofs.MembersLemmas.{pushed_has, pushed_keeps}
 
 -- no set with P agrees with these steps on what is seen and lacks the decisions found
 abbrev pub WalkRefutes : (NumberSet → Type 0) → List Step → NumberSet → NumberSet → Type 0
 WalkRefutes P steps marked found = (set : NumberSet) → P set → AgreesOn steps marked set → LacksAll found set → ⊥
-
--- a number that was put last is a member, and the others stay
-pub members_last : (numbers : List ℕ) (added : ℕ) → members_of (numbers ++ added ∷ []) added ≡ true
-members_last numbers added = members_of_push numbers added added ∙ or_right (members_of numbers added) (eqb added added || false) (or_left (eqb added added) false (eq-eqb added added refl))
-
-pub members_kept : (numbers : List ℕ) (added number : ℕ) → members_of numbers number ≡ true → members_of (numbers ++ added ∷ []) number ≡ true
-members_kept numbers added number there = members_of_push numbers added number ∙ or_left (members_of numbers number) (eqb added number || false) there
 
 module _ (P : NumberSet → Type 0) (step : Step) (older : List Step) where
   -- a step that is not seen is passed over
@@ -49,8 +42,8 @@ module _ (P : NumberSet → Type 0) (step : Step) (older : List Step) where
   -- a seen decision is found
   pub walk_decided : (marked : NumberSet) (found : List ℕ) → step.value ≡ false → WalkRefutes P (step ∷ older) marked (members_of found) → WalkRefutes P older marked (members_of (found ++ step.var ∷ []))
   walk_decided marked found out refutes set holds agrees lacks =
-      let gone : set step.var ≡ false = lacks step.var (members_last found step.var) in
-      refutes set holds (agrees_more marked set (gone ∙ sym out) agrees) (λ var there. lacks var (members_kept found step.var var there))
+      let gone : set step.var ≡ false = lacks step.var (pushed_has found step.var) in
+      refutes set holds (agrees_more marked set (gone ∙ sym out) agrees) (λ var there. lacks var (pushed_keeps found step.var var there))
 
   -- by a seen step that was forced, what it rests on is seen
   pub walk_forced : (Q B : NumberSet → Type 0) (marked more found reasons : NumberSet) → ((set : NumberSet) → Q set → P set) → ((set : NumberSet) → Q set → B set) → RestsOn B older step reasons → ((var : ℕ) → marked var ≡ true → more var ≡ true) → ((var : ℕ) → reasons var ≡ true → more var ≡ true) → WalkRefutes P (step ∷ older) marked found → WalkRefutes Q older more found
@@ -95,9 +88,6 @@ module _ (P M : NumberSet → Type 0) (backs : Reason → NumberSet → Type 0) 
 
   pub walk_ends : (marks : List Bool) (found : List ℕ) → WalkedTo P M backs named trail 0 marks found → (set : NumberSet) → M set → LacksAll (members_of found) set → ⊥
   walk_ends marks found walked set holds lacks = walked.refutes set holds (λ var value mark there. cc) lacks
-
-  pub walk_picks : (marks : List Bool) (found : List ℕ) → WalkedTo P M backs named trail 0 marks found → Picks found (reverse trail)
-  walk_picks marks found walked = walked.picks
 
   module _ (i : ℕ) (step : Step) (below : i < length trail) (at : get_or trail i step ≡ step) where
     ahead : reverse (take (i + 1) trail) ≡ step ∷ reverse (take i trail)
@@ -158,10 +148,6 @@ seen_still marks var other is = elim (cases_eq other var) [
   | inl same ↦ subst (λ v. is_seen (set marks var true) v ≡ true) (sym same) (seen_here marks var)
   | inr apart ↦ get_or-set_other marks var other true true apart ∙ is
 ]
-
-or_cases : (a b : Bool) → (a || b) ≡ true → (a ≡ true) ⊎ (b ≡ true)
-or_cases true b is = inl refl
-or_cases false b is = inr is
 
 module _ {X : Type 0} (var_of : X → ℕ) (items : List X) (first : List Bool) where
   pub seen_more : (marks : List Bool) (i : ℕ) (d : X) → i < length items → SeesAll (λ var. list_any (λ item. eqb (var_of item) var) (take i items)) first marks → SeesAll (λ var. list_any (λ item. eqb (var_of item) var) (take (i + 1) items)) first (set marks (var_of (get_or items i d)) true)

@@ -1,11 +1,11 @@
 -- Backjumping: steps are taken back, down to a decision, which is then turned to in.
-use Rattle.std.proofs.Common.{◌≡◌, ◌≢◌, ℕ, ◌+◌, ◌*◌, ◌-◌, ◌<◌, ◌≤◌, Bool, true, false, ◌||◌, if◌then◌else◌, eqb, Option, Some, None, List, [], ◌∷◌, length, get_or, take, drop, sym, ◌∙◌, ap, subst, inl, inr, arith, length-take}
-use Rattle.std.proofs.lemmas.Bool.{false≢true, true_from_ne_false, eq-eqb, ne_eqb}
+use Rattle.std.proofs.Common.{◌≡◌, ◌≢◌, ℕ, ◌+◌, ◌*◌, ◌-◌, ◌<◌, ◌≤◌, Bool, true, false, ◌||◌, if◌then◌else◌, Option, Some, None, List, [], ◌∷◌, length, take, sym, ◌∙◌, ap, subst, inl, inr, arith, length-take}
+use Rattle.std.proofs.lemmas.Bool.{false≢true, true_from_ne_false, ne_eqb}
 use Rattle.std.proofs.lemmas.Bool.Decides.{eqb_tells}
 use Rattle.std.proofs.lemmas.List.{take-take, take_all}
-use Rattle.sat_solve.specs.Sets.{NumberSet, members_of}
+use Rattle.number_sets.specs.Sets.{NumberSet, members_of}
 use Rattle.sat_solve.specs.Trail.{value_in, is_decision, is_decided, AllFresh, Lacks, Follows, IsSound, IsLinked, weight, rank, power_of_three, steps_of, IsTrail}
-use Rattle.sat_solve.specs.Reasons.{IsSolution, IsMarkedSolution, IsUsed, Backs, named_by, LacksAll, RestsOn, AreReasoned, AreParts, end_before, Picks, IsReasonFor, UndoneThrough}
+use Rattle.sat_solve.specs.Reasons.{IsSolution, Refutes, IsUsed, Backs, named_by, LacksAll, RestsOn, AreReasoned, AreParts, end_before, Picks, IsReasonFor, UndoneThrough}
 use Rattle.sat_solve.specs.SolverState.{IsSolver}
 use Rattle.sat_solve.specs.declared.trail.Step.{Step}
 use Rattle.sat_solve.specs.declared.trail.Reason.{Reason}
@@ -135,7 +135,7 @@ popped_solver problem old new step popped linked vars arena lower at used is =
     }
 
 -- a decision is turned, for the sake of those further back
-module _ (problem : Problem) (mid new : Solver) (var : ℕ) (rest : List ℕ) (reason : Reason) (is : IsSolver problem mid) (picks : Picks rest (steps_of mid.trail)) (refuted : (set : NumberSet) → IsMarkedSolution problem mid.used.items set → LacksAll (members_of (var ∷ rest)) set → ⊥) (for : IsReasonFor rest mid.arena.items new.arena.items reason) where
+module _ (problem : Problem) (mid new : Solver) (var : ℕ) (rest : List ℕ) (reason : Reason) (is : IsSolver problem mid) (picks : Picks rest (steps_of mid.trail)) (refuted : Refutes problem mid.used.items (var ∷ rest)) (for : IsReasonFor rest mid.arena.items new.arena.items reason) where
   turned_follows : Follows (IsSolution problem) (steps_of mid.trail) (record { var = var; value = true; reason = reason })
   turned_follows = record {
     out = λ decided. absurd (false≢true (sym for.implied ∙ decided));
@@ -179,20 +179,6 @@ turned_higher vars var rest reason old mid new implied drops pushed =
     let raised : rank vars new ≡ 2 * power_of_three (vars - 1 - length mid) + rank vars mid = ap (rank vars) pushed ∙ ap (λ w. w * power_of_three (vars - 1 - length mid) + rank vars mid) heavy in
     omega (arith, drops.lower)
 
--- a list that is not empty, as its first number and the rest
-pub head_rest : (numbers : List ℕ) → 0 < length numbers → numbers ≡ get_or numbers 0 0 ∷ take (length numbers - 1) (drop 1 numbers)
-head_rest [] some = absurd (omega arith)
-head_rest (first ∷ rest) some = ap (λ more. first ∷ more) (sym (take_all (length (first ∷ rest) - 1) rest (omega arith)))
-
-pub some_number : (numbers : List ℕ) → eqb (length numbers) 0 ≡ false → 0 < length numbers
-some_number numbers other = elim (eqb_tells (length numbers) 0) [
-  | inl same ↦ absurd (false≢true (sym other ∙ eq-eqb (length numbers) 0 same.1))
-  | inr apart ↦ let ne : length numbers ≢ 0 = apart.1 in omega arith
-]
-
-pub lacks_none : (numbers : List ℕ) (set : NumberSet) → eqb (length numbers) 0 ≡ true → LacksAll (members_of numbers) set
+pub lacks_none : (numbers : List ℕ) (set : NumberSet) → length numbers ≡ 0 → LacksAll (members_of numbers) set
 lacks_none [] set none var member = absurd (false≢true member)
-lacks_none (first ∷ rest) set none var member = elim (eqb_tells (length (first ∷ rest)) 0) [
-  | inl same ↦ let zero_long : length (first ∷ rest) ≡ 0 = same.1 in absurd (omega arith)
-  | inr apart ↦ absurd (false≢true (sym (ne_eqb (length (first ∷ rest)) 0 apart.1) ∙ none))
-]
+lacks_none (first ∷ rest) set none var member = absurd (omega arith)

@@ -1,9 +1,9 @@
 -- A variable that excludes the others of a list: when a set meets the clauses, and that each of them is one.
-use Rattle.std.proofs.Common.{◌≡◌, ℕ, ◌<◌, Bool, true, false, ◌||◌, ◌&&◌, not, if◌then◌else◌, eqb, List, [], ◌∷◌, map, All, Contains, length, get_or, refl, sym, ap, arith}
+use Rattle.std.proofs.Common.{◌≡◌, ℕ, ◌<◌, Bool, true, false, ◌||◌, not, if◌then◌else◌, eqb, List, [], ◌∷◌, map, All, Contains, length, get_or, refl, sym, ap, arith}
 use Rattle.std.specs.List.{list_all}
-use Rattle.std.proofs.lemmas.Bool.{false≢true}
+use Rattle.std.proofs.lemmas.Bool.{false≢true, and_parts, and_from}
 use Rattle.std.proofs.lemmas.List.Elements.{All-nil, All-cons, All-append}
-use Rattle.sat_solve.specs.Sets.{NumberSet}
+use Rattle.number_sets.specs.Sets.{NumberSet}
 use Rattle.sat_solve.specs.Clauses.{Clause, clause_holds, not_both, exclusions}
 use Rattle.sat_solve.specs.declared.clause.Lit.{Lit}
 use Rattle.sat_solve.proofs.FlatLemmas.{all_left, all_right, all_flat, contains_flat}
@@ -41,38 +41,18 @@ exclusions_have group owner list i d inside other =
 owner_out : (set : NumberSet) (owner other : ℕ) → set owner ≡ false → clause_holds set (not_both owner other) ≡ true
 owner_out set owner other out = ap (λ b. not b || (not (set other) || false)) out
 
-other_out : (a b : Bool) → b ≡ false → (not a || (not b || false)) ≡ true
-other_out true b out = ap (λ b. not b || false) out
-other_out false b out = refl
+-- whether it does, where the owner is in, is what is tested of each variable of a list: that it is the owner, or out
+pair_held : (a b same : Bool) → (same || not b) ≡ true → same ≡ false → (not a || (not b || false)) ≡ true
+pair_held true true true tested other = absurd (false≢true (sym other))
+pair_held true true false tested other = tested
+pair_held true false same tested other = refl
+pair_held false b same tested other = refl
 
-both_in : (a b : Bool) → a ≡ true → (not a || (not b || false)) ≡ true → not b ≡ true
-both_in true true is holds = holds
-both_in true false is holds = refl
-both_in false b is holds = absurd (false≢true is)
-
-or_then : (a b : Bool) → (a || b) ≡ true → a ≡ false → b ≡ true
-or_then true b holds is = absurd (false≢true (sym is))
-or_then false b holds is = holds
-
-not_true : (b : Bool) → not b ≡ true → b ≡ false
-not_true true is = absurd (false≢true is)
-not_true false is = refl
-
-or_either : (a b : Bool) → (a ≡ false → b ≡ true) → (a || b) ≡ true
-or_either true b rest = refl
-or_either false b rest = rest refl
-
-pub and_left : (a b : Bool) → (a && b) ≡ true → a ≡ true
-and_left true b both = refl
-and_left false b both = both
-
-pub and_right : (a b : Bool) → (a && b) ≡ true → b ≡ true
-and_right true b both = both
-and_right false b both = absurd (false≢true both)
-
-pub and_both : (a b : Bool) → a ≡ true → b ≡ true → (a && b) ≡ true
-and_both true b left right = right
-and_both false b left right = left
+pair_tested : (a b same : Bool) → a ≡ true → (same ≡ false → (not a || (not b || false)) ≡ true) → (same || not b) ≡ true
+pair_tested true b true is held = refl
+pair_tested true true false is held = held refl
+pair_tested true false false is held = refl
+pair_tested false b same is held = absurd (false≢true is)
 
 module _ (set : NumberSet) (group owner : ℕ) where
   -- where the owner is out
@@ -85,19 +65,17 @@ module _ (set : NumberSet) (group owner : ℕ) where
   pub excluded_clear : (literals : List Lit) → list_all (λ literal. eqb literal.var owner || not (set literal.var)) literals ≡ true → All (λ clause. clause_holds set clause.literals ≡ true) (exclusions group owner (map (λ literal. literal.var) literals))
   excluded_clear [] clear = All-nil (λ clause. clause_holds set clause.literals ≡ true)
   excluded_clear (literal ∷ rest) clear =
-      let here : (eqb literal.var owner || not (set literal.var)) ≡ true = and_left (eqb literal.var owner || not (set literal.var)) (list_all (λ literal. eqb literal.var owner || not (set literal.var)) rest) clear in
-      let there = and_right (eqb literal.var owner || not (set literal.var)) (list_all (λ literal. eqb literal.var owner || not (set literal.var)) rest) clear in
+      let parts = and_parts (eqb literal.var owner || not (set literal.var)) (list_all (λ literal. eqb literal.var owner || not (set literal.var)) rest) clear in
       All-append (λ clause. clause_holds set clause.literals ≡ true) (pairs_with group owner literal.var) (exclusions group owner (map (λ literal. literal.var) rest))
-      (all_unless (λ clause. clause_holds set clause.literals ≡ true) (pair_of group owner literal.var) (eqb literal.var owner)
-      (λ other. other_out (set owner) (set literal.var) (not_true (set literal.var) (or_then (eqb literal.var owner) (not (set literal.var)) here other))))
-      (excluded_clear rest there)
+      (all_unless (λ clause. clause_holds set clause.literals ≡ true) (pair_of group owner literal.var) (eqb literal.var owner) (pair_held (set owner) (set literal.var) (eqb literal.var owner) parts.0))
+      (excluded_clear rest parts.1)
 
   -- where the owner is in, and the clauses hold
   pub clear_excluded : (literals : List Lit) → set owner ≡ true → All (λ clause. clause_holds set clause.literals ≡ true) (exclusions group owner (map (λ literal. literal.var) literals)) → list_all (λ literal. eqb literal.var owner || not (set literal.var)) literals ≡ true
   clear_excluded [] has all = refl
   clear_excluded (literal ∷ rest) has all =
-      and_both (eqb literal.var owner || not (set literal.var)) (list_all (λ literal. eqb literal.var owner || not (set literal.var)) rest)
-      (or_either (eqb literal.var owner) (not (set literal.var)) (λ other. both_in (set owner) (set literal.var) has
+      and_from (eqb literal.var owner || not (set literal.var)) (list_all (λ literal. eqb literal.var owner || not (set literal.var)) rest)
+      (pair_tested (set owner) (set literal.var) (eqb literal.var owner) has
       (unless_all (λ clause. clause_holds set clause.literals ≡ true) (pair_of group owner literal.var) (eqb literal.var owner)
-      (all_left (λ clause. clause_holds set clause.literals ≡ true) (pairs_with group owner literal.var) (exclusions group owner (map (λ literal. literal.var) rest)) all) other)))
+      (all_left (λ clause. clause_holds set clause.literals ≡ true) (pairs_with group owner literal.var) (exclusions group owner (map (λ literal. literal.var) rest)) all)))
       (clear_excluded rest has (all_right (λ clause. clause_holds set clause.literals ≡ true) (pairs_with group owner literal.var) (exclusions group owner (map (λ literal. literal.var) rest)) all))

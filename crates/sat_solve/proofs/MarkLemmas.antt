@@ -1,13 +1,15 @@
 -- Marks on groups: more of them, and what the sets that meet the marked groups meet.
-use Rattle.std.proofs.Common.{◌≡◌, ℕ, ◌<◌, Bool, true, false, Some, List, length, get_or, slice_get, sym, ◌∙◌, ap, inl, inr}
+use Rattle.std.proofs.Common.{◌≡◌, ℕ, ◌<◌, Bool, true, false, Vec, Option, Some, None, List, length, get_or, slice_get, refl, sym, ◌∙◌, ap, inl, inr}
 use Rattle.std.proofs.lemmas.Bool.{false≢true, cases_lt}
 use Rattle.std.proofs.lemmas.List.{get_or_past}
 use Rattle.std.proofs.lemmas.Option.{slice_get-get_or, get_or_from_slice_get}
-use Rattle.sat_solve.specs.Sets.{NumberSet}
-use Rattle.sat_solve.specs.Clauses.{AreWithin}
+use Rattle.number_sets.specs.Sets.{NumberSet}
+use Rattle.std.specs.declared.alloc.Global.{Global}
+use Rattle.sat_solve.specs.Answers.{IsAnswer}
+use Rattle.sat_solve.specs.Clauses.{Clause, AreWithin}
 use Rattle.sat_solve.specs.Spans.{no_span}
-use Rattle.sat_solve.specs.Reasons.{IsProblem, IsSolution, IsMarkedSolution, IsUsed, Backs}
-use Rattle.sat_solve.specs.declared.trail.Reason.TheVariants.{Clause}
+use Rattle.sat_solve.specs.Reasons.{IsProblem, IsSolution, IsMarkedSolution, IsAnswerTo, IsUsed, Backs}
+use Rattle.sat_solve.specs.declared.trail.Reason.TheVariants.{Clause as OfClause}
 use Rattle.sat_solve.specs.declared.problem.Problem.{Problem}
 use Rattle.sat_solve.proofs.SpanLemmas.{clause_met}
 
@@ -30,8 +32,24 @@ fewer_meet problem old new members within holds = record {
 pub solutions_meet : (problem : Problem) (used : List Bool) (members : NumberSet) → IsUsed problem used → IsSolution problem members → IsMarkedSolution problem used members
 solutions_meet problem used members is holds = fewer_meet problem used problem.keep.now members is.within holds
 
+-- what was answered with some marks is answered of the kept groups too
+pub by_kept : (vars : ℕ) (clauses : List Clause) (keep : List Bool) (must : ℕ) (marks : List Bool) (answer : Option (Vec ℕ Global)) → IsAnswer vars clauses keep must marks answer → IsAnswer vars clauses keep must keep answer
+by_kept vars clauses keep must marks None is = record { rising = tt; first = tt; none = is.none; sized = refl; kept = λ group kept. kept; marked = is.none }
+by_kept vars clauses keep must marks (Some members) is = record { rising = is.rising; first = is.first; none = tt; sized = tt; kept = tt; marked = tt }
+
+-- where no set meets the marked groups, that there is none is answered
+pub none_answered : (problem : Problem) (used : List Bool) → IsUsed problem used → ((set : NumberSet) → IsMarkedSolution problem used set → ⊥) → IsAnswerTo problem used None
+none_answered problem used is none = record {
+  rising = tt;
+  first = tt;
+  none = λ set holds. none set (solutions_meet problem used set is holds);
+  sized = is.sized;
+  kept = is.within;
+  marked = none;
+}
+
 -- a clause brings in nothing but what its marked group does
-pub backed_clause : (problem : Problem) (old new : List Bool) (clause : ℕ) → IsProblem problem → IsUsed problem new → AreWithin old new → clause < length problem.spans.now → (get_or problem.keep.now (get_or problem.spans.now clause no_span).group false ≡ true → slice_get new (get_or problem.spans.now clause no_span).group ≡ Some true) → (members : NumberSet) → IsMarkedSolution problem new members → Backs problem old (Clause clause) members
+pub backed_clause : (problem : Problem) (old new : List Bool) (clause : ℕ) → IsProblem problem → IsUsed problem new → AreWithin old new → clause < length problem.spans.now → (get_or problem.keep.now (get_or problem.spans.now clause no_span).group false ≡ true → slice_get new (get_or problem.spans.now clause no_span).group ≡ Some true) → (members : NumberSet) → IsMarkedSolution problem new members → Backs problem old (OfClause clause) members
 backed_clause problem old new clause asked is within below marked members holds = (
   fewer_meet problem old new members within holds,
   λ _ unowned kept. clause_met problem.vars (length problem.keep.now) problem.literals.now problem.spans.now asked.clauses clause no_span below

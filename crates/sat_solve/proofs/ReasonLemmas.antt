@@ -2,7 +2,7 @@
 use Rattle.std.proofs.Common.{◌≡◌, ℕ, ◌+◌, ◌-◌, ◌≤◌, true, false, ◌||◌, not, cond, eqb, Some, None, unwrap_or, List, [], ◌∷◌, take, drop, slice_range, refl, sym, ◌∙◌, ap, subst, inl, inr, arith}
 use Rattle.std.proofs.lemmas.Bool.{cases_Bool, eq-eqb, or_left, or_right, false≢true}
 use Rattle.std.proofs.lemmas.List.{take-take, drop-take}
-use Rattle.sat_solve.specs.Sets.{NumberSet, members_of}
+use Rattle.number_sets.specs.Sets.{NumberSet, members_of}
 use Rattle.sat_solve.specs.Clauses.{clause_holds, literal_holds}
 use Rattle.sat_solve.specs.Trail.{value_in}
 use Rattle.sat_solve.specs.ClauseStatus.{Agrees, ComesDownTo}
@@ -10,7 +10,7 @@ use Rattle.sat_solve.specs.Reasons.{variables_of, named_by, AgreesOn, RestsOn, F
 use Rattle.sat_solve.specs.declared.clause.Lit.{Lit}
 use Rattle.sat_solve.specs.declared.trail.Step.{Step}
 use Rattle.sat_solve.specs.declared.trail.Reason.{Reason}
-use Rattle.sat_solve.specs.declared.trail.Reason.TheVariants.{Decision, Given, Clause, Pair, Decisions, AllOlder}
+use Rattle.sat_solve.specs.declared.trail.Reason.TheVariants.{Decisions}
 use Rattle.sat_solve.specs.declared.problem.Problem.{Problem}
 use Rattle.sat_solve.proofs.ClauseLemmas.{literal_sign}
 
@@ -78,20 +78,12 @@ slice_same old new start stop end ordered inside same =
 
 -- what a reason names does not change with the arena past its part
 pub named_same : (problem : Problem) (old new : List ℕ) (reason : Reason) (end : ℕ) → IsPart reason end → take end old ≡ take end new → named_by problem old reason ≡ named_by problem new reason
-named_same problem old new Decision end part same = refl
-named_same problem old new Given end part same = refl
-named_same problem old new (Clause number) end part same = refl
-named_same problem old new (Pair group owner other) end part same = refl
 named_same problem old new (Decisions start stop) end part same = ap members_of (slice_same old new start stop end part.0 part.1 same)
-named_same problem old new AllOlder end part same = refl
+named_same problem old new _ end part same = refl
 
 pub end_before_within : (reason : Reason) (end : ℕ) → IsPart reason end → end_before reason end ≤ end
-end_before_within Decision end part = omega arith
-end_before_within Given end part = omega arith
-end_before_within (Clause number) end part = omega arith
-end_before_within (Pair group owner other) end part = omega arith
 end_before_within (Decisions start stop) end part = omega (arith, part.0, part.1)
-end_before_within AllOlder end part = omega arith
+end_before_within _ end part = omega arith
 
 pub reasoned_same : (P : Reason → NumberSet → Type 0) (problem : Problem) (old new : List ℕ) (steps : List Step) (end : ℕ) → AreParts steps end → take end old ≡ take end new → AreReasoned P (named_by problem old) steps → AreReasoned P (named_by problem new) steps
 reasoned_same P problem old new [] end parts same reasoned = tt

@@ -4,7 +4,7 @@ use mathlib.Core.Path.{fun_ext}
 use Rattle.std.proofs.lemmas.Bool.{false≢true}
 use Rattle.std.proofs.lemmas.List.Elements.{All-contains}
 use Rattle.std.proofs.lemmas.Bool.Decides.{eqb_tells}
-use Rattle.sat_solve.specs.Sets.{NumberSet, IsFirst, members_of}
+use Rattle.number_sets.specs.Sets.{NumberSet, IsFirst, members_of}
 use Rattle.sat_solve.specs.Clauses.{clause_holds, not_both}
 use Rattle.sat_solve.specs.Spans.{clauses_of, no_span}
 use Rattle.sat_solve.specs.ClauseStatus.{ComesDownTo}
@@ -24,10 +24,6 @@ use Rattle.sat_solve.proofs.StepLemmas.{forced_sound, decided_sound, only_set}
 use Rattle.sat_solve.proofs.SpanLemmas.{clause_met}
 use Rattle.sat_solve.proofs.MarkLemmas.{there_if_read}
 use Rattle.sat_solve.proofs.ReasonLemmas.{forced_rests, conflict_fails, refuted_fails}
-
--- what is left to do falls where the rank rises
-work_falls : (vars : ℕ) (values : List (Option Bool)) (old new : List Step) → IsLinked vars values old → rank vars old < rank vars new → power_of_three vars - rank vars new < power_of_three vars - rank vars old
-work_falls vars values old new linked higher = omega (arith, rank_below vars old (trail_fits vars values old linked))
 
 -- what was set is set under a newer step
 set_under : (step : Step) (older : List Step) (var : ℕ) → value_in older var ≢ None → value_in (step ∷ older) var ≢ None
@@ -133,5 +129,5 @@ first_found problem solver members is holds lists =
 -- what is left to do falls as the trail rises
 pub work_left_falls : (problem : Problem) (old new : Solver) → IsSolver problem old → height problem old < height problem new → power_of_three problem.vars - height problem new < power_of_three problem.vars - height problem old
 work_left_falls problem old new is higher =
-    work_falls problem.vars old.trail.values.items (steps_of old.trail) (steps_of new.trail)
-    (subst (λ vars. IsLinked vars old.trail.values.items (steps_of old.trail)) is.vars is.linked) higher
+    let linked : IsLinked problem.vars old.trail.values.items (steps_of old.trail) = subst (λ vars. IsLinked vars old.trail.values.items (steps_of old.trail)) is.vars is.linked in
+    omega (arith, higher, rank_below problem.vars (steps_of old.trail) (trail_fits problem.vars old.trail.values.items (steps_of old.trail) linked))

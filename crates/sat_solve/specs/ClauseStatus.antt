@@ -1,6 +1,6 @@
 -- What the values so far say of a clause.
 use Rattle.std.specs.Prelude.{◌≡◌, ℕ, ◌<◌, Bool, true, false, Option, Some, None, List}
-use Rattle.sat_solve.specs.Sets.{NumberSet}
+use Rattle.number_sets.specs.Sets.{NumberSet}
 use Rattle.sat_solve.specs.Clauses.{clause_holds, literal_holds}
 use Rattle.sat_solve.specs.Trail.{value_in}
 use Rattle.sat_solve.specs.declared.clause.Lit.{Lit}

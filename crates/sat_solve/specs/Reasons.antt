@@ -1,8 +1,10 @@
 -- Why variables have their values: what steps and conflicts rest on.
-use Rattle.std.specs.Prelude.{◌≡◌, ℕ, ◌<◌, ◌≤◌, ◌==◌, Bool, true, false, Some, None, is_some, List, [], ◌∷◌, ◌⊎◌, Contains, length, take, ◌+◌, ◌*◌, ◌-◌, slice_range, slice_index_or}
+use Rattle.std.specs.Prelude.{◌≡◌, ℕ, ◌<◌, ◌≤◌, ◌==◌, Bool, true, false, Vec, Option, Some, None, is_some, List, [], ◌∷◌, ◌⊎◌, Contains, length, take, ◌+◌, ◌*◌, ◌-◌, slice_range, slice_index_or}
 use Rattle.std.specs.List.{list_any}
-use Rattle.sat_solve.specs.Sets.{NumberSet, members_of}
+use Rattle.std.specs.declared.alloc.Global.{Global}
+use Rattle.number_sets.specs.Sets.{NumberSet, members_of}
 use Rattle.sat_solve.specs.Clauses.{IsTrueSet, AreWithin, clause_holds, not_both}
+use Rattle.sat_solve.specs.Answers.{IsAnswer}
 use Rattle.sat_solve.specs.Spans.{clause_at, clauses_of, no_span, AreClauses}
 use Rattle.sat_solve.specs.Trail.{value_in, is_decision, is_decided, rank, power_of_three}
 use Rattle.sat_solve.specs.declared.clause.Lit.{Lit}
@@ -23,6 +25,10 @@ IsSolution problem = IsTrueSet problem.vars (clauses_of problem.literals.now pro
 -- the set makes the clauses of the marked groups true, and is else one that the problem asks for
 abbrev pub IsMarkedSolution : Problem → List Bool → NumberSet → Type 0
 IsMarkedSolution problem used = IsTrueSet problem.vars (clauses_of problem.literals.now problem.spans.now) used problem.must
+
+-- what a solve answers to the problem, with these marks where no set was found
+abbrev pub IsAnswerTo : Problem → List Bool → Option (Vec ℕ Global) → Type 0
+IsAnswerTo problem = IsAnswer problem.vars (clauses_of problem.literals.now problem.spans.now) problem.keep.now problem.must
 
 -- the marks, one a group, are on kept groups
 pub record IsUsed (problem : Problem) (used : List Bool) : Type 0 where
@@ -57,6 +63,10 @@ Brings problem AllOlder set = IsSolution problem set
 abbrev pub Backs : Problem → List Bool → Reason → NumberSet → Type 0
 Backs problem used reason set = IsMarkedSolution problem used set × Brings problem reason set
 
+-- with the newer marks each set backs a reason as it was to with the older ones
+abbrev pub AllBack : Problem → List Bool → List Bool → Reason → Type 0
+AllBack problem old new reason = (set : NumberSet) → IsMarkedSolution problem new set → Backs problem old reason set
+
 -- the variables of these literals
 abbrev pub variables_of : List Lit → NumberSet
 variables_of literals var = list_any (λ literal. literal.var == var) literals
@@ -81,6 +91,10 @@ LacksAll found set = (var : ℕ) → found var ≡ true → set var ≡ false
 -- no set with P agrees with these steps on these variables
 abbrev pub FailsOn : (NumberSet → Type 0) → List Step → NumberSet → Type 0
 FailsOn P steps marked = (set : NumberSet) → P set → AgreesOn steps marked set → ⊥
+
+-- each set that meets the marked groups lacks not all of these variables
+abbrev pub Refutes : Problem → List Bool → List ℕ → Type 0
+Refutes problem used decisions = (set : NumberSet) → IsMarkedSolution problem used set → LacksAll (members_of decisions) set → ⊥
 
 -- a step rests on these older variables
 abbrev pub RestsOn : (NumberSet → Type 0) → List Step → Step → NumberSet → Type 0

@@ -1,9 +1,9 @@
 -- The state of a solve between two steps of it.
 use Rattle.std.specs.Prelude.{◌≡◌, ◌≢◌, ℕ, ◌<◌, ◌≤◌, true, not, Option, Some, None, List, length, slice_range}
 use Rattle.std.specs.List.{list_all}
-use Rattle.sat_solve.specs.Sets.{NumberSet}
+use Rattle.number_sets.specs.Sets.{NumberSet}
 use Rattle.sat_solve.specs.Trail.{value_in, set_of, IsSound, rank, steps_of, IsTrail}
-use Rattle.sat_solve.specs.Reasons.{IsSolution, IsUsed, Backs, named_by, AreReasoned, AreParts, FailsOn}
+use Rattle.sat_solve.specs.Reasons.{IsSolution, IsUsed, Backs, named_by, AreReasoned, AreParts, FailsOn, UndoneThrough}
 use Rattle.sat_solve.specs.declared.clause.Lit.{Lit}
 use Rattle.sat_solve.specs.declared.trail.Reason.{Reason}
 use Rattle.sat_solve.specs.declared.problem.Problem.{Problem}
@@ -21,6 +21,13 @@ pub record IsSolver (problem : Problem) (solver : Solver) : Type 0 where
   pub parts : AreParts (steps_of solver.trail) (length solver.arena.items)
   pub below : (var : ℕ) → var < solver.cursor → value_in (steps_of solver.trail) var ≢ None
   pub used : IsUsed problem solver.used.items
+
+-- the steps down to that of this variable were taken back, and that one too
+pub record UndoesThrough (var : ℕ) (rest : List ℕ) (old new : Solver) : Type 0 where
+  pub linked : IsTrail new.trail
+  pub vars : new.trail.vars ≡ old.trail.vars
+  pub keeps : (problem : Problem) → IsSolver problem old → IsSolver problem new
+  pub dropped : UndoneThrough old.trail.vars var rest (steps_of old.trail) (steps_of new.trail)
 
 -- no literal of this part has a variable of the set
 abbrev pub IsClearPart : NumberSet → List Lit → ClearPart → Type 0

@@ -4,10 +4,10 @@
 //! (P. Prosser, "Hybrid algorithms for the constraint satisfaction problem", 1993).
 
 ghost use Rattle.std.specs.Prelude.{◌≡◌, ℕ, ◌<◌, ◌≤◌, true, false, Some, List, [], length, slice_get, slice_index_or, slice_set, IfOk};
-ghost use Rattle.sat_solve.specs.Sets.{NumberSet, members_of};
+ghost use Rattle.number_sets.specs.Sets.{NumberSet, members_of};
 ghost use Rattle.sat_solve.specs.Clauses.{AreWithin};
 ghost use Rattle.sat_solve.specs.Trail.{steps_of, IsSound};
-ghost use Rattle.sat_solve.specs.Reasons.{IsSolution, IsMarkedSolution, IsUsed, Backs, IsProblem, LacksAll, FailsOn, AreReasoned, Picks, named_by, is_seen, variables_of, SeesAll};
+ghost use Rattle.sat_solve.specs.Reasons.{IsSolution, IsMarkedSolution, IsUsed, Backs, AllBack, IsProblem, Refutes, FailsOn, AreReasoned, Picks, named_by, is_seen, variables_of, SeesAll};
 
 use crate::clause::Lit;
 use crate::problem::Problem;
@@ -25,7 +25,7 @@ pub(crate) struct Analysis {
 
 impl Analysis {
     /// An analysis of no conflict.
-    pub fn new(alloc: Global) -> Analysis {
+    pub(crate) fn new(alloc: Global) -> Analysis {
         Analysis {
             seen: Vec::new(alloc),
             decisions: Vec::new(alloc),
@@ -33,7 +33,7 @@ impl Analysis {
     }
 
     /// Makes room for this many variables.
-    pub fn restart(&mut self, vars: u32) -> Result<(), AllocError> {
+    pub(crate) fn restart(&mut self, vars: u32) -> Result<(), AllocError> {
         self.seen.clear();
         self.seen.resize(vars as usize, false)?;
         self.decisions.clear();
@@ -106,17 +106,7 @@ impl Analysis {
                 }
             }
             Reason::Pair(_, owner, other) => {
-                let pair = [
-                    Lit {
-                        var: owner,
-                        positive: false,
-                    },
-                    Lit {
-                        var: other,
-                        positive: false,
-                    },
-                ];
-                self.see_literals(&pair);
+                self.see_literals(&[Lit::out(owner), Lit::out(other)]);
             }
             Reason::Decisions(start, end) => {
                 if start <= end && end <= arena.len() {
@@ -147,7 +137,7 @@ impl Analysis {
         requires problem { IsProblem problem.now }
         requires used { IsUsed problem.now used.old.items }
         ensures used { IfOk result (λ _. IsUsed problem.now used.new.items) }
-        ensures backs { IfOk result (λ _. (set : NumberSet) → IsMarkedSolution problem.now used.new.items set → Backs problem.now used.old.items reason set) }
+        ensures backs { IfOk result (λ _. AllBack problem.now used.old.items used.new.items reason) }
     {
         match reason {
             Reason::Clause(clause) => {
@@ -169,7 +159,7 @@ impl Analysis {
     }
 
     /// Finds the decisions that a conflict rests on, and marks the groups that show it.
-    pub fn analyze(
+    pub(crate) fn analyze(
         &mut self,
         problem: &Problem,
         trail: &Trail,
@@ -185,7 +175,7 @@ impl Analysis {
         ensures used { IfOk result (λ _. IsUsed problem.now used.new.items) }
         ensures reasoned { IfOk result (λ _. AreReasoned (Backs problem.now used.new.items) (named_by problem.now arena.now) (steps_of trail.now)) }
         ensures picked { IfOk result (λ _. Picks self.new.decisions.items (steps_of trail.now)) }
-        ensures refuted { IfOk result (λ _. (set : NumberSet) → IsMarkedSolution problem.now used.new.items set → LacksAll (members_of self.new.decisions.items) set → ⊥) }
+        ensures refuted { IfOk result (λ _. Refutes problem.now used.new.items self.new.decisions.items) }
     {
         self.seen.clear();
         self.seen.resize(problem.vars as usize, false)?;

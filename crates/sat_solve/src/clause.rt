@@ -1,5 +1,7 @@
 //! Literals, and where the literals of a clause stand.
 
+ghost use Rattle.std.specs.Prelude.{◌≡◌, false};
+
 /// A literal: a variable, or its negation.
 ///
 /// A positive literal holds in the sets that have its variable, a negative one in the others.
@@ -9,6 +11,18 @@ pub struct Lit {
     pub var: u32,
     /// Whether the variable is to be in the set.
     pub positive: bool,
+}
+
+impl Lit {
+    /// The literal that a variable is out.
+    pub fn out(var: u32) -> Lit
+        ensures { result ≡ record { var = var; positive = false } }
+    {
+        Lit {
+            var,
+            positive: false,
+        }
+    }
 }
 
 /// A variable that excludes the other ones of a list.

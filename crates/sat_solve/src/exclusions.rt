@@ -1,40 +1,60 @@
 //! Propagation of lists whose variables exclude each other: what comes in walks the lists that it owns or stands in.
 
-ghost use Rattle.std.specs.Prelude.{◌≡◌, ◌<◌, IfOk};
+ghost use Rattle.std.specs.Prelude.{◌<◌, length, IfOk};
 ghost use Rattle.sat_solve.specs.Reasons.{IsProblem};
 ghost use Rattle.sat_solve.specs.SolverState.{IsSolver, GoesOn};
 
-use crate::clause::Lit;
+use crate::clause::{Lit, Span};
 use crate::problem::Problem;
 use crate::solver::Solver;
 use crate::trail::{Reason, Trail};
 use std::alloc::{AllocError, Global};
 
-/// The end of the links of a variable.
-const END: usize = usize::MAX;
-
-/// No variable.
-const NONE: u32 = u32::MAX;
-
-/// A list, with the spans of its owners, which stand one after another.
+/// What a variable that comes in walks: the places of a list, or the spans of its owners, which stand one after another.
 #[derive(Clone, Copy)]
-struct List {
+struct Walk {
     start: usize,
     end: usize,
-    first: usize,
-    last: usize,
-    /// The owner that ruled the variables of the list out.
-    owner: u32,
-    /// The variable of the list that ruled the owners out.
-    member: u32,
+    /// The variable that walked here last.
+    by: Option<u32>,
 }
 
-/// That a variable owns a list, by the span of this number, or stands in it, at this place.
+impl Walk {
+    /// Whether another variable than this one walked here and is still in: it ruled out already what this one would.
+    fn is_done(self, trail: &Trail, var: u32) -> bool {
+        match self.by {
+            Some(by) => by != var && trail.truth(Lit::out(by)) == Some(false),
+            None => false,
+        }
+    }
+}
+
+/// What a variable is to a list.
+#[derive(Clone, Copy)]
+enum Side {
+    /// It owns the list, by the span of this number.
+    Owner(usize),
+    /// It stands in the list, at this place.
+    Listed(usize),
+}
+
+impl Side {
+    /// The span and the place of the pair with one of the other side.
+    fn pair(self, other: usize) -> (usize, usize) {
+        match self {
+            Side::Owner(span) => (span, other),
+            Side::Listed(place) => (other, place),
+        }
+    }
+}
+
+/// That a variable owns a list or stands in it.
 #[derive(Clone, Copy)]
 struct Link {
-    after: usize,
+    /// The link that the variable had before.
+    after: Option<usize>,
     list: usize,
-    at: usize,
+    side: Side,
 }
 
 /// The lists that each variable owns, and those that it stands in.
@@ -42,121 +62,113 @@ struct Link {
 /// They are hints, as the watches are: a pair is examined before it forces anything.
 #[derive(Drop)]
 pub(crate) struct Exclusions {
-    lists: Vec<List>,
-    owners: Vec<Link>,
-    members: Vec<Link>,
-    /// The first link of each variable as an owner.
-    owner_head: Vec<usize>,
-    /// The first link of each variable as one of a list.
-    member_head: Vec<usize>,
+    lists: Vec<Walk>,
+    /// The owners of each list.
+    owners: Vec<Walk>,
+    links: Vec<Link>,
+    /// The newest link of each variable.
+    newest: Vec<Option<usize>>,
 }
 
 impl Exclusions {
     /// No lists.
-    pub fn new(alloc: Global) -> Exclusions {
+    pub(crate) fn new(alloc: Global) -> Exclusions {
         Exclusions {
             lists: Vec::new(alloc),
             owners: Vec::new(alloc),
-            members: Vec::new(alloc),
-            owner_head: Vec::new(alloc),
-            member_head: Vec::new(alloc),
+            links: Vec::new(alloc),
+            newest: Vec::new(alloc),
         }
     }
 
     /// Starts over with no lists.
-    pub fn restart(&mut self) {
+    pub(crate) fn restart(&mut self) {
         self.lists.clear();
         self.owners.clear();
-        self.members.clear();
-        self.owner_head.clear();
-        self.member_head.clear();
+        self.links.clear();
+        self.newest.clear();
     }
 
-    /// Links the owner of a span, if it is kept, and its list, if that is a new one.
-    pub fn attach(&mut self, problem: &Problem, span: usize) -> Result<(), AllocError> {
-        if span >= problem.spans.len() {
-            return Ok(());
-        }
-        let number = span;
+    /// Takes in the span of an owner, if it is kept, and its list, if that is a new one.
+    pub(crate) fn attach(
+        &mut self,
+        problem: &Problem,
+        number: usize,
+        owner: u32,
+    ) -> Result<(), AllocError>
+        requires problem { IsProblem problem.now }
+        requires number { number < length problem.now.spans.now }
+    {
         let span = problem.spans[number];
-        let kept = problem.keep.get(span.group as usize).copied();
-        if kept != Some(true) {
+        if !problem.keep[span.group as usize] {
             return Ok(());
         }
-        if !self.is_newest(span.start, span.end) {
-            self.add_list(problem, span.start, span.end, number)?;
+        if !self.is_newest(span) {
+            self.add_list(problem, span, number)?;
         }
-        if let Some(owner) = span.owner {
-            self.add_owner(owner, number)?;
+        if let Some(owners) = self.owners.last_mut() {
+            owners.end = number + 1;
         }
-        Ok(())
+        self.link(owner, Side::Owner(number))
     }
 
-    /// Whether the newest list stands at these places.
-    fn is_newest(&self, start: usize, end: usize) -> bool {
+    /// Whether the newest list is that of a span.
+    fn is_newest(&self, span: Span) -> bool {
         match self.lists.last() {
-            Some(list) => list.start == start && list.end == end,
+            Some(list) => list.start == span.start && list.end == span.end,
             None => false,
         }
     }
 
-    /// Adds the list at these places.
-    fn add_list(
-        &mut self,
-        problem: &Problem,
-        start: usize,
-        end: usize,
-        first: usize,
-    ) -> Result<(), AllocError> {
-        let vars = problem.vars as usize;
-        self.owner_head.resize(vars, END)?;
-        self.member_head.resize(vars, END)?;
-        let list = self.lists.len();
-        self.lists.push(List {
-            start,
-            end,
-            first,
-            last: first,
-            owner: NONE,
-            member: NONE,
+    /// Adds the list of a span, whose owners stand from this number on.
+    fn add_list(&mut self, problem: &Problem, span: Span, number: usize) -> Result<(), AllocError> {
+        self.newest.resize(problem.vars as usize, None)?;
+        self.lists.push(Walk {
+            start: span.start,
+            end: span.end,
+            by: None,
         })?;
-        for place in start..end.min(problem.literals.len()) {
-            let var = problem.literals[place].var as usize;
-            if var < self.member_head.len() {
-                let link = self.members.len();
-                let after = self.member_head[var];
-                self.members.push(Link {
-                    after,
-                    list,
-                    at: place,
-                })?;
-                self.member_head[var] = link;
-            }
+        self.owners.push(Walk {
+            start: number,
+            end: number,
+            by: None,
+        })?;
+        for place in span.start..span.end.min(problem.literals.len()) {
+            self.link(problem.literals[place].var, Side::Listed(place))?;
         }
         Ok(())
     }
 
-    /// Adds the span of an owner to the newest list.
-    fn add_owner(&mut self, owner: u32, span: usize) -> Result<(), AllocError> {
-        let owner = owner as usize;
-        if self.lists.is_empty() || owner >= self.owner_head.len() {
-            return Ok(());
+    /// Links a variable to the newest list.
+    fn link(&mut self, var: u32, side: Side) -> Result<(), AllocError> {
+        let var = var as usize;
+        if var < self.newest.len() && !self.lists.is_empty() {
+            let number = self.links.len();
+            self.links.push(Link {
+                after: self.newest[var],
+                list: self.lists.len() - 1,
+                side,
+            })?;
+            self.newest[var] = Some(number);
         }
-        let list = self.lists.len() - 1;
-        self.lists[list].last = span;
-        let link = self.owners.len();
-        let after = self.owner_head[owner];
-        self.owners.push(Link {
-            after,
-            list,
-            at: span,
-        })?;
-        self.owner_head[owner] = link;
         Ok(())
+    }
+
+    /// The link of a number, if there is one.
+    fn link_at(&self, number: Option<usize>) -> Option<Link> {
+        self.links.get(number?).copied()
+    }
+
+    /// What a variable that came in has yet to walk by a link.
+    fn begin(&mut self, trail: &Trail, var: u32, link: Link) -> Option<Walk> {
+        match link.side {
+            Side::Owner(_) => begin_in(&mut self.lists, link.list, trail, var),
+            Side::Listed(_) => begin_in(&mut self.owners, link.list, trail, var),
+        }
     }
 
     /// Looks at the pairs of a variable that came in.
-    pub fn visit(
+    pub(crate) fn rule_out(
         &mut self,
         problem: &Problem,
         solver: &mut Solver,
@@ -166,85 +178,16 @@ impl Exclusions {
         requires solver { IsSolver problem.now solver.old }
         ensures { IfOk result (GoesOn problem.now solver.old solver.new) }
     {
-        let conflict = self.rule_members_out(problem, solver, var)?;
-        if conflict.is_some() {
-            return Ok(conflict);
-        }
-        self.rule_owners_out(problem, solver, var)
-    }
-
-    /// Whether another variable than this one is in: it ruled out already what this one would.
-    fn is_ruled(trail: &Trail, by: u32, var: u32) -> bool {
-        let literal = Lit {
-            var: by,
-            positive: true,
-        };
-        by != var && trail.truth(literal) == Some(true)
-    }
-
-    /// The first link of a variable.
-    fn head_of(head: &[usize], var: u32) -> usize {
-        head.get(var as usize).copied().unwrap_or(END)
-    }
-
-    /// Looks at the pairs of an owner that came in.
-    fn rule_members_out(
-        &mut self,
-        problem: &Problem,
-        solver: &mut Solver,
-        var: u32,
-    ) -> Result<Option<Reason>, AllocError>
-        requires problem { IsProblem problem.now }
-        requires solver { IsSolver problem.now solver.old }
-        ensures { IfOk result (GoesOn problem.now solver.old solver.new) }
-    {
-        let mut next = Exclusions::head_of(&self.owner_head, var);
-        'links: for _ in 0..self.owners.len() {
-            if next >= self.owners.len() {
+        let mut next = self.newest.get(var as usize).copied().flatten();
+        'links: for _ in 0..self.links.len() {
+            let Some(link) = self.link_at(next) else {
                 break;
-            }
-            let link = self.owners[next];
+            };
             next = link.after;
-            if link.list < self.lists.len() {
-                let list = self.lists[link.list];
-                if !Exclusions::is_ruled(&solver.trail, list.owner, var) {
-                    self.lists[link.list].owner = var;
-                    let conflict = examine_members(problem, solver, link.at, list)?;
-                    if conflict.is_some() {
-                        return Ok(conflict);
-                    }
-                }
-            }
-        }
-        Ok(None)
-    }
-
-    /// Looks at the pairs of a variable of lists that came in.
-    fn rule_owners_out(
-        &mut self,
-        problem: &Problem,
-        solver: &mut Solver,
-        var: u32,
-    ) -> Result<Option<Reason>, AllocError>
-        requires problem { IsProblem problem.now }
-        requires solver { IsSolver problem.now solver.old }
-        ensures { IfOk result (GoesOn problem.now solver.old solver.new) }
-    {
-        let mut next = Exclusions::head_of(&self.member_head, var);
-        'links: for _ in 0..self.members.len() {
-            if next >= self.members.len() {
-                break;
-            }
-            let link = self.members[next];
-            next = link.after;
-            if link.list < self.lists.len() {
-                let list = self.lists[link.list];
-                if !Exclusions::is_ruled(&solver.trail, list.member, var) {
-                    self.lists[link.list].member = var;
-                    let conflict = examine_owners(problem, solver, link.at, list)?;
-                    if conflict.is_some() {
-                        return Ok(conflict);
-                    }
+            if let Some(walk) = self.begin(&solver.trail, var, link) {
+                let conflict = examine_pairs(problem, solver, walk, link.side)?;
+                if conflict.is_some() {
+                    return Ok(conflict);
                 }
             }
         }
@@ -252,38 +195,28 @@ impl Exclusions {
     }
 }
 
-/// Looks at the pairs of the owner with this span.
-fn examine_members(
-    problem: &Problem,
-    solver: &mut Solver,
-    span: usize,
-    list: List,
-) -> Result<Option<Reason>, AllocError>
-    requires problem { IsProblem problem.now }
-    requires solver { IsSolver problem.now solver.old }
-    ensures { IfOk result (GoesOn problem.now solver.old solver.new) }
-{
-    for place in list.start..list.end {
-        let conflict = solver.examine_pair(problem, span, place)?;
-        if conflict.is_some() {
-            return Ok(conflict);
-        }
+/// What a variable that came in has yet to walk of these.
+fn begin_in(walks: &mut [Walk], number: usize, trail: &Trail, var: u32) -> Option<Walk> {
+    if number >= walks.len() || walks[number].is_done(trail, var) {
+        return None;
     }
-    Ok(None)
+    walks[number].by = Some(var);
+    Some(walks[number])
 }
 
-/// Looks at the pairs of the variable at this place.
-fn examine_owners(
+/// Looks at the pairs of a variable of this side with what it walks.
+fn examine_pairs(
     problem: &Problem,
     solver: &mut Solver,
-    place: usize,
-    list: List,
+    walk: Walk,
+    side: Side,
 ) -> Result<Option<Reason>, AllocError>
     requires problem { IsProblem problem.now }
     requires solver { IsSolver problem.now solver.old }
     ensures { IfOk result (GoesOn problem.now solver.old solver.new) }
 {
-    for span in list.first..list.last.saturating_add(1) {
+    for other in walk.start..walk.end {
+        let (span, place) = side.pair(other);
         let conflict = solver.examine_pair(problem, span, place)?;
         if conflict.is_some() {
             return Ok(conflict);

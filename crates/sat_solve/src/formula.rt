@@ -1,9 +1,9 @@
 //! A formula: clauses in groups, and the calls that solve it.
 
-ghost use Rattle.std.specs.Prelude.{◌≡◌, ℕ, ◌+◌, ◌<◌, ◌≤◌, length, All, IfOk, OnErr, IfSome, IfNone, [], ◌∷◌, ◌++◌, map, false, Some, flat_map};
-ghost use Rattle.std.specs.List.Sorted.{IsStrictlyIncreasing};
-ghost use Rattle.sat_solve.specs.Sets.{NumberSet, members_of, IsFirst};
-ghost use Rattle.sat_solve.specs.Clauses.{IsTrueSet, AreWithin, exclusions};
+ghost use Rattle.std.specs.Prelude.{◌≡◌, ◌<◌, length, All, IfOk, OnErr, [], ◌∷◌, ◌++◌, map};
+ghost use Rattle.sat_solve.specs.Answers.{IsAnswer};
+ghost use Rattle.sat_solve.specs.Clauses.{excluding};
+ghost use Rattle.sat_solve.specs.Spans.{out_of, span_of};
 
 use crate::clause::{Lit, Owner, Span};
 use crate::problem::Problem;
@@ -103,7 +103,7 @@ impl Formula {
         requires groups { All (λ owner. owner.group < self.old.groups) owners.now }
         requires owners { All (λ owner. owner.var < self.old.vars) owners.now }
         requires list { All (λ var. var < self.old.vars) list.now }
-        ensures ok { IfOk result (λ _. self.new ≡ record self.old { clauses = self.old.clauses ++ flat_map (λ owner. exclusions owner.group owner.var list.now) owners.now }) }
+        ensures ok { IfOk result (λ _. self.new ≡ record self.old { clauses = self.old.clauses ++ excluding owners.now list.now }) }
         ensures err { OnErr result (self.new ≡ self.old) }
     {
         let start = self.literals.len();
@@ -125,9 +125,7 @@ impl Formula {
     ) -> Result<Option<Vec<u32>>, AllocError>
         requires keep { length keep.now ≡ self.now.groups }
         requires must { must < self.now.vars }
-        ensures rising { IfOk result (λ answer. IfSome answer (λ members. IsStrictlyIncreasing members.items)) }
-        ensures first { IfOk result (λ answer. IfSome answer (λ members. IsFirst (IsTrueSet self.now.vars self.now.clauses keep.now must) (members_of members.items))) }
-        ensures none { IfOk result (λ answer. IfNone answer ((set : NumberSet) → IsTrueSet self.now.vars self.now.clauses keep.now must set → ⊥)) }
+        ensures { IfOk result (IsAnswer self.now.vars self.now.clauses keep.now must keep.now) }
     {
         let mut workspace = Workspace::new(alloc);
         self.solve_in(alloc, &mut workspace, keep, must)
@@ -145,11 +143,9 @@ impl Formula {
     ) -> Result<Option<Vec<u32>>, AllocError>
         requires keep { length keep.now ≡ self.now.groups }
         requires must { must < self.now.vars }
-        ensures rising { IfOk result (λ answer. IfSome answer (λ members. IsStrictlyIncreasing members.items)) }
-        ensures first { IfOk result (λ answer. IfSome answer (λ members. IsFirst (IsTrueSet self.now.vars self.now.clauses keep.now must) (members_of members.items))) }
-        ensures none { IfOk result (λ answer. IfNone answer ((set : NumberSet) → IsTrueSet self.now.vars self.now.clauses keep.now must set → ⊥)) }
+        ensures { IfOk result (IsAnswer self.now.vars self.now.clauses keep.now must keep.now) }
     {
-        self.search_in(alloc, workspace, keep, must)
+        Ok(self.search_in(alloc, workspace, keep, must)?)
     }
 
     /// What `solve_in` gives. Where there is no set, `marks` then names kept groups that already admit none, one mark a group.
@@ -165,12 +161,7 @@ impl Formula {
     ) -> Result<Option<Vec<u32>>, AllocError>
         requires keep { length keep.now ≡ self.now.groups }
         requires must { must < self.now.vars }
-        ensures rising { IfOk result (λ answer. IfSome answer (λ members. IsStrictlyIncreasing members.items)) }
-        ensures first { IfOk result (λ answer. IfSome answer (λ members. IsFirst (IsTrueSet self.now.vars self.now.clauses keep.now must) (members_of members.items))) }
-        ensures none { IfOk result (λ answer. IfNone answer ((set : NumberSet) → IsTrueSet self.now.vars self.now.clauses keep.now must set → ⊥)) }
-        ensures sized { IfOk result (λ answer. IfNone answer (length marks.new.items ≡ self.now.groups)) }
-        ensures kept { IfOk result (λ answer. IfNone answer (AreWithin marks.new.items keep.now)) }
-        ensures marked { IfOk result (λ answer. IfNone answer ((set : NumberSet) → IsTrueSet self.now.vars self.now.clauses marks.new.items must set → ⊥)) }
+        ensures { IfOk result (IsAnswer self.now.vars self.now.clauses keep.now must marks.new.items) }
     {
         let answer = self.search_in(alloc, workspace, keep, must)?;
         marks.clear();
@@ -188,12 +179,7 @@ impl Formula {
     ) -> Result<Option<Vec<u32>>, AllocError>
         requires keep { length keep.now ≡ self.now.groups }
         requires must { must < self.now.vars }
-        ensures rising { IfOk result (λ answer. IfSome answer (λ members. IsStrictlyIncreasing members.items)) }
-        ensures first { IfOk result (λ answer. IfSome answer (λ members. IsFirst (IsTrueSet self.now.vars self.now.clauses keep.now must) (members_of members.items))) }
-        ensures none { IfOk result (λ answer. IfNone answer ((set : NumberSet) → IsTrueSet self.now.vars self.now.clauses keep.now must set → ⊥)) }
-        ensures sized { IfOk result (λ answer. IfNone answer (length workspace.new.solver.used.items ≡ self.now.groups)) }
-        ensures kept { IfOk result (λ answer. IfNone answer (AreWithin workspace.new.solver.used.items keep.now)) }
-        ensures marked { IfOk result (λ answer. IfNone answer ((set : NumberSet) → IsTrueSet self.now.vars self.now.clauses workspace.new.solver.used.items must set → ⊥)) }
+        ensures { IfOk result (IsAnswer self.now.vars self.now.clauses keep.now must workspace.new.solver.used.items) }
     {
         let problem = Problem {
             vars: self.vars,
@@ -208,16 +194,12 @@ impl Formula {
 
 /// Puts the variables of a list behind the literals, each as the literal that it is out.
 fn push_list(list: &[u32], literals: &mut Vec<Lit>) -> Result<(), AllocError>
-    ensures ok { IfOk result (λ _. literals.new.items ≡ literals.old.items ++ map (λ var. record { var = var; positive = false }) list.now) }
+    ensures ok { IfOk result (λ _. literals.new.items ≡ literals.old.items ++ map out_of list.now) }
     ensures err { OnErr result (literals.new.items ≡ literals.old.items) }
 {
     let start = literals.len();
     for var in list {
-        let literal = Lit {
-            var: *var,
-            positive: false,
-        };
-        if let Err(error) = literals.push(literal) {
+        if let Err(error) = literals.push(Lit::out(*var)) {
             literals.truncate(start);
             return Err(error.into());
         }
@@ -232,7 +214,7 @@ fn push_owners(
     end: usize,
     spans: &mut Vec<Span>,
 ) -> Result<(), AllocError>
-    ensures ok { IfOk result (λ _. spans.new.items ≡ spans.old.items ++ map (λ owner. record { group = owner.group; start = start; end = end; owner = Some owner.var }) owners.now) }
+    ensures ok { IfOk result (λ _. spans.new.items ≡ spans.old.items ++ map (span_of start end) owners.now) }
     ensures err { OnErr result (spans.new.items ≡ spans.old.items) }
 {
     let count = spans.len();

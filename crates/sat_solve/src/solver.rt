@@ -1,10 +1,10 @@
 //! The state of a solve: deciding, forcing, and going back.
 
 ghost use Rattle.std.specs.Prelude.{◌≡◌, ◌≢◌, ℕ, ◌+◌, ◌*◌, ◌-◌, ◌<◌, ◌≤◌, true, false, Some, None, List, [], ◌∷◌, All, length, take, min, IfOk, IfSome, IfNone, OnSome};
-ghost use Rattle.sat_solve.specs.Sets.{NumberSet, members_of};
+ghost use Rattle.number_sets.specs.Sets.{NumberSet, members_of};
 ghost use Rattle.sat_solve.specs.Trail.{value_in, steps_of, IsTrail};
-ghost use Rattle.sat_solve.specs.Reasons.{IsSolution, IsMarkedSolution, IsProblem, Gives, LacksAll, Picks, IsReasonFor, UndoneThrough};
-ghost use Rattle.sat_solve.specs.SolverState.{IsSolver, GoesOn, height};
+ghost use Rattle.sat_solve.specs.Reasons.{IsSolution, IsMarkedSolution, IsProblem, Gives, Refutes, Picks, IsReasonFor};
+ghost use Rattle.sat_solve.specs.SolverState.{IsSolver, UndoesThrough, GoesOn, height};
 
 use crate::clause::Lit;
 use crate::problem::Problem;
@@ -27,7 +27,7 @@ pub(crate) struct Solver {
 
 impl Solver {
     /// A solver of no variables.
-    pub fn new(alloc: Global) -> Solver {
+    pub(crate) fn new(alloc: Global) -> Solver {
         Solver {
             trail: Trail::new(alloc),
             arena: Vec::new(alloc),
@@ -38,7 +38,7 @@ impl Solver {
     }
 
     /// Begins anew for a problem: only its variable is in.
-    pub fn restart(&mut self, problem: &Problem) -> Result<(), AllocError>
+    pub(crate) fn restart(&mut self, problem: &Problem) -> Result<(), AllocError>
         requires { IsProblem problem.now }
         ensures { IfOk result (λ _. IsSolver problem.now self.new) }
     {
@@ -58,7 +58,7 @@ impl Solver {
     }
 
     /// The least variable that is free, if one is.
-    pub fn least_free(&self, problem: &Problem) -> Option<u32>
+    pub(crate) fn least_free(&self, problem: &Problem) -> Option<u32>
         requires { IsSolver problem.now self.now }
         ensures free { IfSome result (λ var. (var < problem.now.vars) × (value_in (steps_of self.now.trail) var ≡ None)) }
         ensures least { IfSome result (λ var. (lower : ℕ) → lower < var → value_in (steps_of self.now.trail) lower ≢ None) }
@@ -73,7 +73,7 @@ impl Solver {
     }
 
     /// Looks at a clause, if it is kept: where all its literals fail but one that is free, that one is forced.
-    pub fn examine(
+    pub(crate) fn examine(
         &mut self,
         problem: &Problem,
         clause: usize,
@@ -94,7 +94,7 @@ impl Solver {
     }
 
     /// Looks at the owner of a list and the variable at a place of it: where one is in, the other is forced out, if that is kept.
-    pub fn examine_pair(
+    pub(crate) fn examine_pair(
         &mut self,
         problem: &Problem,
         span: usize,
@@ -114,16 +114,7 @@ impl Solver {
         let other = problem.literals[place].var;
         match span.owner {
             Some(owner) if owner != other => {
-                let pair = [
-                    Lit {
-                        var: owner,
-                        positive: false,
-                    },
-                    Lit {
-                        var: other,
-                        positive: false,
-                    },
-                ];
+                let pair = [Lit::out(owner), Lit::out(other)];
                 self.force(problem, &pair, Reason::Pair(span.group, owner, other))
             }
             _ => Ok(None),
@@ -178,9 +169,7 @@ impl Solver {
     fn undo_through(&mut self, var: u32)
         requires { IsTrail self.old.trail }
         ensures used { self.new.used ≡ self.old.used }
-        ensures linked { (rest : List ℕ) → Picks (var ∷ rest) (steps_of self.old.trail) → IsTrail self.new.trail × (self.new.trail.vars ≡ self.old.trail.vars) }
-        ensures keeps { (rest : List ℕ) → Picks (var ∷ rest) (steps_of self.old.trail) → (problem : Problem) → IsSolver problem self.old → IsSolver problem self.new }
-        ensures dropped { (rest : List ℕ) → Picks (var ∷ rest) (steps_of self.old.trail) → UndoneThrough self.old.trail.vars var rest (steps_of self.old.trail) (steps_of self.new.trail) }
+        ensures undone { (rest : List ℕ) → Picks (var ∷ rest) (steps_of self.old.trail) → UndoesThrough var rest self.old self.new }
     {
         while let Some(step) = self.undo() {
             if step.var == var {
@@ -205,23 +194,26 @@ impl Solver {
     }
 
     /// Goes back to the newest of these decisions and turns it to in, for the others' sake. False if there is none.
-    pub fn backjump(&mut self, problem: &Problem, decisions: &[u32]) -> Result<bool, AllocError>
+    pub(crate) fn backjump(
+        &mut self,
+        problem: &Problem,
+        decisions: &[u32],
+    ) -> Result<bool, AllocError>
         requires solver { IsSolver problem.now self.old }
         requires picked { Picks decisions.now (steps_of self.old.trail) }
-        requires refuted { (set : NumberSet) → IsMarkedSolution problem.now self.old.used.items set → LacksAll (members_of decisions.now) set → ⊥ }
+        requires refuted { Refutes problem.now self.old.used.items decisions.now }
         ensures solver { IfOk result (λ _. IsSolver problem.now self.new) }
         ensures turned { IfOk result (λ found. found ≡ true → height problem.now self.old < height problem.now self.new) }
         ensures used { self.new.used ≡ self.old.used }
         ensures none { IfOk result (λ found. found ≡ false → (set : NumberSet) → IsMarkedSolution problem.now self.old.used.items set → ⊥) }
     {
-        if decisions.is_empty() {
+        let Some((var, others)) = decisions.split_first() else {
             return Ok(false);
-        }
-        let var = decisions[0];
-        self.undo_through(var);
-        let reason = self.reason_of(&decisions[1..])?;
+        };
+        self.undo_through(*var);
+        let reason = self.reason_of(others)?;
         self.trail.push(Step {
-            var,
+            var: *var,
             value: true,
             reason,
         })?;

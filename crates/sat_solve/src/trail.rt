@@ -4,7 +4,7 @@ ghost use Rattle.std.specs.Prelude.{◌≡◌, ◌≢◌, ℕ, Bool, true, false
 ghost use Rattle.std.specs.List.Sorted.{IsStrictlyIncreasing};
 ghost use Rattle.std.specs.Prelude.{All, not, ◌||◌, ◌==◌};
 ghost use Rattle.std.specs.List.{list_all};
-ghost use Rattle.sat_solve.specs.Sets.{members_of};
+ghost use Rattle.number_sets.specs.Sets.{members_of};
 ghost use Rattle.sat_solve.specs.Clauses.{clause_holds};
 ghost use Rattle.sat_solve.specs.ClauseStatus.{IsStatus};
 ghost use Rattle.sat_solve.specs.Trail.{value_in, set_of, is_decision, IsLinked, steps_of, IsTrail};
@@ -15,7 +15,7 @@ use std::alloc::{AllocError, Global};
 
 /// What the values so far say of a clause.
 #[derive(Clone, Copy)]
-pub enum ClauseStatus {
+pub(crate) enum ClauseStatus {
     /// One of its literals holds.
     Satisfied,
     /// Nothing yet.
@@ -28,7 +28,7 @@ pub enum ClauseStatus {
 
 /// What a value, or a conflict, rests on.
 #[derive(Clone, Copy)]
-pub enum Reason {
+pub(crate) enum Reason {
     /// On nothing: it was chosen.
     Decision,
     /// On nothing: it stands so in each set that is looked for.
@@ -45,7 +45,7 @@ pub enum Reason {
 
 impl Reason {
     /// Whether this is the reason of a decision.
-    pub fn is_decision(self) -> bool
+    pub(crate) fn is_decision(self) -> bool
         ensures { result ≡ is_decision self }
     {
         match self {
@@ -55,7 +55,7 @@ impl Reason {
     }
 
     /// Where the arena ends without this reason's part, if it ends here with it.
-    pub fn end_before(self, end: usize) -> usize
+    pub(crate) fn end_before(self, end: usize) -> usize
         ensures { result ≡ end_before self end }
     {
         match self {
@@ -67,7 +67,7 @@ impl Reason {
 
 /// A variable that was set.
 #[derive(Clone, Copy)]
-pub struct Step {
+pub(crate) struct Step {
     pub var: u32,
     pub value: bool,
     pub reason: Reason,
@@ -75,7 +75,7 @@ pub struct Step {
 
 /// The variables that are set, and the order in which they were.
 #[derive(Drop)]
-pub struct Trail {
+pub(crate) struct Trail {
     pub vars: u32,
     pub values: Vec<Option<bool>>,
     pub steps: Vec<Step>,
@@ -83,7 +83,7 @@ pub struct Trail {
 
 impl Trail {
     /// No variables.
-    pub fn new(alloc: Global) -> Trail {
+    pub(crate) fn new(alloc: Global) -> Trail {
         Trail {
             vars: 0,
             values: Vec::new(alloc),
@@ -92,7 +92,7 @@ impl Trail {
     }
 
     /// Begins anew, with variables that are free, and makes room to set them all.
-    pub fn restart(&mut self, vars: u32) -> Result<(), AllocError>
+    pub(crate) fn restart(&mut self, vars: u32) -> Result<(), AllocError>
         ensures linked { IfOk result (λ _. IsTrail self.new) }
         ensures empty { IfOk result (λ _. (self.new.vars ≡ vars) × (steps_of self.new ≡ [])) }
     {
@@ -104,7 +104,7 @@ impl Trail {
     }
 
     /// Whether a literal holds, if its variable is set. It is a hint.
-    pub fn truth(&self, literal: Lit) -> Option<bool> {
+    pub(crate) fn truth(&self, literal: Lit) -> Option<bool> {
         match self.values.get(literal.var as usize) {
             Some(Some(value)) => Some(*value == literal.positive),
             _ => None,
@@ -112,7 +112,7 @@ impl Trail {
     }
 
     /// The value of a variable, if it is set.
-    pub fn value(&self, var: u32) -> Option<bool>
+    pub(crate) fn value(&self, var: u32) -> Option<bool>
         requires linked { IsTrail self.now }
         requires in_range { var < self.now.vars }
         ensures { result ≡ value_in (steps_of self.now) var }
@@ -121,16 +121,18 @@ impl Trail {
     }
 
     /// Whether a variable is in.
-    pub fn is_in(&self, var: u32) -> bool
-        requires linked { IsTrail self.now }
-        requires in_range { var < self.now.vars }
+    pub(crate) fn is_in(&self, var: u32) -> bool
+        requires { IsTrail self.now }
         ensures { result ≡ set_of (steps_of self.now) var }
     {
+        if var >= self.vars {
+            return false;
+        }
         self.value(var) == Some(true)
     }
 
     /// Sets a variable that is free.
-    pub fn push(&mut self, step: Step) -> Result<(), AllocError>
+    pub(crate) fn push(&mut self, step: Step) -> Result<(), AllocError>
         requires linked { IsTrail self.old }
         requires in_range { step.var < self.old.vars }
         requires free { value_in (steps_of self.old) step.var ≡ None }
@@ -144,7 +146,7 @@ impl Trail {
     }
 
     /// What the values so far say of a clause.
-    pub fn status(&self, clause: &[Lit]) -> ClauseStatus
+    pub(crate) fn status(&self, clause: &[Lit]) -> ClauseStatus
         requires linked { IsTrail self.now }
         requires in_range { All (λ literal. literal.var < self.now.vars) clause.now }
         ensures { IsStatus self.now.vars (steps_of self.now) clause.now result }
@@ -172,49 +174,39 @@ impl Trail {
     }
 
     /// Whether a clause holds in the set of the variables that are in.
-    pub fn satisfies(&self, clause: &[Lit]) -> bool
-        requires linked { IsTrail self.now }
-        requires in_range { All (λ literal. literal.var < self.now.vars) clause.now }
+    pub(crate) fn satisfies(&self, clause: &[Lit]) -> bool
+        requires { IsTrail self.now }
         ensures { result ≡ clause_holds (set_of (steps_of self.now)) clause.now }
     {
-        for literal in clause {
-            if self.is_in(literal.var) == literal.positive {
-                return true;
+        clause.iter().any(|literal| {
+            if literal.positive {
+                self.is_in(literal.var)
+            } else {
+                !self.is_in(literal.var)
             }
-        }
-        false
+        })
     }
 
     /// Whether these literals have no variable that is in.
-    pub fn has_none(&self, literals: &[Lit]) -> bool
-        requires linked { IsTrail self.now }
-        requires in_range { All (λ literal. literal.var < self.now.vars) literals.now }
+    pub(crate) fn has_none(&self, literals: &[Lit]) -> bool
+        requires { IsTrail self.now }
         ensures { result ≡ list_all (λ literal. not (set_of (steps_of self.now) literal.var)) literals.now }
     {
-        for literal in literals {
-            if self.is_in(literal.var) {
-                return false;
-            }
-        }
-        true
+        literals.iter().all(|literal| !self.is_in(literal.var))
     }
 
     /// Whether these literals have no variable that is in, but for this one.
-    pub fn has_no_other(&self, literals: &[Lit], var: u32) -> bool
-        requires linked { IsTrail self.now }
-        requires in_range { All (λ literal. literal.var < self.now.vars) literals.now }
+    pub(crate) fn has_no_other(&self, literals: &[Lit], var: u32) -> bool
+        requires { IsTrail self.now }
         ensures { result ≡ list_all (λ literal. literal.var == var || not (set_of (steps_of self.now) literal.var)) literals.now }
     {
-        for literal in literals {
-            if literal.var != var && self.is_in(literal.var) {
-                return false;
-            }
-        }
-        true
+        literals
+            .iter()
+            .all(|literal| literal.var == var || !self.is_in(literal.var))
     }
 
     /// Takes back the newest step, if there is one.
-    pub fn pop(&mut self) -> Option<Step>
+    pub(crate) fn pop(&mut self) -> Option<Step>
         requires { IsTrail self.old }
         ensures linked { IsTrail self.new }
         ensures vars { self.new.vars ≡ self.old.vars }
@@ -227,7 +219,7 @@ impl Trail {
     }
 
     /// The variables that are in, rising.
-    pub fn members(&self, alloc: Global) -> Result<Vec<u32>, AllocError>
+    pub(crate) fn members(&self, alloc: Global) -> Result<Vec<u32>, AllocError>
         requires { IsTrail self.now }
         ensures rising { IfOk result (λ members. IsStrictlyIncreasing members.items) }
         ensures same { IfOk result (λ members. (var : ℕ) → members_of members.items var ≡ set_of (steps_of self.now) var) }

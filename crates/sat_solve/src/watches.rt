@@ -41,7 +41,7 @@ enum Fate {
 
 impl Watches {
     /// No watches.
-    pub fn new(alloc: Global) -> Watches {
+    pub(crate) fn new(alloc: Global) -> Watches {
         Watches {
             head: Vec::new(alloc),
             next: Vec::new(alloc),
@@ -51,7 +51,7 @@ impl Watches {
     }
 
     /// Makes room for the watches of a problem's clauses.
-    pub fn restart(&mut self, problem: &Problem) -> Result<(), AllocError> {
+    pub(crate) fn restart(&mut self, problem: &Problem) -> Result<(), AllocError> {
         let literals = (problem.vars as usize) * 2;
         let watches = problem.spans.len().min(END as usize / 2) * 2;
         self.head.clear();
@@ -98,22 +98,17 @@ impl Watches {
 
     /// Takes a literal's list away.
     fn take_list(&mut self, list: usize) -> u32 {
-        if list < self.head.len() {
-            let watch = self.head[list];
-            self.head[list] = END;
-            watch
-        } else {
-            END
+        if list >= self.head.len() {
+            return END;
         }
+        let watch = self.head[list];
+        self.head[list] = END;
+        watch
     }
 
     /// Where a watch's literal stands.
     fn place_of(&self, watch: u32) -> usize {
-        if (watch as usize) < self.place.len() {
-            self.place[watch as usize]
-        } else {
-            0
-        }
+        self.place.get(watch as usize).copied().unwrap_or(0)
     }
 
     /// The first place from `start` to `end`, but for `other`, whose literal did not fail.
@@ -125,10 +120,11 @@ impl Watches {
         other: usize,
     ) -> Option<usize> {
         for place in start..end {
-            if place != other && place < problem.literals.len() {
-                if trail.truth(problem.literals[place]) != Some(false) {
-                    return Some(place);
-                }
+            if place != other
+                && place < problem.literals.len()
+                && trail.truth(problem.literals[place]) != Some(false)
+            {
+                return Some(place);
             }
         }
         None
@@ -193,7 +189,7 @@ impl Watches {
     }
 
     /// Looks at the clauses that watch what failed by the steps not yet propagated, and at the lists of what came in.
-    pub fn propagate(
+    pub(crate) fn propagate(
         &mut self,
         problem: &Problem,
         solver: &mut Solver,
@@ -217,7 +213,7 @@ impl Watches {
                 return Ok(conflict);
             }
             if step.value {
-                let conflict = self.exclusions.visit(problem, solver, step.var)?;
+                let conflict = self.exclusions.rule_out(problem, solver, step.var)?;
                 if conflict.is_some() {
                     return Ok(conflict);
                 }
@@ -227,7 +223,7 @@ impl Watches {
     }
 
     /// Watches the kept clauses of two literals or more and the lists, and looks at the shorter clauses.
-    pub fn load(
+    pub(crate) fn load(
         &mut self,
         problem: &Problem,
         solver: &mut Solver,
@@ -238,8 +234,8 @@ impl Watches {
     {
         for clause in 0..problem.spans.len() {
             let span = problem.spans[clause];
-            if span.owner.is_some() {
-                self.exclusions.attach(problem, clause)?;
+            if let Some(owner) = span.owner {
+                self.exclusions.attach(problem, clause, owner)?;
             } else if span.end - span.start >= 2 {
                 if problem.keep[span.group as usize] {
                     self.attach(problem, clause);

@@ -1,4 +1,4 @@
-//! One test for each call that can want memory; bench/growths runs them with each growth refused in turn.
+//! One test for each call that can want memory; trials/growths runs them with each growth refused in turn.
 //!
 //! Each then gives the error, once it has seen that the call left everything fit for a second try.
 

@@ -7,6 +7,7 @@
 ghost use Rattle.std.specs.Prelude.{◌<◌, All, IfOk};
 
 use crate::literals::{lit, not};
+use crate::plain::Plain;
 use sat_solve::{Formula, Lit};
 use std::alloc::{AllocError, Global};
 use std::num::ParseIntError;
@@ -14,17 +15,43 @@ use std::test::Fail;
 
 /// Adds the clauses of these lines to a formula and sees that it answers their questions so, in their order.
 pub fn follow(alloc: Global, formula: &mut Formula, lines: &str) -> Result<(), Fail> {
+    follow_all(alloc, formula, &mut None, lines)
+}
+
+/// As `follow`, for a formula of no clauses yet, and sees that the plain search answers the questions so, too.
+pub fn follow_both(alloc: Global, formula: &mut Formula, lines: &str) -> Result<(), Fail> {
+    let plain = Plain::new(alloc, formula.vars());
+    follow_all(alloc, formula, &mut Some(plain), lines)
+}
+
+fn follow_all(
+    alloc: Global,
+    formula: &mut Formula,
+    plain: &mut Option<Plain>,
+    lines: &str,
+) -> Result<(), Fail> {
     for line in lines.lines() {
-        follow_line(alloc, formula, line)?;
+        follow_line(alloc, formula, plain, line)?;
     }
     Ok(())
 }
 
-fn follow_line(alloc: Global, formula: &mut Formula, line: &str) -> Result<(), Fail> {
+fn follow_line(
+    alloc: Global,
+    formula: &mut Formula,
+    plain: &mut Option<Plain>,
+    line: &str,
+) -> Result<(), Fail> {
     if let Some((group, literals)) = line.split_once(':') {
-        add(alloc, formula, group.trim().parse::<u32>()?, literals)
+        add(
+            alloc,
+            formula,
+            plain,
+            group.trim().parse::<u32>()?,
+            literals,
+        )
     } else if let Some((question, answer)) = line.split_once('=') {
-        ask(alloc, formula, question.trim(), answer.trim())
+        ask(alloc, formula, plain, question.trim(), answer.trim())
     } else if line.trim().is_empty() {
         Ok(())
     } else {
@@ -33,12 +60,21 @@ fn follow_line(alloc: Global, formula: &mut Formula, line: &str) -> Result<(), F
 }
 
 /// Adds a clause of these literals to a group.
-fn add(alloc: Global, formula: &mut Formula, group: u32, literals: &str) -> Result<(), Fail> {
+fn add(
+    alloc: Global,
+    formula: &mut Formula,
+    plain: &mut Option<Plain>,
+    group: u32,
+    literals: &str,
+) -> Result<(), Fail> {
     let clause = clause_of(alloc, literals, formula.vars())?;
     if group >= formula.groups() {
         return Err(Fail::new("a group that the formula lacks"));
     }
     formula.add(group, &clause)?;
+    if let Some(plain) = plain {
+        plain.add(alloc, group, &clause)?;
+    }
     Ok(())
 }
 
@@ -64,16 +100,26 @@ fn literal_of(word: &str) -> Result<Lit, ParseIntError> {
     }
 }
 
-/// Sees that a formula answers a question so.
-fn ask(alloc: Global, formula: &Formula, question: &str, answer: &str) -> Result<(), Fail> {
+/// Sees that a formula answers a question so, and the plain search.
+fn ask(
+    alloc: Global,
+    formula: &Formula,
+    plain: &mut Option<Plain>,
+    question: &str,
+    answer: &str,
+) -> Result<(), Fail> {
     let (kept, must) = question.split_once(' ').unwrap_or((question, ""));
     let must = must.parse::<u32>()?;
     let keep = marks_of(alloc, kept)?;
-    if answers(alloc, formula, &keep, must, answer)? {
-        Ok(())
-    } else {
-        Err(Fail::new(format_args!("not so: {question} = {answer}")))
+    if !answers(alloc, formula, &keep, must, answer)? {
+        return Err(Fail::new(format_args!("not so: {question} = {answer}")));
     }
+    if let Some(plain) = plain {
+        if !is_written(&plain.solve(alloc, &keep, must)?, answer) {
+            return Err(Fail::new(format_args!("plain: not {question} = {answer}")));
+        }
+    }
+    Ok(())
 }
 
 /// The marks of a text, a `1` for each that is set.
@@ -96,9 +142,14 @@ fn answers(
     if keep.len() != formula.groups() as usize || must >= formula.vars() {
         return Ok(false);
     }
-    match formula.solve(alloc, keep, must)? {
-        Some(members) => Ok(are_written(&members, answer)),
-        None => Ok(answer == "none"),
+    Ok(is_written(&formula.solve(alloc, keep, must)?, answer))
+}
+
+/// Whether this set, or that there is none, is written.
+fn is_written(found: &Option<Vec<u32>>, text: &str) -> bool {
+    match found {
+        Some(members) => are_written(members, text),
+        None => text == "none",
     }
 }
 

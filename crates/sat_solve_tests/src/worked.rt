@@ -3,13 +3,13 @@
 ghost use Rattle.std.specs.Prelude.{◌≡◌, ◌<◌, ◌+◌, ◌*◌};
 
 use crate::literals::{lit, not};
-use crate::scripts::follow;
+use crate::scripts::{follow, follow_both};
 use sat_solve::{Formula, Workspace};
 use std::alloc::{AllocError, Global};
 use std::process::Abort;
 use std::test::Fail;
 
-/// Sees how many variables and groups a formula has, and follows these lines.
+/// Sees how many variables and groups a formula of no clauses has, and follows these lines.
 fn expect(
     alloc: Global,
     formula: &mut Formula,
@@ -20,7 +20,7 @@ fn expect(
     if formula.vars() != vars || formula.groups() != groups {
         return Err(Fail::new("another number of variables or groups"));
     }
-    follow(alloc, formula, lines)
+    follow_both(alloc, formula, lines)
 }
 
 #[test]
@@ -55,7 +55,7 @@ fn an_empty_clause_fails_where_it_is_kept(rt: HostRuntime) -> Result<(), Fail> {
         0:
         1 0 = none
         0 0 = 0";
-    follow(rt.alloc(), &mut formula, lines)
+    follow_both(rt.alloc(), &mut formula, lines)
 }
 
 #[test]
@@ -70,53 +70,24 @@ fn two_versions_of_one_name(rt: HostRuntime) -> Result<(), Fail> {
         1111 3 = 1 3
         1110 2 = 0 1 2 3
         0111 2 = 1 2 3";
-    follow(rt.alloc(), &mut formula, lines)
+    follow_both(rt.alloc(), &mut formula, lines)
 }
 
-/// Adds that each pigeon has one of three holes.
-fn add_holes(formula: &mut Formula, pigeons: u32) -> Result<(), AllocError>
-    requires pigeons { pigeons < 5 }
-    requires vars { formula.old.vars ≡ 3 * pigeons + 1 }
-    requires groups { formula.old.groups ≡ 1 }
-    ensures vars { formula.new.vars ≡ 3 * pigeons + 1 }
-    ensures groups { formula.new.groups ≡ 1 }
-{
-    for p in 0..pigeons {
-        formula.add(0, &[lit(3 * p), lit(3 * p + 1), lit(3 * p + 2)])?;
-    }
-    Ok(())
-}
-
-/// Adds that no two pigeons share a hole.
-fn add_pairs(formula: &mut Formula, pigeons: u32) -> Result<(), AllocError>
-    requires pigeons { pigeons < 5 }
-    requires vars { formula.old.vars ≡ 3 * pigeons + 1 }
-    requires groups { formula.old.groups ≡ 1 }
-{
-    for hole in 0..3 {
-        for p in 0..pigeons {
-            for other in 0..p {
-                formula.add(0, &[not(3 * p + hole), not(3 * other + hole)])?;
-            }
-        }
-    }
-    Ok(())
-}
-
-/// Asks for holes for this many pigeons.
-fn house(alloc: Global, pigeons: u32, question: &str) -> Result<(), Fail>
-    requires { pigeons < 5 }
-{
-    let mut formula = Formula::new(alloc, 3 * pigeons + 1, 1)?;
-    add_holes(&mut formula, pigeons)?;
-    add_pairs(&mut formula, pigeons)?;
-    follow(alloc, &mut formula, question)
-}
-
+/// Variable 3p + h says that pigeon p has hole h. No two of four pigeons share one of three holes; group 1 has what the fourth pigeon wants.
 #[test]
 fn each_pigeon_has_a_hole(rt: HostRuntime) -> Result<(), Fail> {
-    house(rt.alloc(), 3, "1 9 = 2 4 6 9")?;
-    house(rt.alloc(), 4, "1 12 = none")
+    let mut formula = Formula::new(rt.alloc(), 13, 2)?;
+    let lines = "
+        0: 0 1 2
+        0: 3 4 5
+        0: 6 7 8
+        1: 9 10 11
+        0: !3 !0\n 0: !6 !0\n 0: !6 !3\n 0: !9 !0\n 0: !9 !3\n 0: !9 !6
+        0: !4 !1\n 0: !7 !1\n 0: !7 !4\n 0: !10 !1\n 0: !10 !4\n 0: !10 !7
+        0: !5 !2\n 0: !8 !2\n 0: !8 !5\n 0: !11 !2\n 0: !11 !5\n 0: !11 !8
+        10 12 = 2 4 6 12
+        11 12 = none";
+    follow_both(rt.alloc(), &mut formula, lines)
 }
 
 /// Adds 30 pairs of which one is in.
@@ -169,7 +140,7 @@ fn a_group_that_the_refutation_does_without(rt: HostRuntime) -> Result<(), Fail>
         0: 0 1
         1: !3 2
         2: !2";
-    follow(rt.alloc(), &mut formula, lines)?;
+    follow_both(rt.alloc(), &mut formula, lines)?;
     let mut workspace = Workspace::new(rt.alloc());
     let mut marks = Vec::new(rt.alloc());
     let wanted = [false, true, true];

@@ -3,7 +3,7 @@ use Rattle.std.proofs.Common.{◌≡◌, ℕ, zero, suc, ◌+◌, ◌*◌, ◌<�
 use Rattle.std.specs.List.{range_with_len}
 use Rattle.std.proofs.lemmas.List.{take_more}
 use Rattle.std.proofs.lemmas.List.Elements.{All-cons, All-nil}
-use Rattle.work_draw.specs.declared.piece.Piece.{Piece}
+use Rattle.work_draw.specs.declared.pieces.Piece.{Piece}
 use Rattle.work_draw.specs.Checks.{AnswersEach, chunk_of}
 use Rattle.work_draw.specs.Pieces.{numbers_of}
 
@@ -37,13 +37,29 @@ module _ {A B : Type 0} (R : A → B → Type 0) where
       → All (λ p. AnswersEach R (chunk_of asked size p.number) (items_of p)) ps → AnswersEach R asked (flat_map (λ p. items_of p) ps)
   answers_in_order items_of asked size n ps e enough h = let none : 0 * size ≡ 0 = omega arith in subst (λ (k : ℕ). AnswersEach R (drop k asked) (flat_map (λ p. items_of p) ps)) none (from_chunk items_of asked size 0 n ps e (omega arith) h)
 
--- answers, seen by view
-module _ {A B C : Type 0} (R : A → C → Type 0) (view : B → C) where
-  pub AnswersEach-map : (xs : List A) (ys : List B) → AnswersEach (λ a b. R a (view b)) xs ys → AnswersEach R xs (map view ys)
+-- answers that say as much, seen by view
+module _ {A B C : Type 0} (R : A → B → Type 0) (S : A → C → Type 0) (view : B → C) (says : (a : A) (b : B) → R a b → S a (view b)) where
+  pub AnswersEach-map : (xs : List A) (ys : List B) → AnswersEach R xs ys → AnswersEach S xs (map view ys)
   AnswersEach-map [] [] h = tt
   AnswersEach-map [] (y ∷ ys) h = absurd h
   AnswersEach-map (x ∷ xs) [] h = absurd h
-  AnswersEach-map (x ∷ xs) (y ∷ ys) h = (h.0, AnswersEach-map xs ys h.1)
+  AnswersEach-map (x ∷ xs) (y ∷ ys) h = (says x y h.0, AnswersEach-map xs ys h.1)
+
+-- answers that say as much
+module _ {A B : Type 0} (R S : A → B → Type 0) (says : (a : A) (b : B) → R a b → S a b) where
+  pub AnswersEach-weaker : (xs : List A) (ys : List B) → AnswersEach R xs ys → AnswersEach S xs ys
+  AnswersEach-weaker [] [] h = tt
+  AnswersEach-weaker [] (y ∷ ys) h = absurd h
+  AnswersEach-weaker (x ∷ xs) [] h = absurd h
+  AnswersEach-weaker (x ∷ xs) (y ∷ ys) h = (says x y h.0, AnswersEach-weaker xs ys h.1)
+
+-- what each answer has by itself, seen by view
+module _ {A B C : Type 0} (R : A → B → Type 0) (P : C → Type 0) (view : B → C) (says : (a : A) (b : B) → R a b → P (view b)) where
+  pub AnswersEach-All : (xs : List A) (ys : List B) → AnswersEach R xs ys → All P (map view ys)
+  AnswersEach-All [] [] h = All-nil P
+  AnswersEach-All [] (y ∷ ys) h = absurd h
+  AnswersEach-All (x ∷ xs) [] h = absurd h
+  AnswersEach-All (x ∷ xs) (y ∷ ys) h = All-cons P (view y) (map view ys) (says x y h.0) (AnswersEach-All xs ys h.1)
 
 -- there are as many answers as questions
 pub AnswersEach-length : {A B : Type 0} (R : A → B → Type 0) (xs : List A) (ys : List B) → AnswersEach R xs ys → length ys ≡ length xs
@@ -51,17 +67,3 @@ AnswersEach-length R [] [] h = refl
 AnswersEach-length R [] (y ∷ ys) h = absurd h
 AnswersEach-length R (x ∷ xs) [] h = absurd h
 AnswersEach-length R (x ∷ xs) (y ∷ ys) h = ap suc (AnswersEach-length R xs ys h.1)
-
--- answers that say more say less
-pub AnswersEach-weaker : {A B : Type 0} (R S : A → B → Type 0) (xs : List A) (ys : List B) → ((a : A) (b : B) → R a b → S a b) → AnswersEach R xs ys → AnswersEach S xs ys
-AnswersEach-weaker R S [] [] w h = tt
-AnswersEach-weaker R S [] (y ∷ ys) w h = absurd h
-AnswersEach-weaker R S (x ∷ xs) [] w h = absurd h
-AnswersEach-weaker R S (x ∷ xs) (y ∷ ys) w h = (w x y h.0, AnswersEach-weaker R S xs ys w h.1)
-
--- what each answer has by itself, seen by view
-pub AnswersEach-All-map : {A B C : Type 0} (R : A → B → Type 0) (P : C → Type 0) (view : B → C) (xs : List A) (ys : List B) → ((a : A) (b : B) → R a b → P (view b)) → AnswersEach R xs ys → All P (map view ys)
-AnswersEach-All-map R P view [] [] w h = All-nil P
-AnswersEach-All-map R P view [] (y ∷ ys) w h = absurd h
-AnswersEach-All-map R P view (x ∷ xs) [] w h = absurd h
-AnswersEach-All-map R P view (x ∷ xs) (y ∷ ys) w h = All-cons P (view y) (map view ys) (w x y h.0) (AnswersEach-All-map R P view xs ys w h.1)

@@ -1,8 +1,8 @@
 -- What a draw adds to what a drawer gained, with its piece and without.
-use Rattle.std.proofs.Common.{◌≡◌, ℕ, ◌≤◌, Bool, List, [], ◌∷◌, ◌++◌, length, sym, ◌∙◌, ap, arith}
+use Rattle.std.proofs.Common.{◌≡◌, ℕ, ◌≤◌, List, [], ◌∷◌, ◌++◌, length, sym, ◌∙◌, ap, arith}
 use Rattle.std.proofs.lemmas.List.{append_assoc, map-append}
 use Rattle.work_draw.specs.Board.{DrawerView}
-use Rattle.work_draw.specs.declared.piece.Piece.{Piece}
+use Rattle.work_draw.specs.declared.pieces.Piece.{Piece}
 use Rattle.work_draw.specs.Pieces.{numbers_of, Gains, GainsButLast}
 
 pub without_piece : (before after later : List ℕ) (pieces : List Piece) (n : ℕ) → Gains before pieces after → later ≡ after ++ n ∷ [] → GainsButLast before pieces later
@@ -14,11 +14,9 @@ with_piece before after later pieces piece gained drawn =
     ∙ (ap (λ xs. xs ++ piece.number ∷ []) gained
     ∙ (append_assoc before (numbers_of pieces) (piece.number ∷ []) ∙ ap (λ xs. before ++ xs) (sym (map-append (λ (p : Piece). p.number) pieces (piece ∷ [])))))
 
--- a drawer that was this one but for its numbers and its mark, is so after a draw
-pub same_but_numbers : (first before later : DrawerView) (numbers : List ℕ) → before ≡ record first { numbers = before.numbers; done = before.done } → later ≡ record before { numbers = numbers }
-    → later ≡ record first { numbers = later.numbers; done = later.done }
+-- a drawer that was this one but for its numbers, is so after a draw
+pub same_but_numbers : (first before later : DrawerView) (numbers : List ℕ) → before ≡ record first { numbers = before.numbers } → later ≡ record before { numbers = numbers } → later ≡ record first { numbers = later.numbers }
 same_but_numbers first before later numbers same drawn =
     drawn
     ∙ (ap (λ (d : DrawerView). record d { numbers = numbers }) same
-    ∙ (ap (λ (xs : List ℕ). record first { numbers = xs; done = before.done }) (sym (ap (λ (d : DrawerView). d.numbers) drawn))
-    ∙ ap (λ (b : Bool). record first { numbers = later.numbers; done = b }) (sym (ap (λ (d : DrawerView). d.done) drawn))))
+    ∙ ap (λ (xs : List ℕ). record first { numbers = xs }) (sym (ap (λ (d : DrawerView). d.numbers) drawn)))

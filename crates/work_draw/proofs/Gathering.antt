@@ -1,7 +1,7 @@
 -- The pieces of two workers, together.
 use Rattle.std.proofs.Common.{◌≡◌, ℕ, List, [], ◌++◌, ap, arith}
 use mathlib.Core.List.{map-append}
-use Rattle.work_draw.specs.declared.piece.Piece.{Piece}
+use Rattle.work_draw.specs.declared.pieces.Piece.{Piece}
 use Rattle.work_draw.specs.Drawing.{times, HoldsEachOnce}
 use Rattle.work_draw.specs.Pieces.{numbers_of, GainsInAll}
 use Rattle.work_draw.proofs.Counts.{times-append}

@@ -7,7 +7,7 @@ use Rattle.std.proofs.lemmas.List.Sorted.{IsPermutation-map, sum_by-IsPermutatio
 use Rattle.std.proofs.lemmas.List.{get_or-map, length-map}
 use native.Mathlib.Decide.{dec_le}
 use mathlib.Core.Logic.{dite}
-use Rattle.work_draw.specs.declared.piece.Piece.{Piece}
+use Rattle.work_draw.specs.declared.pieces.Piece.{Piece}
 use Rattle.work_draw.specs.Drawing.{times, HoldsEachOnce}
 use Rattle.work_draw.specs.Pieces.{numbers_of}
 use Rattle.work_draw.proofs.Counts.{counts_itself, once_inside, none_from}

@@ -4,6 +4,8 @@ use Rattle.std.specs.Int.{div_ceil}
 use Rattle.deb_index.specs.Packages.{IndexView}
 use Rattle.deb_health.specs.Verdicts.{IsVerdict, SpeaksOf, verdict_view}
 use Rattle.deb_health.specs.declared.answer.Verdict.{Verdict}
+use Rattle.deb_verdict.specs.Told.{IsToldVerdict}
+use Rattle.deb_verdict.specs.declared.wanted.Wanted.{Wanted}
 
 -- one answer to each question, in the same order
 abbrev pub AnswersEach : {A B : Type 0} → (A → B → Type 0) → List A → List B → Type 0
@@ -23,3 +25,7 @@ chunk_count asked size = div_ceil (length asked) size
 -- what is found of a place is its verdict, and speaks of what the index has
 abbrev pub IsFound : IndexView → ℕ → Verdict → Type 0
 IsFound index place found = IsVerdict index place (verdict_view found) × SpeaksOf index (verdict_view found)
+
+-- what is found of a place tells as much of its verdict as is wanted, and speaks of what the index has
+abbrev pub IsFoundAs : Wanted → IndexView → ℕ → Verdict → Type 0
+IsFoundAs wanted index place found = IsToldVerdict wanted index place (verdict_view found) × SpeaksOf index (verdict_view found)

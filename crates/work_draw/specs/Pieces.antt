@@ -1,19 +1,23 @@
 -- What a worker makes of the numbers that it draws.
-use Rattle.std.specs.Prelude.{◌≡◌, ℕ, ◌+◌, ◌-◌, ◌≤◌, true, List, All, map, flat_map, IsPermutation, ◌++◌, length}
+use Rattle.std.specs.Prelude.{◌≡◌, ℕ, ◌+◌, ◌-◌, ◌<◌, ◌≤◌, true, List, All, map, flat_map, IsPermutation, ◌++◌, length}
 use Rattle.std.specs.List.{range_with_len}
 use Rattle.deb_index.specs.Packages.{IndexView}
 use Rattle.deb_health.specs.declared.answer.Verdict.{Verdict}
-use Rattle.work_draw.specs.declared.piece.Piece.{Piece}
-use Rattle.work_draw.specs.Board.{DrawerView}
-use Rattle.work_draw.specs.Checks.{AnswersEach, IsFound, chunk_of}
+use Rattle.work_draw.specs.declared.pieces.Piece.{Piece}
+use Rattle.work_draw.specs.Board.{BoardView, DrawerView}
+use Rattle.work_draw.specs.Checks.{AnswersEach, IsFound, chunk_of, chunk_count}
 use Rattle.work_draw.specs.Drawing.{times}
 
 abbrev pub numbers_of : List Piece → List ℕ
 numbers_of pieces = map (λ p. p.number) pieces
 
+-- each piece has what is found of the places of its chunk
+abbrev pub Find : (ℕ → Verdict → Type 0) → List ℕ → ℕ → List Piece → Type 0
+Find IsSo asked size pieces = All (λ p. AnswersEach IsSo (chunk_of asked size p.number) p.verdicts.items) pieces
+
 -- each piece has the verdicts of its chunk
 abbrev pub AreFound : IndexView → List ℕ → ℕ → List Piece → Type 0
-AreFound index asked size pieces = All (λ p. AnswersEach (IsFound index) (chunk_of asked size p.number) p.verdicts.items) pieces
+AreFound index asked size pieces = Find (IsFound index) asked size pieces
 
 -- the numbers of the pieces are, in order, those that the drawer gained
 abbrev pub Gains : List ℕ → List Piece → List ℕ → Type 0
@@ -33,5 +37,10 @@ InOrderOfNumber total pieces verdicts =
     (ordered : List Piece) × IsPermutation pieces ordered × (numbers_of ordered ≡ range_with_len 0 total) × (verdicts ≡ flat_map (λ p. p.verdicts.items) ordered)
 
 -- a drawer in which so many workers' drawers were joined, when they were done
-abbrev pub after_crew : DrawerView → ℕ → List ℕ → DrawerView
-after_crew d workers numbers = record { board = d.board; numbers = numbers; spare = d.spare - (workers - 1); held = d.held + (workers - 1); done = true }
+abbrev pub after_crew : DrawerView → ℕ → ℕ → List ℕ → DrawerView
+after_crew d workers past numbers = record d { numbers = numbers; past = past; spare = d.spare - (workers - 1); held = d.held + (workers - 1); done = true }
+
+-- so many workers can begin with this drawer
+abbrev pub IsReady : IndexView → List ℕ → ℕ → BoardView → DrawerView → ℕ → Type 0
+IsReady index asked size board drawer workers =
+    (drawer.board ≡ board) × All (λ place. place < length index.packages) asked × (0 < size) × (board.total ≡ chunk_count asked size) × (0 < workers) × (workers ≤ drawer.spare + 1)

@@ -1,16 +1,47 @@
 //! The verdicts of all asked places, in the order in which they were asked.
 ghost use Rattle.std.specs.Prelude.{◌≡◌, ◌^◌, ◌<◌, ◌≤◌, All, IfOk, length, map};
 ghost use Rattle.deb_health.specs.Verdicts.{IsVerdict, SpeaksOf, verdict_view};
-ghost use Rattle.work_draw.specs.Checks.{AnswersEach, IsFound};
+ghost use Rattle.deb_verdict.specs.Told.{IsToldVerdict};
+ghost use Rattle.work_draw.specs.Checks.{AnswersEach};
 
 use crate::board::new_board;
-use crate::gate::Gate;
-use crate::ordered::gather;
-use crate::workers::crew;
+use crate::chunks::Gate;
+use crate::pieces::gather;
+use crate::workers::crew_told;
 use deb_index::Index;
-use deb_verdict::Verdict;
+use deb_verdict::{Verdict, Wanted};
 use std::alloc::{AllocError, Global};
 use std::thread::Threads;
+
+/// As much of the verdict of each asked place as is wanted, in the order of the list, for 1 to 64 workers and any chunk
+/// from 1. What else there is to say, `check_all` says.
+pub fn check_told<G: Gate + Sync, R: Threads + Sync>(
+    rt: &R,
+    alloc: Global,
+    index: &Index,
+    wanted: Wanted,
+    asked: &[u32],
+    workers: u32,
+    chunk: u32,
+    gate: &G,
+) -> Result<Vec<Verdict>, AllocError>
+    requires places { All (λ place. place < length index.now.packages) asked.now }
+    requires few { length asked.now < 2 ^ 32 }
+    requires workers { (0 < workers) × (workers ≤ 64) }
+    requires chunk { 0 < chunk }
+    ensures each { IfOk result (λ v. AnswersEach (IsToldVerdict wanted index.now) asked.now (map verdict_view v.items)) }
+    ensures same { IfOk result (λ v. length v.items ≡ length asked.now) }
+    ensures within { IfOk result (λ v. All (SpeaksOf index.now) (map verdict_view v.items)) }
+{
+    let total = asked.len().div_ceil(chunk as usize) as u32;
+    let (board, drawer) = new_board(alloc, total)?;
+    let (drawer, pieces) = crew_told(
+        rt, alloc, index, wanted, asked, chunk, &board, drawer, workers, gate,
+    )?;
+    let complete = board.close(drawer);
+    prove!(complete);
+    gather(alloc, total, pieces)
+}
 
 /// The verdict of each asked place, in the order of the list, for 1 to 64 workers and any chunk from 1.
 /// Chunk number k is the places from k * `chunk` on; for each, a worker calls the gate before and, if all verdicts were found, after.
@@ -32,31 +63,6 @@ pub fn check_all<G: Gate + Sync, R: Threads + Sync>(
     ensures same { IfOk result (λ v. length v.items ≡ length asked.now) }
     ensures within { IfOk result (λ v. All (SpeaksOf index.now) (map verdict_view v.items)) }
 {
-    let verdicts = check_chunks(rt, alloc, index, asked, workers, chunk, gate)?;
-    Ok(verdicts)
-}
-
-fn check_chunks<G: Gate + Sync, R: Threads + Sync>(
-    rt: &R,
-    alloc: Global,
-    index: &Index,
-    asked: &[u32],
-    workers: u32,
-    chunk: u32,
-    gate: &G,
-) -> Result<Vec<Verdict>, AllocError>
-    requires places { All (λ place. place < length index.now.packages) asked.now }
-    requires few { length asked.now < 2 ^ 32 }
-    requires workers { (0 < workers) × (workers ≤ 64) }
-    requires chunk { 0 < chunk }
-    ensures { IfOk result (λ v. AnswersEach (IsFound index.now) asked.now v.items) }
-{
-    let total = asked.len().div_ceil(chunk as usize) as u32;
-    let (board, drawer) = new_board(alloc, total)?;
-    let (drawer, pieces) = crew(
-        rt, alloc, index, asked, chunk, &board, drawer, workers, gate,
-    )?;
-    let complete = board.close(drawer);
-    prove!(complete);
-    gather(alloc, total, pieces)
+    let wanted = Wanted::everything();
+    check_told(rt, alloc, index, wanted, asked, workers, chunk, gate)
 }

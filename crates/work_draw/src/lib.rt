@@ -4,26 +4,21 @@
 //!
 //! - `hand`: what a drawer knows, and the rule that ties the drawers of a board to its claim word.
 //! - `board`: the board and its drawers, which split, draw, join and close.
-//! - `gate`: what is told of each chunk.
-//! - `chunks`: the verdicts of one chunk of the asked places.
-//! - `piece`: what is made of the numbers that are drawn.
+//! - `chunks`: the verdicts of one chunk of the asked places, and the gate that is told of it.
+//! - `pieces`: what is made of the numbers that are drawn, and the order in which it is gathered.
 //! - `workers`: a worker, who draws until no number is left, and a crew of them.
-//! - `ordered`: the pieces of all workers, in the order of their numbers.
-//! - `check`: all of it, from the asked places to their verdicts.
+//! - `check`: all of it, from the asked places to their verdicts, or to as much of them as is wanted.
 #![tactic(auto)]
 
 mod board;
 mod check;
 mod chunks;
-mod gate;
 mod hand;
-mod ordered;
-mod piece;
+mod pieces;
 mod workers;
 
 pub use board::{Board, Drawer, WORKER_LIMIT, new_board};
-pub use check::check_all;
-pub use gate::{Gate, OpenGate};
-pub use ordered::gather;
-pub use piece::{Drawn, Piece};
+pub use check::{check_all, check_told};
+pub use chunks::{Gate, OpenGate};
+pub use pieces::{Drawn, Piece, gather};
 pub use workers::{crew, draw_pieces};

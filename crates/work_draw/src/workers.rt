@@ -1,63 +1,17 @@
 //! Workers that draw chunks and find their verdicts.
 ghost use Rattle.std.specs.Prelude.{◌≡◌, ◌+◌, ◌<◌, ◌≤◌, true, false, All, IfOk, length};
 ghost use Rattle.std.specs.Thread.{IsSync};
-ghost use Rattle.work_draw.specs.Checks.{chunk_count};
-ghost use Rattle.work_draw.specs.Pieces.{AreFound, Gains, GainsButLast, GainsInAll, after_crew};
+ghost use Rattle.work_draw.specs.Checks.{IsFoundAs, chunk_count};
+ghost use Rattle.work_draw.specs.Pieces.{AreFound, Find, Gains, GainsButLast, GainsInAll, IsReady, after_crew};
 
 use crate::board::{Board, Drawer};
-use crate::chunks::check_chunk;
-use crate::gate::Gate;
-use crate::piece::{Drawn, Piece};
+use crate::chunks::{Gate, check_chunk};
+use crate::pieces::{Drawn, Piece};
 use deb_index::Index;
-use deb_verdict::{Groundwork, Workspace};
+use deb_verdict::{Groundwork, Wanted, Workspace};
 use std::alloc::{AllocError, Global};
 use std::thread;
 use std::thread::Threads;
-
-/// Draws until no number is left, or memory is refused, and makes a piece of each number in the workspace.
-fn draw_with<G: Gate>(
-    alloc: Global,
-    workspace: &mut Workspace,
-    groundwork: &Groundwork<'_>,
-    asked: &[u32],
-    chunk: u32,
-    board: &Board,
-    mut drawer: Drawer,
-    gate: &G,
-) -> Drawn
-    requires board { drawer.board ≡ board.now }
-    requires places { All (λ place. place < length groundwork.now.index.now.packages) asked.now }
-    requires chunk { 0 < chunk }
-    requires total { board.now.total ≡ chunk_count asked.now chunk }
-    ensures same { result.drawer ≡ record drawer { numbers = result.drawer.numbers; done = result.drawer.done } }
-    ensures gained { result.refused ≡ false → (result.drawer.done ≡ true) × Gains drawer.numbers result.pieces.items result.drawer.numbers }
-    ensures refused { GainsButLast drawer.numbers result.pieces.items result.drawer.numbers }
-    ensures found { AreFound groundwork.now.index.now asked.now chunk result.pieces.items }
-{
-    let mut pieces = Vec::new(alloc);
-    while let Some(number) = board.draw(&mut drawer) {
-        let Ok(verdicts) = check_chunk(alloc, workspace, groundwork, asked, chunk, number, gate)
-        else {
-            return Drawn {
-                drawer,
-                pieces,
-                refused: true,
-            };
-        };
-        if pieces.push(Piece { number, verdicts }).is_err() {
-            return Drawn {
-                drawer,
-                pieces,
-                refused: true,
-            };
-        }
-    }
-    Drawn {
-        drawer,
-        pieces,
-        refused: false,
-    }
-}
 
 /// The workspace and the groundwork of a worker, for all its chunks.
 fn workplace<'a>(alloc: Global, index: &'a Index) -> Result<(Workspace, Groundwork<'a>), AllocError>
@@ -66,6 +20,52 @@ fn workplace<'a>(alloc: Global, index: &'a Index) -> Result<(Workspace, Groundwo
     let workspace = Workspace::new(alloc)?;
     let groundwork = Groundwork::new(alloc, index)?;
     Ok((workspace, groundwork))
+}
+
+/// What each worker of a crew runs: as `draw_pieces`, of as much of the verdicts as is wanted.
+fn draw_told<G: Gate>(
+    alloc: Global,
+    index: &Index,
+    wanted: Wanted,
+    asked: &[u32],
+    chunk: u32,
+    board: &Board,
+    drawer: Drawer,
+    gate: &G,
+) -> Drawn
+    requires { IsReady index.now asked.now chunk board.now drawer 1 }
+    ensures same { result.drawer ≡ record drawer { numbers = result.drawer.numbers; past = result.drawer.past; done = result.drawer.done } }
+    ensures gained { result.refused ≡ false → (result.drawer.done ≡ true) × Gains drawer.numbers result.pieces.items result.drawer.numbers }
+    ensures refused { GainsButLast drawer.numbers result.pieces.items result.drawer.numbers }
+    ensures found { Find (IsFoundAs wanted index.now) asked.now chunk result.pieces.items }
+{
+    let mut drawn = Drawn {
+        drawer,
+        pieces: Vec::new(alloc),
+        refused: true,
+    };
+    let Ok((mut workspace, groundwork)) = workplace(alloc, index) else {
+        return drawn;
+    };
+    while let Some(number) = board.draw(&mut drawn.drawer) {
+        let Ok(verdicts) = check_chunk(
+            alloc,
+            &mut workspace,
+            &groundwork,
+            wanted,
+            asked,
+            chunk,
+            number,
+            gate,
+        ) else {
+            return drawn;
+        };
+        if drawn.pieces.push(Piece { number, verdicts }).is_err() {
+            return drawn;
+        }
+    }
+    drawn.refused = false;
+    drawn
 }
 
 /// What each worker runs, in one workspace and on one groundwork: draws until no number is left, and makes a piece of each, in the order
@@ -84,28 +84,75 @@ pub fn draw_pieces<G: Gate>(
     requires places { All (λ place. place < length index.now.packages) asked.now }
     requires chunk { 0 < chunk }
     requires total { board.now.total ≡ chunk_count asked.now chunk }
-    ensures same { result.drawer ≡ record drawer { numbers = result.drawer.numbers; done = result.drawer.done } }
+    ensures same { result.drawer ≡ record drawer { numbers = result.drawer.numbers; past = result.drawer.past; done = result.drawer.done } }
     ensures gained { result.refused ≡ false → (result.drawer.done ≡ true) × Gains drawer.numbers result.pieces.items result.drawer.numbers }
     ensures refused { GainsButLast drawer.numbers result.pieces.items result.drawer.numbers }
     ensures found { AreFound index.now asked.now chunk result.pieces.items }
 {
-    match workplace(alloc, index) {
-        Ok((mut workspace, groundwork)) => draw_with(
-            alloc,
-            &mut workspace,
-            &groundwork,
-            asked,
-            chunk,
-            board,
+    let wanted = Wanted::everything();
+    draw_told(alloc, index, wanted, asked, chunk, board, drawer, gate)
+}
+
+/// The crew of `crew`, for as much of the verdicts as is wanted.
+pub(crate) fn crew_told<G: Gate + Sync, R: Threads + Sync>(
+    rt: &R,
+    alloc: Global,
+    index: &Index,
+    wanted: Wanted,
+    asked: &[u32],
+    chunk: u32,
+    board: &Board,
+    drawer: Drawer,
+    workers: u32,
+    gate: &G,
+) -> Result<(Drawer, Vec<Piece>), AllocError>
+    requires { IsReady index.now asked.now chunk board.now drawer workers }
+    ensures drawer { IfOk result (λ r. r.0 ≡ after_crew drawer workers r.0.past r.0.numbers) }
+    ensures gained { IfOk result (λ r. GainsInAll drawer.numbers r.1.items r.0.numbers) }
+    ensures found { IfOk result (λ r. Find (IsFoundAs wanted index.now) asked.now chunk r.1.items) }
+{
+    if workers == 1 {
+        let Drawn {
             drawer,
-            gate,
-        ),
-        Err(_) => Drawn {
-            drawer,
-            pieces: Vec::new(alloc),
-            refused: true,
-        },
+            pieces,
+            refused,
+        } = draw_told(alloc, index, wanted, asked, chunk, board, drawer, gate);
+        return if refused {
+            Err(AllocError)
+        } else {
+            Ok((drawer, pieces))
+        };
     }
+    let half = workers / 2;
+    let rest = workers - half;
+    let (mine, theirs) = board.split(drawer, half - 1);
+    let (first, second) = thread::join(
+        rt,
+        move || -> Result<(Drawer, Vec<Piece>), AllocError>
+            requires { IsSync R.row × IsSync G.row × IsReady index.now asked.now chunk board.now theirs half }
+            ensures drawer { IfOk result (λ r. r.0 ≡ after_crew theirs half r.0.past r.0.numbers) }
+            ensures gained { IfOk result (λ r. GainsInAll theirs.numbers r.1.items r.0.numbers) }
+            ensures found { IfOk result (λ r. Find (IsFoundAs wanted index.entry.now) asked.entry.now chunk r.1.items) }
+        {
+            crew_told(
+                rt, alloc, index, wanted, asked, chunk, board, theirs, half, gate,
+            )
+        },
+        move || -> Result<(Drawer, Vec<Piece>), AllocError>
+            requires { IsSync R.row × IsSync G.row × IsReady index.now asked.now chunk board.now mine rest }
+            ensures drawer { IfOk result (λ r. r.0 ≡ after_crew mine rest r.0.past r.0.numbers) }
+            ensures gained { IfOk result (λ r. GainsInAll mine.numbers r.1.items r.0.numbers) }
+            ensures found { IfOk result (λ r. Find (IsFoundAs wanted index.entry.now) asked.entry.now chunk r.1.items) }
+        {
+            crew_told(
+                rt, alloc, index, wanted, asked, chunk, board, mine, rest, gate,
+            )
+        },
+    );
+    let (other, mut pieces) = first?;
+    let (drawer, mut more) = second?;
+    pieces.append(&mut more)?;
+    Ok((board.join(drawer, other), pieces))
 }
 
 /// So many workers at once, each by `draw_pieces`, on drawers that are split off and joined again. The pieces are those of
@@ -126,42 +173,12 @@ pub fn crew<G: Gate + Sync, R: Threads + Sync>(
     requires chunk { 0 < chunk }
     requires total { board.now.total ≡ chunk_count asked.now chunk }
     requires workers { (0 < workers) × (workers ≤ drawer.spare + 1) }
-    ensures drawer { IfOk result (λ r. r.0 ≡ after_crew drawer workers r.0.numbers) }
+    ensures drawer { IfOk result (λ r. r.0 ≡ after_crew drawer workers r.0.past r.0.numbers) }
     ensures gained { IfOk result (λ r. GainsInAll drawer.numbers r.1.items r.0.numbers) }
     ensures found { IfOk result (λ r. AreFound index.now asked.now chunk r.1.items) }
 {
-    if workers == 1 {
-        let Drawn {
-            drawer,
-            pieces,
-            refused,
-        } = draw_pieces(alloc, index, asked, chunk, board, drawer, gate);
-        return if refused {
-            Err(AllocError)
-        } else {
-            Ok((drawer, pieces))
-        };
-    }
-    let half = workers / 2;
-    let rest = workers - half;
-    let (mine, theirs) = board.split(drawer, half - 1);
-    let (first, second) = thread::join(
-        rt,
-        move || -> Result<(Drawer, Vec<Piece>), AllocError>
-            requires { IsSync R.row × IsSync G.row × (theirs.board ≡ board.now) × All (λ place. place < length index.now.packages) asked.now × (0 < chunk) × (board.now.total ≡ chunk_count asked.now chunk) × (0 < half) × (half ≤ theirs.spare + 1) }
-            ensures drawer { IfOk result (λ r. r.0 ≡ after_crew theirs half r.0.numbers) }
-            ensures gained { IfOk result (λ r. GainsInAll theirs.numbers r.1.items r.0.numbers) }
-            ensures found { IfOk result (λ r. AreFound index.entry.now asked.entry.now chunk r.1.items) }
-        { crew(rt, alloc, index, asked, chunk, board, theirs, half, gate) },
-        move || -> Result<(Drawer, Vec<Piece>), AllocError>
-            requires { IsSync R.row × IsSync G.row × (mine.board ≡ board.now) × All (λ place. place < length index.now.packages) asked.now × (0 < chunk) × (board.now.total ≡ chunk_count asked.now chunk) × (0 < rest) × (rest ≤ mine.spare + 1) }
-            ensures drawer { IfOk result (λ r. r.0 ≡ after_crew mine rest r.0.numbers) }
-            ensures gained { IfOk result (λ r. GainsInAll mine.numbers r.1.items r.0.numbers) }
-            ensures found { IfOk result (λ r. AreFound index.entry.now asked.entry.now chunk r.1.items) }
-        { crew(rt, alloc, index, asked, chunk, board, mine, rest, gate) },
-    );
-    let (other, mut pieces) = first?;
-    let (drawer, mut more) = second?;
-    pieces.append(&mut more)?;
-    Ok((board.join(drawer, other), pieces))
+    let wanted = Wanted::everything();
+    crew_told(
+        rt, alloc, index, wanted, asked, chunk, board, drawer, workers, gate,
+    )
 }

@@ -1,18 +1,19 @@
-//! One test for each call that can want memory; bench/growths runs them with each growth refused in turn.
+//! One test for each call that can want memory; trials/growths runs them with each growth refused in turn.
 ghost use Rattle.std.specs.Prelude.{◌≡◌, ◌<◌, ◌≤◌, ◌^◌, length};
 
 use crate::boards::{expect_each_number_once, expect_no_number, expect_three_numbers};
 use crate::examples::{check_places, three_packages};
 use crate::gates::Tally;
-use crate::pieces::{are_sets, expect_both_pieces, expect_piece, piece_of};
+use crate::pieces::{are_sets, are_statuses, expect_both_pieces, expect_piece, piece_of};
 use deb_index::Index;
-use deb_verdict::Verdict;
+use deb_verdict::{Verdict, Wanted};
 use std::alloc::AllocError;
 use std::process::Abort;
 use std::test::Fail;
 use std::thread::Threads;
 use work_draw::{
-    Board, Drawer, Drawn, OpenGate, Piece, check_all, crew, draw_pieces, gather, new_board,
+    Board, Drawer, Drawn, OpenGate, Piece, check_all, check_told, crew, draw_pieces, gather,
+    new_board,
 };
 
 fn deal_three_numbers(rt: &(impl Abort + AllocGlobal)) -> Result<(), Fail> {
@@ -83,6 +84,41 @@ fn expect_sets_of_one(
     assert!(rt; finds_sets(rt, index, &[0, 0], &[&[0], &[0]])?);
     assert!(rt; finds_sets(rt, index, &[], &[])?);
     Ok(())
+}
+
+/// One package that can be installed and one that can't.
+const SOUND_AND_BROKEN: &[u8] = b"Package: a
+Version: 1
+Architecture: all
+
+Package: b
+Version: 1
+Architecture: all
+Depends: absent
+";
+
+fn expect_statuses(
+    rt: &(impl Abort + Threads + Sync + AllocGlobal),
+    index: &Index,
+) -> Result<(), Fail> {
+    let asked = [1u32, 0, 1];
+    check_places(index, &asked)?;
+    let wanted = Wanted {
+        sets: false,
+        cores: false,
+    };
+    let found = check_told(rt, rt.alloc(), index, wanted, &asked, 2, 1, &OpenGate)?;
+    assert!(rt; are_statuses(&found, &[false, true, false]));
+    Ok(())
+}
+
+/// Where no set and no core is wanted, none is told.
+#[test]
+fn of_check_told(rt: HostRuntime) -> Result<(), Fail> {
+    let index = Index::read(rt.alloc(), SOUND_AND_BROKEN, "amd64", true)?;
+    let outcome = expect_statuses(&rt, &index);
+    drop(index);
+    outcome
 }
 
 fn expect_chunks_in_order(

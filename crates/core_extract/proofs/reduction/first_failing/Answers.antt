@@ -1,5 +1,5 @@
 use Rattle.std.proofs.Common.{rules, ◌≡◌, ℕ, ◌+◌, false, List, sym, subst}
-use Rattle.sat_solve.specs.Sets.{NumberSet, members_of}
+use Rattle.number_sets.specs.Sets.{NumberSet, members_of}
 use Rattle.core_extract.specs.Reduction.{left}
 use Rattle.core_extract.proofs.Cores.{reduced_pushed, rising_after}
 use Rattle.core_extract.proofs.reduction.first_failing.Goals as goal

@@ -1,7 +1,6 @@
 use Rattle.std.proofs.Common.{arith, ◌≡◌, true, false, ap, length, map, drop, sym, ◌∙◌}
-use Rattle.std.specs.List.{list_any}
 use Rattle.deb_control.specs.declared.field.Field.{Field}
-use Rattle.deb_control.specs.Fields.{Entry, same_name}
+use Rattle.deb_control.specs.Fields.{has_name}
 use Rattle.deb_control.specs.Stanzas.{entry_of}
 use Rattle.deb_control.proofs.RepeatLemmas.{has_repeat-end}
 use Rattle.deb_control.proofs.SlotLemmas.{agrees, none_first, step_found, step_none}
@@ -16,14 +15,14 @@ pub returns-then-contains_name : goal.returns-then-contains_name
 returns-then-contains_name c =
     let read = c.index-fields-i in
     let found : agrees c.args.fields.now c.loop-i.i read.result ≡ true =
-    ap (λ (f : Field). list_any (λ (other : Entry). same_name other.name f.name.now) (map entry_of (drop c.loop-i.i c.args.fields.now))) read.is ∙ sym c.candidates.ensures.named ∙ sym c.contains_name.ensures ∙ c.if-contains_name.true in
+    ap (λ (f : Field). has_name f.name.now (map entry_of (drop c.loop-i.i c.args.fields.now))) read.is ∙ sym c.candidates.ensures.named ∙ sym c.contains_name.ensures ∙ c.if-contains_name.true in
     step_found c.args.fields.now c.loop-i.i read.result c.loop-i-test.true c.loop-i.invariant.0 read.is found
 
 pub loop-i-preserved : goal.loop-i-preserved
 loop-i-preserved c =
     let read = c.index-fields-i in
     let none : agrees c.args.fields.now c.loop-i.i read.result ≡ false =
-    ap (λ (f : Field). list_any (λ (other : Entry). same_name other.name f.name.now) (map entry_of (drop c.loop-i.i c.args.fields.now))) read.is ∙ sym c.candidates.ensures.named ∙ sym c.contains_name.ensures ∙ c.if-contains_name.false in
+    ap (λ (f : Field). has_name f.name.now (map entry_of (drop c.loop-i.i c.args.fields.now))) read.is ∙ sym c.candidates.ensures.named ∙ sym c.contains_name.ensures ∙ c.if-contains_name.false in
     (omega (arith, c.loop-i.invariant.0), step_none c.args.fields.now c.loop-i.i read.result c.loop-i-test.true c.loop-i.invariant.0 read.is none c.loop-i.invariant.1, c.put.ensures)
 
 pub returns : goal.returns

@@ -1,5 +1,5 @@
 use Rattle.std.proofs.Common.{take}
-use Rattle.sat_solve.specs.Sets.{members_of}
+use Rattle.number_sets.specs.Sets.{members_of}
 use Rattle.deb_encode.specs.Exclusions.{AddsWide}
 use Rattle.deb_encode.proofs.rivals.gather_wide.Given as goal
 

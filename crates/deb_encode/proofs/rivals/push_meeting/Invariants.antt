@@ -1,7 +1,7 @@
 use Rattle.std.proofs.Common.{◌≡◌, ℕ, ◌||◌, ◌&&◌, take}
 use Rattle.deb_relation.specs.AtomView.{atom_view}
 use Rattle.deb_index.specs.Meets.{meets_at}
-use Rattle.sat_solve.specs.Sets.{members_of}
+use Rattle.number_sets.specs.Sets.{members_of}
 use Rattle.deb_encode.proofs.rivals.push_meeting.Given as goal
 
 abbrev pub invariant-loop-place : goal.invariant-loop-place

@@ -1,5 +1,5 @@
 use Rattle.std.proofs.Common.{take, ◌||◌}
-use Rattle.sat_solve.specs.Sets.{NumberSet, members_of}
+use Rattle.number_sets.specs.Sets.{NumberSet, members_of}
 use Rattle.deb_encode.specs.Exclusions.{AreNamesOf}
 use Rattle.deb_encode.proofs.versions.gather_names.Given as goal
 

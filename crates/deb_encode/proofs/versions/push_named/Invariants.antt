@@ -1,7 +1,7 @@
 use Rattle.std.proofs.Common.{◌≡◌, ℕ, ◌||◌, ◌&&◌, take}
 use Rattle.std.specs.Str.{bytes_eq}
 use Rattle.deb_index.specs.Packages.{package_at, name_at}
-use Rattle.sat_solve.specs.Sets.{members_of}
+use Rattle.number_sets.specs.Sets.{members_of}
 use Rattle.deb_encode.proofs.versions.push_named.Given as goal
 
 abbrev pub invariant-loop-place : goal.invariant-loop-place

@@ -1,6 +1,6 @@
 use Rattle.std.proofs.Common.{◌≤◌, rules}
 use Rattle.std.proofs.lemmas.List.Sorted.{All-permutation, IsStrictWeakOrder-by_number, IsStrictWeakOrder-flip, answers_always}
-use Rattle.deb_report.specs.declared.causes.Cause.{Cause}
+use Rattle.deb_report.specs.declared.gathered.Cause.{Cause}
 use Rattle.deb_report.proofs.CauseOrder.{count_of, is_before, sorted-by-count}
 use Rattle.deb_report.proofs.causes.sort_by_count.Goals as goal
 

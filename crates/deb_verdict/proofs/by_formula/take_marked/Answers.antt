@@ -10,11 +10,11 @@ loop-group-init c =
 
 pub loop-group-preserved : goal.loop-group-preserved
 loop-group-preserved c =
-    let inside : c.loop-group.group < length c.args.marks.now = omega (arith, c.loop-group-test.true, c.requires.sized) in
+    let inside : c.loop-group.group < length c.args.marks.now = omega (arith, c.loop-group-test.true, c.requires) in
     elim c.if-marks-group.branch [
       | then-marks-group+in_ok-push w ↦
           rw w.used-is
-          (taken_more c.args.positions.now c.args.marks.now c.loop-group.group c.loop-group.used.items c.loop-group.invariant c.requires.rising c.loop-group-test.true
+          (taken_more c.args.positions.now c.args.marks.now c.loop-group.group c.loop-group.used.items c.loop-group.invariant
           (marked_at c.args.marks.now c.loop-group.group _ inside w.if-marks-group.true) w.push.new.self.items w.in_ok-push.ensures.items)
       | else-marks-group w ↦
           rw w.used-is
@@ -22,6 +22,6 @@ loop-group-preserved c =
           (unmarked_at c.args.marks.now c.loop-group.group _ inside w.if-marks-group.false))
     ]
 
-pub returns-clause-chosen : goal.returns-clause-chosen
-returns-clause-chosen c =
+pub returns : goal.returns
+returns c =
     taken_all c.args.positions.now c.args.marks.now c.loop-group.group c.loop-group.used.items (omega (arith, c.loop-group-test.false, c.loop-group.auto.group-end)) c.loop-group.invariant

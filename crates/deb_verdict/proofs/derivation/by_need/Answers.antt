@@ -1,5 +1,5 @@
 use Rattle.std.proofs.Common.{◌∙◌, sym}
-use Rattle.sat_solve.specs.Sets.{members_of}
+use Rattle.number_sets.specs.Sets.{members_of}
 use Rattle.deb_verdict.proofs.Derived.{need_gives}
 use Rattle.deb_verdict.proofs.derivation.by_need.Goals as goal
 

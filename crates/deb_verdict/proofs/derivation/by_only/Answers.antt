@@ -1,6 +1,6 @@
 use Rattle.std.proofs.Common.{◌≡◌, ◌<◌, ◌∙◌, length, ap, arith}
 use Rattle.deb_index.specs.Packages.{name_at}
-use Rattle.sat_solve.specs.Sets.{members_of}
+use Rattle.number_sets.specs.Sets.{members_of}
 use Rattle.deb_verdict.proofs.Derived.{only_gives}
 use Rattle.deb_verdict.proofs.derivation.by_only.Goals as goal
 

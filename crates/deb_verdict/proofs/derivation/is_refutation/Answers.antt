@@ -1,16 +1,16 @@
 use Rattle.std.proofs.Common.{sym, ◌∙◌}
-use Rattle.sat_solve.specs.Sets.{members_of}
-use Rattle.core_extract.specs.Reduction.{left}
+use Rattle.number_sets.specs.Sets.{members_of}
+use Rattle.deb_verdict.specs.Parts.{positions_in}
 use Rattle.deb_verdict.proofs.Derived.{derived_more, derived_refutes}
 use Rattle.deb_verdict.proofs.derivation.is_refutation.Goals as goal
 
 pub returns-in-Contradiction : goal.returns-in-Contradiction
 returns-in-Contradiction c = λ is.
-    derived_refutes c.args.index.now c.args.p (left (members_of c.args.part.kept.now) c.args.part.rest) c.loop-step.positions.items c.loop-step.forced c.in-Some.found.position c.loop-step.invariant
+    derived_refutes c.args.part.now.index.now c.args.p (positions_in c.args.part.now) c.loop-step.positions.items c.loop-step.forced c.in-Some.found.position c.loop-step.invariant
     (sym c.has.ensures ∙ c.if-not-has.false) c.push.new.self.items (rw c.in-Contradiction.is at c.in-Some.ensures) c.in_ok-push.ensures.items
 
 pub loop-step-preserved : goal.loop-step-preserved
 loop-step-preserved c =
-    derived_more c.args.index.now c.args.p (left (members_of c.args.part.kept.now) c.args.part.rest) c.loop-step.positions.items c.loop-step.forced c.in-Some.found.position c.loop-step.invariant
+    derived_more c.args.part.now.index.now c.args.p (positions_in c.args.part.now) c.loop-step.positions.items c.loop-step.forced c.in-Some.found.position c.loop-step.invariant
     (sym c.has.ensures ∙ c.if-not-has.false) c.in-Forced.place c.push.new.self.items c.insert-in-Forced.new.self (rw c.in-Forced.is at c.in-Some.ensures) c.in_ok-push.ensures.items
     c.in_ok-insert-in-Forced.ensures

@@ -2,13 +2,14 @@ use Rattle.std.proofs.Common.{◌≡◌, ℕ, List, map, slice_get, Some, refl, 
 use Rattle.deb_index.specs.declared.constraint.Constraint.{Constraint}
 use Rattle.deb_index.specs.Constraints.{IsOfIndex, constraints_of}
 use Rattle.deb_index.proofs.ConstraintLemmas.{constraints-within}
-use Rattle.sat_solve.specs.Sets.{members_of}
-use Rattle.deb_encode.proofs.AddSteps.{below_members, below_moved}
+use Rattle.number_sets.specs.Sets.{members_of}
+use Rattle.number_sets.proofs.ListMembers.{below_members}
+use Rattle.deb_encode.proofs.AddSteps.{below_moved}
 use Rattle.deb_verdict.proofs.Whole.{all_admit_none, first_in_list, named_all}
 use Rattle.deb_verdict.proofs.first_core.first_core.Goals as goal
 
 pub first_failing-requires : goal.first_failing-requires
-first_failing-requires c = all_admit_none c.args.index.now c.args.p c.requires.none
+first_failing-requires c = all_admit_none c.args.index.now c.args.p c.requires.hopeless
 
 pub list_constraints-requires : goal.list_constraints-requires
 list_constraints-requires c =

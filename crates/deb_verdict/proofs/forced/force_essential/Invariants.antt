@@ -1,4 +1,4 @@
-use Rattle.deb_verdict.specs.Growing.{KeepsForced}
+use Rattle.deb_verdict.specs.Groundwork.{KeepsForced}
 use Rattle.deb_verdict.proofs.forced.force_essential.Given as goal
 
 abbrev pub invariant-loop-name : goal.invariant-loop-name

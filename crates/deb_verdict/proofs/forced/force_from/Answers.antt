@@ -1,5 +1,5 @@
 use Rattle.std.proofs.Common.{◌<◌, ◌+◌, ◌-◌, length, get_or, refl, ap, arith}
-use Rattle.deb_encode.proofs.Placing.{number_within}
+use Rattle.number_sets.proofs.Placing.{number_within}
 use Rattle.deb_verdict.proofs.Forcing.{forced_both}
 use Rattle.deb_verdict.proofs.forced.force_from.Goals as goal
 

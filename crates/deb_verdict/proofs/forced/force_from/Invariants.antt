@@ -1,5 +1,5 @@
 use Rattle.std.proofs.Common.{◌-◌, length}
-use Rattle.deb_verdict.specs.Growing.{KeepsForced}
+use Rattle.deb_verdict.specs.Groundwork.{KeepsForced}
 use Rattle.deb_verdict.proofs.forced.force_from.Given as goal
 
 abbrev pub invariant-loop-visited : goal.invariant-loop-visited

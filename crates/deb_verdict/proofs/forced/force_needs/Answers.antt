@@ -1,6 +1,6 @@
 use Rattle.std.proofs.Common.{◌<◌, length, arith}
 use Rattle.deb_index.specs.Packages.{needs_at}
-use Rattle.deb_encode.proofs.Placing.{grows_keeps}
+use Rattle.number_sets.proofs.Placing.{grows_keeps}
 use Rattle.deb_verdict.proofs.Forcing.{forced_both, forced_by_need, forced_moved, forced_none}
 use Rattle.deb_verdict.proofs.forced.force_needs.Goals as goal
 use Rattle.deb_verdict.proofs.forced.force_needs.Goals.{in-Some+in_ok-take_only, in_default}

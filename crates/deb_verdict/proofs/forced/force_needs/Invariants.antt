@@ -1,4 +1,4 @@
-use Rattle.deb_verdict.specs.Growing.{KeepsForced}
+use Rattle.deb_verdict.specs.Groundwork.{KeepsForced}
 use Rattle.deb_verdict.proofs.forced.force_needs.Given as goal
 
 abbrev pub invariant-loop-number : goal.invariant-loop-number

@@ -1,7 +1,6 @@
-use Rattle.std.proofs.Common.{arith}
-use Rattle.deb_verdict.specs.Growing.TakesOnly.{Took}
-use Rattle.deb_encode.proofs.Placing.{single_row}
+use Rattle.std.proofs.Common.{inr, arith}
+use Rattle.number_sets.proofs.Placing.{single_row}
 use Rattle.deb_verdict.proofs.forced.take_only.Goals as goal
 
 pub returns-in_ok-insert-in-len1 : goal.returns-in_ok-insert-in-len1
-returns-in_ok-insert-in-len1 c = Took _ (single_row c.args.row.now (omega arith)) c.in_ok-insert-in-len1.ensures
+returns-in_ok-insert-in-len1 c = inr (_, single_row c.args.row.now (omega arith), c.in_ok-insert-in-len1.ensures)

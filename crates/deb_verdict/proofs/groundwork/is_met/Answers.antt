@@ -1,8 +1,12 @@
-use Rattle.sat_solve.specs.Sets.{members_of}
-use Rattle.deb_verdict.proofs.Bringing.{more_answered}
-use Rattle.deb_verdict.proofs.GroundworkLemmas.{IsAnsweredBy}
+use Rattle.std.proofs.Common.{◌≡◌, ℕ, true}
+use Rattle.std.specs.List.{list_any}
+use Rattle.deb_index.specs.Packages.{need_at}
+use Rattle.deb_index.specs.Meets.{group_satisfiers}
+use Rattle.number_sets.specs.Sets.{members_of}
+use Rattle.deb_verdict.proofs.GatherLemmas.{more_below}
 use Rattle.deb_verdict.proofs.groundwork.is_met.Goals as goal
 
 pub loop-number-preserved : goal.loop-number-preserved
 loop-number-preserved c =
-    more_answered (IsAnsweredBy c.args.index.now (members_of c.args.forced.now) c.args.place) (IsAnsweredBy c.args.index.now (members_of c.args.forced.now) c.args.place) c.loop-number.number (λ j below there. there) c.loop-number.invariant (c.is_answered.ensures c.if-not-is_answered.false)
+    let Has : ℕ → Type 0 = λ j. list_any (members_of c.args.forced.now) (group_satisfiers c.args.index.now (need_at c.args.index.now c.args.place j)) ≡ true in
+    more_below Has Has c.loop-number.number (λ j below has. has) c.loop-number.invariant (c.is_answered.ensures c.if-not-is_answered.false)

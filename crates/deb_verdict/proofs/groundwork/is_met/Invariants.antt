@@ -1,7 +1,9 @@
-use Rattle.std.proofs.Common.{ℕ, ◌<◌}
-use Rattle.sat_solve.specs.Sets.{members_of}
-use Rattle.deb_verdict.proofs.GroundworkLemmas.{IsAnsweredBy}
+use Rattle.std.proofs.Common.{◌≡◌, ◌<◌, ℕ, true}
+use Rattle.std.specs.List.{list_any}
+use Rattle.deb_index.specs.Packages.{need_at}
+use Rattle.deb_index.specs.Meets.{group_satisfiers}
+use Rattle.number_sets.specs.Sets.{members_of}
 use Rattle.deb_verdict.proofs.groundwork.is_met.Given as goal
 
 abbrev pub invariant-loop-number : goal.invariant-loop-number
-invariant-loop-number l = (j : ℕ) → j < l.number → IsAnsweredBy l.index (members_of l.forced) l.place j
+invariant-loop-number l = (j : ℕ) → j < l.number → list_any (members_of l.forced) (group_satisfiers l.index (need_at l.index l.place j)) ≡ true

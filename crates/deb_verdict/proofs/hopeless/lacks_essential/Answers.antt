@@ -1,5 +1,5 @@
 use Rattle.std.proofs.Common.{◌∙◌, sym}
-use Rattle.sat_solve.specs.Sets.{members_of}
+use Rattle.number_sets.specs.Sets.{members_of}
 use Rattle.deb_verdict.proofs.ReachLemmas.{essential_below}
 use Rattle.deb_verdict.proofs.HopelessLemmas.{hopeless_by_name}
 use Rattle.deb_verdict.proofs.hopeless.lacks_essential.Goals as goal

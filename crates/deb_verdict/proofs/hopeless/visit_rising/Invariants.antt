@@ -1,4 +1,4 @@
-use Rattle.sat_solve.specs.Sets.{members_of}
+use Rattle.number_sets.specs.Sets.{members_of}
 use Rattle.deb_verdict.specs.Hopeless.{AreHopeless}
 use Rattle.deb_verdict.proofs.hopeless.visit_rising.Given as goal
 

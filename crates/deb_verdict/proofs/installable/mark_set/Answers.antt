@@ -1,6 +1,6 @@
 use Rattle.std.proofs.Common.{◌∙◌, ℕ, List, true, get_or, subst, sym}
 use Rattle.std.proofs.lemmas.List.{length-set}
-use Rattle.sat_solve.specs.Sets.{members_of}
+use Rattle.number_sets.specs.Sets.{members_of}
 use Rattle.deb_health.specs.Health.{IsHealthy, IsInstallable}
 use Rattle.deb_verdict.proofs.InstallableLemmas.{marks_set, members_installable}
 use Rattle.deb_verdict.proofs.installable.mark_set.Goals as goal

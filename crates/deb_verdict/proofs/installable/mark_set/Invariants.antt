@@ -1,5 +1,5 @@
 use Rattle.std.proofs.Common.{◌≡◌, length}
-use Rattle.deb_encode.specs.Alone.{MarksOnly}
+use Rattle.number_sets.specs.Sets.{MarksOnly}
 use Rattle.deb_health.specs.Health.{IsInstallable}
 use Rattle.deb_verdict.proofs.installable.mark_set.Given as goal
 

@@ -1,8 +1,7 @@
-use Rattle.sat_solve.specs.Sets.{members_of}
+use Rattle.number_sets.specs.Sets.{members_of}
 use Rattle.deb_verdict.specs.Listing.{Lists}
-use Rattle.core_extract.specs.Reduction.{left}
 use Rattle.deb_verdict.proofs.Listing.{IsBelow, essential_at}
 use Rattle.deb_verdict.proofs.kept_positions.add_essential.Given as goal
 
 abbrev pub invariant-loop-position : goal.invariant-loop-position
-invariant-loop-position l = Lists l.index (left (members_of l.part.kept.now) l.part.rest) (IsBelow (essential_at l.index) l.position) l.initial.positions.items l.positions.items
+invariant-loop-position l = Lists l.index (IsBelow (essential_at l.index) l.position) l.initial.positions.items l.positions.items

@@ -1,6 +1,6 @@
 use Rattle.std.proofs.Common.{◌≡◌, List, ℕ, map, slice_get, Some, subst}
 use Rattle.deb_index.specs.Constraints.{constraints_of}
-use Rattle.deb_encode.proofs.AddSteps.{take_whole}
+use Rattle.number_sets.proofs.ListMembers.{take_whole}
 use Rattle.deb_verdict.proofs.Whole.{named_more}
 use Rattle.deb_verdict.proofs.kept_positions.list_constraints.Goals as goal
 

@@ -1,9 +1,8 @@
 use Rattle.std.proofs.Common.{[], take}
-use Rattle.sat_solve.specs.Sets.{members_of}
+use Rattle.number_sets.specs.Sets.{members_of}
 use Rattle.deb_verdict.specs.Listing.{Lists}
-use Rattle.core_extract.specs.Reduction.{left}
 use Rattle.deb_verdict.proofs.Listing.{IsAskedIn}
 use Rattle.deb_verdict.proofs.kept_positions.list_positions.Given as goal
 
 abbrev pub invariant-loop-place : goal.invariant-loop-place
-invariant-loop-place l = Lists l.index (left (members_of l.part.kept.now) l.part.rest) (IsAskedIn l.index (take l.place-index l.members)) [] l.positions.items
+invariant-loop-place l = Lists l.index (IsAskedIn l.index (take l.place-index l.members)) [] l.positions.items

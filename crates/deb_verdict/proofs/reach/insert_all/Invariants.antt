@@ -1,5 +1,5 @@
 use Rattle.std.proofs.Common.{take}
-use Rattle.sat_solve.specs.Sets.{members_of}
+use Rattle.number_sets.specs.Sets.{members_of}
 use Rattle.deb_verdict.specs.Reach.{Joins}
 use Rattle.deb_verdict.proofs.reach.insert_all.Given as goal
 

@@ -1,5 +1,5 @@
 use Rattle.std.proofs.Common.{◌∙◌, ap, []}
-use Rattle.deb_encode.specs.PlaceSets.{with_place}
+use Rattle.number_sets.specs.SparseSets.{with_number}
 use Rattle.deb_verdict.proofs.JoinLemmas.{joins_place}
 use Rattle.deb_verdict.proofs.ReachLemmas.{essential_below, named_joined, start_joined}
 use Rattle.deb_verdict.proofs.reach.start.Goals as goal
@@ -15,5 +15,5 @@ loop-name-preserved c =
 pub returns : goal.returns
 returns c =
     start_joined c.args.index.now c.args.p c.insert.new.self c.loop-name.members
-    (joins_place [] c.insert.new.self c.args.p (c.in_ok-insert.ensures ∙ ap (λ places. with_place places c.args.p) c.clear.ensures))
+    (joins_place [] c.insert.new.self c.args.p (c.in_ok-insert.ensures ∙ ap (λ places. with_number places c.args.p) c.clear.ensures))
     c.essential_names-name-items.result.now c.loop-name.name-index c.loop-name-test.false c.essential_names-name-items.ensures c.loop-name.invariant

@@ -13,3 +13,9 @@ unfolding fault_text
 returns-in_ok-push_index_fault-in-Background c =
     rw (c.in-Background.is, c.in_ok-push_index_fault-in-Background.ensures, c.in_ok-extend_from_slice-in-Background.ensures.items)
     (append_assoc c.args.out.now.items (codes "background: ") (index_fault_text c.in-Background.fault))
+
+pub returns-in_ok-push_index_fault-in-Earlier : goal.returns-in_ok-push_index_fault-in-Earlier
+unfolding fault_text
+returns-in_ok-push_index_fault-in-Earlier c =
+    rw (c.in-Earlier.is, c.in_ok-push_index_fault-in-Earlier.ensures, c.in_ok-extend_from_slice-in-Earlier.ensures.items)
+    (append_assoc c.args.out.now.items (codes "earlier index: ") (index_fault_text c.in-Earlier.fault))

@@ -1,10 +1,12 @@
-use Rattle.std.proofs.Common.{◌≡◌, ◌∙◌, List, Ok, ap, map, sym, ℕ}
+use Rattle.std.proofs.Common.{◌≡◌, ◌∙◌, List, Ok, ap, map, subst, sym, ℕ}
 use Rattle.deb_report.specs.Asked.{asked_places}
 use Rattle.deb_report.specs.Report.{summary_of}
 use Rattle.deb_report.specs.Settings.{settings_of}
 use Rattle.deb_report.specs.Written.{written_report}
 use Rattle.deb_health.specs.declared.answer.Verdict.{Verdict}
 use Rattle.deb_health.specs.Verdicts.{verdict_view}
+use Rattle.deb_verdict.specs.declared.wanted.Wanted.{Wanted}
+use Rattle.debcheck.specs.Standing.{StandFor, wanted_by}
 use Rattle.debcheck.proofs.StandingLemmas.{reported-told}
 use Rattle.debcheck.proofs.phases.check_and_report.Goals as goal
 
@@ -17,5 +19,6 @@ returns-clause-report g c =
     let is : asked_places index settings.only ≡ Ok asked = c.in_ok-asked.ensures.asked ∙ ap (λ (places : List ℕ). Ok places) (sym c.as_slice-asked.ensures.value) in
     let written = ap (λ (verdicts : List Verdict). written_report settings index asked (map verdict_view verdicts)) c.as_slice.ensures.value in
     let counted = ap (λ (verdicts : List Verdict). summary_of index asked (map verdict_view verdicts)) c.as_slice-2.ensures.value in
-    reported-told settings index asked told c.in_ok-verdicts.ensures.stand c.in_ok-output.output.items c.summary_of.result
+    let stand : StandFor (wanted_by settings) index asked told = subst (λ (wanted : Wanted). StandFor wanted index asked told) c.wanted_of.ensures c.in_ok-verdicts.ensures.stand in
+    reported-told settings index asked told stand c.in_ok-output.output.items c.summary_of.result
     is (c.in_ok-output.ensures ∙ written) (c.summary_of.ensures ∙ counted)

@@ -3,8 +3,8 @@ use Rattle.std.proofs.lemmas.Result.{err_from_is_err_and}
 use Rattle.std.specs.Io.KnownBytes.{Appends}
 use Rattle.debcheck.specs.Devices.{AppendsPart}
 use Rattle.deb_report.specs.Settings.{settings_of}
-use Rattle.debcheck.specs.Run.{input}
-use Rattle.debcheck.proofs.PhaseLemmas.{fails-unwritten, front-written, leaves-unwritten, report-written, writing-fails}
+use Rattle.debcheck.specs.Run.{IsReport, input}
+use Rattle.debcheck.proofs.PhaseLemmas.{fails-unwritten, front-added, leaves-unwritten, report-added, writing-fails}
 use Rattle.debcheck.proofs.phases.run.Goals as goal
 
 pub returns-in_err-output-clause-refused : goal.returns-in_err-output-clause-refused
@@ -25,16 +25,16 @@ pub returns-in-Ok-clause-report : goal.returns-in-Ok-clause-report
 returns-in-Ok-clause-report g c =
     let text = input (g.S.Source.remaining c.args.reader.now) (g.S.Source.failed c.read_and_report.new.reader) in
     let background = input (g.B.Source.remaining c.args.background.now) (g.B.Source.failed c.read_and_report.new.background) in
-    report-written (settings_of c.args.config.now) text background (g.K.Sink.contents c.args.writer.now) (g.K.Sink.contents c.write_all.new.writer)
-    c.in_ok-output.output.items c.in_ok-output.summary c.in_ok-output.ensures.report
+    report-added (IsReport (settings_of c.args.config.now)) (settings_of c.args.config.now) text background (g.K.Sink.contents c.args.writer.now) (g.K.Sink.contents c.write_all.new.writer)
+    c.in_ok-output.output.items c.in_ok-output.summary c.in_ok-output.ensures.report.1
     (subst (λ (bytes : List ℕ). Appends (g.K.Sink.contents c.args.writer.now) (g.K.Sink.contents c.write_all.new.writer) bytes) c.as_slice.ensures.value c.in-Ok.ensures.bytes)
 
 pub returns-clause-left : goal.returns-clause-left
 returns-clause-left g c =
     let text = input (g.S.Source.remaining c.args.reader.now) (g.S.Source.failed c.read_and_report.new.reader) in
     let background = input (g.B.Source.remaining c.args.background.now) (g.B.Source.failed c.read_and_report.new.background) in
-    front-written (settings_of c.args.config.now) text background (g.K.Sink.contents c.args.writer.now) (g.K.Sink.contents c.write_all.new.writer)
-    c.in_ok-output.output.items c.in_ok-output.summary c.in_ok-output.ensures.report
+    front-added (IsReport (settings_of c.args.config.now)) (settings_of c.args.config.now) text background (g.K.Sink.contents c.args.writer.now) (g.K.Sink.contents c.write_all.new.writer)
+    c.in_ok-output.output.items c.in_ok-output.summary c.in_ok-output.ensures.report.1
     (subst (λ (bytes : List ℕ). AppendsPart (g.K.Sink.contents c.args.writer.now) (g.K.Sink.contents c.write_all.new.writer) bytes) c.as_slice.ensures.value c.in-Err.ensures.part)
 
 pub returns-clause-refused : goal.returns-clause-refused

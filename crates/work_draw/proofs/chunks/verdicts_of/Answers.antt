@@ -1,10 +1,10 @@
 use Rattle.std.proofs.Common.{List, arith, subst, sym, take, ◌+◌}
 use Rattle.deb_health.specs.declared.answer.Verdict.{Verdict}
-use Rattle.work_draw.specs.Checks.{AnswersEach, IsFound}
+use Rattle.work_draw.specs.Checks.{AnswersEach, IsFoundAs}
 use Rattle.work_draw.proofs.Answered.{AnswersEach_more}
 use Rattle.work_draw.proofs.chunks.verdicts_of.Goals as goal
 
 pub loop-place-preserved : goal.loop-place-preserved
 loop-place-preserved c =
-    subst (λ (l : List Verdict). AnswersEach (IsFound c.args.groundwork.now.index.now) (take (c.loop-place.place-index + 1) c.args.places.now) l) (sym c.in_ok-push.ensures.items)
-    (AnswersEach_more (IsFound c.args.groundwork.now.index.now) c.args.places.now c.loop-place.place-index 0 c.loop-place.verdicts.items c.in_ok-verdict_in.field-0 (omega arith) c.loop-place.invariant (c.in_ok-verdict_in.ensures.verdict, c.in_ok-verdict_in.ensures.within))
+    subst (λ (l : List Verdict). AnswersEach (IsFoundAs c.args.wanted c.args.groundwork.now.index.now) (take (c.loop-place.place-index + 1) c.args.places.now) l) (sym c.in_ok-push.ensures.items)
+    (AnswersEach_more (IsFoundAs c.args.wanted c.args.groundwork.now.index.now) c.args.places.now c.loop-place.place-index 0 c.loop-place.verdicts.items c.in_ok-verdict.verdict (omega arith) c.loop-place.invariant (c.in_ok-verdict.ensures.told, c.in_ok-verdict.ensures.within))

@@ -1,6 +1,6 @@
 use Rattle.std.proofs.Common.{List, ℕ, sym, subst, ◌∙◌, ap, arith}
 use Rattle.deb_relation.specs.AtomView.{atom_view}
-use Rattle.sat_solve.specs.Sets.{members_of}
+use Rattle.number_sets.specs.Sets.{members_of}
 use Rattle.deb_encode.specs.Exclusions.{IsRun}
 use Rattle.deb_encode.proofs.EncoderLemmas.{same_still, adds_since}
 use Rattle.deb_encode.proofs.WideEntries.{run_told, all_runs}

@@ -1,16 +1,18 @@
-use Rattle.std.proofs.Common.{length, sum_by}
-use Rattle.deb_control.specs.Stanzas.{stanzas_of}
-use Rattle.deb_index.specs.Reading.{continued, readings}
-use Rattle.deb_index.specs.Tables.{asked_count}
-use Rattle.deb_index.proofs.StepLemmas.{Continues}
-use Rattle.deb_index.proofs.RoomLemmas.{IsRoomy}
+use Rattle.std.proofs.Common.{◌≡◌, ◌≤◌, ◌-◌, length}
+use Rattle.std.specs.List.{AllByRecursion, flat_map}
+use Rattle.std.specs.Vec.Iter.{into_iter_items, into_iter_len}
+use Rattle.deb_index.specs.Parts.{HasRoomFor, IsForeseen, part_stanzas}
+use Rattle.deb_index.specs.Reading.{byte_limit, continued, readings, stanza_limit}
 use Rattle.deb_index.proofs.builder.Builder.add_text.Given as goal
 
-abbrev pub invariant-stanzas : goal.invariant-stanzas
-invariant-stanzas l = record {
-  so_far : Continues l.arch l.before (continued l.initial.builder (readings l.arch l.initial.builder.stanzas 0 (stanzas_of l.text))) l.builder l.reader;
-  roomy : IsRoomy l.before (sum_by asked_count l.initial.builder.packages) l.builder l.reader;
+abbrev pub invariant-loop-part : goal.invariant-loop-part
+invariant-loop-part l = record {
+  so_far : continued l.builder (readings l.initial.builder.arch l.before (l.builder.stanzas - l.before) (flat_map part_stanzas (into_iter_items l.part-iterator))) ≡ continued l.initial.builder (readings l.initial.builder.arch l.before 0 (flat_map part_stanzas (into_iter_items l.initial.part-iterator)));
+  same : l.builder.arch ≡ l.initial.builder.arch;
+  begun : l.before ≤ l.builder.stanzas;
+  few : l.builder.stanzas ≤ stanza_limit;
+  room : HasRoomFor l.builder (flat_map part_stanzas (into_iter_items l.part-iterator));
+  short : AllByRecursion (λ part. length part.text.now ≤ byte_limit) (into_iter_items l.part-iterator);
+  foreseen : AllByRecursion (IsForeseen l.initial.builder.arch) (into_iter_items l.part-iterator);
+  len : into_iter_len l.part-iterator ≡ length (into_iter_items l.part-iterator);
 }
-
-abbrev pub decreases-stanzas : goal.decreases-stanzas
-decreases-stanzas l = length l.reader.stanzas

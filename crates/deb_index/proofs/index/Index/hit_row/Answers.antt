@@ -1,41 +1,24 @@
-use Rattle.std.proofs.Common.{◌≤◌, ◌+◌, ◌∙◌, length, subst, ap, arith}
+use Rattle.std.proofs.Common.{◌∙◌, length, subst, ap, arith}
 use Rattle.deb_index.specs.Packages.{IndexView}
 use Rattle.deb_index.specs.Links.{IsLinked}
-use Rattle.deb_index.proofs.LinkLemmas.{entry-at, entry-start, entry-within, starts-long}
+use Rattle.deb_index.proofs.LinkLemmas.{entry-at, entry-within, starts-long}
 use Rattle.deb_index.proofs.RowLemmas.{row-is, row-there}
 use Rattle.deb_index.proofs.index.Index.hit_row.Goals as goal
 
 pub index-requires : goal.index-requires
-index-requires c =
-    let i = c.self.inside in
-    let linked = subst (λ (w : IndexView). IsLinked w w.packages i.links) c.self.view_is c.self.invariant.linked in
-    let long = starts-long c.args.self.now i.links linked in
-    let counted = i.links.starts.ok in
-    omega (arith, c.requires.place)
+index-requires c = omega (arith, c.requires.place, starts-long _ _ c.self.invariant.linked, ap (λ (v : IndexView). length v.packages) c.self.view_is, c.self.inside.links.starts.ok)
 
 pub get-requires : goal.get-requires
 get-requires c =
-    let i = c.self.inside in
-    let v = c.args.self.now in
-    let place = c.args.place in
-    let linked = subst (λ (w : IndexView). IsLinked w w.packages i.links) c.self.view_is c.self.invariant.linked in
-    let this : place ≤ length v.packages = omega (arith, c.requires.place) in
-    entry-within v i.links linked place c.requires.place c.args.number _ c.requires.number (ap (λ m. m + c.args.number) (entry-start v i.links linked place c.index.result.now this c.index.ensures))
+    let linked = subst (λ (w : IndexView). IsLinked w w.packages c.self.inside.links) c.self.view_is c.self.invariant.linked in
+    entry-within c.args.self.now c.self.inside.links linked c.args.place c.requires.place c.index.result.now c.index.ensures c.args.number c.requires.number
 
 pub returns-clause-row : goal.returns-clause-row
 returns-clause-row c =
-    let i = c.self.inside in
-    let v = c.args.self.now in
-    let place = c.args.place in
-    let linked = subst (λ (w : IndexView). IsLinked w w.packages i.links) c.self.view_is c.self.invariant.linked in
-    let this : place ≤ length v.packages = omega (arith, c.requires.place) in
-    row-is (λ r. r.now) _ _ c.get.result (c.get.ensures ∙ entry-at v i.links linked place c.requires.place c.args.number _ c.requires.number (ap (λ m. m + c.args.number) (entry-start v i.links linked place c.index.result.now this c.index.ensures)))
+    let linked = subst (λ (w : IndexView). IsLinked w w.packages c.self.inside.links) c.self.view_is c.self.invariant.linked in
+    row-is (λ r. r.now) _ _ c.get.result (c.get.ensures ∙ entry-at c.args.self.now c.self.inside.links linked c.args.place c.requires.place c.index.result.now c.index.ensures c.args.number c.requires.number)
 
 pub returns-clause-short : goal.returns-clause-short
 returns-clause-short c =
-    let i = c.self.inside in
-    let v = c.args.self.now in
-    let place = c.args.place in
-    let linked = subst (λ (w : IndexView). IsLinked w w.packages i.links) c.self.view_is c.self.invariant.linked in
-    let this : place ≤ length v.packages = omega (arith, c.requires.place) in
-    row-there (λ r. r.now) _ _ c.get.result (c.get.ensures ∙ entry-at v i.links linked place c.requires.place c.args.number _ c.requires.number (ap (λ m. m + c.args.number) (entry-start v i.links linked place c.index.result.now this c.index.ensures)))
+    let linked = subst (λ (w : IndexView). IsLinked w w.packages c.self.inside.links) c.self.view_is c.self.invariant.linked in
+    row-there (λ r. r.now) _ _ c.get.result (c.get.ensures ∙ entry-at c.args.self.now c.self.inside.links linked c.args.place c.requires.place c.index.result.now c.index.ensures c.args.number c.requires.number)

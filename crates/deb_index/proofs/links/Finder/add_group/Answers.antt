@@ -1,49 +1,27 @@
-use Rattle.std.proofs.Common.{◌<◌, ◌++◌, ◌∷◌, ◌∙◌, [], ap, sym, refl, map, length, take, arith}
-use Rattle.std.specs.List.{list_any}
+use Rattle.std.proofs.Common.{◌≡◌, ◌++◌, ◌∷◌, ◌∙◌, [], ap, refl, sym, map, List, ℕ, Option, Some, None}
 use Rattle.deb_relation.specs.AtomView.{atom_view}
-use Rattle.deb_index.specs.Packages.{IndexView, places_of}
-use Rattle.deb_index.specs.Meets.{meets_need, provided_at}
+use Rattle.deb_index.specs.Packages.{IndexView}
+use Rattle.deb_index.specs.Meets.{group_satisfiers}
 use Rattle.deb_index.specs.Rows.{answer_row}
 use Rattle.deb_index.proofs.LinkLemmas.{on-ok}
-use Rattle.deb_index.proofs.RowLemmas.{count-more, count-past, found-more, group-left, group-of-one, none-found, one-atom}
+use Rattle.deb_index.proofs.RowLemmas.{group-of-one, kept, left-out, one-atom}
 use Rattle.deb_index.proofs.links.Finder.add_group.Goals as goal
 
-pub alternatives-init : goal.alternatives-init
-alternatives-init c = (refl, refl, none-found c.lookup-lookup.result.now _ c.clear.ensures.items, refl, omega arith)
+pub returns-then-has_many : goal.returns-then-has_many
+returns-then-has_many c =
+    let group = map atom_view c.args.group.now in
+    let none : answer_row c.lookup-lookup.result.now group ≡ None = left-out _ _ (sym c.has_many.ensures ∙ c.if-has_many.true) in
+    let row : None ≡ answer_row c.args.self.now.memo group = sym none ∙ ap (λ (v : IndexView). answer_row v group) c.lookup-lookup.ensures in
+    record { index = refl; row = on-ok c.leave_out.result (λ e. e ∙ ap (λ (r : Option (List ℕ)). c.args.rows.now ++ r ∷ []) row) c.leave_out.ensures }
 
-pub returns-then-count-gt-ROW_LIMIT : goal.returns-then-count-gt-ROW_LIMIT
-returns-then-count-gt-ROW_LIMIT c =
+pub returns : goal.returns
+returns c =
+    let group = map atom_view c.args.group.now in
     let index = c.lookup-lookup.result.now in
-    let group = c.args.group.now in
-    let i = c.alternatives.number in
-    let a = c.index-group-number.result in
-    let within : i < length group = omega arith in
-    let named = ap length (c.candidates-candidates.ensures.named ∙ ap (places_of index) c.as_slice.ensures.value) in
-    let provided = ap length (c.candidates-candidates.ensures.provided ∙ ap (provided_at index) c.as_slice.ensures.value) in
-    let past = count-past index group i a within c.index-group-number.is (omega (arith, c.alternatives.invariant.3, named, provided)) in
-    let none = sym (group-left index (map atom_view group) past) ∙ ap (λ (v : IndexView). answer_row v (map atom_view group)) c.lookup-lookup.ensures in
-    record {
-      index = c.alternatives.invariant.0;
-      row = on-ok c.leave_out.result (λ e. e ∙ (λ j. c.alternatives.invariant.1 j ++ none j ∷ [])) c.leave_out.ensures;
-    }
-
-pub alternatives-preserved : goal.alternatives-preserved
-alternatives-preserved c =
-    let index = c.lookup-lookup.result.now in
-    let group = c.args.group.now in
-    let i = c.alternatives.number in
-    let a = c.index-group-number.result in
-    let within : i < length group = omega arith in
-    let named = ap length (c.candidates-candidates.ensures.named ∙ ap (places_of index) c.as_slice.ensures.value) in
-    let provided = ap length (c.candidates-candidates.ensures.provided ∙ ap (provided_at index) c.as_slice.ensures.value) in
-    let merged = c.in_ok-merge.ensures index.packages (λ q. list_any (meets_need index.arch q) (map atom_view (take i group))) (λ q. meets_need index.arch q (atom_view a))
-    (c.deref.ensures.value ∙ c.alternatives.invariant.2) (c.deref-in-alternatives.ensures.value ∙ c.in_ok-find.ensures) in (
-      c.alternatives.invariant.0,
-      c.alternatives.invariant.1,
-      found-more index group i a within c.index-group-number.is _ (ap (λ v. v.items) c.swap.ensures.x_after ∙ merged),
-      omega (arith, c.alternatives.invariant.3, named, provided, count-more index group i a within c.index-group-number.is),
-      omega arith,
-    )
+    let some : answer_row index group ≡ Some (group_satisfiers index group) = kept _ _ (sym c.has_many.ensures ∙ c.if-has_many.false) in
+    let row : Some c.deref.result.now ≡ answer_row c.args.self.now.memo group =
+    ap (λ (r : List ℕ). Some r) (c.deref.ensures.value ∙ c.in_ok-find_group.ensures) ∙ sym some ∙ ap (λ (v : IndexView). answer_row v group) c.lookup-lookup.ensures in
+    record { index = refl; row = on-ok c.push.result (λ e. e ∙ ap (λ (r : Option (List ℕ)). c.args.rows.now ++ r ∷ []) row) c.push.ensures }
 
 pub returns-in-len1 : goal.returns-in-len1
 returns-in-len1 c =

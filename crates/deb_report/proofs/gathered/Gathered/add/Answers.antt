@@ -1,6 +1,6 @@
 use Rattle.std.proofs.Common.{◌≡◌, ◌∙◌, Some, None, ap, map, sym, refl}
 use Rattle.deb_index.specs.Tables.{number_in}
-use Rattle.deb_report.specs.declared.causes.Cause.{Cause}
+use Rattle.deb_report.specs.declared.gathered.Cause.{Cause}
 use Rattle.deb_report.specs.CauseKeys.{cause_numbers}
 use Rattle.deb_report.proofs.GatherLemmas.{gathered-new, keys-known, table-known}
 use Rattle.deb_report.proofs.gathered.Gathered.add.Goals as goal

@@ -1,7 +1,5 @@
 use Rattle.std.proofs.Common.{◌≡◌, ◌∙◌, refl, sym, ap, length, true, Some, slice_get}
 use Rattle.std.proofs.lemmas.Option.{slice_get_read}
-use Rattle.sat_solve.specs.Sets.{members_of}
-use Rattle.deb_verdict.proofs.GroundworkLemmas.{met_from_answers}
 use Rattle.deb_verdict.proofs.groundwork.Groundwork.is_met.Goals as goal
 
 pub returns-in-Some : goal.returns-in-Some
@@ -9,4 +7,4 @@ returns-in-Some c = λ marked.
     let looked = c.in-Some.ensures.lookup in
     let here : slice_get c.deref.result.now c.args.place ≡ Some c.in-Some.met.now = slice_get_read c.deref.result.now (length c.deref.result.now) c.args.place c.in-Some.met.now refl looked.3.0 looked.1 in
     let there : slice_get c.args.self.now.met.items c.args.place ≡ Some true = ap (λ marks. slice_get marks c.args.place) (sym c.deref.ensures.value) ∙ (here ∙ ap (λ b. Some b) marked) in
-    met_from_answers c.args.self.now.index.now (members_of c.args.self.now.forced) c.args.place (c.args.self.now.marks_met c.args.place there)
+    c.args.self.now.marks_met c.args.place there

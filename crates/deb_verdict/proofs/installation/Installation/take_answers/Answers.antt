@@ -1,4 +1,4 @@
-use Rattle.deb_verdict.proofs.Bringing.{row_within}
+use Rattle.deb_verdict.proofs.GatherLemmas.{row_within}
 use Rattle.deb_verdict.proofs.installation.Installation.take_answers.Goals as goal
 
 pub take_one-requires-clause-row : goal.take_one-requires-clause-row

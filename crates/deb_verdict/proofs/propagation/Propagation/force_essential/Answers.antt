@@ -6,9 +6,9 @@ use Rattle.deb_verdict.proofs.propagation.Propagation.force_essential.Goals as g
 
 pub overflow_cast-number : goal.overflow_cast-number
 overflow_cast-number c =
-    let few : length c.essential_names-name-items.result.now ≤ length (names c.args.index.now) = essentials_few c.args.index.now c.essential_names-name-items.result.now c.essential_names-name-items.ensures in
+    let few : length c.essential_names-name-items.result.now ≤ length (names c.args.part.now.index.now) = essentials_few c.args.part.now.index.now c.essential_names-name-items.result.now c.essential_names-name-items.ensures in
     omega (arith, few, c.name_count-names.ensures)
 
 pub force_name-requires : goal.force_name-requires
 force_name-requires c =
-    essential_below c.args.index.now c.essential_names-name-items.result.now c.essential_names-name-items.ensures c.loop-number.number c.loop-number-test.true
+    essential_below c.args.part.now.index.now c.essential_names-name-items.result.now c.essential_names-name-items.ensures c.loop-number.number c.loop-number-test.true

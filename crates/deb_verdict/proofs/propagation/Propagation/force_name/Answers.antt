@@ -4,5 +4,5 @@ use Rattle.deb_verdict.proofs.propagation.Propagation.force_name.Goals as goal
 
 pub returns-in_ok-force : goal.returns-in_ok-force
 returns-in_ok-force c =
-    c.in_ok-force.ensures (length c.args.index.now.packages)
-    (only_named_is_place c.args.index.now c.args.name c.in-Some-Forced.only (rw c.in-Some-Forced.field-0-is at c.in-Some-Forced.ensures))
+    c.in_ok-force.ensures (length c.args.part.now.index.now.packages)
+    (only_named_is_place c.args.part.now.index.now c.args.name c.in-Some-Forced.only (rw c.in-Some-Forced.field-0-is at c.in-Some-Forced.ensures))

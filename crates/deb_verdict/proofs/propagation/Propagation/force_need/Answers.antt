@@ -4,5 +4,5 @@ use Rattle.deb_verdict.proofs.propagation.Propagation.force_need.Goals as goal
 
 pub returns-in_ok-force-in-Some-Forced : goal.returns-in_ok-force-in-Some-Forced
 returns-in_ok-force-in-Some-Forced c =
-    c.in_ok-force-in-Some-Forced.ensures (length c.args.index.now.packages)
-    (answer_is_place c.args.index.now c.args.place c.args.number c.in-Some-Forced.only (rw c.in-Some-Forced.field-0-is at c.in-Some-Forced.ensures))
+    c.in_ok-force-in-Some-Forced.ensures (length c.args.part.now.index.now.packages)
+    (answer_is_place c.args.part.now.index.now c.args.place c.args.number c.in-Some-Forced.only (rw c.in-Some-Forced.field-0-is at c.in-Some-Forced.ensures))

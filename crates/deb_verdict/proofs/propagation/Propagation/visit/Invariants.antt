@@ -1,6 +1,6 @@
 use Rattle.std.proofs.Common.{length}
-use Rattle.deb_encode.specs.PlaceSets.{Grows}
+use Rattle.number_sets.specs.SparseSets.{Grows}
 use Rattle.deb_verdict.proofs.propagation.Propagation.visit.Given as goal
 
 abbrev pub invariant-loop-number : goal.invariant-loop-number
-invariant-loop-number l = Grows (length l.index.packages) l.initial.self.forced l.self.forced
+invariant-loop-number l = Grows (length l.part.index.now.packages) l.initial.self.forced l.self.forced

@@ -1,5 +1,5 @@
 use Rattle.std.proofs.Common.{◌≡◌, Bool, true}
-use Rattle.sat_solve.specs.Sets.{NumberSet, members_of}
+use Rattle.number_sets.specs.Sets.{NumberSet, members_of}
 use Rattle.deb_health.specs.Health.{AdmitsNone}
 use Rattle.core_extract.specs.Reduction.{left, listed, IsRefutation}
 use Rattle.deb_verdict.proofs.Whole.{if_ok_more, refuted_listed}

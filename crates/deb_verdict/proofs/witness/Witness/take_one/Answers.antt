@@ -1,9 +1,9 @@
 use Rattle.std.proofs.Common.{List, ℕ, length, sym, subst}
-use Rattle.deb_encode.specs.PlaceSets.{Grows}
-use Rattle.deb_encode.proofs.Placing.{grows_with}
+use Rattle.number_sets.specs.SparseSets.{Grows}
+use Rattle.number_sets.proofs.Placing.{grows_with}
 use Rattle.deb_verdict.proofs.witness.Witness.take_one.Goals as goal
 
 pub returns-in_ok-push-in-Some : goal.returns-in_ok-push-in-Some
 returns-in_ok-push-in-Some c =
-    let To : List ℕ → Type 0 = λ list. Grows (length c.args.index.now.packages) c.args.self.now.set list in
-    subst To (sym c.in_ok-insert-in-Some.ensures) (grows_with (length c.args.index.now.packages) c.args.self.now.set c.in-Some.place c.in-Some.ensures)
+    let To : List ℕ → Type 0 = λ list. Grows (length c.args.part.now.index.now.packages) c.args.self.now.set list in
+    subst To (sym c.in_ok-insert-in-Some.ensures) (grows_with (length c.args.part.now.index.now.packages) c.args.self.now.set c.in-Some.place c.in-Some.ensures)

@@ -1,8 +1,8 @@
-use Rattle.std.proofs.Common.{◌≡◌, ◌+◌, ◌-◌, ◌<◌, [], length, sym, ◌∙◌, ap, subst, arith}
+use Rattle.std.proofs.Common.{◌≡◌, ◌+◌, ◌-◌, ◌<◌, [], length, reverse, drop, sym, ◌∙◌, ap, subst, arith}
 use Rattle.sat_solve.specs.Trail.{steps_of}
-use Rattle.sat_solve.specs.Reasons.{IsSolution, IsMarkedSolution, Backs, named_by}
+use Rattle.sat_solve.specs.Reasons.{IsSolution, IsMarkedSolution, Backs, named_by, Picks}
 use Rattle.sat_solve.proofs.ReasonLemmas.{reasoned_more}
-use Rattle.sat_solve.proofs.AnalysisLemmas.{WalkedTo, walk_begins, walk_ends, walk_picks, walked_by, walked_decided, walked_forced}
+use Rattle.sat_solve.proofs.AnalysisLemmas.{WalkedTo, walk_begins, walk_ends, walked_by, walked_decided, walked_forced}
 use Rattle.sat_solve.proofs.analyze.Analysis.analyze.Goals as goal
 
 pub loop-left-init : goal.loop-left-init
@@ -62,8 +62,7 @@ returns-clause-reasoned c =
 pub returns-clause-picked : goal.returns-clause-picked
 returns-clause-picked c =
     let none : c.loop-left.left ≡ 0 = omega (arith, c.loop-left-test.false) in
-    walk_picks (IsSolution c.args.problem.now) (IsMarkedSolution c.args.problem.now c.loop-left.used.items) (Backs c.args.problem.now c.use_groups.new.used.items) (named_by c.args.problem.now c.args.arena.now) c.args.trail.now.steps.items c.loop-left.self.seen.items c.loop-left.self.decisions.items
-    (subst (λ n. WalkedTo (IsSolution c.args.problem.now) (IsMarkedSolution c.args.problem.now c.loop-left.used.items) (Backs c.args.problem.now c.use_groups.new.used.items) (named_by c.args.problem.now c.args.arena.now) c.args.trail.now.steps.items n c.loop-left.self.seen.items c.loop-left.self.decisions.items) none c.loop-left.invariant.walked)
+    subst (λ n. Picks c.loop-left.self.decisions.items (reverse (drop n c.args.trail.now.steps.items))) none c.loop-left.invariant.walked.picks
 
 pub returns-clause-refuted : goal.returns-clause-refuted
 returns-clause-refuted c =

@@ -1,4 +1,4 @@
-use Rattle.sat_solve.specs.Sets.{NumberSet}
+use Rattle.number_sets.specs.Sets.{NumberSet}
 use Rattle.sat_solve.specs.Reasons.{IsSolution, IsMarkedSolution, IsUsed, Backs, named_by}
 use Rattle.sat_solve.proofs.AnalysisLemmas.{WalkedTo}
 use Rattle.sat_solve.proofs.analyze.Analysis.analyze.Given as goal

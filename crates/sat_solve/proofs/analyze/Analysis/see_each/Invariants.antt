@@ -1,5 +1,5 @@
 use Rattle.std.proofs.Common.{◌≡◌, take}
-use Rattle.sat_solve.specs.Sets.{members_of}
+use Rattle.number_sets.specs.Sets.{members_of}
 use Rattle.sat_solve.specs.Reasons.{SeesAll}
 use Rattle.sat_solve.proofs.analyze.Analysis.see_each.Given as goal
 

@@ -1,8 +1,8 @@
 use Rattle.std.proofs.Common.{◌≡◌, ◌++◌, ◌∙◌, ap}
 use Rattle.sat_solve.proofs.formula.Formula.solve_marked.Goals as goal
 
-pub returns-clause-marked : goal.returns-clause-marked
-returns-clause-marked c =
+pub returns : goal.returns
+returns c =
     let copied : c.extend_from_slice.new.self.items ≡ c.search_in.new.workspace.solver.used.items =
     c.in_ok-extend_from_slice.ensures.items ∙ (ap (λ front. front ++ c.used.result.now) c.clear.ensures.items ∙ c.used.ensures) in
-    rw copied c.in_ok-answer.ensures.marked
+    rw copied c.in_ok-answer.ensures

@@ -1,5 +1,5 @@
 use Rattle.std.proofs.Common.{◌≡◌, false, IfOk, sym, subst}
-use Rattle.sat_solve.specs.Sets.{NumberSet}
+use Rattle.number_sets.specs.Sets.{NumberSet}
 use Rattle.sat_solve.specs.Trail.{steps_of}
 use Rattle.sat_solve.specs.Reasons.{IsMarkedSolution, Backs, AreReasoned, named_by}
 use Rattle.sat_solve.proofs.search.Workspace.backjump.Goals as goal

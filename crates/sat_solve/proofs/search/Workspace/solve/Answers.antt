@@ -1,16 +1,12 @@
 use Rattle.std.proofs.Common.{◌<◌, subst, arith}
 use Rattle.sat_solve.specs.SolverState.{IsProgress, height}
 use Rattle.sat_solve.proofs.SolverLemmas.{first_found, work_left_falls}
-use Rattle.sat_solve.proofs.MarkLemmas.{solutions_meet}
+use Rattle.sat_solve.proofs.MarkLemmas.{none_answered}
 use Rattle.sat_solve.proofs.search.Workspace.solve.Goals as goal
 use Rattle.sat_solve.proofs.search.Workspace.solve.Goals.{in-Some+in_ok-backjump+else-not-branch, in_default}
 
-pub returns-then-not-branch-clause-none : goal.returns-then-not-branch-clause-none
-returns-then-not-branch-clause-none c = λ set holds.
-    c.in_ok-backjump.ensures.none c.if-not-branch.true set (solutions_meet c.args.problem.now c.backjump.new.self.solver.used.items set c.in_ok-backjump.ensures.solver.used holds)
-
-pub returns-then-not-branch-clause-marked : goal.returns-then-not-branch-clause-marked
-returns-then-not-branch-clause-marked c = c.in_ok-backjump.ensures.none c.if-not-branch.true
+pub returns-then-not-branch : goal.returns-then-not-branch
+returns-then-not-branch c = none_answered c.args.problem.now c.backjump.new.self.solver.used.items c.in_ok-backjump.ensures.solver.used (c.in_ok-backjump.ensures.none c.if-not-branch.true)
 
 pub rounds-init : goal.rounds-init
 rounds-init c =
@@ -24,20 +20,23 @@ rounds-smaller-in-Going c =
     work_left_falls c.args.problem.now c.rounds.self.solver c.advance.new.self.solver c.rounds.invariant
     (subst (IsProgress c.args.problem.now c.rounds.self.solver c.advance.new.self.solver) c.in-Going.is c.in_ok-advance.ensures.came_to)
 
-pub returns-then-not-branch-2-clause-none : goal.returns-then-not-branch-2-clause-none
-returns-then-not-branch-2-clause-none c = λ set holds.
-    c.in_ok-backjump-in-Conflict.ensures.none c.if-not-branch-2.true set (solutions_meet c.args.problem.now c.backjump-in-Conflict.new.self.solver.used.items set c.in_ok-backjump-in-Conflict.ensures.solver.used holds)
-
-pub returns-then-not-branch-2-clause-marked : goal.returns-then-not-branch-2-clause-marked
-returns-then-not-branch-2-clause-marked c = c.in_ok-backjump-in-Conflict.ensures.none c.if-not-branch-2.true
+pub returns-then-not-branch-2 : goal.returns-then-not-branch-2
+returns-then-not-branch-2 c =
+    none_answered c.args.problem.now c.backjump-in-Conflict.new.self.solver.used.items c.in_ok-backjump-in-Conflict.ensures.solver.used (c.in_ok-backjump-in-Conflict.ensures.none c.if-not-branch-2.true)
 
 pub rounds-smaller : goal.rounds-smaller
 rounds-smaller c =
     let higher : height c.args.problem.now c.advance.new.self.solver < height c.args.problem.now c.backjump-in-Conflict.new.self.solver = c.in_ok-backjump-in-Conflict.ensures.turned c.if-not-branch-2.false in
     work_left_falls c.args.problem.now c.rounds.self.solver c.backjump-in-Conflict.new.self.solver c.rounds.invariant (omega (arith, c.in_ok-advance.ensures.rises))
 
-pub returns-in-Solved-clause-first : goal.returns-in-Solved-clause-first
-returns-in-Solved-clause-first c =
-    first_found c.args.problem.now c.advance.new.self.solver c.in_ok-members-in-Solved.field-0.items c.in_ok-advance.ensures.solver
-    (subst (IsProgress c.args.problem.now c.rounds.self.solver c.advance.new.self.solver) c.in-Solved.is c.in_ok-advance.ensures.came_to)
-    c.in_ok-members-in-Solved.ensures.same
+pub returns-in-Solved : goal.returns-in-Solved
+returns-in-Solved c = record {
+  rising = c.in_ok-members-in-Solved.ensures.rising;
+  first = first_found c.args.problem.now c.advance.new.self.solver c.in_ok-members-in-Solved.field-0.items c.in_ok-advance.ensures.solver
+      (subst (IsProgress c.args.problem.now c.rounds.self.solver c.advance.new.self.solver) c.in-Solved.is c.in_ok-advance.ensures.came_to)
+      c.in_ok-members-in-Solved.ensures.same;
+  none = tt;
+  sized = tt;
+  kept = tt;
+  marked = tt;
+}

@@ -1,6 +1,6 @@
 use Rattle.std.proofs.Common.{sym, ◌≤◌, arith}
 use Rattle.sat_solve.specs.Trail.{set_of, steps_of}
-use Rattle.sat_solve.proofs.MembersLemmas.{lists_more_in, lists_more_out, lists_all}
+use Rattle.number_sets.proofs.MembersLemmas.{lists_more_in, lists_more_out, lists_all}
 use Rattle.sat_solve.proofs.ValueLemmas.{set_of_past}
 use Rattle.sat_solve.proofs.trail.Trail.members.Goals as goal
 use Rattle.sat_solve.proofs.trail.Trail.members.Goals.{then-is_in+in_ok-push, else-is_in}

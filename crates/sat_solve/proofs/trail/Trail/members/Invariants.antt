@@ -1,5 +1,5 @@
 use Rattle.sat_solve.specs.Trail.{set_of, steps_of}
-use Rattle.sat_solve.proofs.MembersLemmas.{ListsBelow}
+use Rattle.number_sets.proofs.MembersLemmas.{ListsBelow}
 use Rattle.sat_solve.proofs.trail.Trail.members.Given as goal
 
 abbrev pub invariant-loop-var : goal.invariant-loop-var

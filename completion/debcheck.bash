@@ -1,0 +1,48 @@
+# Completion of debcheck's command line for bash.
+
+_debcheck_architectures() {
+    { dpkg --print-architecture; dpkg-architecture -L; } 2>/dev/null
+}
+
+_debcheck() {
+    local word=${COMP_WORDS[COMP_CWORD]} option='' behind='' given
+    COMPREPLY=()
+    # The option whose value the word is: the word before it, or what stands before "=", where bash may have parted the word or not.
+    if [[ $word == --*=* ]]; then
+        option=${word%%=*} word=${word#*=} behind=$option=
+    elif [[ $word == '=' ]]; then
+        option=${COMP_WORDS[COMP_CWORD - 1]} word=''
+    elif ((COMP_CWORD > 2)) && [[ ${COMP_WORDS[COMP_CWORD - 1]} == '=' ]]; then
+        option=${COMP_WORDS[COMP_CWORD - 2]}
+    elif ((COMP_CWORD > 1)); then
+        option=${COMP_WORDS[COMP_CWORD - 1]}
+    fi
+    case $option in
+    --arch)
+        mapfile -t COMPREPLY < <(compgen -P "$behind" -W "$(_debcheck_architectures)" -- "$word")
+        return
+        ;;
+    --bg | --since)
+        compopt -o filenames
+        mapfile -t COMPREPLY < <(compgen -P "$behind" -f -- "$word")
+        return
+        ;;
+    --format)
+        mapfile -t COMPREPLY < <(compgen -P "$behind" -W 'text json' -- "$word")
+        return
+        ;;
+    --checkonly | --workers | --chunk) return ;;
+    esac
+    # Each option is given once at most, and --since and --successes not together.
+    given=" ${COMP_WORDS[*]:0:COMP_CWORD} ${COMP_WORDS[*]:COMP_CWORD + 1} "
+    [[ $given != *" --since"[\ =]* ]] || given+='--successes '
+    [[ $given != *' --successes '* ]] || given+='--since '
+    for option in --arch --bg --since --checkonly --format --workers --chunk --explain --failures --successes --causes \
+        --ignore-essential --quiet --help --version; do
+        if [[ $option == "$word"* && $given != *" $option "* && $given != *" $option="* ]]; then
+            COMPREPLY+=("$option")
+        fi
+    done
+}
+
+complete -F _debcheck debcheck

@@ -1,0 +1,25 @@
+#compdef debcheck
+# Completion of debcheck's command line for zsh.
+
+_debcheck_architectures() {
+    local -a known
+    known=(${(f)"$({ dpkg --print-architecture; dpkg-architecture -L } 2>/dev/null)"})
+    compadd -a known
+}
+
+_arguments \
+    '--arch=[architecture to check]:architecture:_debcheck_architectures' \
+    '--bg=[file of a background, a second index]:file:_files' \
+    '(--successes)--since=[tell what became broken since an earlier index]:file:_files' \
+    '--checkonly=[decide only the packages of these names]:names with commas between them: ' \
+    '--format=[form of the report]:form:(text json)' \
+    '--workers=[how many workers decide packages]:number from 1 to 64: ' \
+    '--chunk=[how many packages a worker takes at a time]:number from 1 to 1000000: ' \
+    '--explain[show a set for each ok package and reasons for each broken one]' \
+    '--failures[show only the broken packages]' \
+    '(--since)--successes[show only the ok packages]' \
+    '--causes[end the report with the causes of what is broken]' \
+    '--ignore-essential[let no name be essential]' \
+    '--quiet[show no progress]' \
+    '(- *)'{-h,--help}'[write a summary of the options]' \
+    '(- *)'{-V,--version}'[write the version]'

@@ -1,0 +1,22 @@
+use Rattle.std.proofs.Common.{◌<◌, ◌≤◌, ◌∙◌, ◌&&◌, ◌||◌, List, ℕ, ap, get_or, length, refl, sym, arith}
+use Rattle.std.proofs.lemmas.List.{take_all}
+use Rattle.deb_relation.specs.AtomView.{atom_view}
+use Rattle.deb_index.specs.Packages.{is_in}
+use Rattle.deb_index.specs.Roles.{meets_as_at}
+use Rattle.deb_index.proofs.FoundLemmas.{asked-more, or-none}
+use Rattle.deb_index.proofs.lookup.Lookup.add_named.Goals as goal
+
+pub loop-place-init : goal.loop-place-init
+loop-place-init c = λ q. sym (or-none (is_in c.args.found.now.items q))
+
+pub loop-place-preserved : goal.loop-place-preserved
+loop-place-preserved c = λ q.
+    let within : c.loop-place.place-index < length c.args.places.now = omega arith in
+    asked-more (is_in c.args.found.now.items) (is_in c.loop-place.found.items) (is_in c.add_place.new.found.items) (λ r. meets_as_at c.args.role c.args.self.now r (atom_view c.args.atom.now))
+    c.args.places.now c.loop-place.place-index (get_or c.args.places.now c.loop-place.place-index 0) q within refl (c.loop-place.invariant q) (c.in_ok-add_place.ensures q)
+
+pub returns : goal.returns
+returns c = λ q.
+    let all : length c.args.places.now ≤ c.loop-place.place-index = omega arith in
+    c.loop-place.invariant q
+    ∙ ap (λ (ps : List ℕ). is_in c.args.found.now.items q || (is_in ps q && meets_as_at c.args.role c.args.self.now q (atom_view c.args.atom.now))) (take_all c.loop-place.place-index c.args.places.now all)

@@ -1,0 +1,111 @@
+//! Reading an index.
+ghost use Rattle.std.specs.Prelude.{◌≡◌, ◌≢◌, ◌≤◌, IfOk, IfErr, Ok, Err, length};
+ghost use Rattle.deb_index.specs.Parts.{ArePartsOf};
+ghost use Rattle.deb_index.specs.Reading.{IsBare, byte_limit, index_of, index_of_both};
+
+use crate::builder::Builder;
+use crate::error::{BothError, IndexError, in_back, in_fore};
+use crate::index::Index;
+use crate::parts::{Parted, in_many, in_one};
+use std::alloc::Global;
+use std::thread::Threads;
+
+impl Index {
+    /// Reads the index of a text for an architecture; without `essential` no name is essential. The error is the fault of the first
+    /// stanza that has one, or want of memory.
+    ///
+    /// The text has at most `TEXT_LIMIT` bytes. A text of more than `STANZA_LIMIT` stanzas is refused as `TooManyStanzas`.
+    pub fn read(
+        alloc: Global,
+        text: &[u8],
+        arch: &str,
+        essential: bool,
+    ) -> Result<Index, IndexError>
+        requires { length text.now ≤ byte_limit }
+        ensures accepted { IfOk result (λ index. index_of text.now arch.now essential ≡ Ok index) }
+        ensures refused { IfErr result (λ e. e ≢ IndexError.Memory → index_of text.now arch.now essential ≡ Err e) }
+    {
+        let empty = Builder::new(alloc, arch.as_bytes(), essential)?;
+        let parted = in_one(alloc, text)?;
+        let fore = empty.add_text(alloc, parted)?;
+        let index = fore.end_foreground().finish(alloc)?;
+        Ok(index)
+    }
+
+    /// Reads the index of a text, the foreground, and of a background behind it. A stanza with the name and the version text of an earlier
+    /// one that was kept, of either text, is a duplicate; names, essential names, constraints and what is counted go over both. The error
+    /// is the first fault of the text or, where it has none, that of the background; or want of memory.
+    ///
+    /// Each text has at most `TEXT_LIMIT` bytes. Both together have at most `STANZA_LIMIT` stanzas; the first one beyond is refused as
+    /// `TooManyStanzas` in the text where it stands. With an empty background this is `read`.
+    pub fn read_both(
+        alloc: Global,
+        text: &[u8],
+        background: &[u8],
+        arch: &str,
+        essential: bool,
+    ) -> Result<Index, BothError>
+        requires fore { length text.now ≤ byte_limit }
+        requires back { length background.now ≤ byte_limit }
+        ensures accepted { IfOk result (λ index. index_of_both text.now background.now arch.now essential ≡ Ok index) }
+        ensures refused { IfErr result (λ e. e ≢ BothError.Memory → index_of_both text.now background.now arch.now essential ≡ Err e) }
+        ensures bare { IfErr result IsBare }
+    {
+        let fore = in_one(alloc, text)?;
+        let back = in_one(alloc, background)?;
+        read_parted(alloc, fore, back, arch, essential)
+    }
+
+    /// `read_both` by so many workers side by side, each on a part of its own of the texts; 0 workers count as 1. What is answered is the
+    /// same for any number of workers, and for any `least`: a text of fewer than `2 * least` bytes is read by one worker. `PART_SIZE` is
+    /// a good `least` where time counts.
+    pub fn read_both_on<R: Threads + Sync>(
+        rt: &R,
+        alloc: Global,
+        text: &[u8],
+        background: &[u8],
+        arch: &str,
+        essential: bool,
+        workers: u32,
+        least: usize,
+    ) -> Result<Index, BothError>
+        requires fore { length text.now ≤ byte_limit }
+        requires back { length background.now ≤ byte_limit }
+        ensures accepted { IfOk result (λ index. index_of_both text.now background.now arch.now essential ≡ Ok index) }
+        ensures refused { IfErr result (λ e. e ≢ BothError.Memory → index_of_both text.now background.now arch.now essential ≡ Err e) }
+        ensures bare { IfErr result IsBare }
+    {
+        let fore = in_many(rt, alloc, arch.as_bytes(), text, workers, least)?;
+        let back = in_many(rt, alloc, arch.as_bytes(), background, workers, least)?;
+        read_parted(alloc, fore, back, arch, essential)
+    }
+}
+
+// The index of a text and a background, by their parts.
+fn read_parted(
+    alloc: Global,
+    text: Parted,
+    background: Parted,
+    arch: &str,
+    essential: bool,
+) -> Result<Index, BothError>
+    requires fore { length text.text.now ≤ byte_limit }
+    requires back { length background.text.now ≤ byte_limit }
+    requires fore_parts { ArePartsOf arch.now text.text.now text.parts.items }
+    requires back_parts { ArePartsOf arch.now background.text.now background.parts.items }
+    ensures accepted { IfOk result (λ index. index_of_both text.entry.text.now background.entry.text.now arch.now essential ≡ Ok index) }
+    ensures refused { IfErr result (λ e. e ≢ BothError.Memory → index_of_both text.entry.text.now background.entry.text.now arch.now essential ≡ Err e) }
+    ensures bare { IfErr result IsBare }
+{
+    let empty = Builder::new(alloc, arch.as_bytes(), essential)?;
+    let fore = match empty.add_text(alloc, text) {
+        Ok(fore) => fore.end_foreground(),
+        Err(error) => return Err(in_fore(error)),
+    };
+    let both = match fore.add_text(alloc, background) {
+        Ok(both) => both,
+        Err(error) => return Err(in_back(error)),
+    };
+    let index = both.finish(alloc)?;
+    Ok(index)
+}

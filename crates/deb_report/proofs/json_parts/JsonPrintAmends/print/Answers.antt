@@ -1,0 +1,12 @@
+use Rattle.std.proofs.Common.{Bor, append_assoc, codes}
+use Rattle.deb_report.specs.declared.since.BrokenPackage.{BrokenPackage}
+use Rattle.deb_report.specs.Json.{array, broken_json}
+use Rattle.deb_report.specs.Since.{broken_view}
+use Rattle.deb_report.proofs.JoinLemmas.{joined_map}
+use Rattle.deb_report.proofs.json_parts.JsonPrintAmends.print.Goals as goal
+
+pub returns : goal.returns
+unfolding array
+returns c =
+    rw (joined_map broken_json (λ (deb : Bor BrokenPackage). broken_view deb.now) (codes ",") c.args.amends.now.packages.items)
+    (rw append_assoc at (rw c.as_slice.ensures.value at c.push_array.ensures))

@@ -1,0 +1,4 @@
+use Rattle.deb_report.proofs.lines.Lines.push_blocks.Goals as goal
+
+pub push_titled-requires : goal.push_titled-requires
+push_titled-requires c = rw c.as_slice.ensures.value c.requires.blocks

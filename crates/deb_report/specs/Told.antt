@@ -1,0 +1,46 @@
+-- What a report tells, without where it lies in memory.
+use Rattle.std.specs.Prelude.{ℕ, ◌<◌, List, All, IfSome, length, map}
+use Rattle.std.specs.Option.{option_map}
+use Rattle.deb_relation.specs.AtomView.{atom_view}
+use Rattle.deb_index.specs.Packages.{IndexView, package_view}
+use Rattle.deb_health.specs.Verdicts.{SpeaksOf, VerdictView, verdict_view}
+use Rattle.deb_report.specs.declared.amends.Amends.{Amends}
+use Rattle.deb_report.specs.declared.content.Content.{Content}
+use Rattle.deb_report.specs.declared.reasons.Reason.{Reason}
+use Rattle.deb_report.specs.declared.reasons.Reason.TheVariants.{Name, Relation}
+use Rattle.deb_report.specs.declared.shown.Shown.{Shown}
+use Rattle.deb_report.specs.declared.summary.Number.{Number}
+use Rattle.deb_report.specs.Causes.{IsCauseOf, cause_view}
+use Rattle.deb_report.specs.Content.{ContentView}
+use Rattle.deb_report.specs.Report.{OfName, OfRelation, ReasonView}
+use Rattle.deb_report.specs.Since.{BrokenView, broken_view}
+
+abbrev pub reason_view : Reason → ReasonView
+reason_view (Name kind name) = OfName kind.now name.now
+reason_view (Relation kind deb field relation) = OfRelation kind.now (package_view deb.now) field.now (map atom_view relation.now)
+
+abbrev pub shown_view : Shown → ℕ × VerdictView
+shown_view shown = (shown.place, verdict_view shown.verdict.now)
+
+abbrev pub number_view : Number → List ℕ × ℕ
+number_view number = (number.title.now, number.number)
+
+-- both speak of what the index has
+abbrev pub IsAskedOf : IndexView → ℕ × VerdictView → Type 0
+IsAskedOf index asked = (asked.0 < length index.packages) × SpeaksOf index asked.1
+
+abbrev pub amends_view : Amends → List ℕ × List BrokenView
+amends_view amends = (amends.title.now, map (λ deb. broken_view deb.now) amends.packages.items)
+
+abbrev pub content_view : Content → ContentView
+content_view content = record {
+  blocks = map shown_view content.blocks.items;
+  numbers = map number_view content.numbers.items;
+  lists = map amends_view content.lists.items;
+  causes = option_map (λ causes. map cause_view causes.items) content.causes;
+}
+
+-- blocks and causes speak of what the index has
+pub record IsContentOf (index : IndexView) (content : Content) : Type 0 where
+  pub blocks : All (λ one. IsAskedOf index (shown_view one)) content.blocks.items
+  pub causes : IfSome content.causes (λ causes. All (λ cause. IsCauseOf index (cause_view cause)) causes.items)

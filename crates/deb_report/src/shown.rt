@@ -1,0 +1,72 @@
+//! The asked places that are shown, with their verdicts.
+
+ghost use Rattle.std.specs.Prelude.{◌≡◌, IfOk, length, map};
+ghost use Rattle.deb_health.specs.Verdicts.{verdict_view};
+ghost use Rattle.deb_report.specs.Report.{is_broken, is_shown, shown_of, status_of};
+ghost use Rattle.deb_report.specs.Told.{shown_view};
+
+use crate::config::Show;
+use deb_health::Verdict;
+use std::alloc::{AllocError, Global};
+
+/// An asked place and its verdict.
+#[derive(Drop)]
+pub(crate) struct Shown<'v> {
+    pub(crate) place: u32,
+    pub(crate) verdict: &'v Verdict,
+}
+
+/// Whether the package cannot be installed.
+pub(crate) fn is_broken(verdict: &Verdict) -> bool
+    ensures { result ≡ is_broken (verdict_view verdict.now) }
+{
+    match verdict {
+        Verdict::Ok(_) => false,
+        Verdict::Broken(_) => true,
+    }
+}
+
+/// Whether a package with this verdict is shown.
+fn is_shown(show: Show, verdict: &Verdict) -> bool
+    ensures { result ≡ is_shown show (verdict_view verdict.now) }
+{
+    match show {
+        Show::All => true,
+        Show::Failures => is_broken(verdict),
+        Show::Successes => !is_broken(verdict),
+    }
+}
+
+/// The status of a package.
+#[tactic(auto, unfolding(crate::specs::Report::status_of))]
+pub(crate) fn status_text(verdict: &Verdict) -> &'static [u8]
+    ensures { result.now ≡ status_of (verdict_view verdict.now) }
+{
+    match verdict {
+        Verdict::Ok(_) => b"ok",
+        Verdict::Broken(_) => b"broken",
+    }
+}
+
+/// The asked places that are shown, in the order of the list.
+pub(crate) fn shown_of<'v>(
+    alloc: Global,
+    asked: &[u32],
+    verdicts: &'v [Verdict],
+    show: Show,
+) -> Result<Vec<Shown<'v>>, AllocError>
+    requires { length asked.now ≡ length verdicts.now }
+    ensures { IfOk result (λ shown. map shown_view shown.items ≡ shown_of show asked.now (map verdict_view verdicts.now)) }
+{
+    let mut shown = Vec::new(alloc);
+    for (i, place) in asked.iter().enumerate() {
+        let verdict = &verdicts[i];
+        if is_shown(show, verdict) {
+            shown.push(Shown {
+                place: *place,
+                verdict,
+            })?;
+        }
+    }
+    Ok(shown)
+}

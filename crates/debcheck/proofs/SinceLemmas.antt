@@ -1,0 +1,241 @@
+-- From the phases of a run since an earlier index to the whole run.
+use Rattle.std.proofs.Common.{◌≡◌, ◌∙◌, ◌&&◌, ◌||◌, if◌then◌else◌, ℕ, Bool, true, false, List, [], Option, Some, None, Ok, IfSome, ap, inl, inr, map, refl, subst, sym}
+use Rattle.std.specs.Io.KnownBytes.{Appends}
+use Rattle.std.proofs.lemmas.Bool.{false≢true}
+use Rattle.deb_index.specs.Packages.{IndexView}
+use Rattle.deb_index.specs.Reading.{byte_limit, index_of_both}
+use Rattle.deb_health.specs.Verdicts.{Blocked, Found, IsVerdict, VerdictView}
+use Rattle.work_draw.specs.Checks.{AnswersEach}
+use Rattle.deb_report.specs.declared.config.Show.TheVariants.{Failures}
+use Rattle.deb_report.specs.declared.summary.Summary.{Summary}
+use Rattle.deb_report.specs.Asked.{asked_places, listed_places}
+use Rattle.deb_verdict.specs.Told.{as_told}
+use Rattle.deb_verdict.specs.declared.wanted.Wanted.{Wanted}
+use Rattle.deb_report.specs.Report.{is_broken}
+use Rattle.deb_report.specs.Settings.{Settings}
+use Rattle.deb_report.specs.Since.{BrokenView, broken_of, summary_since}
+use Rattle.deb_report.specs.Written.{written_since}
+use Rattle.deb_report.proofs.Unshown.{LeavesTold, broken_unchanged, since_unchanged, summary_since_unchanged}
+use Rattle.debcheck.specs.declared.fault.RunFault.{RunFault}
+use Rattle.debcheck.specs.declared.fault.RunFault.TheVariants.{Read, TooLong, BackgroundRead, BackgroundTooLong, EarlierRead, EarlierTooLong, Index, Background, Earlier, UnknownAsked, Memory, Write}
+use Rattle.debcheck.specs.Devices.{AppendsPart}
+use Rattle.debcheck.specs.Run.{Fails, FailsToAccept, FailsToIndex, FailsToRead, FailsToReport, HasAsked, HasIndex, IfIndexed, IfTold, Input, IsReadAs, ReadsAs, WritesBy, WritesFrontBy, behind, input}
+use Rattle.debcheck.specs.Since.{FailsEarlier, FailsSince, IsReportAfter, IsReportSince, LeavesSince, TellsReportSince, WereBroken, WritesFrontSince, WritesReportSince, earlier_fault, is_unread_behind, wanted_since}
+use Rattle.debcheck.proofs.PhaseLemmas.{as-indexed, fails-unwritten, front-added, kept-itself, report-added, told_index, told_weaker}
+
+-- ---- what is told of verdicts
+
+-- a change of verdicts that leaves their statuses leaves what is broken
+pub were-broken : (change : VerdictView → VerdictView) → ((verdict : VerdictView) → is_broken (change verdict) ≡ is_broken verdict)
+    → (settings : Settings) (index : IndexView) (asked held : List ℕ) (told verdicts : List VerdictView) (before : List BrokenView) → held ≡ listed_places index settings.only → asked ≡ held
+    → AnswersEach (IsVerdict index) asked verdicts → map change told ≡ map change verdicts → before ≡ broken_of index asked told → WereBroken settings before index
+were-broken change status settings index asked held told verdicts before are same each alike is =
+    let places = listed_places index settings.only in
+    let P : List ℕ → Type 0 = λ list. AnswersEach (IsVerdict index) list verdicts × (before ≡ broken_of index list told) in
+    let both : P places = subst P (same ∙ are) (each, is) in
+    record {
+      verdicts = verdicts;
+      are_verdicts = both.0;
+      are_broken = both.1
+          ∙ sym (broken_unchanged change status places told index)
+          ∙ ap (λ (list : List VerdictView). broken_of index places list) alike
+          ∙ broken_unchanged change status places verdicts index;
+    }
+
+-- and one that leaves what a report since an earlier index tells leaves that report
+pub reported-after : (change : VerdictView → VerdictView) (settings : Settings) → LeavesTold settings.explain Failures settings.causes change
+    → (index : IndexView) (asked : List ℕ) (told verdicts : List VerdictView) (before : List BrokenView) (output : List ℕ) (summary : Summary)
+    → asked_places index settings.only ≡ Ok asked → AnswersEach (IsVerdict index) asked verdicts → map change told ≡ map change verdicts → output ≡ written_since settings index asked told before
+    → summary ≡ summary_since index asked told before → IsReportAfter before settings index output summary
+reported-after change settings leaves index asked told verdicts before output summary is each alike written counted = record {
+  asked = asked;
+  verdicts = verdicts;
+  is_asked = is;
+  are_verdicts = each;
+  is_output = written
+      ∙ sym (since_unchanged settings change leaves index asked told before)
+      ∙ ap (λ (list : List VerdictView). written_since settings index asked list before) alike
+      ∙ since_unchanged settings change leaves index asked verdicts before;
+  is_summary = counted
+      ∙ sym (summary_since_unchanged settings change leaves index asked told before)
+      ∙ ap (λ (list : List VerdictView). summary_since index asked list before) alike
+      ∙ summary_since_unchanged settings change leaves index asked verdicts before;
+}
+
+-- to leave out what isn't wanted is such a change
+pub told_status : (wanted : Wanted) (verdict : VerdictView) → is_broken (as_told wanted verdict) ≡ is_broken verdict
+told_status wanted (Found places) = refl
+told_status wanted (Blocked core) = refl
+
+news_shown : (explain causes : Bool) (verdict : VerdictView) → (explain && is_broken verdict) ≡ true → as_told (record { sets = false; cores = causes || explain }) verdict ≡ verdict
+news_shown true true (Blocked core) told = refl
+news_shown true false (Blocked core) told = refl
+news_shown true causes (Found places) told = absurd (false≢true told)
+news_shown false causes verdict told = absurd (false≢true told)
+
+news_caused : (explain causes : Bool) (verdict : VerdictView) → causes ≡ true → is_broken verdict ≡ true → as_told (record { sets = false; cores = causes || explain }) verdict ≡ verdict
+news_caused explain causes (Found places) told broken = absurd (false≢true broken)
+news_caused explain causes (Blocked core) told broken = ap (λ (tells : Bool). Blocked (if tells || explain then core else [])) told
+
+pub leaves_news : (settings : Settings) → LeavesTold settings.explain Failures settings.causes (as_told (wanted_since settings))
+leaves_news settings = record { status = told_status (wanted_since settings); shown = news_shown settings.explain settings.causes; caused = news_caused settings.explain settings.causes }
+
+-- ---- the earlier index
+
+-- a text that could not be read is none, whatever stands behind it
+pub reading-fails : (settings : Settings) (text : Option (List ℕ)) (before failed : Bool) (fault : RunFault) → before ≡ false → FailsToRead text before failed byte_limit fault
+    → (background : Input) (more : List ℕ) → IsReadAs (behind settings background) more → FailsToIndex settings (input text failed) background fault
+reading-fails settings text before failed Read unmarked h background more second = h
+reading-fails settings text before failed TooLong unmarked h background more second = (h.0 ∙ unmarked, h.1)
+reading-fails settings text before failed BackgroundRead unmarked h background more second = absurd h
+reading-fails settings text before failed BackgroundTooLong unmarked h background more second = absurd h
+reading-fails settings text before failed EarlierRead unmarked h background more second = absurd h
+reading-fails settings text before failed EarlierTooLong unmarked h background more second = absurd h
+reading-fails settings text before failed (Index fault) unmarked h background more second = absurd h
+reading-fails settings text before failed (Background fault) unmarked h background more second = absurd h
+reading-fails settings text before failed (Earlier fault) unmarked h background more second = absurd h
+reading-fails settings text before failed (UnknownAsked name) unmarked h background more second = absurd h
+reading-fails settings text before failed Memory unmarked h background more second = (h ∙ unmarked, second.0)
+reading-fails settings text before failed Write unmarked h background more second = absurd h
+
+-- no fault is told of a text before it
+pub reading-behind : (text : Option (List ℕ)) (before failed : Bool) (limit : ℕ) (fault : RunFault) → FailsToRead text before failed limit fault → is_unread_behind (earlier_fault fault) ≡ false
+reading-behind text before failed limit Read h = refl
+reading-behind text before failed limit TooLong h = refl
+reading-behind text before failed limit BackgroundRead h = absurd h
+reading-behind text before failed limit BackgroundTooLong h = absurd h
+reading-behind text before failed limit EarlierRead h = refl
+reading-behind text before failed limit EarlierTooLong h = refl
+reading-behind text before failed limit (Index fault) h = refl
+reading-behind text before failed limit (Background fault) h = refl
+reading-behind text before failed limit (Earlier fault) h = refl
+reading-behind text before failed limit (UnknownAsked name) h = refl
+reading-behind text before failed limit Memory h = refl
+reading-behind text before failed limit Write h = refl
+
+pub accepting-behind : (settings : Settings) (bytes more : List ℕ) (fault : RunFault) → FailsToAccept settings bytes more fault → (is_unread_behind fault ≡ false) × (is_unread_behind (earlier_fault fault) ≡ false)
+accepting-behind settings bytes more Read h = absurd h
+accepting-behind settings bytes more TooLong h = absurd h
+accepting-behind settings bytes more BackgroundRead h = absurd h
+accepting-behind settings bytes more BackgroundTooLong h = absurd h
+accepting-behind settings bytes more EarlierRead h = absurd h
+accepting-behind settings bytes more EarlierTooLong h = absurd h
+accepting-behind settings bytes more (Index fault) h = (refl, refl)
+accepting-behind settings bytes more (Background fault) h = (refl, refl)
+accepting-behind settings bytes more (Earlier fault) h = absurd h
+accepting-behind settings bytes more (UnknownAsked name) h = absurd h
+accepting-behind settings bytes more Memory h = (refl, refl)
+accepting-behind settings bytes more Write h = absurd h
+
+pub asking-behind : (settings : Settings) (index : IndexView) (fault : RunFault) → FailsToReport settings index fault → is_unread_behind fault ≡ false
+asking-behind settings index Read h = absurd h
+asking-behind settings index TooLong h = absurd h
+asking-behind settings index BackgroundRead h = absurd h
+asking-behind settings index BackgroundTooLong h = absurd h
+asking-behind settings index EarlierRead h = absurd h
+asking-behind settings index EarlierTooLong h = absurd h
+asking-behind settings index (Index fault) h = absurd h
+asking-behind settings index (Background fault) h = absurd h
+asking-behind settings index (Earlier fault) h = absurd h
+asking-behind settings index (UnknownAsked name) h = refl
+asking-behind settings index Memory h = refl
+asking-behind settings index Write h = absurd h
+
+-- where memory was wanted for an earlier index that was read
+pub wanting-earlier : (settings : Settings) (earlier background : Input) (index : IndexView) → ReadsAs settings earlier background index → FailsEarlier settings earlier background Memory
+wanting-earlier settings earlier background index reads = (Memory, refl, refl, (reads.0.0.0, reads.0.1.0))
+
+-- ---- failing
+
+pub fails-as-alone : (settings : Settings) (text background earlier : Input) (fault : RunFault) → Fails settings text background false fault → FailsSince settings text background earlier false fault
+fails-as-alone settings text background earlier fault h =
+    inl (h, λ is. let P : RunFault → Type 0 = λ f. Fails settings text background false f in let failed = (subst P is h).0 in absurd cc)
+
+-- a run that fails before anything is written, fails so whatever becomes of the writer
+pub since-unwritten : (settings : Settings) (text background earlier : Input) (write_failed : Bool) (fault : RunFault) → FailsSince settings text background earlier false fault
+    → FailsSince settings text background earlier write_failed fault
+since-unwritten settings text background earlier w fault (inl h) = inl (fails-unwritten settings text background w fault h.0, h.1)
+since-unwritten settings text background earlier w fault (inr h) = inr h
+
+earlier-unwritten : (settings : Settings) (earlier background : Input) (cause : RunFault) → Write ≡ earlier_fault cause → FailsToIndex settings earlier background cause → ⊥
+earlier-unwritten settings earlier background Read is h = absurd cc
+earlier-unwritten settings earlier background TooLong is h = absurd cc
+earlier-unwritten settings earlier background BackgroundRead is h = absurd cc
+earlier-unwritten settings earlier background BackgroundTooLong is h = absurd cc
+earlier-unwritten settings earlier background EarlierRead is h = h
+earlier-unwritten settings earlier background EarlierTooLong is h = h
+earlier-unwritten settings earlier background (Index fault) is h = absurd cc
+earlier-unwritten settings earlier background (Background fault) is h = absurd cc
+earlier-unwritten settings earlier background (Earlier fault) is h = h
+earlier-unwritten settings earlier background (UnknownAsked name) is h = h
+earlier-unwritten settings earlier background Memory is h = absurd cc
+earlier-unwritten settings earlier background Write is h = h
+
+-- and it leaves nothing written
+pub since-leaves : (settings : Settings) (text background earlier : Input) (held : Option (List ℕ)) (fault : RunFault) → FailsSince settings text background earlier false fault
+    → LeavesSince settings text background earlier held held fault
+since-leaves settings text background earlier held Read h = kept-itself held
+since-leaves settings text background earlier held TooLong h = kept-itself held
+since-leaves settings text background earlier held BackgroundRead h = kept-itself held
+since-leaves settings text background earlier held BackgroundTooLong h = kept-itself held
+since-leaves settings text background earlier held EarlierRead h = kept-itself held
+since-leaves settings text background earlier held EarlierTooLong h = kept-itself held
+since-leaves settings text background earlier held (Index fault) h = kept-itself held
+since-leaves settings text background earlier held (Background fault) h = kept-itself held
+since-leaves settings text background earlier held (Earlier fault) h = kept-itself held
+since-leaves settings text background earlier held (UnknownAsked name) h = kept-itself held
+since-leaves settings text background earlier held Memory h = kept-itself held
+since-leaves settings text background earlier held Write (inl h) =
+    let failed = h.0.0 in
+    absurd cc
+since-leaves settings text background earlier held Write (inr h) = absurd (earlier-unwritten settings earlier background h.1.0 h.1.1 h.1.3)
+
+-- ---- writing
+
+since_told : (settings : Settings) (before : List BrokenView) (output : List ℕ) (summary : Summary) (was text more : Option (List ℕ))
+    → IfSome was (λ a. IfSome more (λ b. HasIndex settings a b (WereBroken settings before)))
+    → IfSome text (λ a. IfSome more (λ b. HasIndex settings a b (λ index. IsReportAfter before settings index output summary)))
+    → IfSome was (λ w. IfSome text (λ a. IfSome more (λ b. IsReportSince settings w a b output summary)))
+since_told settings before output summary None text more broken has = tt
+since_told settings before output summary (Some w) None more broken has = tt
+since_told settings before output summary (Some w) (Some a) None broken has = tt
+since_told settings before output summary (Some w) (Some a) (Some b) broken has = record { before = before; was = broken; has = has }
+
+pub told-since : (settings : Settings) (text background earlier : Input) (index : IndexView) (before : List BrokenView) (output : List ℕ) (summary : Summary)
+    → ReadsAs settings text background index → IfIndexed settings earlier background (WereBroken settings before) → IsReportAfter before settings index output summary
+    → TellsReportSince settings text background earlier output summary
+told-since settings text background earlier index before output summary reads was on = (
+  as-indexed settings text background index (HasAsked settings) reads (on.asked, on.is_asked),
+  (
+    was.0,
+    told_weaker earlier.text (behind settings background).text
+        (λ (a b : List ℕ). (view : IndexView) × (index_of_both a b settings.arch settings.essential ≡ Ok view) × WereBroken settings before view)
+        (λ (a b : List ℕ). (view : IndexView) × (index_of_both a b settings.arch settings.essential ≡ Ok view) × Unit {0}) (λ a b h. (h.0, h.1, tt)) was.1,
+  ),
+  since_told settings before output summary earlier.text text.text (behind settings background).text
+      (told_index settings earlier background (WereBroken settings before) was)
+      (told_index settings text background (λ view. IsReportAfter before settings view output summary)
+      (as-indexed settings text background index (λ view. IsReportAfter before settings view output summary) reads on)),
+)
+
+-- what follows of each text that is told
+each_told : (told : Option (List ℕ)) (P Q : List ℕ → Type 0) → ((bytes : List ℕ) → P bytes → Q bytes) → IfSome told P → IfSome told Q
+each_told None P Q f h = tt
+each_told (Some bytes) P Q f h = f bytes h
+
+pub since-added : (settings : Settings) (text background earlier : Input) (old new : Option (List ℕ)) (output : List ℕ) (summary : Summary)
+    → TellsReportSince settings text background earlier output summary → Appends old new output → WritesReportSince settings text background earlier old new summary
+since-added settings text background earlier old new output summary tells h =
+    each_told earlier.text (λ (was : List ℕ). IfTold settings text background (λ bytes more. IsReportSince settings was bytes more output summary))
+    (λ (was : List ℕ). WritesBy (IsReportSince settings was) settings text background old new summary) (λ was report. report-added (IsReportSince settings was) settings text background old new output summary report h) tells.2
+
+pub since-front : (settings : Settings) (text background earlier : Input) (old new : Option (List ℕ)) (output : List ℕ) (summary : Summary)
+    → TellsReportSince settings text background earlier output summary → AppendsPart old new output → WritesFrontSince settings text background earlier old new
+since-front settings text background earlier old new output summary tells h =
+    each_told earlier.text (λ (was : List ℕ). IfTold settings text background (λ bytes more. IsReportSince settings was bytes more output summary))
+    (λ (was : List ℕ). WritesFrontBy (IsReportSince settings was) settings text background old new) (λ was report. front-added (IsReportSince settings was) settings text background old new output summary report h) tells.2
+
+-- where the report is there, a failed write is why the run fails
+pub since-writing-fails : (settings : Settings) (text background earlier : Input) (write_failed : Bool) (output : List ℕ) (summary : Summary)
+    → TellsReportSince settings text background earlier output summary → write_failed ≡ true → FailsSince settings text background earlier write_failed Write
+since-writing-fails settings text background earlier w output summary tells failed = inl ((failed, tells.0), λ is. tells.1)

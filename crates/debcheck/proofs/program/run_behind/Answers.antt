@@ -1,0 +1,20 @@
+use Rattle.std.proofs.Common.{option_map, refl, string_bytes}
+use Rattle.debcheck.proofs.ProgramLemmas.{runs_alone, runs_since, unbegun_earlier, unopened, unopened_memory}
+use Rattle.debcheck.proofs.program.run_behind.Goals as goal
+
+pub returns-in_default : goal.returns-in_default
+returns-in_default g c =
+    runs_alone _ _ _ _ _ _ _ c.run.result (rw c.in_default.is refl) c.run.ensures.refused c.run.ensures.unfailed c.run.ensures.flushed c.run.ensures.report c.run.ensures.left
+
+pub returns-in-Ok : goal.returns-in-Ok
+returns-in-Ok g c =
+    runs_since _ _ (option_map string_bytes c.args.config.now.since) c.as_str.result.now (string_bytes c.in-Some.file) _ _ _ _ _ c.run_since.result (rw c.in-Some.is refl) c.as_str.ensures.value c.in-Ok.ensures.opened
+    c.run_since.ensures.refused c.run_since.ensures.unfailed c.run_since.ensures.flushed c.run_since.ensures.report c.run_since.ensures.left
+
+pub returns-in-Err-Memory : goal.returns-in-Err-Memory
+returns-in-Err-Memory g c = unbegun_earlier _ _ _ _ _ _ _ _ (unopened_memory _ _ _ (string_bytes c.in-Some.file) _ _ _ _ _ (rw c.in-Some.is refl) c.requires.reader)
+
+pub returns-in-Err-Unopened : goal.returns-in-Err-Unopened
+returns-in-Err-Unopened g c =
+    unbegun_earlier _ _ _ _ _ _ _ _ (unopened _ _ _ c.as_str.result.now (string_bytes c.in-Some.file) _ _ _ _ _ (rw c.in-Some.is refl) c.as_str.ensures.value c.requires.reader
+    (c.in-Err-Unopened.ensures.refused c.in-Err-Unopened.field-0-is))

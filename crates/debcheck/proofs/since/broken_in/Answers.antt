@@ -1,0 +1,21 @@
+use Rattle.std.proofs.Common.{◌∙◌, List, ap, false, map}
+use Rattle.std.proofs.lemmas.Result.{IfOk-weaker}
+use Rattle.deb_health.specs.declared.answer.Verdict.{Verdict}
+use Rattle.deb_health.specs.Verdicts.{verdict_view}
+use Rattle.deb_verdict.specs.Told.{as_told}
+use Rattle.deb_verdict.specs.declared.wanted.Wanted.{Wanted}
+use Rattle.deb_report.specs.Settings.{settings_of}
+use Rattle.deb_report.specs.Since.{broken_of, broken_view}
+use Rattle.debcheck.proofs.SinceLemmas.{told_status, were-broken}
+use Rattle.debcheck.proofs.since.broken_in.Goals as goal
+
+pub returns : goal.returns
+returns g c =
+    let index = c.args.index.now in
+    let asked = c.as_slice-asked.result.now in
+    let told = ap (λ (verdicts : List Verdict). broken_of index asked (map verdict_view verdicts)) c.as_slice.ensures.value in
+    let statuses : Wanted = record { sets = false; cores = false } in
+    let stand = c.in_ok-verdicts.ensures.stand in
+    IfOk-weaker c.broken_packages.result _ _
+    (λ before is. were-broken (as_told statuses) (told_status statuses) (settings_of c.args.config.now) index asked c.in_ok-asked.asked.items (map verdict_view c.in_ok-verdicts.verdicts.items) stand.verdicts
+    (map broken_view before.items) c.in_ok-asked.ensures.places c.as_slice-asked.ensures.value stand.are_verdicts stand.same (is ∙ told)) c.broken_packages.ensures

@@ -1,0 +1,125 @@
+-- What a program comes to, from its words to its exit status.
+use Rattle.std.specs.Prelude.{◌≡◌, ◌≢◌, ◌⊎◌, ℕ, Bool, false, true, List, Option, Some, None, Result, Ok, Err, IfSome, option_map, string_bytes}
+use Rattle.std.specs.Io.KnownBytes.{Appends}
+use Rattle.clap.specs.Words.{Text}
+use Rattle.deb_report.specs.declared.config.Config.{Config}
+use Rattle.deb_report.specs.declared.summary.Summary.{Summary}
+use Rattle.deb_report.specs.Settings.{Settings, settings_of}
+use Rattle.debcheck.specs.declared.fault.RunFault.{RunFault}
+use Rattle.debcheck.specs.declared.fault.RunFault.TheVariants as run_fault
+use Rattle.debcheck.specs.declared.line.LineFault.{LineFault}
+use Rattle.debcheck.specs.declared.line.LineFault.TheVariants.{Refused, Help, Memory}
+use Rattle.debcheck.specs.Devices.{AppendsPart}
+use Rattle.debcheck.specs.Faults.{fault_line, status_of, told_line}
+use Rattle.debcheck.specs.Line.{Accepts, RefusesLine}
+use Rattle.debcheck.specs.Run.{Input}
+use Rattle.debcheck.specs.Since.{FailsAny, LeavesAny, WritesAny}
+
+-- ---- files
+
+-- what is known of names: nothing of a name, or that nothing can be opened there, or the bytes that stand there
+abbrev pub Named : Type 0
+Named = Text → Option (Option (List ℕ))
+
+-- an opened file holds these bytes, where it is told what stands under its name
+abbrev pub IsHeld : Option (Option (List ℕ)) → Option (List ℕ) → Type 0
+IsHeld told text = IfSome told (λ held. (held ≢ None) × (text ≡ held))
+
+-- nothing can be opened, where it is told what stands under the name
+abbrev pub IsUnopened : Option (Option (List ℕ)) → Type 0
+IsUnopened told = IfSome told (λ held. held ≡ None)
+
+-- the background is what stands under the name of the words, where they name one
+abbrev pub IsNamed : Named → Option Text → Input → Type 0
+IsNamed files None background = Unit {0}
+IsNamed files (Some name) background = IsHeld (files name) background.text
+
+-- the earlier index is what stands under the name of the words; without a name there is none
+abbrev pub IsEarlier : Named → Option Text → Option Input → Type 0
+IsEarlier files None earlier = earlier ≡ None
+IsEarlier files (Some name) earlier = (source : Input) × (earlier ≡ Some source) × IsHeld (files name) source.text
+
+-- ---- what is written
+
+-- what is known of a device that was written to: what it held at the call, where it tells that, and what it holds now, whether a call of it has failed, and whether all is flushed
+pub record Written : Type 0 where
+  pub held : Option (List ℕ)
+  pub now : Option (List ℕ)
+  pub failed : Bool
+  pub flushed : Bool
+
+abbrev pub written : Option (List ℕ) → Option (List ℕ) → Bool → Bool → Written
+written held now failed flushed = record { held = held; now = now; failed = failed; flushed = flushed }
+
+-- a text was added and flushed
+abbrev pub Adds : Written → List ℕ → Type 0
+Adds device text = Appends device.held device.now text × (device.flushed ≡ true)
+
+-- the device failed, and a front of a text was added
+abbrev pub AddsFront : Written → List ℕ → Type 0
+AddsFront device text = AppendsPart device.held device.now text × (device.failed ≡ true)
+
+-- a text was added, or its front where the device failed
+abbrev pub Tells : Written → List ℕ → Type 0
+Tells device text = Adds device text ⊎ AddsFront device text
+
+-- the line of a fault was added, or that of want of memory
+unfoldable pub TellsFault : Written → RunFault → Type 0
+TellsFault device fault = (own : Bool) × Tells device (told_line own fault)
+
+-- what is told of a run: nothing where there is a report, else the line of its fault
+unfoldable pub TellsOutcome : Written → Result Summary RunFault → Type 0
+TellsOutcome errors (Ok summary) = errors.now ≡ errors.held
+TellsOutcome errors (Err fault) = TellsFault errors fault
+
+-- ---- the words
+
+-- what the words after the program's name ask for, where there are such
+unfoldable pub Asks : Result (List Text) LineFault → Result Config LineFault → Type 0
+Asks (Ok words) (Ok config) = Accepts words config
+Asks (Ok words) (Err fault) = RefusesLine words fault
+Asks (Err fault) line = line ≡ Err fault
+
+-- what a line without a configuration comes to: help and the version go to the output, and where it fails, that is told as of a report; all else goes to the errors
+unfoldable pub Refuses : LineFault → Written → Written → ℕ → Type 0
+Refuses (Help text) output errors status =
+    ((status ≡ 0) × Adds output (string_bytes text) × (errors.now ≡ errors.held))
+    ⊎ ((status ≡ 68) × AddsFront output (string_bytes text) × TellsFault errors run_fault.Write)
+Refuses (Refused text) output errors status = (status ≡ 64) × (output.now ≡ output.held) × Tells errors (string_bytes text)
+Refuses Memory output errors status = (status ≡ 69) × (output.now ≡ output.held) × Tells errors (fault_line run_fault.Memory)
+
+-- ---- the run
+
+-- the file that is named was not opened, since nothing can be opened there, which this fault tells, or memory was wanted: nothing was read and nothing written
+abbrev pub IsUnbegun : Named → Option Text → RunFault → Input → Option (List ℕ) → Written → RunFault → Type 0
+IsUnbegun files None unopened text rest output fault = ⊥
+IsUnbegun files (Some name) unopened text rest output fault = (text.failed ≡ false) × (rest ≡ text.text) × (output.now ≡ output.held)
+    × (((fault ≡ unopened) × IsUnopened (files name)) ⊎ (fault ≡ run_fault.Memory))
+
+-- a run on the text, on the background, and on the earlier index under the name, where there is one: the report was written and flushed, or there is a reason why it was not, and what was written until then
+unfoldable pub RunsBehind : Settings → Named → Option Text → Input → Input → Option (List ℕ) → Written → Result Summary RunFault → Type 0
+RunsBehind settings files since text background rest output (Ok summary) = (text.failed ≡ false) × (output.failed ≡ false) × (output.flushed ≡ true)
+    × ((earlier : Option Input) × IsEarlier files since earlier × WritesAny settings text background earlier output.held output.now summary)
+RunsBehind settings files since text background rest output (Err fault) = IsUnbegun files since run_fault.EarlierRead text rest output fault
+    ⊎ ((earlier : Option Input) × IsEarlier files since earlier × FailsAny settings text background earlier output.failed fault × LeavesAny settings text background earlier output.held output.now fault)
+
+-- the same, on the background under its name; it is opened before the earlier index
+unfoldable pub Runs : Settings → Named → Option Text → Option Text → Input → Option (List ℕ) → Written → Result Summary RunFault → Type 0
+Runs settings files bg since text rest output outcome = ((fault : RunFault) × (outcome ≡ Err fault) × IsUnbegun files bg run_fault.BackgroundRead text rest output fault)
+    ⊎ ((background : Input) × IsNamed files bg background × RunsBehind settings files since text background rest output outcome)
+
+-- ---- the program
+
+-- a run under a configuration, the line of its fault, and its exit status
+unfoldable pub RunsTo : Config → Named → Input → Option (List ℕ) → Written → Written → ℕ → Type 0
+RunsTo config files text rest output errors status = (outcome : Result Summary RunFault) × (status ≡ status_of outcome) × TellsOutcome errors outcome
+    × Runs (settings_of config) files (option_map string_bytes config.bg) (option_map string_bytes config.since) text rest output outcome
+
+-- what comes of a line: a run, or what is said of it, and nothing is read then
+abbrev pub EndsBy : Named → Input → Option (List ℕ) → Written → Written → ℕ → Result Config LineFault → Type 0
+EndsBy files text rest output errors status (Ok config) = RunsTo config files text rest output errors status
+EndsBy files text rest output errors status (Err fault) = (text.failed ≡ false) × (rest ≡ text.text) × Refuses fault output errors status
+
+-- what a program comes to: the words ask for a run, or give no configuration, and it ends by that
+unfoldable pub Ends : Result (List Text) LineFault → Named → Input → Option (List ℕ) → Written → Written → ℕ → Type 0
+Ends words files text rest output errors status = (line : Result Config LineFault) × Asks words line × EndsBy files text rest output errors status line

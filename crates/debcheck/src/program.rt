@@ -1,0 +1,252 @@
+//! A program, from its words to its exit status.
+
+ghost use Rattle.std.specs.Prelude.{◌≡◌, ◌<◌, ◌≤◌, IfOk, map, option_map, string_bytes, false};
+ghost use Rattle.std.specs.Result.{result_map_both};
+ghost use Rattle.deb_report.specs.Settings.{settings_of};
+ghost use Rattle.debcheck.specs.Run.{input};
+ghost use Rattle.debcheck.specs.Program.{Asks, Ends, Refuses, Runs, RunsBehind, RunsTo, TellsOutcome, written};
+
+use crate::device::{Sink, Source};
+use crate::fault::{RunFault, status};
+use crate::line::{LineFault, line_status, read_line, write_line_fault};
+use crate::opener::{Disk, OpenFault, Opener};
+use crate::output::write_fault;
+use crate::phases::run;
+use crate::progress::{Progress, Wiping};
+use crate::since::run_since;
+use crate::std_device::Std;
+use crate::words::words_of;
+use deb_report::{Config, Summary};
+use std::alloc::Global;
+use std::env::Env;
+use std::fs::Files;
+use std::io::{IsTerminal, Stderr, Stdin, Stdout, Write};
+use std::process::ExitCode;
+use std::thread::Threads;
+use std::time::Clock;
+use work_draw::Gate;
+
+/// What a program ends with.
+#[derive(Drop)]
+pub struct Ended<K> {
+    pub status: u8,
+    /// What it was given for its output.
+    pub output: K,
+}
+
+// Says what there is to say of a line that gives no configuration. The answer is the exit status.
+fn refuse<K: Sink, E: Sink>(alloc: Global, output: &mut K, errors: &mut E, fault: &LineFault) -> u8
+    ensures { Refuses fault.now (written (K.contents output.old) (K.contents output.new) (K.failed output.new) (K.flushed output.new))
+        (written (E.contents errors.old) (E.contents errors.new) (E.failed errors.new) (E.flushed errors.new)) result }
+{
+    match write_line_fault(output, errors, fault) {
+        Ok(()) => line_status(fault),
+        Err(_) => match fault {
+            // Help that nobody got is no success: a script has to see it.
+            LineFault::Help { .. } => {
+                let _ = write_fault(alloc, errors, &RunFault::Write);
+                status(&Err(RunFault::Write))
+            }
+            LineFault::Refused { .. } => line_status(fault),
+            LineFault::Memory => line_status(fault),
+        },
+    }
+}
+
+// The run on an opened background. The earlier index's file is opened before anything is read.
+fn run_behind<
+    O: Opener,
+    S: Source,
+    B: Source,
+    K: Sink,
+    G: Gate + Sync,
+    R: Threads + Sync + AllocGlobal,
+>(
+    rt: &R,
+    config: &Config,
+    files: &O,
+    reader: &mut S,
+    background: &mut B,
+    output: &mut K,
+    gate: &G,
+) -> Result<Summary, RunFault>
+    requires workers { (0 < config.now.workers) × (config.now.workers ≤ 64) }
+    requires chunk { 0 < config.now.chunk }
+    requires reader { S.failed reader.old ≡ false }
+    requires background { B.failed background.old ≡ false }
+    requires output { K.failed output.old ≡ false }
+    ensures { RunsBehind (settings_of config.now) (O.named files.now) (option_map string_bytes config.now.since)
+        (input (S.remaining reader.old) (S.failed reader.new)) (input (B.remaining background.old) (B.failed background.new)) (S.remaining reader.new)
+        (written (K.contents output.old) (K.contents output.new) (K.failed output.new) (K.flushed output.new)) result }
+{
+    let alloc = rt.alloc();
+    let Some(file) = &config.since else {
+        return run(rt, alloc, config, reader, background, output, gate);
+    };
+    match files.open(file.as_str()) {
+        Ok(mut earlier) => {
+            run_since(
+                rt,
+                alloc,
+                config,
+                reader,
+                background,
+                &mut earlier,
+                output,
+                gate,
+            )
+        }
+        Err(OpenFault::Memory) => Err(RunFault::Memory),
+        Err(OpenFault::Unopened) => Err(RunFault::EarlierRead),
+    }
+}
+
+// The run under a configuration. The background's file is opened before anything is read, and before that of the earlier index.
+fn open_and_run<O: Opener, S: Source, K: Sink, G: Gate + Sync, R: Threads + Sync + AllocGlobal>(
+    rt: &R,
+    config: &Config,
+    files: &O,
+    reader: &mut S,
+    output: &mut K,
+    gate: &G,
+) -> Result<Summary, RunFault>
+    requires workers { (0 < config.now.workers) × (config.now.workers ≤ 64) }
+    requires chunk { 0 < config.now.chunk }
+    requires reader { S.failed reader.old ≡ false }
+    requires output { K.failed output.old ≡ false }
+    ensures { Runs (settings_of config.now) (O.named files.now) (option_map string_bytes config.now.bg) (option_map string_bytes config.now.since)
+        (input (S.remaining reader.old) (S.failed reader.new)) (S.remaining reader.new)
+        (written (K.contents output.old) (K.contents output.new) (K.failed output.new) (K.flushed output.new)) result }
+{
+    let Some(name) = &config.bg else {
+        let mut nothing = Std::new([].as_slice());
+        return run_behind(rt, config, files, reader, &mut nothing, output, gate);
+    };
+    match files.open(name.as_str()) {
+        Ok(mut background) => run_behind(rt, config, files, reader, &mut background, output, gate),
+        Err(OpenFault::Memory) => Err(RunFault::Memory),
+        Err(OpenFault::Unopened) => Err(RunFault::BackgroundRead),
+    }
+}
+
+// Tells the fault of a run that has one. A line that cannot be written changes no status.
+fn tell_outcome<E: Sink>(alloc: Global, errors: &mut E, outcome: &Result<Summary, RunFault>)
+    ensures { TellsOutcome (written (E.contents errors.old) (E.contents errors.new) (E.failed errors.new) (E.flushed errors.new)) outcome.now }
+{
+    match outcome {
+        Ok(_) => {}
+        Err(fault) => {
+            let _ = write_fault(alloc, errors, fault);
+        }
+    }
+}
+
+// The program under a configuration.
+fn run_asked<
+    O: Opener,
+    S: Source,
+    K: Sink,
+    E: Sink,
+    T: IsTerminal + Write + Copy + Sync,
+    R: Clock + Threads + Sync + AllocGlobal,
+>(
+    rt: &R,
+    config: &Config,
+    files: &O,
+    reader: &mut S,
+    output: K,
+    errors: &mut E,
+    screen: T,
+) -> Ended<K>
+    requires workers { (0 < config.now.workers) × (config.now.workers ≤ 64) }
+    requires chunk { 0 < config.now.chunk }
+    requires reader { S.failed reader.old ≡ false }
+    requires output { K.failed output ≡ false }
+    ensures { RunsTo config.now (O.named files.now) (input (S.remaining reader.old) (S.failed reader.new)) (S.remaining reader.new)
+        (written (K.contents output) (K.contents result.output) (K.failed result.output) (K.flushed result.output))
+        (written (E.contents errors.old) (E.contents errors.new) (E.failed errors.new) (E.flushed errors.new)) result.status }
+{
+    let progress = Progress::new(rt, screen, config);
+    let mut output = Wiping::new(&progress, output);
+    let outcome = open_and_run(rt, config, files, reader, &mut output, &progress);
+    progress.wipe();
+    tell_outcome(rt.alloc(), errors, &outcome);
+    Ended {
+        status: status(&outcome),
+        output: output.into_inner(),
+    }
+}
+
+// The configuration that the words ask for.
+fn config_of(alloc: Global, words: Result<Vec<String>, LineFault>) -> Result<Config, LineFault>
+    ensures asked { Asks (result_map_both (λ list. map string_bytes list.items) (λ fault. fault) words) result }
+    ensures workers { IfOk result (λ config. (0 < config.workers) × (config.workers ≤ 64)) }
+    ensures chunk { IfOk result (λ config. 0 < config.chunk) }
+{
+    match words {
+        Ok(words) => read_line(alloc, words),
+        Err(fault) => Err(fault),
+    }
+}
+
+/// The program that checks the index in the reader under the words of a command line.
+///
+/// The background that they name is opened before anything is read, and then the earlier index; where one can't be opened, that is told as a failed
+/// read of it. After a report the output has got it, flushed, and the errors have got nothing. Under a fault its line, or that of want of memory,
+/// goes to the errors, and the output has got nothing, but for a front of the report where it failed. Help and the version go to the output, and
+/// where it fails, that is told as of a report; a refusal goes to the errors. The status is that of `status` or of `line_status`: a line that the
+/// errors don't take changes none.
+///
+/// The screen may be where the errors go: the line of progress is taken away before anything else is written.
+pub fn run_program<
+    O: Opener,
+    S: Source,
+    K: Sink,
+    E: Sink,
+    T: IsTerminal + Write + Copy + Sync,
+    R: Clock + Threads + Sync + AllocGlobal,
+>(
+    rt: &R,
+    words: Result<Vec<String>, LineFault>,
+    files: &O,
+    reader: &mut S,
+    output: K,
+    errors: &mut E,
+    screen: T,
+) -> Ended<K>
+    requires reader { S.failed reader.old ≡ false }
+    requires output { K.failed output ≡ false }
+    requires errors { E.failed errors.old ≡ false }
+    ensures { Ends (result_map_both (λ list. map string_bytes list.items) (λ fault. fault) words) (O.named files.now)
+        (input (S.remaining reader.old) (S.failed reader.new)) (S.remaining reader.new)
+        (written (K.contents output) (K.contents result.output) (K.failed result.output) (K.flushed result.output))
+        (written (E.contents errors.old) (E.contents errors.new) (E.failed errors.new) (E.flushed errors.new)) result.status }
+{
+    match config_of(rt.alloc(), words) {
+        Ok(config) => run_asked(rt, &config, files, reader, output, errors, screen),
+        Err(fault) => {
+            let mut output = output;
+            let status = refuse(rt.alloc(), &mut output, errors, &fault);
+            Ended { status, output }
+        }
+    }
+}
+
+/// The program on the words, the files and the standard streams of its process.
+pub fn run_process<R: Env + Files + Clock + Threads + Sync + AllocGlobal>(
+    rt: &R,
+    input: Stdin,
+    output: Stdout,
+    errors: Stderr,
+) -> ExitCode {
+    let ended = run_program(
+        rt,
+        words_of(rt),
+        &Disk(rt),
+        &mut Std::new(input),
+        Std::new(output),
+        &mut Std::new(errors),
+        errors,
+    );
+    ExitCode::from(ended.status)
+}

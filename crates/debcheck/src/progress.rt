@@ -1,0 +1,161 @@
+//! How far a run has come, told on a terminal.
+
+ghost use Rattle.std.specs.Prelude.{◌≡◌};
+
+use crate::device::{DeviceFault, Sink};
+use deb_report::Config;
+use std::alloc::{AllocError, Global};
+use std::io::{IsTerminal, Write};
+use std::sync::atomic::{AtomicU32, AtomicU64, Ordering};
+use std::time::{Clock, Duration, Instant};
+use work_draw::Gate;
+
+// How often in a second the line is written.
+const TURNS: u32 = 5;
+
+// What takes the line away: as many blanks as its longest text has bytes.
+const BLANK: &[u8] = b"\r                              \r";
+
+// The turn at a time since the start; the first second has the turns below `TURNS`.
+fn turn_at(spent: Duration) -> u64 {
+    let turns = u64::from(spent.subsec_millis() / (1000 / TURNS));
+    spent
+        .as_secs()
+        .saturating_mul(u64::from(TURNS))
+        .saturating_add(turns)
+}
+
+// A number's digits, with commas between the thousands.
+fn grouped(alloc: Global, number: u64) -> Result<String, AllocError> {
+    let digits = number.to_string(alloc)?;
+    let mut text = String::new(alloc);
+    let mut left = digits.len();
+    for digit in digits.chars() {
+        if left % 3 == 0 && !text.is_empty() {
+            text.push(',')?;
+        }
+        text.push(digit)?;
+        left = left.saturating_sub(1);
+    }
+    Ok(text)
+}
+
+/// Tells on a screen how many packages are checked, on one line that is written over, where that is a terminal and a second has passed.
+/// No call waits for another.
+#[derive(Drop)]
+pub struct Progress<'a, R, T> {
+    rt: &'a R,
+    screen: T,
+    // When the run began, where anything is told.
+    began: Option<Instant>,
+    chunk: u32,
+    // How many chunks are done.
+    done: AtomicU32,
+    // The turn in which the line was written; `TURNS` where it doesn't stand there.
+    told: AtomicU64,
+}
+
+impl<'a, R: Clock + AllocGlobal, T: IsTerminal + Write + Copy> Progress<'a, R, T> {
+    /// The progress of a run that begins now. It tells nothing where the screen is no terminal, or quiet is asked for.
+    pub fn new(rt: &'a R, screen: T, config: &Config) -> Progress<'a, R, T> {
+        let began = if config.quiet || !screen.is_terminal() {
+            None
+        } else {
+            Instant::now(rt).ok()
+        };
+        Progress {
+            rt,
+            screen,
+            began,
+            chunk: config.chunk,
+            done: AtomicU32::new(0),
+            told: AtomicU64::new(u64::from(TURNS)),
+        }
+    }
+
+    // Writes the line. Where it cannot be written, nothing is told.
+    fn tell(&self, packages: u64) -> Result<(), AllocError> {
+        let alloc = self.rt.alloc();
+        let number = grouped(alloc, packages)?;
+        let line = format!(in alloc; "\r{number} packages checked")?;
+        let mut screen = self.screen;
+        let _ = screen.write(line.as_str().as_bytes());
+        Ok(())
+    }
+
+    /// Takes the line away, where it stands.
+    pub fn wipe(&self) {
+        let turns = u64::from(TURNS);
+        if self.told.swap(turns, Ordering::SeqCst) > turns {
+            let mut screen = self.screen;
+            let _ = screen.write(BLANK);
+        }
+    }
+}
+
+impl<R: Clock + AllocGlobal, T: IsTerminal + Write + Copy> Gate for Progress<'_, R, T> {
+    fn before(&self, _number: u32) {}
+
+    fn after(&self, _number: u32) {
+        let Some(began) = self.began else {
+            return;
+        };
+        // The last chunk may be a small one, so one of those that are done isn't counted.
+        let full = self.done.fetch_add(1, Ordering::SeqCst);
+        let Ok(spent) = began.elapsed(self.rt) else {
+            return;
+        };
+        let turn = turn_at(spent);
+        let told = self.told.load(Ordering::SeqCst);
+        // Of the workers that come in one turn, one writes.
+        if full > 0
+            && turn > told
+            && self
+                .told
+                .compare_exchange(told, turn, Ordering::SeqCst, Ordering::SeqCst)
+                .is_ok()
+        {
+            let _ = self.tell(u64::from(full).saturating_mul(u64::from(self.chunk)));
+        }
+    }
+}
+
+/// What the report is written to; before a write the line is taken away.
+#[derive(Drop)]
+pub(crate) struct Wiping<'a, R, T, K> {
+    progress: &'a Progress<'a, R, T>,
+    sink: K,
+}
+
+impl<'a, R, T, K> Wiping<'a, R, T, K> {
+    pub(crate) fn new(progress: &'a Progress<'a, R, T>, sink: K) -> Wiping<'a, R, T, K>
+        ensures { result.sink ≡ sink }
+    {
+        Wiping { progress, sink }
+    }
+
+    /// The sink itself.
+    pub(crate) fn into_inner(self) -> K
+        ensures { result ≡ self.entry.sink }
+    {
+        let Wiping { progress: _, sink } = self;
+        sink
+    }
+}
+
+impl<R: Clock + AllocGlobal, T: IsTerminal + Write + Copy, K: Sink> Sink for Wiping<'_, R, T, K> {
+    ghost contents = { λ w. K.contents w.sink };
+
+    ghost failed = { λ w. K.failed w.sink };
+
+    ghost flushed = { λ w. K.flushed w.sink };
+
+    fn write_some(&mut self, bytes: &[u8]) -> Result<usize, DeviceFault> {
+        self.progress.wipe();
+        self.sink.write_some(bytes)
+    }
+
+    fn flush_all(&mut self) -> Result<(), DeviceFault> {
+        self.sink.flush_all()
+    }
+}

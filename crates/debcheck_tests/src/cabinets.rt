@@ -1,0 +1,53 @@
+//! Files over memory.
+
+use crate::devices::{Feed, source_of};
+use debcheck::{OpenFault, Opener};
+use std::sync::atomic::{AtomicU32, Ordering};
+
+/// One name under which bytes stand, or nothing that can be opened. It counts what was asked of it.
+#[derive(Drop)]
+pub struct Cabinet<'a> {
+    name: &'a str,
+    bytes: Option<&'a [u8]>,
+    fault: OpenFault,
+    /// Reading fails behind the bytes.
+    pub torn: bool,
+    asked: AtomicU32,
+}
+
+impl<'a> Cabinet<'a> {
+    pub fn new(name: &'a str, bytes: Option<&'a [u8]>, fault: OpenFault) -> Cabinet<'a> {
+        Cabinet {
+            name,
+            bytes,
+            fault,
+            torn: false,
+            asked: AtomicU32::new(0),
+        }
+    }
+
+    /// How often a file was asked for.
+    pub fn asked(&self) -> u32 {
+        self.asked.load(Ordering::SeqCst)
+    }
+}
+
+impl<'a> Opener for Cabinet<'a> {
+    ghost use Rattle.std.specs.Prelude.{None};
+
+    type File = Feed<'a>;
+
+    ghost named = { λ _ _. None };
+
+    fn open(&self, name: &str) -> Result<Feed<'a>, OpenFault> {
+        self.asked.fetch_add(1, Ordering::SeqCst);
+        match self.bytes {
+            Some(bytes) if name == self.name => {
+                let mut file = source_of(bytes, 7);
+                file.fails = self.torn;
+                Ok(file)
+            }
+            _ => Err(self.fault),
+        }
+    }
+}

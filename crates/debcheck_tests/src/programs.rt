@@ -1,0 +1,278 @@
+//! Whole programs: words, an index and perhaps a background go in, and the status, the output and the errors are compared.
+
+ghost use Rattle.std.specs.Prelude.{◌≡◌, false};
+
+use crate::cabinets::Cabinet;
+use crate::devices::{Feed, Held, sink_of, source_of};
+use crate::screens::Screen;
+use debcheck::{LineFault, OpenFault, run_program};
+use std::alloc::{AllocError, Global};
+use std::process::Abort;
+use std::test::Fail;
+use std::thread::Threads;
+use std::time::Clock;
+
+/// What a program is given, and what it has to come to. The words have a `|` before each; the background stands under the name `others`.
+#[derive(Clone, Copy)]
+pub struct Case {
+    pub words: &'static str,
+    pub index: &'static [u8],
+    pub status: u8,
+    pub output: &'static [u8],
+    pub errors: &'static [u8],
+}
+
+pub const BACKGROUND: &[u8] =
+    b"Package: b\nVersion: 2\nArchitecture: all\n\nPackage: zz\nVersion: 1\nArchitecture: all\n";
+
+pub const INDEX: &[u8] =
+    b"Package: a\nVersion: 1\nArchitecture: all\nDepends: b\n\nPackage: c\nVersion: 1\nArchitecture: all\nDepends: d\n";
+
+pub const WITH_BACKGROUND: Case = Case {
+    words: "|--arch|amd64|--explain|--bg|others",
+    index: INDEX,
+    status: 1,
+    output: b"architecture: amd64\nreport:\n -\n  package: a\n  version: 1\n  architecture: all\n  status: ok\n  installation-set:\n   - a 1\n   - b 2\n -\n  package: c\n  version: 1\n  architecture: all\n  status: broken\n  reasons:\n   - missing: c 1 Depends: d\nstanzas: 4\nskipped: 0\nduplicates: 0\nbackground: 2\nasked: 2\nbroken: 1\n",
+    errors: b"",
+};
+
+pub const WITHOUT_BACKGROUND: Case = Case {
+    words: "|--arch|amd64|--failures",
+    index: INDEX,
+    status: 1,
+    output: b"architecture: amd64\nreport:\n -\n  package: a\n  version: 1\n  architecture: all\n  status: broken\n -\n  package: c\n  version: 1\n  architecture: all\n  status: broken\nstanzas: 2\nskipped: 0\nduplicates: 0\nasked: 2\nbroken: 2\n",
+    errors: b"",
+};
+
+const CAUSES_IN_JSON: Case = Case {
+    words: "|--arch|amd64|--format|json|--causes|--bg=others",
+    index: INDEX,
+    status: 1,
+    output: b"{\"architecture\":\"amd64\",\"report\":[\n{\"package\":\"a\",\"version\":\"1\",\"architecture\":\"all\",\"status\":\"ok\"},\n{\"package\":\"c\",\"version\":\"1\",\"architecture\":\"all\",\"status\":\"broken\"}\n],\"stanzas\":4,\"skipped\":0,\"duplicates\":0,\"background\":2,\"asked\":2,\"broken\":1,\"causes\":[\n{\"packages\":1,\"reasons\":[{\"kind\":\"missing\",\"package\":\"c\",\"version\":\"1\",\"field\":\"Depends\",\"relation\":\"d\"}],\"present\":[],\"broken\":[{\"package\":\"c\",\"version\":\"1\"}]}\n]}\n",
+    errors: b"",
+};
+
+const NOTHING_BROKEN: Case = Case {
+    words: "|--arch|amd64|--checkonly|a|--bg|others|--quiet",
+    index: INDEX,
+    status: 0,
+    output: b"architecture: amd64\nreport:\n -\n  package: a\n  version: 1\n  architecture: all\n  status: ok\nstanzas: 4\nskipped: 0\nduplicates: 0\nbackground: 2\nasked: 1\nbroken: 0\n",
+    errors: b"",
+};
+
+const FAULT: Case = Case {
+    words: "|--arch|amd64",
+    index: b"Package: a\nVersion: 1\nArchitecture: all\n\nPackage: b\n",
+    status: 65,
+    output: b"",
+    errors: b"debcheck: stanza 2: missing field\n",
+};
+
+const UNKNOWN_NAME: Case = Case {
+    words: "|--arch|amd64|--bg|others|--checkonly|a,zz",
+    index: INDEX,
+    status: 66,
+    output: b"",
+    errors: b"debcheck: unknown package zz\n",
+};
+
+const REFUSED_VALUE: Case = Case {
+    words: "|--arch|all",
+    index: INDEX,
+    status: 64,
+    output: b"",
+    errors: b"error: invalid value \"all\" for '--arch <A>': one or more letters, digits and -, neither all nor any\n\nFor more information, try '--help'.\n",
+};
+
+const VERSION: Case = Case {
+    words: "|--version",
+    index: INDEX,
+    status: 0,
+    output: b"debcheck 1.0.0\n",
+    errors: b"",
+};
+
+/// The words, each of which has a `|` before it.
+pub fn words_in(alloc: Global, line: &str) -> Result<Vec<String>, AllocError> {
+    let mut words = Vec::new(alloc);
+    for word in line.split('|').skip(1) {
+        words.push(String::from_str(alloc, word)?)?;
+    }
+    Ok(words)
+}
+
+/// What a program left.
+#[derive(Drop)]
+pub struct Left {
+    pub status: u8,
+    pub output: Held,
+    pub errors: Held,
+}
+
+/// The program under the words of a line. The output and the errors are told where they fail.
+pub fn run_on(
+    rt: &(impl Clock + Threads + Sync + AllocGlobal),
+    line: &str,
+    files: &Cabinet<'_>,
+    reader: &mut Feed<'_>,
+    output: Held,
+    mut errors: Held,
+) -> Result<Left, AllocError>
+    requires reader { reader.old.failed ≡ false }
+    requires output { output.failed ≡ false }
+    requires errors { errors.failed ≡ false }
+{
+    let words = words_in(rt.alloc(), line)?;
+    let screen = Screen::new(false, b"");
+    let ended = run_program(rt, Ok(words), files, reader, output, &mut errors, &screen);
+    Ok(Left {
+        status: ended.status,
+        output: ended.output,
+        errors,
+    })
+}
+
+fn expect_case(
+    rt: &(impl Abort + Clock + Threads + Sync + AllocGlobal),
+    case: &Case,
+) -> Result<(), Fail> {
+    let alloc = rt.alloc();
+    let files = Cabinet::new("others", Some(BACKGROUND), OpenFault::Unopened);
+    let mut reader = source_of(case.index, 11);
+    let (output, errors) = (sink_of(alloc, 50, 0, false), sink_of(alloc, 50, 0, false));
+    let left = run_on(rt, case.words, &files, &mut reader, output, errors)?;
+    expect_left(rt, case, &left);
+    Ok(())
+}
+
+fn expect_left(rt: &impl Abort, case: &Case, left: &Left) {
+    assert_eq!(rt; left.status, case.status, "{}", case.words);
+    assert_eq!(rt; left.output.bytes.as_slice(), case.output, "{}", case.words);
+    assert_eq!(rt; left.errors.bytes.as_slice(), case.errors, "{}", case.words);
+    assert_eq!(rt; left.output.flushed, !case.output.is_empty());
+    assert_eq!(rt; left.errors.flushed, !case.errors.is_empty());
+}
+
+#[test]
+fn a_report_goes_to_the_output(rt: HostRuntime) -> Result<(), Fail> {
+    expect_case(&rt, &WITH_BACKGROUND)?;
+    expect_case(&rt, &WITHOUT_BACKGROUND)?;
+    expect_case(&rt, &CAUSES_IN_JSON)?;
+    expect_case(&rt, &NOTHING_BROKEN)
+}
+
+#[test]
+fn a_fault_goes_to_the_errors(rt: HostRuntime) -> Result<(), Fail> {
+    expect_case(&rt, &FAULT)?;
+    expect_case(&rt, &UNKNOWN_NAME)?;
+    expect_case(&rt, &REFUSED_VALUE)
+}
+
+#[test]
+fn the_version_goes_to_the_output(rt: HostRuntime) -> Result<(), Fail> {
+    expect_case(&rt, &VERSION)
+}
+
+/// Each option stands in the help.
+#[test]
+fn help_goes_to_the_output(rt: HostRuntime) -> Result<(), Fail> {
+    let alloc = rt.alloc();
+    let files = Cabinet::new("others", None, OpenFault::Unopened);
+    let mut reader = source_of(INDEX, 11);
+    let (output, errors) = (sink_of(alloc, 50, 0, false), sink_of(alloc, 50, 0, false));
+    let left = run_on(&rt, "|--help", &files, &mut reader, output, errors)?;
+    assert_eq!(rt; left.status, 0);
+    assert!(rt; left.errors.bytes.is_empty());
+    assert_eq!(rt; reader.reads, 0);
+    let text = left.output.bytes.as_slice();
+    for option in [
+        "--arch <A>",
+        "--bg <FILE>",
+        "--checkonly",
+        "--causes",
+        "--quiet",
+        "--help",
+    ] {
+        let option = option.as_bytes();
+        assert!(rt; text.windows(option.len()).any(|part| part == option));
+    }
+    Ok(())
+}
+
+/// What is said of a program whose background is not opened, and its status.
+fn expect_unopened(
+    rt: &(impl Abort + Clock + Threads + Sync + AllocGlobal),
+    fault: OpenFault,
+    status: u8,
+    line: &[u8],
+) -> Result<(), Fail> {
+    let alloc = rt.alloc();
+    let files = Cabinet::new("others", None, fault);
+    let mut reader = source_of(INDEX, 11);
+    let (output, errors) = (sink_of(alloc, 50, 0, false), sink_of(alloc, 50, 0, false));
+    let left = run_on(
+        rt,
+        "|--arch|amd64|--bg|others",
+        &files,
+        &mut reader,
+        output,
+        errors,
+    )?;
+    expect_unread(rt, &files, &reader);
+    assert_eq!(rt; left.status, status);
+    assert!(rt; left.output.bytes.is_empty());
+    assert_eq!(rt; left.errors.bytes.as_slice(), line);
+    Ok(())
+}
+
+fn expect_unread(rt: &impl Abort, files: &Cabinet<'_>, reader: &Feed<'_>) {
+    assert_eq!(rt; files.asked(), 1);
+    assert_eq!(rt; reader.reads, 0);
+}
+
+#[test]
+fn a_background_is_opened_before_anything_is_read(rt: HostRuntime) -> Result<(), Fail> {
+    let unread = b"debcheck: cannot read the background\n";
+    expect_unopened(&rt, OpenFault::Unopened, 67, unread)?;
+    expect_unopened(&rt, OpenFault::Memory, 69, b"debcheck: out of memory\n")
+}
+
+/// What a program comes to whose output fails at this write, or at the flush.
+fn expect_unwritten(
+    rt: &(impl Abort + Clock + Threads + Sync + AllocGlobal),
+    line: &str,
+    output: Held,
+    errors: Held,
+    told: &[u8],
+) -> Result<(), Fail>
+    requires output { output.failed ≡ false }
+    requires errors { errors.failed ≡ false }
+{
+    let files = Cabinet::new("others", Some(BACKGROUND), OpenFault::Unopened);
+    let mut reader = source_of(INDEX, 11);
+    let left = run_on(rt, line, &files, &mut reader, output, errors)?;
+    assert_eq!(rt; left.status, 68);
+    assert_eq!(rt; left.errors.bytes.as_slice(), told);
+    Ok(())
+}
+
+#[test]
+fn what_nobody_got_has_a_status(rt: HostRuntime) -> Result<(), Fail> {
+    let alloc = rt.alloc();
+    let told = b"debcheck: cannot write the report\n";
+    for line in ["|--help", "|--version", "|--arch|amd64"] {
+        let errors = sink_of(alloc, 50, 0, false);
+        expect_unwritten(&rt, line, sink_of(alloc, 50, 1, false), errors, told)?;
+        let errors = sink_of(alloc, 50, 0, false);
+        expect_unwritten(&rt, line, sink_of(alloc, 50, 0, true), errors, told)?;
+        let errors = sink_of(alloc, 5, 3, false);
+        expect_unwritten(
+            &rt,
+            line,
+            sink_of(alloc, 50, 1, false),
+            errors,
+            b"debcheck: ",
+        )?;
+    }
+    Ok(())
+}

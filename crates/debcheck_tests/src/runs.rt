@@ -1,0 +1,283 @@
+//! Small runs: what they write, and what they come to.
+
+ghost use Rattle.std.specs.Prelude.{◌≡◌, ◌<◌, ◌≤◌, IfOk, false};
+
+use crate::devices::{Feed, Held, sink_of, source_of};
+use deb_index::IndexError;
+use debcheck::{Config, RunFault, Show, Summary, run, status};
+use std::alloc::{AllocError, Global};
+use std::process::Abort;
+use std::test::Fail;
+use std::thread::Threads;
+use work_draw::OpenGate;
+
+/// What a run comes to that has no background. Nothing is read in the place of one.
+pub fn run_alone(
+    rt: &(impl Threads + Sync + AllocGlobal),
+    config: &Config,
+    reader: &mut Feed<'_>,
+    output: &mut Held,
+) -> Result<Summary, RunFault>
+    requires workers { (0 < config.now.workers) × (config.now.workers ≤ 64) }
+    requires chunk { 0 < config.now.chunk }
+    requires reader { reader.old.failed ≡ false }
+    requires output { output.old.failed ≡ false }
+{
+    let mut nothing = source_of(b"", 1);
+    nothing.fails = true;
+    run(
+        rt,
+        rt.alloc(),
+        config,
+        reader,
+        &mut nothing,
+        output,
+        &OpenGate,
+    )
+}
+
+/// A run writes this report, and comes to these numbers.
+fn expect_run(
+    rt: &(impl Abort + Threads + Sync + AllocGlobal),
+    config: &Config,
+    mut reader: Feed<'_>,
+    mut output: Held,
+    report: &[u8],
+    wanted: Summary,
+)
+    requires workers { (0 < config.now.workers) × (config.now.workers ≤ 64) }
+    requires chunk { 0 < config.now.chunk }
+    requires reader { reader.failed ≡ false }
+    requires output { output.failed ≡ false }
+{
+    let outcome = run_alone(rt, config, &mut reader, &mut output);
+    expect_report(rt, &output, &outcome, report, wanted);
+}
+
+fn expect_report(
+    rt: &impl Abort,
+    output: &Held,
+    outcome: &Result<Summary, RunFault>,
+    report: &[u8],
+    wanted: Summary,
+) {
+    assert_eq!(rt; output.bytes.as_slice(), report);
+    assert!(rt; output.flushed);
+    assert_eq!(rt; status(outcome), u8::from(wanted.broken > 0));
+    match outcome {
+        Ok(summary) => assert_eq!(rt; *summary, wanted),
+        Err(_) => assert!(rt; false, "a report"),
+    }
+}
+
+/// A run without a report stops with these bytes written, and comes to this.
+fn expect_stop(
+    rt: &(impl Abort + Threads + Sync + AllocGlobal),
+    config: &Config,
+    mut reader: Feed<'_>,
+    mut output: Held,
+    written: &[u8],
+    wanted: &str,
+)
+    requires workers { (0 < config.now.workers) × (config.now.workers ≤ 64) }
+    requires chunk { 0 < config.now.chunk }
+    requires reader { reader.failed ≡ false }
+    requires output { output.failed ≡ false }
+{
+    let outcome = run_alone(rt, config, &mut reader, &mut output);
+    expect_fault(rt, &output, &outcome, written, wanted);
+}
+
+fn expect_fault(
+    rt: &impl Abort,
+    output: &Held,
+    outcome: &Result<Summary, RunFault>,
+    written: &[u8],
+    wanted: &str,
+) {
+    assert_eq!(rt; output.bytes.as_slice(), written);
+    assert_eq!(rt; told_by(outcome), wanted.as_bytes());
+}
+
+/// The name that no package has, or words for what a run came to.
+fn told_by(outcome: &Result<Summary, RunFault>) -> &[u8] {
+    match outcome {
+        Err(RunFault::UnknownAsked { name }) => name.as_slice(),
+        Err(RunFault::Index(fault)) => told_of(fault),
+        _ => match status(outcome) {
+            67 => b"status 67",
+            68 => b"status 68",
+            _ => b"another status",
+        },
+    }
+}
+
+fn told_of(fault: &IndexError) -> &'static [u8] {
+    match fault {
+        IndexError::BadLine { stanza: 1 } => b"bad line in stanza 1",
+        _ => b"another fault of the text",
+    }
+}
+
+fn numbers(stanzas: u32, asked: u32, broken: u32) -> Summary {
+    Summary {
+        stanzas,
+        skipped: 0,
+        duplicates: 0,
+        background: 0,
+        asked,
+        broken,
+        newly_broken: None,
+    }
+}
+
+#[test]
+fn status_tells_whether_some_are_broken(rt: HostRuntime) {
+    assert_eq!(rt; status(&Ok(numbers(3, 3, 0))), 0);
+    assert_eq!(rt; status(&Ok(numbers(3, 3, 2))), 1);
+    for (news, wanted) in [(0, 0), (1, 1), (2, 1)] {
+        let mut summary = numbers(3, 3, 2);
+        summary.newly_broken = Some(news);
+        assert_eq!(rt; status(&Ok(summary)), wanted);
+    }
+}
+
+/// Two workers with chunks of one, else as usual.
+fn by_two(alloc: Global) -> Result<Config, AllocError>
+    ensures workers { IfOk result (λ config. config.workers ≡ 2) }
+    ensures chunk { IfOk result (λ config. config.chunk ≡ 1) }
+{
+    let mut config = Config::usual(alloc)?;
+    config.workers = 2;
+    config.chunk = 1;
+    Ok(config)
+}
+
+pub const EMPTY: &[u8] =
+    b"architecture: amd64\nreport:\nstanzas: 0\nskipped: 0\nduplicates: 0\nasked: 0\nbroken: 0\n";
+
+#[test]
+fn an_empty_text_has_a_report_of_seven_lines(rt: HostRuntime) -> Result<(), Fail> {
+    let config = by_two(rt.alloc())?;
+    let output = sink_of(rt.alloc(), 1, 0, false);
+    expect_run(
+        &rt,
+        &config,
+        source_of(b"", 1),
+        output,
+        EMPTY,
+        numbers(0, 0, 0),
+    );
+    Ok(())
+}
+
+#[test]
+fn a_failing_writer_has_the_front_of_a_report(rt: HostRuntime) -> Result<(), Fail> {
+    let config = by_two(rt.alloc())?;
+    let fifth = sink_of(rt.alloc(), 1, 5, false);
+    expect_stop(&rt, &config, source_of(b"", 1), fifth, b"arch", "status 68");
+    Ok(())
+}
+
+const ALTERNATIVES: &[u8] =
+    b"Package: a\nVersion: 1\nArchitecture: all\nDepends: b | c\n\nPackage: b\nVersion: 1\nArchitecture: all\n\nPackage: c\nVersion: 1\nArchitecture: all\n";
+
+const ALTERNATIVES_REPORT: &[u8] =
+    b"architecture: amd64\nreport:\n -\n  package: a\n  version: 1\n  architecture: all\n  status: ok\n  installation-set:\n   - a 1\n   - c 1\n -\n  package: b\n  version: 1\n  architecture: all\n  status: ok\n  installation-set:\n   - b 1\n -\n  package: c\n  version: 1\n  architecture: all\n  status: ok\n  installation-set:\n   - c 1\nstanzas: 3\nskipped: 0\nduplicates: 0\nasked: 3\nbroken: 0\n";
+
+#[test]
+fn alternatives(rt: HostRuntime) -> Result<(), Fail> {
+    let config = by_two(rt.alloc())?;
+    let reader = source_of(ALTERNATIVES, 11);
+    let output = sink_of(rt.alloc(), 50, 0, false);
+    expect_run(
+        &rt,
+        &config,
+        reader,
+        output,
+        ALTERNATIVES_REPORT,
+        numbers(3, 3, 0),
+    );
+    Ok(())
+}
+
+pub const CHAIN: &[u8] =
+    b"Package: a\nVersion: 1\nArchitecture: all\nDepends: b\n\nPackage: b\nVersion: 1\nArchitecture: all\nPre-Depends: c (>= 2)\n\nPackage: c\nVersion: 1\nArchitecture: all\n";
+
+const CHAIN_FAILURES: &[u8] =
+    b"architecture: amd64\nreport:\n -\n  package: a\n  version: 1\n  architecture: all\n  status: broken\n  reasons:\n   - depends: a 1 Depends: b\n   - missing: b 1 Pre-Depends: c (>= 2)\n -\n  package: b\n  version: 1\n  architecture: all\n  status: broken\n  reasons:\n   - missing: b 1 Pre-Depends: c (>= 2)\nstanzas: 3\nskipped: 0\nduplicates: 0\nasked: 3\nbroken: 2\n";
+
+#[test]
+fn failures_alone_with_their_reasons(rt: HostRuntime) -> Result<(), Fail> {
+    let mut config = by_two(rt.alloc())?;
+    config.show = Show::Failures;
+    let reader = source_of(CHAIN, 1000);
+    let output = sink_of(rt.alloc(), 50, 0, false);
+    expect_run(
+        &rt,
+        &config,
+        reader,
+        output,
+        CHAIN_FAILURES,
+        numbers(3, 3, 2),
+    );
+    Ok(())
+}
+
+/// The report on the same, where all is asked for.
+pub const CHAIN_REPORT: &[u8] =
+    b"architecture: amd64\nreport:\n -\n  package: a\n  version: 1\n  architecture: all\n  status: broken\n  reasons:\n   - depends: a 1 Depends: b\n   - missing: b 1 Pre-Depends: c (>= 2)\n -\n  package: b\n  version: 1\n  architecture: all\n  status: broken\n  reasons:\n   - missing: b 1 Pre-Depends: c (>= 2)\n -\n  package: c\n  version: 1\n  architecture: all\n  status: ok\n  installation-set:\n   - c 1\nstanzas: 3\nskipped: 0\nduplicates: 0\nasked: 3\nbroken: 2\n";
+
+/// The names as a list.
+fn named(alloc: Global, names: &[&[u8]]) -> Result<Vec<Vec<u8>>, AllocError> {
+    let mut list = Vec::new(alloc);
+    for name in names {
+        list.push(Vec::from_slice(alloc, name)?)?;
+    }
+    Ok(list)
+}
+
+/// Names that are asked, without explanations, else by two.
+fn by_two_of(alloc: Global, names: &[&[u8]]) -> Result<Config, AllocError>
+    ensures workers { IfOk result (λ config. config.workers ≡ 2) }
+    ensures chunk { IfOk result (λ config. config.chunk ≡ 1) }
+{
+    let only = named(alloc, names)?;
+    let mut config = by_two(alloc)?;
+    config.explain = false;
+    config.only = Some(only);
+    Ok(config)
+}
+
+const TWO_SHOWN: &[u8] =
+    b"architecture: amd64\nreport:\n -\n  package: a\n  version: 1\n  architecture: all\n  status: broken\n -\n  package: c\n  version: 1\n  architecture: all\n  status: ok\nstanzas: 3\nskipped: 0\nduplicates: 0\nasked: 2\nbroken: 1\n";
+
+#[test]
+fn named_packages_in_the_order_of_the_index(rt: HostRuntime) -> Result<(), Fail> {
+    let config = by_two_of(rt.alloc(), &[b"c", b"a", b"c"])?;
+    let reader = source_of(CHAIN, 1000);
+    let output = sink_of(rt.alloc(), 50, 0, false);
+    expect_run(&rt, &config, reader, output, TWO_SHOWN, numbers(3, 2, 1));
+    Ok(())
+}
+
+#[test]
+fn the_first_unknown_name_is_told(rt: HostRuntime) -> Result<(), Fail> {
+    let config = by_two_of(rt.alloc(), &[b"a", b"zz", b"yy"])?;
+    let nothing = sink_of(rt.alloc(), 50, 0, false);
+    expect_stop(&rt, &config, source_of(CHAIN, 1000), nothing, b"", "zz");
+    Ok(())
+}
+
+#[test]
+fn faults_of_the_text_and_the_reader(rt: HostRuntime) -> Result<(), Fail> {
+    let config = by_two(rt.alloc())?;
+    let told = "bad line in stanza 1";
+    let output = sink_of(rt.alloc(), 50, 0, false);
+    expect_stop(&rt, &config, source_of(b" x", 1), output, b"", told);
+    let mut broken = source_of(b" x", 1);
+    broken.fails = true;
+    let output = sink_of(rt.alloc(), 50, 0, false);
+    expect_stop(&rt, &config, broken, output, b"", "status 67");
+    Ok(())
+}

@@ -1,0 +1,167 @@
+//! A screen that knows whether a line stands on it, what is written beside it, and a clock that goes on at each look.
+
+ghost use Rattle.std.specs.Prelude.{◌≡◌, Some};
+
+use crate::devices::Held;
+use debcheck::{DeviceFault, Sink};
+use std::alloc::Global;
+use std::io;
+use std::io::{IsTerminal, Write};
+use std::sync::atomic::{AtomicU32, AtomicU64, Ordering};
+use std::thread::Threads;
+use std::time::{Clock, Duration};
+
+/// A screen, or what is none, for lines of one text.
+#[derive(Drop)]
+pub struct Screen<'a> {
+    is_terminal: bool,
+    text: &'a [u8],
+    lines: AtomicU32,
+    others: AtomicU32,
+    stands: AtomicU32,
+}
+
+impl<'a> Screen<'a> {
+    /// Nothing was written to it.
+    pub fn new(is_terminal: bool, text: &'a [u8]) -> Screen<'a> {
+        Screen {
+            is_terminal,
+            text,
+            lines: AtomicU32::new(0),
+            others: AtomicU32::new(0),
+            stands: AtomicU32::new(0),
+        }
+    }
+
+    /// How many lines of the text were written.
+    pub fn lines(&self) -> u32 {
+        self.lines.load(Ordering::SeqCst)
+    }
+
+    /// How many lines of another text were written.
+    pub fn others(&self) -> u32 {
+        self.others.load(Ordering::SeqCst)
+    }
+
+    /// Whether a line stands there.
+    pub fn stands(&self) -> bool {
+        self.stands.load(Ordering::SeqCst) > 0
+    }
+}
+
+impl IsTerminal for &Screen<'_> {
+    fn is_terminal(&self) -> bool {
+        self.is_terminal
+    }
+}
+
+/// Thirty blanks between two returns take a line away.
+const BLANK: &[u8] = b"\r                              \r";
+
+impl Write for &Screen<'_> {
+    fn write(&mut self, buf: &[u8]) -> io::Result<usize> {
+        if buf == BLANK {
+            self.stands.store(0, Ordering::SeqCst);
+        } else {
+            self.stands.store(1, Ordering::SeqCst);
+            let count = if buf == self.text {
+                &self.lines
+            } else {
+                &self.others
+            };
+            count.fetch_add(1, Ordering::SeqCst);
+        }
+        Ok(buf.len())
+    }
+
+    fn flush(&mut self) -> io::Result<()> {
+        Ok(())
+    }
+}
+
+/// A runtime with a clock of its own, which goes on by so many milliseconds at each look.
+#[derive(Drop)]
+pub struct Ticks<'a, R> {
+    rt: &'a R,
+    step: u64,
+    millis: AtomicU64,
+}
+
+/// The clock stands at 0.
+pub fn clock_of<R>(rt: &R, step: u64) -> Ticks<'_, R> {
+    Ticks {
+        rt,
+        step,
+        millis: AtomicU64::new(0),
+    }
+}
+
+impl<R: AllocGlobal> Alloc for Ticks<'_, R> {
+    type A = Global;
+
+    fn alloc(&self) -> Global {
+        self.rt.alloc()
+    }
+}
+
+impl<R: Threads> Threads for Ticks<'_, R> {}
+
+impl<R> Clock for Ticks<'_, R> {
+    fn monotonic(&self) -> io::Result<Duration> {
+        let now = self.millis.fetch_add(self.step, Ordering::SeqCst);
+        Ok(Duration::from_millis(now))
+    }
+
+    fn since_1970(&self) -> io::Result<Duration> {
+        self.monotonic()
+    }
+}
+
+/// A writer beside a screen: it counts the writes and flushes that come while a line stands there.
+#[derive(Drop)]
+pub struct Beside<'a> {
+    pub held: Held,
+    pub screen: &'a Screen<'a>,
+    pub crowded: u32,
+}
+
+impl<'a> Beside<'a> {
+    /// Nothing was written while a line stood there.
+    pub fn new(screen: &'a Screen<'a>, held: Held) -> Beside<'a>
+        ensures { result.held ≡ held }
+    {
+        Beside {
+            held,
+            screen,
+            crowded: 0,
+        }
+    }
+}
+
+impl Beside<'_> {
+    fn look(&mut self)
+        ensures { self.new.held ≡ self.old.held }
+    {
+        if self.screen.stands() {
+            self.crowded = self.crowded.saturating_add(1);
+        }
+    }
+}
+
+impl Sink for Beside<'_> {
+    ghost contents = { λ b. Some b.held.bytes.items };
+
+    ghost failed = { λ b. b.held.failed };
+
+    ghost flushed = { λ b. b.held.flushed };
+
+    fn write_some(&mut self, bytes: &[u8]) -> Result<usize, DeviceFault> {
+        self.look();
+        self.held.write_some(bytes)
+    }
+
+    fn flush_all(&mut self) -> Result<(), DeviceFault> {
+        self.look();
+        self.held.flush_all()
+    }
+}

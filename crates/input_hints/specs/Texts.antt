@@ -1,0 +1,74 @@
+-- What is said of an input.
+use Rattle.std.specs.Prelude.{ℕ, List, ◌++◌, Option, Some, None, codes}
+use Rattle.std.specs.Option.{option_map_or}
+use Rattle.input_hints.specs.declared.hint.Compression.TheVariants.{Gzip, Xz, Bzip2, Zstd, Lz4}
+use Rattle.input_hints.specs.declared.hint.Hint.{Hint}
+use Rattle.input_hints.specs.declared.hint.Hint.TheVariants.{Compressed, ByteOrderMark, Markup, Signed, CarriageReturns, ReleaseFile, SourcesFile}
+use Rattle.input_hints.specs.declared.line.Input.{Input}
+use Rattle.input_hints.specs.declared.line.Input.TheVariants.{Index, Background, Earlier}
+use Rattle.input_hints.specs.declared.run.RunHint.{RunHint}
+use Rattle.input_hints.specs.declared.run.RunHint.TheVariants.{NoStanza, OtherArchitectures, NothingAsked, MostElsewhere}
+
+-- what an input is called
+unfoldable pub input_name : Input → List ℕ
+input_name Index = codes "the index"
+input_name Background = codes "the background"
+input_name Earlier = codes "the earlier index"
+
+-- what is wrong with an input
+unfoldable pub complaint : Hint → List ℕ
+complaint (Compressed Gzip) = codes "is compressed by gzip"
+complaint (Compressed Xz) = codes "is compressed by xz"
+complaint (Compressed Bzip2) = codes "is compressed by bzip2"
+complaint (Compressed Zstd) = codes "is compressed by zstd"
+complaint (Compressed Lz4) = codes "is compressed by lz4"
+complaint ByteOrderMark = codes "begins with a byte order mark"
+complaint Markup = codes "begins with <, as a web page does"
+complaint Signed = codes "is a signed text, as InRelease"
+complaint CarriageReturns = codes "has lines that end with CR LF"
+complaint ReleaseFile = codes "is a Release file"
+complaint SourcesFile = codes "describes source packages"
+
+-- the command that makes an index of a file FILE of this kind, where there is one
+unfoldable pub command : Hint → Option (List ℕ)
+command (Compressed Gzip) = Some (codes "zcat FILE")
+command (Compressed Xz) = Some (codes "xzcat FILE")
+command (Compressed Bzip2) = Some (codes "bzcat FILE")
+command (Compressed Zstd) = Some (codes "zstdcat FILE")
+command (Compressed Lz4) = Some (codes "lz4cat FILE")
+command ByteOrderMark = Some (codes "tail -c +4 FILE")
+command Markup = None
+command Signed = None
+command CarriageReturns = Some (codes "tr -d '\\r' < FILE")
+command ReleaseFile = None
+command SourcesFile = None
+
+-- what to do where no command makes an index
+unfoldable pub advice : Hint → List ℕ
+advice Markup = codes "see what was fetched"
+advice hint = codes "take a file Packages"
+
+-- what stands before and behind a command, so that the program reads what it writes
+unfoldable pub around : Input → List ℕ × List ℕ
+around Index = (codes "", codes " | debcheck ..")
+around Background = (codes "--bg <(", codes ")")
+around Earlier = (codes "--since <(", codes ")")
+
+-- the program on what a command writes
+unfoldable pub by_command : Input → List ℕ → List ℕ
+by_command input command = (around input).0 ++ command ++ (around input).1
+
+-- what to do
+unfoldable pub remedy : Input → Hint → List ℕ
+remedy input hint = option_map_or (by_command input) (command hint) (advice hint)
+
+-- the line that tells of an input, with LF
+unfoldable pub hint_line : Input → Hint → List ℕ
+hint_line input hint = codes "hint: " ++ input_name input ++ codes " " ++ complaint hint ++ codes ": " ++ remedy input hint ++ codes "\n"
+
+-- the line that tells of a run, with LF
+unfoldable pub run_hint_line : RunHint → List ℕ
+run_hint_line NoStanza = codes "hint: the index is empty: see whether what writes it failed\n"
+run_hint_line OtherArchitectures = codes "hint: no stanza is of this architecture or of all: give another by --arch\n"
+run_hint_line NothingAsked = codes "hint: nothing was asked: the index has no package of this architecture or of all\n"
+run_hint_line MostElsewhere = codes "hint: most stanzas are of other architectures than this one: give another by --arch\n"

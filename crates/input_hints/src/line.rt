@@ -1,0 +1,130 @@
+//! The lines that tell what may be wrong.
+
+ghost use Rattle.std.specs.Prelude.{◌≡◌, ◌++◌, IfOk, OnOk};
+ghost use Rattle.std.specs.Option.{option_copied};
+ghost use Rattle.input_hints.specs.Texts.{advice, around, by_command, command, complaint, hint_line, input_name, remedy};
+
+use crate::hint::{Compression, Hint};
+use std::alloc::{AllocError, Global};
+
+/// Which of its inputs a program tells of.
+#[derive(Clone, Copy, Debug, PartialEq, Eq)]
+pub enum Input {
+    /// What it reads from standard input.
+    Index,
+    /// What it reads from the file of `--bg`.
+    Background,
+    /// What it reads from the file of `--since`.
+    Earlier,
+}
+
+#[tactic(auto, unfolding(crate::specs::Texts::input_name))]
+fn input_name(input: Input) -> &'static [u8]
+    ensures { result.now ≡ input_name input }
+{
+    match input {
+        Input::Index => b"the index",
+        Input::Background => b"the background",
+        Input::Earlier => b"the earlier index",
+    }
+}
+
+// What is wrong with an input.
+#[tactic(auto, unfolding(crate::specs::Texts::complaint))]
+fn complaint(hint: Hint) -> &'static [u8]
+    ensures { result.now ≡ complaint hint }
+{
+    match hint {
+        Hint::Compressed(Compression::Gzip) => b"is compressed by gzip",
+        Hint::Compressed(Compression::Xz) => b"is compressed by xz",
+        Hint::Compressed(Compression::Bzip2) => b"is compressed by bzip2",
+        Hint::Compressed(Compression::Zstd) => b"is compressed by zstd",
+        Hint::Compressed(Compression::Lz4) => b"is compressed by lz4",
+        Hint::ByteOrderMark => b"begins with a byte order mark",
+        Hint::Markup => b"begins with <, as a web page does",
+        Hint::Signed => b"is a signed text, as InRelease",
+        Hint::CarriageReturns => b"has lines that end with CR LF",
+        Hint::ReleaseFile => b"is a Release file",
+        Hint::SourcesFile => b"describes source packages",
+    }
+}
+
+// The command that makes an index of a file, where there is one.
+#[tactic(auto, unfolding(crate::specs::Texts::command))]
+fn command(hint: Hint) -> Option<&'static [u8]>
+    ensures { option_copied result ≡ command hint }
+{
+    match hint {
+        Hint::Compressed(Compression::Gzip) => Some(b"zcat FILE"),
+        Hint::Compressed(Compression::Xz) => Some(b"xzcat FILE"),
+        Hint::Compressed(Compression::Bzip2) => Some(b"bzcat FILE"),
+        Hint::Compressed(Compression::Zstd) => Some(b"zstdcat FILE"),
+        Hint::Compressed(Compression::Lz4) => Some(b"lz4cat FILE"),
+        Hint::ByteOrderMark => Some(b"tail -c +4 FILE"),
+        Hint::CarriageReturns => Some(b"tr -d '\\r' < FILE"),
+        Hint::Markup | Hint::Signed | Hint::ReleaseFile | Hint::SourcesFile => None,
+    }
+}
+
+// What to do where there is none.
+#[tactic(auto, unfolding(crate::specs::Texts::advice))]
+fn advice(hint: Hint) -> &'static [u8]
+    ensures { result.now ≡ advice hint }
+{
+    match hint {
+        Hint::Markup => b"see what was fetched",
+        _ => b"take a file Packages",
+    }
+}
+
+// What stands before and behind a command, so that the program reads what it writes.
+#[tactic(auto, unfolding(crate::specs::Texts::around))]
+fn around(input: Input) -> (&'static [u8], &'static [u8])
+    ensures { (result.0.now, result.1.now) ≡ around input }
+{
+    match input {
+        Input::Index => (b"", b" | debcheck .."),
+        Input::Background => (b"--bg <(", b")"),
+        Input::Earlier => (b"--since <(", b")"),
+    }
+}
+
+// The program on what a command writes.
+#[tactic(auto, unfolding(crate::specs::Texts::by_command))]
+fn push_by_command(line: &mut Vec<u8>, input: Input, command: &[u8]) -> Result<(), AllocError>
+    ensures { OnOk result (line.new.items ≡ line.old.items ++ by_command input command.now) }
+{
+    let (before, behind) = around(input);
+    line.extend_from_slice(before)?;
+    line.extend_from_slice(command)?;
+    line.extend_from_slice(behind)?;
+    Ok(())
+}
+
+#[tactic(auto, unfolding(crate::specs::Texts::remedy))]
+fn push_remedy(line: &mut Vec<u8>, input: Input, hint: Hint) -> Result<(), AllocError>
+    ensures { OnOk result (line.new.items ≡ line.old.items ++ remedy input hint) }
+{
+    match command(hint) {
+        Some(command) => push_by_command(line, input, command)?,
+        None => line.extend_from_slice(advice(hint))?,
+    }
+    Ok(())
+}
+
+/// The line that tells what is likely wrong with an input, and what to do, with LF.
+///
+/// `AllocError` where there is no memory for it.
+#[tactic(auto, unfolding(crate::specs::Texts::hint_line))]
+pub fn hint_line(alloc: Global, input: Input, hint: Hint) -> Result<Vec<u8>, AllocError>
+    ensures { IfOk result (λ line. line.items ≡ hint_line input hint) }
+{
+    let mut line = Vec::from_slice(alloc, b"hint: ")?;
+    line.extend_from_slice(input_name(input))?;
+    line.extend_from_slice(b" ")?;
+    line.extend_from_slice(complaint(hint))?;
+    line.extend_from_slice(b": ")?;
+    push_remedy(&mut line, input, hint)?;
+    line.push(b'\n')?;
+    Ok(line)
+}

@@ -1,0 +1,12 @@
+//! Tests of the public calls of `input_hints`.
+//!
+//! `beginnings` has the first bytes of inputs of each kind, and of near cases; `told` the lines that are told of them and of runs; `growths` a test
+//! of the call that can want memory.
+#![tactic(auto)]
+
+#[cfg(test)]
+mod beginnings;
+#[cfg(test)]
+mod growths;
+#[cfg(test)]
+mod told;

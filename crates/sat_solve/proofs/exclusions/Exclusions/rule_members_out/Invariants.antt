@@ -1,6 +1,0 @@
-use Rattle.std.proofs.Common.{None}
-use Rattle.sat_solve.specs.SolverState.{GoesOn}
-use Rattle.sat_solve.proofs.exclusions.Exclusions.rule_members_out.Given as goal
-
-abbrev pub invariant-links : goal.invariant-links
-invariant-links l = GoesOn l.problem l.initial.solver l.solver None

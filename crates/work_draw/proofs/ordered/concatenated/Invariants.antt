@@ -1,5 +1,0 @@
-use Rattle.std.proofs.Common.{◌≡◌, flat_map}
-use Rattle.work_draw.proofs.ordered.concatenated.Given as goal
-
-abbrev pub invariant-loop-piece : goal.invariant-loop-piece
-invariant-loop-piece l = l.all.items ≡ flat_map (λ p. p.verdicts.items) l.yielded

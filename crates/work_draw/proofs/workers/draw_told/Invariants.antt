@@ -1,0 +1,16 @@
+use Rattle.std.proofs.Common.{◌≡◌, ◌-◌, true}
+use Rattle.work_draw.specs.Checks.{IsFoundAs}
+use Rattle.work_draw.specs.Pieces.{Find, Gains}
+use Rattle.work_draw.proofs.Bounds.{bound_of}
+use Rattle.work_draw.proofs.workers.draw_told.Given as goal
+
+abbrev pub invariant-loop-number : goal.invariant-loop-number
+invariant-loop-number g l = record {
+  refused : l.drawn.refused ≡ true;
+  same : l.drawn.drawer ≡ record l.fn.drawer { numbers = l.drawn.drawer.numbers };
+  gained : Gains l.fn.drawer.numbers l.drawn.pieces.items l.drawn.drawer.numbers;
+  found : Find (IsFoundAs l.wanted l.index) l.asked l.chunk l.drawn.pieces.items;
+}
+
+abbrev pub decreases-loop-number : goal.decreases-loop-number
+decreases-loop-number g l = l.board.total - bound_of l.drawn.drawer.numbers

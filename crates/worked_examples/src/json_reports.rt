@@ -1,0 +1,423 @@
+//! Reports in JSON: some literally, and those of the other examples read back and laid out in lines again.
+
+ghost use Rattle.std.specs.Prelude.{◌≡◌, ◌<◌, ◌≤◌, IfOk};
+
+use crate::example::{Example, outcome_of, outcome_under};
+use crate::reports::{Way, check, documents};
+use crate::sample;
+use debcheck::{Config, Format, Std};
+use serde_json::Value;
+use std::alloc::{AllocError, Global};
+use std::test::Fail;
+use std::thread::Threads;
+
+const EXAMPLES: &str = r#"empty_index gives 0 under --arch amd64 --format json --explain
+----
+
+----
+{"architecture":"amd64","report":[
+],"stanzas":0,"skipped":0,"duplicates":0,"asked":0,"broken":0}
+
+====
+nothing_broken gives 0 under --arch amd64 --format json --explain
+----
+Package: a
+Version: 1
+Architecture: amd64
+----
+{"architecture":"amd64","report":[
+{"package":"a","version":"1","architecture":"amd64","status":"ok","installation-set":[{"package":"a","version":"1"}]}
+],"stanzas":1,"skipped":0,"duplicates":0,"asked":1,"broken":0}
+
+====
+all_kinds_of_reasons gives 1 under --arch amd64 --format json --explain
+----
+Package: e
+Version: 1
+Architecture: all
+Essential: yes
+
+Package: x
+Version: 1
+Architecture: all
+Conflicts: e
+
+Package: m
+Version: 1
+Architecture: all
+Depends: gone (>= 2) | gone-too
+
+Package: n
+Version: 1
+Architecture: all
+
+Package: n
+Version: 2
+Architecture: amd64
+
+Package: q
+Version: 1
+Architecture: all
+Pre-Depends: n (= 1)
+Depends: r
+
+Package: r
+Version: 1:1.0~b-1
+Architecture: all
+Depends: n (= 2)
+
+----
+{"architecture":"amd64","report":[
+{"package":"e","version":"1","architecture":"all","status":"ok","installation-set":[{"package":"e","version":"1"}]},
+{"package":"x","version":"1","architecture":"all","status":"broken","reasons":[{"kind":"essential","name":"e"},{"kind":"conflict","package":"x","version":"1","field":"Conflicts","relation":"e"}]},
+{"package":"m","version":"1","architecture":"all","status":"broken","reasons":[{"kind":"missing","package":"m","version":"1","field":"Depends","relation":"gone (>= 2) | gone-too"}]},
+{"package":"n","version":"1","architecture":"all","status":"ok","installation-set":[{"package":"e","version":"1"},{"package":"n","version":"1"}]},
+{"package":"n","version":"2","architecture":"amd64","status":"ok","installation-set":[{"package":"e","version":"1"},{"package":"n","version":"2"}]},
+{"package":"q","version":"1","architecture":"all","status":"broken","reasons":[{"kind":"depends","package":"q","version":"1","field":"Pre-Depends","relation":"n (= 1)"},{"kind":"depends","package":"q","version":"1","field":"Depends","relation":"r"},{"kind":"depends","package":"r","version":"1:1.0~b-1","field":"Depends","relation":"n (= 2)"},{"kind":"versions","name":"n"}]},
+{"package":"r","version":"1:1.0~b-1","architecture":"all","status":"ok","installation-set":[{"package":"e","version":"1"},{"package":"n","version":"2"},{"package":"r","version":"1:1.0~b-1"}]}
+],"stanzas":7,"skipped":0,"duplicates":0,"asked":7,"broken":3}
+
+====
+without_explanations gives 1 under --arch amd64 --format json
+----
+Package: a
+Version: 1
+Architecture: all
+Depends: b
+
+Package: b
+Version: 1
+Architecture: all
+Depends: c (>= 2)
+
+Package: c
+Version: 1
+Architecture: all
+
+----
+{"architecture":"amd64","report":[
+{"package":"a","version":"1","architecture":"all","status":"broken"},
+{"package":"b","version":"1","architecture":"all","status":"broken"},
+{"package":"c","version":"1","architecture":"all","status":"ok"}
+],"stanzas":3,"skipped":0,"duplicates":0,"asked":3,"broken":2}
+
+====
+no_failures gives 0 under --arch amd64 --format json --explain --failures
+----
+Package: a
+Version: 1
+Architecture: amd64
+----
+{"architecture":"amd64","report":[
+],"stanzas":1,"skipped":0,"duplicates":0,"asked":1,"broken":0}
+
+====
+successes gives 1 under --arch amd64 --format json --explain --successes
+----
+Package: a
+Version: 1
+Architecture: all
+Depends: b
+
+Package: b
+Version: 1
+Architecture: all
+Depends: c (>= 2)
+
+Package: c
+Version: 1
+Architecture: all
+
+----
+{"architecture":"amd64","report":[
+{"package":"c","version":"1","architecture":"all","status":"ok","installation-set":[{"package":"c","version":"1"}]}
+],"stanzas":3,"skipped":0,"duplicates":0,"asked":3,"broken":2}
+
+====
+causes gives 1 under --arch amd64 --format json --failures --causes
+----
+Package: a
+Version: 1
+Architecture: all
+Depends: b
+
+Package: b
+Version: 1
+Architecture: all
+Depends: c (>= 2)
+
+Package: c
+Version: 1
+Architecture: all
+
+----
+{"architecture":"amd64","report":[
+{"package":"a","version":"1","architecture":"all","status":"broken"},
+{"package":"b","version":"1","architecture":"all","status":"broken"}
+],"stanzas":3,"skipped":0,"duplicates":0,"asked":3,"broken":2,"causes":[
+{"packages":2,"reasons":[{"kind":"missing","package":"b","version":"1","field":"Depends","relation":"c (>= 2)"}],"present":[{"package":"c","version":"1"}],"broken":[{"package":"a","version":"1"},{"package":"b","version":"1"}]}
+]}
+
+====
+causes_of_all_kinds gives 1 under --arch amd64 --format json --successes --causes --checkonly x,m,q,r
+----
+Package: e
+Version: 1
+Architecture: all
+Essential: yes
+
+Package: x
+Version: 1
+Architecture: all
+Conflicts: e
+
+Package: m
+Version: 1
+Architecture: all
+Depends: gone (>= 2) | gone-too
+
+Package: n
+Version: 1
+Architecture: all
+
+Package: n
+Version: 2
+Architecture: amd64
+
+Package: q
+Version: 1
+Architecture: all
+Pre-Depends: n (= 1)
+Depends: r
+
+Package: r
+Version: 1:1.0~b-1
+Architecture: all
+Depends: n (= 2)
+
+----
+{"architecture":"amd64","report":[
+{"package":"r","version":"1:1.0~b-1","architecture":"all","status":"ok"}
+],"stanzas":7,"skipped":0,"duplicates":0,"asked":4,"broken":3,"causes":[
+{"packages":1,"reasons":[{"kind":"essential","name":"e"},{"kind":"conflict","package":"x","version":"1","field":"Conflicts","relation":"e"}],"present":[],"broken":[{"package":"x","version":"1"}]},
+{"packages":1,"reasons":[{"kind":"missing","package":"m","version":"1","field":"Depends","relation":"gone (>= 2) | gone-too"}],"present":[],"broken":[{"package":"m","version":"1"}]},
+{"packages":1,"reasons":[{"kind":"versions","name":"n"}],"present":[],"broken":[{"package":"q","version":"1"}]}
+]}
+
+====
+near_by_provides gives 1 under --arch amd64 --format json --failures --causes
+----
+Package: a
+Version: 1
+Architecture: all
+Depends: v (>= 3)
+
+Package: p
+Version: 1
+Architecture: all
+Provides: v (= 1), other, v
+
+Package: v
+Version: 1
+Architecture: all
+Provides: v (= 2)
+
+----
+{"architecture":"amd64","report":[
+{"package":"a","version":"1","architecture":"all","status":"broken"}
+],"stanzas":3,"skipped":0,"duplicates":0,"asked":3,"broken":1,"causes":[
+{"packages":1,"reasons":[{"kind":"missing","package":"a","version":"1","field":"Depends","relation":"v (>= 3)"}],"present":[{"package":"p","version":"1","provides":["v (= 1)","v"]},{"package":"v","version":"1"}],"broken":[{"package":"a","version":"1"}]}
+]}
+
+====
+no_causes_in_an_empty_index gives 0 under --arch amd64 --format json --causes
+----
+
+----
+{"architecture":"amd64","report":[
+],"stanzas":0,"skipped":0,"duplicates":0,"asked":0,"broken":0,"causes":[
+]}
+
+====
+no_causes gives 0 under --arch amd64 --format json --successes --causes
+----
+Package: a
+Version: 1
+Architecture: amd64
+----
+{"architecture":"amd64","report":[
+{"package":"a","version":"1","architecture":"amd64","status":"ok"}
+],"stanzas":1,"skipped":0,"duplicates":0,"asked":1,"broken":0,"causes":[
+]}
+
+====
+unknown_name gives 66 under --arch amd64 --format json --checkonly zz
+----
+Package: a
+Version: 1
+Architecture: amd64
+----
+debcheck: unknown package zz
+"#;
+
+#[test]
+fn documents_are_these(rt: HostRuntime) -> Result<(), Fail> {
+    check(&rt, rt.alloc(), EXAMPLES, Way::Plain)
+}
+
+/// The text with this name; one that stands in no report where there is none.
+fn text_in<'v>(object: &'v Value, name: &str) -> &'v str {
+    match object.get(name).and_then(Value::as_str) {
+        Some(text) => text,
+        None => "(no text)",
+    }
+}
+
+/// Adds the pattern, with the object's texts in the place of their names in braces.
+fn fill(out: &mut String, pattern: &str, object: &Value) -> Result<(), AllocError> {
+    for part in pattern.split('{') {
+        match part.split_once('}') {
+            Some((name, rest)) => {
+                out.push_str(text_in(object, name))?;
+                out.push_str(rest)?;
+            }
+            None => out.push_str(part)?,
+        }
+    }
+    Ok(())
+}
+
+/// The pattern of a line for a reason.
+fn reason_pattern(reason: &Value) -> &'static str {
+    match text_in(reason, "kind") {
+        "essential" | "versions" => "   - {kind}: {name}\n",
+        _ => "   - {kind}: {package} {version} {field}: {relation}\n",
+    }
+}
+
+/// Adds the lines of a list, and the heading above them; nothing where there is no list with this name.
+fn add_list(out: &mut String, package: &Value, name: &str) -> Result<(), AllocError> {
+    let Some(items) = package.get(name).and_then(Value::as_array) else {
+        return Ok(());
+    };
+    out.push_str("  ")?;
+    out.push_str(name)?;
+    out.push_str(":\n")?;
+    for item in items.as_slice() {
+        let pattern = if name == "reasons" {
+            reason_pattern(item)
+        } else {
+            "   - {package} {version}\n"
+        };
+        fill(out, pattern, item)?;
+    }
+    Ok(())
+}
+
+const BLOCK: &str = " -
+  package: {package}
+  version: {version}
+  architecture: {architecture}
+  status: {status}
+";
+
+/// Adds the blocks of all packages; nothing where the document has no list of them.
+fn add_blocks(out: &mut String, document: &Value) -> Result<(), AllocError> {
+    let Some(packages) = document.get("report").and_then(Value::as_array) else {
+        return Ok(());
+    };
+    out.push_str("report:\n")?;
+    for package in packages.as_slice() {
+        fill(out, BLOCK, package)?;
+        add_list(out, package, "installation-set")?;
+        add_list(out, package, "reasons")?;
+    }
+    Ok(())
+}
+
+/// Adds the line of a number; nothing where there is no number with this name.
+fn add_number(
+    alloc: Global,
+    out: &mut String,
+    document: &Value,
+    name: &str,
+) -> Result<(), AllocError> {
+    let Some(number) = document.get(name).and_then(Value::as_u64) else {
+        return Ok(());
+    };
+    let line = format!(in alloc; "{name}: {number}\n")?;
+    out.push_str(line.as_str())
+}
+
+/// Adds the lines that tell what a document tells.
+fn add_lines(alloc: Global, out: &mut String, document: &Value) -> Result<(), AllocError> {
+    fill(out, "architecture: {architecture}\n", document)?;
+    add_blocks(out, document)?;
+    for name in ["stanzas", "skipped", "duplicates", "asked", "broken"] {
+        add_number(alloc, out, document, name)?;
+    }
+    Ok(())
+}
+
+/// The lines that tell what the bytes of a document tell.
+fn lines_of(alloc: Global, bytes: &[u8]) -> Result<String, Fail> {
+    let document = Value::from_slice(alloc, bytes)?;
+    let mut out = String::new(alloc);
+    add_lines(alloc, &mut out, &document)?;
+    Ok(out)
+}
+
+/// Whether the document in JSON, read back, tells what the lines of the answer tell. A fault has no document.
+pub fn reads_back<R: Threads + Sync>(
+    rt: &R,
+    alloc: Global,
+    example: &Example<'_>,
+) -> Result<bool, Fail> {
+    if example.status > 1 {
+        return Ok(true);
+    }
+    let words = format!(in alloc; "{} --format json", example.words)?;
+    let found = outcome_of(rt, alloc, words.as_str(), example)?;
+    let lines = lines_of(alloc, found.written.as_slice())?;
+    Ok(lines.as_str() == example.answer)
+}
+
+#[test]
+fn documents_tell_what_the_lines_tell(rt: HostRuntime) -> Result<(), Fail> {
+    for examples in documents() {
+        check(&rt, rt.alloc(), examples, Way::ReadBack)?;
+    }
+    assert!(rt; reads_back(&rt, rt.alloc(), &sample::example())?);
+    Ok(())
+}
+
+const STRANGE_ARCHITECTURE: &str = "Package: p
+Version: 1
+Architecture: a\"\\\u{1}\u{1f}\u{e9}
+";
+
+const STRANGE_REPORT: &str = r#"{"architecture":"a\"\\\u0001\u001fé","report":[
+{"package":"p","version":"1","architecture":"a\"\\\u0001\u001fé","status":"ok"}
+],"stanzas":1,"skipped":0,"duplicates":0,"asked":1,"broken":0}
+"#;
+
+/// The usual settings without explanations, in JSON, for the strange architecture.
+fn strange_config(alloc: Global) -> Result<Config, AllocError>
+    ensures workers { IfOk result (λ config. config.workers ≡ 4) }
+    ensures chunk { IfOk result (λ config. config.chunk ≡ 64) }
+{
+    let mut config = Config::usual(alloc)?;
+    config.arch = String::from_str(alloc, "a\"\\\u{1}\u{1f}\u{e9}")?;
+    config.explain = false;
+    config.format = Format::Json;
+    Ok(config)
+}
+
+#[test]
+fn architectures_are_escaped(rt: HostRuntime) -> Result<(), Fail> {
+    let config = strange_config(rt.alloc())?;
+    let mut reader = Std::new(STRANGE_ARCHITECTURE.as_bytes());
+    let found = outcome_under(&rt, rt.alloc(), &config, &mut reader, "")?;
+    assert!(rt; found.is(STRANGE_REPORT, "", 0), "the document");
+    Ok(())
+}

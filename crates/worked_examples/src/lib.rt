@@ -1,0 +1,34 @@
+//! Worked examples over all crates: words and a text go in, and the bytes of the report are compared.
+//!
+//! `example` says what an example is and runs it, `reports` goes over those of `relations`, `meanings`, `qualifiers`, `settings` and `refusals`; `backgrounds` has
+//! those with a second text, `json_reports` documents in JSON, and reads others back; `cut_texts`, `large`, `without_sets` and `workers` have inputs of their own.
+#![tactic(auto)]
+
+#[cfg(test)]
+mod backgrounds;
+#[cfg(test)]
+mod cut_texts;
+#[cfg(test)]
+mod example;
+#[cfg(test)]
+mod json_reports;
+#[cfg(test)]
+mod large;
+#[cfg(test)]
+mod meanings;
+#[cfg(test)]
+mod qualifiers;
+#[cfg(test)]
+mod refusals;
+#[cfg(test)]
+mod relations;
+#[cfg(test)]
+mod reports;
+#[cfg(test)]
+mod sample;
+#[cfg(test)]
+mod settings;
+#[cfg(test)]
+mod without_sets;
+#[cfg(test)]
+mod workers;
