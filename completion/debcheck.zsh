@@ -20,6 +20,6 @@ _arguments \
     '(--since)--successes[show only the ok packages]' \
     '--causes[end the report with the causes of what is broken]' \
     '--ignore-essential[let no name be essential]' \
-    '--quiet[show no progress]' \
+    '--quiet[show no progress and no hints]' \
     '(- *)'{-h,--help}'[write a summary of the options]' \
     '(- *)'{-V,--version}'[write the version]'

@@ -1,5 +1,5 @@
 -- A text that is cut right behind an empty line: its stanzas are those of the first part and, behind them, those of the second.
-use Rattle.std.proofs.Common.{◌≡◌, ℕ, zero, suc, ◌+◌, ◌<◌, ◌≤◌, Bool, true, false, cond, not, List, [], ◌∷◌, ◌++◌, length, take, drop, nat_eq, refl, sym, ap, subst, ◌∙◌, arith, length-drop}
+use Rattle.std.proofs.Common.{◌≡◌, ℕ, zero, suc, ◌+◌, ◌<◌, Bool, true, false, cond, not, List, [], ◌∷◌, ◌++◌, length, take, drop, nat_eq, refl, sym, ap, subst, ◌∙◌, arith, length-drop, append_assoc}
 use Rattle.std.specs.Prelude.{slice_index}
 use Rattle.std.specs.List.{slice_split, onto_first, filter}
 use Rattle.std.proofs.lemmas.List.{append-nil, get_or-drop}
@@ -7,7 +7,7 @@ use Rattle.std.proofs.lemmas.List.Elements.{filter-append}
 use Rattle.std.proofs.lemmas.List.Splits.{slice_split-cons_yes, length-slice_split}
 use Rattle.memchr.specs.Find.{OccursAt}
 use Rattle.deb_control.specs.Lines.{is_empty, is_blank, is_comment, without_empty_end, lines, content_lines}
-use Rattle.deb_control.specs.Stanzas.{runs, stanzas_of}
+use Rattle.deb_control.specs.Stanzas.{IsClosed, runs, stanzas_of}
 use Rattle.deb_control.proofs.RunLemmas.{runs-nil, stanzas_of-is}
 use Rattle.deb_control.proofs.LineLemmas.{content_lines-nil}
 
@@ -75,6 +75,20 @@ stanzas-cut front back =
 pub stanzas-uncut : (text : List ℕ) → stanzas_of text ≡ stanzas_of text ++ stanzas_of []
 stanzas-uncut text = sym (append-nil (stanzas_of text)) ∙ ap (λ (ss : List (List (List ℕ))). stanzas_of text ++ ss) (sym stanzas-none)
 
+-- ---- texts over whose end no stanza goes on
+
+pub closed-none : IsClosed []
+closed-none more = ap (λ (ss : List (List (List ℕ))). ss ++ stanzas_of more) (sym stanzas-none)
+
+closed-cut : (front : List ℕ) → IsClosed (front ++ 10 ∷ 10 ∷ [])
+closed-cut front more = ap stanzas_of (append_assoc front (10 ∷ 10 ∷ []) more) ∙ stanzas-cut front more
+
+-- one behind the other
+pub closed-append : (front back : List ℕ) → IsClosed front → IsClosed back → IsClosed (front ++ back)
+closed-append front back closed ends more =
+    ap stanzas_of (append_assoc front back more) ∙ closed (back ++ more) ∙ ap (λ (ss : List (List (List ℕ))). stanzas_of front ++ ss) (ends more)
+    ∙ sym (append_assoc (stanzas_of front) (stanzas_of back) (stanzas_of more)) ∙ ap (λ (ss : List (List (List ℕ))). ss ++ stanzas_of more) (sym (closed back))
+
 -- ---- where two line feeds stand
 
 pub feeds-front : (text : List ℕ) (k : ℕ) → suc k < length text → slice_index text k ≡ 10 → slice_index text (suc k) ≡ 10 → take (suc (suc k)) text ≡ take k text ++ 10 ∷ 10 ∷ []
@@ -98,17 +112,23 @@ stanzas-at text k within first second =
     ∙ ap (λ (front : List ℕ). stanzas_of front ++ stanzas_of back) (sym (feeds-front text k within first second))
 
 -- where a search from some byte on finds two line feeds
-pub found-cut : (text : List ℕ) (from place : ℕ) → OccursAt (drop from text) (10 ∷ 10 ∷ []) place → stanzas_of text ≡ stanzas_of (take (from + place + 2) text) ++ stanzas_of (drop (from + place + 2) text)
-found-cut text from place at =
-    let k = from + place in
-    let within : suc k < length text = omega (arith, at.fits, length-drop from text) in
-    let first : slice_index text k ≡ 10 = ap (λ n. slice_index text (from + n)) (add-none place) ∙ sym (get_or-drop from text (place + 0) 0) ∙ at.reads 0 (omega arith) in
-    let second : slice_index text (suc k) ≡ 10 = ap (slice_index text) (add-one from place) ∙ sym (get_or-drop from text (place + 1) 0) ∙ at.reads 1 (omega arith) in
-    let two : suc (suc k) ≡ k + 2 = omega arith in
-    subst (λ n. stanzas_of text ≡ stanzas_of (take n text) ++ stanzas_of (drop n text)) two (stanzas-at text k within first second)
-  where
-    add-none : (n : ℕ) → n ≡ n + 0
-    add-none n = omega arith
+module _ (text : List ℕ) (from place : ℕ) (at : OccursAt (drop from text) (10 ∷ 10 ∷ []) place) where
+  within : suc (from + place) < length text
+  within = omega (arith, at.fits, length-drop from text)
 
-    add-one : (m n : ℕ) → suc (m + n) ≡ m + (n + 1)
-    add-one m n = omega arith
+  first : slice_index text (from + place) ≡ 10
+  first = let none : place ≡ place + 0 = omega arith in ap (λ n. slice_index text (from + n)) none ∙ sym (get_or-drop from text (place + 0) 0) ∙ at.reads 0 (omega arith)
+
+  second : slice_index text (suc (from + place)) ≡ 10
+  second = let one : suc (from + place) ≡ from + (place + 1) = omega arith in ap (slice_index text) one ∙ sym (get_or-drop from text (place + 1) 0) ∙ at.reads 1 (omega arith)
+
+  two : suc (suc (from + place)) ≡ from + place + 2
+  two = omega arith
+
+  pub found-cut : stanzas_of text ≡ stanzas_of (take (from + place + 2) text) ++ stanzas_of (drop (from + place + 2) text)
+  found-cut = subst (λ n. stanzas_of text ≡ stanzas_of (take n text) ++ stanzas_of (drop n text)) two (stanzas-at text (from + place) within first second)
+
+  pub found-closed : IsClosed (take (from + place + 2) text)
+  found-closed =
+      subst (λ n. IsClosed (take n text)) two
+      (subst (λ (front : List ℕ). IsClosed front) (sym (feeds-front text (from + place) within first second)) (closed-cut (take (from + place) text)))

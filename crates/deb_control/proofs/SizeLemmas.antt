@@ -129,26 +129,30 @@ fields_of-first : (line : List ℕ) (more : List (List ℕ)) → is_continuation
 unfolding fields_of
 fields_of-first line more is_none = rw is_none refl
 
-no-values : value_sizes (fields_of []) ≡ 0
+no-values : value_sizes (fields_of []) + length (fields_of []) ≡ 0
 unfolding fields_of
 no-values = refl
 
--- the lines of a stanza have room for its values, and for continuations that come first
-value_sizes-fields_of : (lines : List (List ℕ)) → value_sizes (fields_of lines) + size (take_while is_continuation lines) ≤ size lines
+-- the lines of a stanza have room for its values, a byte more for each, and for continuations that come first
+value_sizes-fields_of : (lines : List (List ℕ)) → value_sizes (fields_of lines) + length (fields_of lines) + size (take_while is_continuation lines) ≤ size lines
 value_sizes-fields_of [] = omega (arith, no-values)
 value_sizes-fields_of (line ∷ more) = elim (cases_Bool (is_continuation line)) [
   | inl is_one ↦
       let taken : size (take_while is_continuation (line ∷ more)) ≡ size (line ∷ take_while is_continuation more) = ap size (take_while-yes is_continuation line more is_one) in
-      let fields : value_sizes (fields_of (line ∷ more)) ≡ value_sizes (fields_of more) = ap value_sizes (fields_of-continuation line more is_one) in
-      omega (arith, value_sizes-fields_of more, size-cons line more, taken, fields, size-cons line (take_while is_continuation more))
+      let same = fields_of-continuation line more is_one in
+      let fields : value_sizes (fields_of (line ∷ more)) ≡ value_sizes (fields_of more) = ap value_sizes same in
+      let count : length (fields_of (line ∷ more)) ≡ length (fields_of more) = ap (λ (es : List Entry). length es) same in
+      omega (arith, value_sizes-fields_of more, size-cons line more, taken, fields, count, size-cons line (take_while is_continuation more))
   | inr is_none ↦
       let start = after_first is_colon line in
       let field : Entry = record { name = before_first is_colon line; value = value_of start (take_while is_continuation more) } in
       let value : length field.value ≤ length start + size (take_while is_continuation more) = value-length start (take_while is_continuation more) in
       let behind : length start ≤ length line = omega (arith, length-drop (position_or_len is_colon line + 1) line) in
       let none : size (take_while is_continuation (line ∷ more)) ≡ 0 = ap size (take_while-no is_continuation line more is_none) in
-      let fields : value_sizes (fields_of (line ∷ more)) ≡ value_sizes (field ∷ fields_of more) = ap value_sizes (fields_of-first line more is_none) in
-      omega (arith, value_sizes-fields_of more, size-cons line more, none, fields, value_sizes-cons field (fields_of more), value, behind)
+      let same = fields_of-first line more is_none in
+      let fields : value_sizes (fields_of (line ∷ more)) ≡ value_sizes (field ∷ fields_of more) = ap value_sizes same in
+      let count : length (fields_of (line ∷ more)) ≡ suc (length (fields_of more)) = ap (λ (es : List Entry). length es) same in
+      omega (arith, value_sizes-fields_of more, size-cons line more, none, fields, count, value_sizes-cons field (fields_of more), value, behind)
 ]
 
 -- what a stanza reads as are its fields
@@ -169,7 +173,9 @@ values-short n stanza fields e k d within =
     let is = read-is n stanza fields e in
     omega (arith, get_or-le-sum_by (λ (entry : Entry). length entry.value) fields k d within, ap value_sizes is, value_sizes-fields_of stanza)
 
--- all values of a stanza together are no longer than the stanza
-pub values-fit : (n : ℕ) (stanza : List (List ℕ)) (fields : List Entry) → read_stanza n stanza ≡ Ok fields → sum_by (λ entry. length entry.value) fields ≤ size_of stanza
+-- all values of a stanza together, with a byte more for each, are no longer than the stanza
+pub values-fit : (n : ℕ) (stanza : List (List ℕ)) (fields : List Entry) → read_stanza n stanza ≡ Ok fields → sum_by (λ entry. length entry.value) fields + length fields ≤ size_of stanza
 unfolding size_of
-values-fit n stanza fields e = omega (arith, ap value_sizes (read-is n stanza fields e), value_sizes-fields_of stanza)
+values-fit n stanza fields e =
+    let is = read-is n stanza fields e in
+    omega (arith, ap value_sizes is, ap (λ (es : List Entry). length es) is, value_sizes-fields_of stanza)

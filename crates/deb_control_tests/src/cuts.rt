@@ -48,6 +48,34 @@ fn cut_behind_empty_lines(rt: HostRuntime) -> Result<(), Fail> {
     Ok(())
 }
 
+/// The fields of a text's stanzas, printed, with an empty line behind each stanza.
+fn printed(alloc: Global, text: &[u8]) -> Result<String, Fail> {
+    let found = stanzas(alloc, text)?;
+    let mut out = String::new(alloc);
+    for stanza in &found {
+        for field in stanza.fields() {
+            let value: &[u8] = &field.value;
+            write!(out, "{:?}: {value:?}\n", field.name)?;
+        }
+        out.push('\n')?;
+    }
+    Ok(out)
+}
+
+#[test]
+fn other_texts_behind_a_cut(rt: HostRuntime) -> Result<(), Fail> {
+    let (front, _) = cut_behind_blank(ALTERNATIVES.as_bytes(), 0);
+    let others: [&[u8]; 4] = [b"", b"x: y", b"\n\nx: y\n z\n\nw: v\n", b"#\nx: y\n#"];
+    for other in others {
+        let mut whole = Vec::from_slice(rt.alloc(), front)?;
+        whole.extend_from_slice(other)?;
+        let mut wanted = printed(rt.alloc(), front)?;
+        wanted.push_str(printed(rt.alloc(), other)?.as_str())?;
+        assert_eq!(rt; printed(rt.alloc(), &whole)?.as_str(), wanted.as_str());
+    }
+    Ok(())
+}
+
 #[test]
 fn numbers_go_on(rt: HostRuntime) {
     let mut reader = Reader::behind(b"a: b\n\n x", 6);

@@ -98,14 +98,14 @@ module _ (arch : List ℕ) (with_essential : Bool) where
   unfolding collected
   collected-stanzas read = refl
 
-  taken-of : (read : Result (List (Option PackageView)) IndexError) (index : IndexView) → continued (collected arch with_essential []) read ≡ Ok index
+  pub taken-of : (read : Result (List (Option PackageView)) IndexError) (index : IndexView) → continued (collected arch with_essential []) read ≡ Ok index
       → (rest : List (Option PackageView)) × (read ≡ Ok rest) × (index ≡ collected arch with_essential rest)
   taken-of (Ok rest) index e =
       let is : fold with_reading (collected arch with_essential []) rest ≡ index = cc in
       (rest, refl, sym is ∙ collected-on [] rest)
   taken-of (Err f) index e = absurd cc
 
-  failed-of : (read : Result (List (Option PackageView)) IndexError) (f : IndexError) → continued (collected arch with_essential []) read ≡ Err f → read ≡ Err f
+  pub failed-of : (read : Result (List (Option PackageView)) IndexError) (f : IndexError) → continued (collected arch with_essential []) read ≡ Err f → read ≡ Err f
   failed-of (Ok rest) f e = absurd cc
   failed-of (Err g) f e = cc
 

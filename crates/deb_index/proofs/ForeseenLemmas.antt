@@ -1,5 +1,5 @@
 -- What a stanza without a fault reads as doesn't depend on where it stands, as long as there are not too many.
-use Rattle.std.proofs.Common.{◌≡◌, ◌≤◌, ◌+◌, ℕ, Bool, true, false, cond, ltb, List, [], ◌∷◌, length, Option, Some, None, Result, Ok, Err, refl, sym, ap, ◌∙◌, arith}
+use Rattle.std.proofs.Common.{◌≡◌, ◌≤◌, ◌+◌, ℕ, Bool, true, false, cond, ltb, List, [], ◌∷◌, length, Option, Some, None, Result, Ok, Err, ap, ◌∙◌, arith}
 use Rattle.std.specs.Prelude.{codes}
 use Rattle.std.specs.List.{list_all}
 use Rattle.std.specs.Option.{is_none}
@@ -9,14 +9,14 @@ use Rattle.deb_control.specs.Fields.{Entry, field_value}
 use Rattle.deb_control.specs.Stanzas.{read_stanza}
 use Rattle.deb_control.proofs.ReadLemmas.{read_stanza-free}
 use Rattle.deb_relation.specs.declared.atom.RelationError.{RelationError}
-use Rattle.deb_relation.specs.Relationship.{AtomText, atoms_of, groups_of, is_name}
+use Rattle.deb_relation.specs.Relationship.{atoms_of, groups_of, is_name}
 use Rattle.deb_relation.specs.VersionText.{fault_of}
 use Rattle.deb_index.specs.declared.error.IndexError.{IndexError}
 use Rattle.deb_index.specs.declared.error.IndexError.TheVariants.{BadName, BadRelation, BadVersion, TooManyStanzas}
 use Rattle.deb_index.specs.declared.error.RelField.{RelField}
 use Rattle.deb_index.specs.declared.error.RelField.TheVariants.{PreDepends, Depends, Conflicts, Breaks, Provides}
 use Rattle.deb_index.specs.Packages.{PackageView}
-use Rattle.deb_index.specs.Reading.{◌>>=◌, HeadView, atoms_in, from_control, good_name, good_version, groups_in, head_of, in_field, is_allowed, is_for, is_marked, is_provided, mandatory, package_of, provided, provides_in, reading_of, readings, relation_text, stanza_limit, stanza_reading}
+use Rattle.deb_index.specs.Reading.{◌>>=◌, HeadView, from_control, head_of, in_field, is_allowed, is_for, is_marked, is_provided, mandatory, package_of, provides_in, reading_of, readings, relation_text, stanza_limit, stanza_reading}
 use Rattle.deb_index.proofs.SizeLemmas.{done}
 
 -- a step that gives the same with any number, where it gives something

@@ -20,6 +20,7 @@ pub mod RoomLemmas
 pub mod TakenLemmas
 pub mod ForeseenLemmas
 pub mod PartedLemmas
+pub mod PieceLemmas
 pub mod EnumerateLemmas
 pub mod NameLemmas
 pub mod ProvidedLemmas

@@ -64,9 +64,9 @@ module _ (arch : List ℕ) (before : ℕ) (index : IndexView) (left new : Unread
   pub stays-few : (read : Option PackageView) → IsRoomy before index left → Steps arch before left read new → (with_reading index read).stanzas ≤ stanza_limit
   stays-few read roomy step = omega (arith, (stays-roomy read roomy step).counts, stanza-few arch before new.count step.stanza read step.reads)
 
-  -- and it asks for no more than it has bytes, and four
+  -- and it asks for no more than it has bytes, and three
   pub step-asks : (read : Option PackageView) → Steps arch before left read new
-      → asked (with_reading index read) + 4 * index.stanzas + sum_by size_of new.stanzas ≤ asked index + sum_by size_of left.stanzas + 4 * (with_reading index read).stanzas
+      → asked (with_reading index read) + 3 * index.stanzas + sum_by size_of new.stanzas ≤ asked index + sum_by size_of left.stanzas + 3 * (with_reading index read).stanzas
   step-asks None step = omega (arith, left-sizes arch before left new None step)
   step-asks (Some p) step =
       let fits = stanza-fits arch before new.count step.stanza p step.reads in
@@ -89,5 +89,5 @@ fresh-room arch with_essential index is = omega (arith, ap asked is, fresh arch 
 
 -- after the first text there is room for a second one
 pub fore-room : (arch : List ℕ) (with_essential : Bool) (text : List ℕ) (old new : IndexView) → length text ≤ byte_limit → old ≡ collected arch with_essential []
-    → asked new + 4 * old.stanzas ≤ asked old + sum_by size_of (stanzas_of text) + 4 * new.stanzas → asked new ≤ byte_limit + 1 + 4 * new.stanzas
+    → asked new + 3 * old.stanzas ≤ asked old + sum_by size_of (stanzas_of text) + 3 * new.stanzas → asked new ≤ byte_limit + 1 + 4 * new.stanzas
 fore-room arch with_essential text old new short is room = omega (arith, ap asked is, fresh arch with_essential, stanza-sizes text, short, room)

@@ -1,14 +1,15 @@
 -- How much a package asks for and provides, against the bytes of its stanza.
-use Rattle.std.proofs.Common.{◌≡◌, ◌≤◌, ◌+◌, ℕ, Bool, true, false, cond, ltb, List, [], ◌∷◌, ◌++◌, length, Option, Some, None, unwrap_or, Result, Ok, Err, refl, sym, subst, ap, ◌∙◌, arith, length-append, ltb-false}
+use Rattle.std.proofs.Common.{◌≡◌, ◌≤◌, ◌+◌, ◌<◌, ℕ, Bool, true, false, cond, ltb, List, [], ◌∷◌, ◌++◌, length, Option, Some, None, unwrap_or, Result, Ok, Err, refl, sym, subst, ap, ◌∙◌, arith, length-append, ltb-false}
 use Rattle.std.specs.List.{All, find, list_all, sum_by}
 use Rattle.std.specs.Option.{option_and_then}
 use Rattle.std.proofs.lemmas.List.{map-id}
 use Rattle.std.proofs.lemmas.List.Elements.{All-tail}
+use Rattle.std.proofs.lemmas.List.Sums.{get_or-le-sum_by}
 use Rattle.deb_control.specs.declared.error.ControlError.{ControlError}
 use Rattle.deb_control.specs.Lines.{is_empty}
 use Rattle.deb_control.specs.Fields.{Entry, field_value, same_name}
 use Rattle.deb_control.specs.Stanzas.{size_of, read_stanza}
-use Rattle.deb_control.proofs.SizeLemmas.{values-short, values-fit}
+use Rattle.deb_control.proofs.SizeLemmas.{values-fit}
 use Rattle.deb_index.proofs.FieldSums.{four-fit}
 use Rattle.deb_relation.specs.declared.atom.RelationError.{RelationError}
 use Rattle.deb_relation.specs.Relationship.{AtomText, atoms_of, group_in, groups_of, single_of}
@@ -97,11 +98,15 @@ provides-fit n k fields atoms short e =
 
 -- ---- packages
 
--- a package asks for and provides at most so much
-abbrev pub Fits : ℕ → PackageView → Type 0
-Fits k p = (asked_count p ≤ k + 4) × (length p.provides ≤ k + 1)
+-- a package asks for and provides at most so much, where its fields have so many bytes
+abbrev Fills : ℕ → PackageView → Type 0
+Fills k p = (asked_count p ≤ k + 4) × (length p.provides ≤ k + 1)
 
-package-fits : (n k : ℕ) (fields : List Entry) (head : HeadView) (p : PackageView) → AreShort k fields → sum_by (λ entry. length entry.value) fields ≤ k → package_of n fields head ≡ Ok p → Fits k p
+-- and so much, where its stanza has so many
+abbrev pub Fits : ℕ → PackageView → Type 0
+Fits size p = (asked_count p ≤ size + 3) × (length p.provides ≤ size)
+
+package-fits : (n k : ℕ) (fields : List Entry) (head : HeadView) (p : PackageView) → AreShort k fields → sum_by (λ entry. length entry.value) fields ≤ k → package_of n fields head ≡ Ok p → Fills k p
 unfolding package_of
 package-fits n k fields head p short fit e =
     let pre_depends = done (groups_in n fields PreDepends) _ p e in
@@ -121,9 +126,9 @@ package-fits n k fields head p short fit e =
       texts,
       fit,
     ) in
-    subst (Fits k) (same _ p provides.2) (asked, provides-fit n k fields provides.0 short provides.1)
+    subst (Fills k) (same _ p provides.2) (asked, provides-fit n k fields provides.0 short provides.1)
 
-counted-fits : (b : Bool) (n k : ℕ) (fields : List Entry) (head : HeadView) (p : PackageView) → AreShort k fields → sum_by (λ entry. length entry.value) fields ≤ k → cond b (package_of n fields head >>= λ q. Ok (Some q)) (Ok None) ≡ Ok (Some p) → Fits k p
+counted-fits : (b : Bool) (n k : ℕ) (fields : List Entry) (head : HeadView) (p : PackageView) → AreShort k fields → sum_by (λ entry. length entry.value) fields ≤ k → cond b (package_of n fields head >>= λ q. Ok (Some q)) (Ok None) ≡ Ok (Some p) → Fills k p
 counted-fits true n k fields head p short fit e =
     let read = done (package_of n fields head) (λ q. Ok (Some q)) (Some p) e in
     let is : read.0 ≡ p = some-same read.0 p (same (Some read.0) (Some p) read.2) in
@@ -133,7 +138,13 @@ counted-fits true n k fields head p short fit e =
     some-same q r h = cc
 counted-fits false n k fields head p short fit e = absurd cc
 
-reading-fits : (arch : List ℕ) (n k : ℕ) (fields : List Entry) (p : PackageView) → AreShort k fields → sum_by (λ entry. length entry.value) fields ≤ k → reading_of arch n fields ≡ Ok (Some p) → Fits k p
+-- a stanza that is read has a field
+some-field : (arch : List ℕ) (n : ℕ) (fields : List Entry) (r : Option PackageView) → reading_of arch n fields ≡ Ok r → 0 < length fields
+unfolding reading_of head_of field_value
+some-field arch n [] r e = absurd cc
+some-field arch n (field ∷ fields) r e = omega arith
+
+reading-fits : (arch : List ℕ) (n k : ℕ) (fields : List Entry) (p : PackageView) → AreShort k fields → sum_by (λ entry. length entry.value) fields ≤ k → reading_of arch n fields ≡ Ok (Some p) → Fills k p
 unfolding reading_of
 reading-fits arch n k fields p short fit e =
     let head = done (head_of n fields) _ (Some p) e in
@@ -144,7 +155,11 @@ limited-fits : (b : Bool) (arch : List ℕ) (n : ℕ) (stanza : List (List ℕ))
 limited-fits true arch n stanza p e = absurd cc
 limited-fits false arch n stanza p e =
     let read = done (from_control (read_stanza n stanza)) _ (Some p) e in
-    reading-fits arch n (size_of stanza) read.0 p (values-short n stanza read.0 (read-well (read_stanza n stanza) read.0 read.1)) (values-fit n stanza read.0 (read-well (read_stanza n stanza) read.0 read.1)) read.2
+    let k = sum_by (λ (entry : Entry). length entry.value) read.0 in
+    let fits = reading-fits arch n k read.0 p (λ i d within. get_or-le-sum_by (λ (entry : Entry). length entry.value) read.0 i d within) (omega arith) read.2 in
+    let room = values-fit n stanza read.0 (read-well (read_stanza n stanza) read.0 read.1) in
+    let some = some-field arch n read.0 (Some p) read.2 in
+    (omega (arith, fits.0, room, some), omega (arith, fits.1, room, some))
 
 -- a package asks for and provides no more than its stanza has room for
 pub stanza-fits : (arch : List ℕ) (before n : ℕ) (stanza : List (List ℕ)) (p : PackageView) → stanza_reading arch before n stanza ≡ Ok (Some p) → Fits (size_of stanza) p

@@ -1,6 +1,5 @@
 -- An index that has taken in the stanzas of a text, one after the other, and those behind them; and a text part by part.
-use Rattle.std.proofs.Common.{◌≡◌, ◌<◌, ◌≤◌, ◌+◌, ◌*◌, ℕ, List, [], ◌∷◌, ◌++◌, length, Option, Some, None, Result, Ok, Err, refl, sym, ap, subst, ◌∙◌, arith}
-use Prim.Native.Nat.{suc}
+use Rattle.std.proofs.Common.{◌≡◌, ◌≤◌, ◌+◌, ◌*◌, ℕ, List, [], ◌∷◌, ◌++◌, length, Option, Result, Ok, Err, refl, sym, ap, subst, ◌∙◌, arith}
 use Rattle.std.specs.List.{flat_map, fold, sum_by}
 use Rattle.std.proofs.lemmas.List.Sums.{fold-append, sum_by-append}
 use Rattle.deb_control.specs.Stanzas.{Unread, size_of}
@@ -45,7 +44,7 @@ pub record Taken (index : IndexView) (stanzas : List (List (List ℕ))) (new : I
   pub arch : new.arch ≡ index.arch
   pub counts : new.stanzas ≡ index.stanzas + length stanzas
   pub few : index.stanzas ≤ stanza_limit → new.stanzas ≤ stanza_limit
-  pub asks : sum_by asked_count new.packages + 4 * index.stanzas ≤ sum_by asked_count index.packages + sum_by size_of stanzas + 4 * new.stanzas
+  pub asks : sum_by asked_count new.packages + 3 * index.stanzas ≤ sum_by asked_count index.packages + sum_by size_of stanzas + 3 * new.stanzas
 
 module _ (arch : List ℕ) (before : ℕ) where
   pub taken-read : (n : ℕ) (stanzas : List (List (List ℕ))) (read : List (Option PackageView)) (index : IndexView) → readings arch before n stanzas ≡ Ok read → index.stanzas ≡ before + n
@@ -162,4 +161,4 @@ module _ (index : IndexView) (items rest : List Part) (part : Part) (first : ite
   part-room = omega (arith, room, sizes)
 
   pub rest-room : (new : IndexView) → Taken index (part_stanzas part) new → HasRoomFor new (flat_map part_stanzas rest)
-  rest-room new t = omega (arith, room, sizes, t.asks)
+  rest-room new t = omega (arith, room, sizes, t.asks, t.counts)

@@ -10,3 +10,4 @@ pub mod Links
 pub mod Built
 pub mod Memo
 pub mod Parts
+pub mod Pieces

@@ -119,6 +119,24 @@ impl Builder {
         ensures refused { IfErr result (λ e. e ≢ IndexError.Memory → continued self (readings self.arch self.stanzas 0 (stanzas_of text.entry.text.now)) ≡ Err e) }
     {
         let before = self.stanzas();
+        self.add_behind(alloc, before, text)
+    }
+
+    /// Takes in the stanzas of a text, or of a piece of it, behind those that are there; so many stanzas stood in an earlier text.
+    pub(crate) fn add_behind(
+        self,
+        alloc: Global,
+        before: u32,
+        text: Parted,
+    ) -> Result<Builder, IndexError>
+        requires parts { ArePartsOf self.arch text.text.now text.parts.items }
+        requires begun { before ≤ self.stanzas }
+        requires short { length text.text.now ≤ byte_limit }
+        requires few { self.stanzas ≤ stanza_limit }
+        requires room { sum_by asked_count self.packages ≤ byte_limit + 1 + 4 * self.stanzas }
+        ensures accepted { IfOk result (λ b. continued self (readings self.arch before (self.stanzas - before) (stanzas_of text.entry.text.now)) ≡ Ok b) }
+        ensures refused { IfErr result (λ e. e ≢ IndexError.Memory → continued self (readings self.arch before (self.stanzas - before) (stanzas_of text.entry.text.now)) ≡ Err e) }
+    {
         let mut builder = self;
         for part in text.parts {
             builder = builder.add_part(alloc, before, part)?;
@@ -181,13 +199,13 @@ impl Builder {
         Ok(builder)
     }
 
-    fn stanzas(&self) -> u32
+    pub(crate) fn stanzas(&self) -> u32
         ensures { result ≡ self.now.stanzas }
     {
         self.stanzas
     }
 
-    fn arch(&self) -> &[u8]
+    pub(crate) fn arch(&self) -> &[u8]
         ensures { result.now ≡ self.now.arch }
     {
         &self.arch

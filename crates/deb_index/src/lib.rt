@@ -10,7 +10,7 @@
 //! - `index`: the index of a text, or of a text and a background: its packages and their names.
 //! - `answering`: which packages meet what is asked for; `constraint`: its constraints, and where each stands.
 //! - `parts`: a text in parts, which several workers read side by side.
-//! - `builder`: an index while it is read, stanza by stanza and part by part; `read` makes an index by it.
+//! - `builder`: an index while it is read, stanza by stanza and part by part; `read` makes an index by it, and `pieces` one whose text comes in pieces.
 //! - `laws`: what a background adds, and that the limits are those of the definitions.
 #![tactic(auto)]
 
@@ -29,6 +29,7 @@ mod name;
 mod names;
 mod package;
 mod parts;
+mod pieces;
 mod read;
 mod rows;
 
@@ -37,3 +38,4 @@ pub use error::{BothError, IndexError, RelField};
 pub use index::Index;
 pub use limits::{PART_SIZE, STANZA_LIMIT, TEXT_LIMIT};
 pub use package::Package;
+pub use pieces::PartialIndex;

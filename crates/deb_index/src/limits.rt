@@ -1,6 +1,7 @@
 //! How large an index may be.
 
-/// The most bytes of a text that `Index::read` takes, and of each that `Index::read_both` and `Index::read_both_on` take.
+/// The most bytes of a text that `Index::read` takes, of each that `Index::read_both` and `Index::read_both_on` take, and of all pieces that a
+/// `PartialIndex` takes.
 pub const TEXT_LIMIT: usize = 1_073_741_824;
 
 /// The most stanzas of a text, or of a foreground and a background together, and so the most packages of an index.

@@ -34,8 +34,16 @@ Conflicts: c1
 
 const LACKING: &[u8] = b"Package: a\nVersion: 1\nArchitecture: all\nDepends: x, y\n";
 
-const BASE: &[u8] =
-    b"Package: base\nVersion: 1\nArchitecture: all\nEssential: yes\n\nPackage: x\nVersion: 1\nArchitecture: all\nConflicts: base\n";
+const BASE: &[u8] = b"Package: base
+Version: 1
+Architecture: all
+Essential: yes
+
+Package: x
+Version: 1
+Architecture: all
+Conflicts: base
+";
 
 #[test]
 fn duplicates_and_skipped(rt: HostRuntime) -> Result<(), Fail> {

@@ -45,7 +45,19 @@ pub const REFUSED: [(&[u8], IndexError); 10] = [
         IndexError::RepeatedField { stanza: 1 },
     ),
     (
-        b"Package: a\nVersion: 1\nArchitecture: all\n\nPackage: b\nVersion: 1\nArchitecture: i386\n\nPackage: a\nVersion: 1\nArchitecture: all\nBreaks: b |\n",
+        b"Package: a
+Version: 1
+Architecture: all
+
+Package: b
+Version: 1
+Architecture: i386
+
+Package: a
+Version: 1
+Architecture: all
+Breaks: b |
+",
         IndexError::BadRelation {
             stanza: 3,
             field: RelField::Breaks,

@@ -4,7 +4,7 @@ use crate::backgrounds::{NEEDED, NEEDING, USED, USED_SHOWN};
 use crate::needs::MARKED;
 use crate::reading::read;
 use crate::rows::{SHARED, providers};
-use crate::showing::{Part, expect_shown, expect_shown_both, shown_on};
+use crate::showing::{Part, expect_shown, expect_shown_both, shown_in_pieces, shown_on};
 use crate::texts::VERSIONED;
 use deb_index::{Constraint, Index};
 use deb_relation::{Atom, parse_list};
@@ -36,6 +36,13 @@ fn of_read_both(rt: HostRuntime) -> Result<(), Fail> {
 #[test]
 fn of_read_both_on(rt: HostRuntime) -> Result<(), Fail> {
     let found = shown_on(&rt, NEEDING, NEEDED, 2, &USED)?;
+    assert_eq!(rt; found.as_str(), USED_SHOWN);
+    Ok(())
+}
+
+#[test]
+fn of_read_in_pieces(rt: HostRuntime) -> Result<(), Fail> {
+    let found = shown_in_pieces(&rt, &[b"\n\n", NEEDING], NEEDED, 2, &USED)?;
     assert_eq!(rt; found.as_str(), USED_SHOWN);
     Ok(())
 }

@@ -2,7 +2,7 @@
 //!
 //! `reading` makes an index of a text, or of a text and a background; `showing` prints what is to be seen of one, which most tests compare with one text;
 //! `texts` has texts that several tests read. `examples` has worked examples, `satisfiers`, `needs` and `rows` have what meets an atom, `positions` the places
-//! of constraints in their list, `backgrounds` indexes of two texts, `faults` and `limits` what is refused, `side_by_side` texts that several workers read, `growths` a test for each call that can want memory.
+//! of constraints in their list, `backgrounds` indexes of two texts, `faults` and `limits` what is refused, `side_by_side` texts that several workers read, `pieces` texts that come in pieces, `growths` a test for each call that can want memory.
 #![tactic(auto)]
 
 #[cfg(test)]
@@ -17,6 +17,8 @@ mod growths;
 mod limits;
 #[cfg(test)]
 mod needs;
+#[cfg(test)]
+mod pieces;
 #[cfg(test)]
 mod positions;
 #[cfg(test)]

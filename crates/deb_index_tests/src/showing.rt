@@ -2,7 +2,7 @@
 
 ghost use Rattle.std.specs.Prelude.{◌<◌, length};
 
-use crate::reading::{read, read_both, read_on};
+use crate::reading::{read, read_both, read_in_pieces, read_on};
 use deb_index::{Index, Package};
 use deb_relation::{Atom, parse_list};
 use std::alloc::{AllocError, Global};
@@ -320,6 +320,20 @@ pub fn shown_on(
     parts: &[Part],
 ) -> Result<String, Fail> {
     let index = read_on(rt, text, background, workers)?;
+    let out = shown_of(rt.alloc(), &index, parts);
+    drop(index);
+    Ok(out?)
+}
+
+/// What is to be seen of the index of a text that comes in pieces, and of a background, where the essential names count.
+pub fn shown_in_pieces(
+    rt: &(impl Threads + Sync + AllocGlobal),
+    pieces: &[&[u8]],
+    background: &[u8],
+    workers: u32,
+    parts: &[Part],
+) -> Result<String, Fail> {
+    let index = read_in_pieces(rt, pieces, background, workers)?;
     let out = shown_of(rt.alloc(), &index, parts);
     drop(index);
     Ok(out?)

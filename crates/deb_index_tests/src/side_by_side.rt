@@ -13,7 +13,7 @@ use std::thread::Threads;
 
 const WORKERS: [u32; 5] = [0, 1, 2, 3, 64];
 
-const SEEN: [Part; 4] = [Part::Counts, Part::Foreground, Part::Packages, Part::Names];
+pub const SEEN: [Part; 4] = [Part::Counts, Part::Foreground, Part::Packages, Part::Names];
 
 /// However many workers there are, what is seen is what one call without any sees.
 fn expect_same(
@@ -124,7 +124,7 @@ fn refusals_by_several(rt: HostRuntime) {
 const BAD_NAME: &[u8] = b"Package: a!\nVersion: 1\nArchitecture: all\n\n";
 
 /// Stanzas, of which one has a fault, and a later one, too.
-fn with_faults(alloc: Global, good: u32) -> Result<Vec<u8>, AllocError> {
+pub fn with_faults(alloc: Global, good: u32) -> Result<Vec<u8>, AllocError> {
     let mut text = copies(alloc, good)?;
     text.extend_from_slice(BAD_NAME)?;
     text.extend_from_slice(&copies(alloc, 7)?)?;

@@ -5,7 +5,7 @@ use Rattle.std.specs.Option.{option_map_or}
 use Rattle.std.specs.Str.{bytes_eq}
 use Rattle.deb_index.specs.Packages.{IndexView, is_named, name_at, names, package_at}
 use Rattle.deb_health.specs.Verdicts.{VerdictView}
-use Rattle.deb_report.specs.declared.since.BrokenPackage.{BrokenPackage}
+use Rattle.deb_report.specs.declared.broken.BrokenPackage.{BrokenPackage}
 use Rattle.deb_report.specs.declared.summary.Summary.{Summary}
 use Rattle.deb_report.specs.Asked.{is_unknown}
 use Rattle.deb_report.specs.Report.{broken_ones, summary_with}

@@ -6,9 +6,9 @@ ghost use Rattle.deb_report.specs.Since.{amends_of, broken_view, is_gone, is_men
 ghost use Rattle.deb_report.specs.Told.{IsAskedOf, amends_view, shown_view};
 
 use crate::asked::is_unknown;
+use crate::broken::BrokenPackage;
 use crate::marks::marks_at;
 use crate::shown::Shown;
-use crate::since::BrokenPackage;
 use deb_index::Index;
 use std::alloc::{AllocError, Global};
 

@@ -10,11 +10,12 @@ ghost use Rattle.deb_report.specs.Since.{broken_view};
 ghost use Rattle.deb_report.specs.Told.{IsAskedOf, IsContentOf, content_view, shown_view};
 
 use crate::amends::{Amends, amends_of};
+use crate::broken::BrokenPackage;
 use crate::causes::causes_of;
 use crate::config::{Config, Show};
 use crate::gathered::Cause;
 use crate::shown::{Shown, shown_of};
-use crate::since::{BrokenPackage, news_of};
+use crate::since::news_of;
 use crate::summary::{Number, numbers_of};
 use deb_health::Verdict;
 use deb_index::Index;

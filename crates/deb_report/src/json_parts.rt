@@ -13,13 +13,13 @@ ghost use Rattle.deb_report.specs.Since.{broken_view};
 ghost use Rattle.deb_report.specs.Told.{IsAskedOf, amends_view, number_view, reason_view, shown_view};
 
 use crate::amends::Amends;
+use crate::broken::BrokenPackage;
 use crate::gathered::Cause;
 use crate::json_text::{push_any_text, push_array, push_number, push_text, push_title};
 use crate::near::{NearMiss, near_misses};
 use crate::print::Print;
 use crate::reasons::{Reason, push_group, reason_of};
 use crate::shown::{Shown, status_text};
-use crate::since::BrokenPackage;
 use crate::summary::Number;
 use deb_health::Verdict;
 use deb_index::{Constraint, Index, Package};

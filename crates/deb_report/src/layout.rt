@@ -7,11 +7,11 @@ ghost use Rattle.deb_report.specs.Since.{broken_view, summary_since};
 ghost use Rattle.deb_report.specs.Told.{IsContentOf, content_view};
 ghost use Rattle.deb_report.specs.Written.{text_in, written_report, written_since};
 
+use crate::broken::BrokenPackage;
 use crate::config::{Config, Format};
 use crate::content::{Content, content_of, content_since};
 use crate::json::json_report;
 use crate::lines::lines_report;
-use crate::since::BrokenPackage;
 use crate::summary::{Summary, summary_with};
 use deb_health::Verdict;
 use deb_index::Index;

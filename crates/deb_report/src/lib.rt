@@ -6,13 +6,14 @@
 //! - `layout`: the report in its form, by `lines` or by `json`, whose parts are in `json_parts`.
 //! - `content`: what both tell. `summary`, the numbers of a report; `shown`, the places that are shown; `reasons`, what stands against a package;
 //!   `causes`, what is wrong in the end, and what it breaks, as `gathered` collects it; `near`, packages near to a missing one.
-//! - `since`: the broken packages of an earlier index, and which are newly broken; `amends`: those that are mended or gone; `marks`: marks on names.
+//! - `broken`: the broken packages of an earlier index; `since`: which are newly broken; `amends`: those that are mended or gone; `marks`: marks on names.
 //! - `print`: texts of elements, one after the other; `json_text`: the texts, members and arrays of JSON.
 //! - `laws`: what holds of reports.
 #![tactic(auto)]
 
 mod amends;
 mod asked;
+mod broken;
 mod causes;
 mod config;
 mod content;
@@ -32,7 +33,7 @@ mod since;
 mod summary;
 
 pub use asked::{AskedFault, asked_places, earlier_places};
+pub use broken::{BrokenPackage, broken_packages};
 pub use config::{CHUNK_LIMIT, Config, Format, Show};
 pub use layout::{report, report_since};
-pub use since::{BrokenPackage, broken_packages};
 pub use summary::{Summary, summary_of};

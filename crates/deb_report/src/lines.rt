@@ -14,13 +14,13 @@ ghost use Rattle.deb_report.specs.Since.{broken_view};
 ghost use Rattle.deb_report.specs.Told.{IsAskedOf, IsContentOf, amends_view, content_view, number_view, reason_view, shown_view};
 
 use crate::amends::Amends;
+use crate::broken::BrokenPackage;
 use crate::content::Content;
 use crate::gathered::Cause;
 use crate::near::{NearMiss, near_misses};
 use crate::print::{Plainly, Print, push_all, push_joined};
 use crate::reasons::{Reason, push_group, reason_of};
 use crate::shown::{Shown, status_text};
-use crate::since::BrokenPackage;
 use crate::summary::Number;
 use deb_health::Verdict;
 use deb_index::{Constraint, Index, Package};

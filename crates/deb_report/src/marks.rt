@@ -3,7 +3,7 @@
 ghost use Rattle.std.specs.Prelude.{◌<◌, All, IfOk, length, map};
 ghost use Rattle.deb_report.specs.Since.{AreMarks, broken_view, has_named, was_broken};
 
-use crate::since::BrokenPackage;
+use crate::broken::BrokenPackage;
 use deb_index::Index;
 use std::alloc::{AllocError, Global};
 

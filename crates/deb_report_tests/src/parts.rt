@@ -8,12 +8,52 @@ use std::process::Abort;
 use std::test::Fail;
 
 /// Two versions of a package, one that needs both, an unknown alternative, and a package that another one breaks.
-const RELATED: &str =
-    "Package: n\nVersion: 1\nArchitecture: all\n\nPackage: n\nVersion: 2\nArchitecture: all\n\nPackage: a\nVersion: 1\nArchitecture: all\nPre-Depends: n (= 1)\nDepends: b\n\nPackage: b\nVersion: 1\nArchitecture: all\nDepends: n (= 2)\n\nPackage: c\nVersion: 1\nArchitecture: all\nDepends: zz | yy\n\nPackage: d\nVersion: 1\nArchitecture: all\nDepends: e\n\nPackage: e\nVersion: 1\nArchitecture: all\nBreaks: d\n";
+const RELATED: &str = "Package: n
+Version: 1
+Architecture: all
+
+Package: n
+Version: 2
+Architecture: all
+
+Package: a
+Version: 1
+Architecture: all
+Pre-Depends: n (= 1)
+Depends: b
+
+Package: b
+Version: 1
+Architecture: all
+Depends: n (= 2)
+
+Package: c
+Version: 1
+Architecture: all
+Depends: zz | yy
+
+Package: d
+Version: 1
+Architecture: all
+Depends: e
+
+Package: e
+Version: 1
+Architecture: all
+Breaks: d
+";
 
 /// A package that conflicts with an essential one.
-const ESSENTIAL: &str =
-    "Package: base\nVersion: 1\nArchitecture: amd64\nEssential: yes\n\nPackage: x\nVersion: 1\nArchitecture: all\nConflicts: base\n";
+const ESSENTIAL: &str = "Package: base
+Version: 1
+Architecture: amd64
+Essential: yes
+
+Package: x
+Version: 1
+Architecture: all
+Conflicts: base
+";
 
 fn expect_rising_places(rt: &impl Abort, alloc: Global, index: &Index) -> Result<(), Fail> {
     expect_places(
@@ -41,11 +81,63 @@ fn places_of_names_rise(rt: HostRuntime) -> Result<(), Fail> {
 
 const HEAD: &str = "architecture: amd64\nreport:\n";
 
-const RELATED_FAILURES: &str =
-    " -\n  package: a\n  version: 1\n  architecture: all\n  status: broken\n  reasons:\n   - depends: a 1 Pre-Depends: n (= 1)\n   - depends: a 1 Depends: b\n   - depends: b 1 Depends: n (= 2)\n   - versions: n\n -\n  package: c\n  version: 1\n  architecture: all\n  status: broken\n  reasons:\n   - missing: c 1 Depends: zz | yy\n -\n  package: d\n  version: 1\n  architecture: all\n  status: broken\n  reasons:\n   - depends: d 1 Depends: e\n   - conflict: e 1 Breaks: d\n";
+const RELATED_FAILURES: &str = " -
+  package: a
+  version: 1
+  architecture: all
+  status: broken
+  reasons:
+   - depends: a 1 Pre-Depends: n (= 1)
+   - depends: a 1 Depends: b
+   - depends: b 1 Depends: n (= 2)
+   - versions: n
+ -
+  package: c
+  version: 1
+  architecture: all
+  status: broken
+  reasons:
+   - missing: c 1 Depends: zz | yy
+ -
+  package: d
+  version: 1
+  architecture: all
+  status: broken
+  reasons:
+   - depends: d 1 Depends: e
+   - conflict: e 1 Breaks: d
+";
 
-const RELATED_SUCCESSES: &str =
-    " -\n  package: n\n  version: 1\n  architecture: all\n  status: ok\n  installation-set:\n   - n 1\n -\n  package: n\n  version: 2\n  architecture: all\n  status: ok\n  installation-set:\n   - n 2\n -\n  package: b\n  version: 1\n  architecture: all\n  status: ok\n  installation-set:\n   - n 2\n   - b 1\n -\n  package: e\n  version: 1\n  architecture: all\n  status: ok\n  installation-set:\n   - e 1\n";
+const RELATED_SUCCESSES: &str = " -
+  package: n
+  version: 1
+  architecture: all
+  status: ok
+  installation-set:
+   - n 1
+ -
+  package: n
+  version: 2
+  architecture: all
+  status: ok
+  installation-set:
+   - n 2
+ -
+  package: b
+  version: 1
+  architecture: all
+  status: ok
+  installation-set:
+   - n 2
+   - b 1
+ -
+  package: e
+  version: 1
+  architecture: all
+  status: ok
+  installation-set:
+   - e 1
+";
 
 const RELATED_TAIL: &str = "stanzas: 7\nskipped: 0\nduplicates: 0\nasked: 7\nbroken: 3\n";
 
@@ -73,16 +165,48 @@ fn failures_or_successes_alone(rt: HostRuntime) -> Result<(), Fail> {
     )
 }
 
-const ESSENTIAL_REPORT: &str =
-    "architecture: amd64\nreport:\n -\n  package: base\n  version: 1\n  architecture: amd64\n  status: ok\n  installation-set:\n   - base 1\n -\n  package: x\n  version: 1\n  architecture: all\n  status: broken\n  reasons:\n   - essential: base\n   - conflict: x 1 Conflicts: base\nstanzas: 2\nskipped: 0\nduplicates: 0\nasked: 2\nbroken: 1\n";
+const ESSENTIAL_REPORT: &str = "architecture: amd64
+report:
+ -
+  package: base
+  version: 1
+  architecture: amd64
+  status: ok
+  installation-set:
+   - base 1
+ -
+  package: x
+  version: 1
+  architecture: all
+  status: broken
+  reasons:
+   - essential: base
+   - conflict: x 1 Conflicts: base
+stanzas: 2
+skipped: 0
+duplicates: 0
+asked: 2
+broken: 1
+";
 
 #[test]
 fn essential_names_are_reasons(rt: HostRuntime) -> Result<(), Fail> {
     expect_report(&rt, ESSENTIAL, &USUAL, &[ESSENTIAL_REPORT])
 }
 
-const SHORT_REPORT: &str =
-    "architecture: amd64\nreport:\n -\n  package: x\n  version: 1\n  architecture: all\n  status: broken\nstanzas: 2\nskipped: 0\nduplicates: 0\nasked: 1\nbroken: 1\n";
+const SHORT_REPORT: &str = "architecture: amd64
+report:
+ -
+  package: x
+  version: 1
+  architecture: all
+  status: broken
+stanzas: 2
+skipped: 0
+duplicates: 0
+asked: 1
+broken: 1
+";
 
 #[test]
 fn a_report_without_explanations(rt: HostRuntime) -> Result<(), Fail> {

@@ -1,6 +1,6 @@
 -- Lemmas on bytes that are known.
 use Rattle.std.proofs.Common.{◌≡◌, ℕ, ◌+◌, ◌<◌, ◌≤◌, List, [], ◌++◌, length, refl, ap, sym, ◌∙◌, append_assoc, append-nil, arith, length-append, IfSome, take, drop, subst, ◌-◌}
-use Rattle.std.proofs.lemmas.List.{take_all, take-append-drop, length-drop}
+use Rattle.std.proofs.lemmas.List.{take_all, take-append-drop, length-drop, length-take-le}
 use Rattle.std.specs.Prelude.{Option, Some, None}
 use Rattle.std.specs.Io.KnownBytes.{Consumes, Appends, Keeps}
 use Rattle.debcheck.specs.Devices.{AppendsPart}
@@ -22,6 +22,14 @@ consumes_over (Some xs) None front limit h over = absurd h
 consumes_over (Some xs) (Some ys) front limit h over =
     let whole : length xs ≡ length front + length ys = ap length h ∙ length-append front ys in
     omega arith
+
+-- a read that gave so many bytes
+pub consumes_count : (a b c : Option (List ℕ)) (front buf : List ℕ) (n room limit : ℕ) → Consumes a b front → length front + room ≡ limit → Consumes b c (take n buf) → n ≤ length buf → n ≤ room
+    → (bytes : List ℕ) × Consumes a c bytes × (length bytes + (room - n) ≡ limit)
+consumes_count a b c front buf n room limit h sum k held fits =
+    let part : length (take n buf) ≡ n = length-take-le n buf held in
+    let whole : length (front ++ take n buf) ≡ length front + length (take n buf) = length-append front (take n buf) in
+    (front ++ take n buf, consumes_more a b c front (take n buf) h k, omega arith)
 
 pub appends_nothing : (a : Option (List ℕ)) → Appends a a []
 appends_nothing None = tt

@@ -22,6 +22,10 @@ module _ (back : List (Option PackageView) → Readings) (both : List (Option Pa
   fore-accepted (Ok fore) index fault h refused = absurd cc
   fore-accepted (Err e) index fault h refused = absurd cc
 
+  fore-refused : (read : Readings) (fault : IndexError) → (read >>= λ fore. Ok (alone fore)) ≡ Err fault → (in_fore read >>= λ fore. in_back (back fore) >>= λ more. Ok (both fore more)) ≡ Err (Fore fault)
+  fore-refused (Ok fore) fault h = absurd cc
+  fore-refused (Err e) fault h = cc
+
 -- the fault of the first text is one of its own
 pub both-fore : (text background arch : List ℕ) (essential : Bool) (fault : IndexError) → index_of_both text background arch essential ≡ Err (Fore fault) → index_of text arch essential ≡ Err fault
 unfolding index_of_both index_of
@@ -31,3 +35,8 @@ both-fore text background arch essential fault h = fore-fault _ _ _ _ fault h
 pub fore-of-both : (text background arch : List ℕ) (essential : Bool) (index : IndexView) → index_of_both text background arch essential ≡ Ok index → (fault : IndexError) → index_of text arch essential ≡ Err fault → ⊥
 unfolding index_of_both index_of
 fore-of-both text background arch essential index h fault refused = fore-accepted _ _ _ _ index fault h refused
+
+-- a text with a fault has it whatever stands behind it
+pub fore-fails : (text background arch : List ℕ) (essential : Bool) (fault : IndexError) → index_of text arch essential ≡ Err fault → index_of_both text background arch essential ≡ Err (Fore fault)
+unfolding index_of_both index_of
+fore-fails text background arch essential fault h = fore-refused _ _ _ _ fault h

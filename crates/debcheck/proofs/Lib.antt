@@ -1,5 +1,6 @@
 mod BackgroundLemmas
 mod DeviceLemmas
+mod EarlierLemmas
 mod FaultLemmas
 mod IndexLemmas
 mod LineFacts
@@ -8,6 +9,7 @@ mod MergeLemmas
 mod OneReport
 mod PhaseLemmas
 mod ProgramLemmas
+mod RecordingLemmas
 mod RunLemmas
 mod SinceLemmas
 mod StandingLemmas

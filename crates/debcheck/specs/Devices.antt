@@ -1,5 +1,5 @@
 -- What a device's mark says, and what is read and written.
-use Rattle.std.specs.Prelude.{◌≡◌, ℕ, ◌==◌, ◌&&◌, not, Bool, List, ◌++◌, length, Option, Some, None}
+use Rattle.std.specs.Prelude.{◌≡◌, ℕ, ◌==◌, ◌&&◌, not, Bool, List, ◌++◌, length, take, Option, Some, None, Result, Ok, Err}
 
 -- a write took no byte of a text that has some
 abbrev pub is_stuck : ℕ → List ℕ → Bool
@@ -10,3 +10,12 @@ abbrev pub AppendsPart : Option (List ℕ) → Option (List ℕ) → List ℕ �
 AppendsPart None new bytes = Unit {0}
 AppendsPart (Some held) None bytes = ⊥
 AppendsPart (Some held) (Some now_held) bytes = (part : List ℕ) × (rest : List ℕ) × (bytes ≡ part ++ rest) × (now_held ≡ held ++ part)
+
+-- how many of the first bytes of a source are kept
+abbrev pub front_limit : ℕ
+front_limit = 4096
+
+-- what is kept of a source, from before a read to after it: the front of that, with what was read behind it
+abbrev pub KeepsFront : {E : Type 0} → List ℕ → List ℕ → Result ℕ E → List ℕ → Type 0
+KeepsFront old new (Ok count) bytes = new ≡ take front_limit (old ++ take count bytes)
+KeepsFront old new (Err fault) bytes = new ≡ old

@@ -122,6 +122,12 @@ FailsToRead text before failed limit TooLong = (failed ≡ before) × IfSome tex
 FailsToRead text before failed limit Memory = failed ≡ before
 FailsToRead text before failed limit _ = ⊥
 
+-- why a read ends before its time: it failed; or none did, and memory was wanted
+abbrev pub FailsAtRead : Bool → Bool → RunFault → Type 0
+FailsAtRead before failed Read = failed ≡ true
+FailsAtRead before failed Memory = failed ≡ before
+FailsAtRead before failed _ = ⊥
+
 -- where there were too many bytes, exactly one more than the limit was read
 abbrev pub ReadsOneOver : ℕ → Option (List ℕ) → Option (List ℕ) → RunFault → Type 0
 ReadsOneOver limit old new TooLong = (bytes : List ℕ) × (length bytes ≡ limit + 1) × Consumes old new bytes

@@ -27,6 +27,11 @@ pub trait Source {
         ensures bytes { ReadConsumes (remaining self.old) (remaining self.new) result buf.new }
         ensures kept { OnOk result (failed self.new ≡ failed self.old) }
         ensures failed { OnErr result (failed self.new ≡ true) };
+
+    /// The first bytes that were read, as far as it keeps them; a source need not keep any.
+    fn front(&self) -> &[u8] {
+        &[]
+    }
 }
 
 /// What a run writes to. A contract sees the bytes that it holds, where it tells them, a mark that some call failed, which stays,

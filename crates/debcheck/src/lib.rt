@@ -3,16 +3,20 @@
 //! What a run is asked for, and the report that it writes, are `deb_report`'s. The modules, in reading order:
 //!
 //! - `line`: what the words of a command line ask for, by the `options` that `clap` reads and the `values` that they take.
-//! - `device`: what a run reads from and writes to; `std_device`: such devices over std's. `input` reads to the end, `output` writes whole texts.
-//! - `phases`: a run, from bytes to bytes; `since`: one that tells what became of an earlier index; `asked`: the places that are asked in it; `verdicts`: what is found of them for the report.
+//! - `device`: what a run reads from and writes to; `std_device`: such devices over std's; `recording`: a source that keeps its beginning. `input` reads to
+//!   the end, `output` writes whole texts.
+//! - `phases`: a run, from bytes to bytes; `since`: one that tells what became of an earlier index, which `earlier` reads piece by piece; `asked`: the places
+//!   that are asked in it; `verdicts`: what is found of them for the report.
 //! - `fault`: why a run fails, and the line and the status of that.
-//! - `program`: a program, from its words to its exit status, on the `words` of a process, the files that an `opener` opens, and with its `progress` on a screen.
+//! - `program`: a program, from its words to its exit status, on the `words` of a process, the files that an `opener` opens, and with its `progress` and `hints` on a screen.
 //! - `laws`: what holds of runs and of reports.
 #![tactic(auto)]
 
 mod asked;
 mod device;
+mod earlier;
 mod fault;
+mod hints;
 mod input;
 pub mod laws;
 mod line;
@@ -22,6 +26,7 @@ mod output;
 mod phases;
 mod program;
 mod progress;
+mod recording;
 mod since;
 mod std_device;
 mod values;
@@ -31,6 +36,7 @@ mod words;
 pub use asked::asked_places;
 pub use deb_report::{CHUNK_LIMIT, Config, Format, Show, Summary, report};
 pub use device::{DeviceFault, Sink, Source};
+pub use earlier::read_pieces;
 pub use fault::{RunFault, fault_line, status};
 pub use input::read_all;
 pub use line::{LineFault, VERSION_LINE, line_status, read_line, write_line_fault};
@@ -39,6 +45,7 @@ pub use output::write_fault;
 pub use phases::run;
 pub use program::{Ended, run_process, run_program};
 pub use progress::Progress;
+pub use recording::Recording;
 pub use since::run_since;
 pub use std_device::Std;
 pub use words::words_of;

@@ -253,8 +253,8 @@ fn read_words(alloc: Global, words: &[String]) -> Result<Config, LineFault>
 /// packages are shown (all for both or neither), `--ignore-essential` asks for no essential packages, and `--checkonly N1,N2,..` takes
 /// package names with commas between them. `--bg FILE` names the file of a background, and `--since FILE` that of an earlier index, neither of
 /// which is empty; beside `--since` there is no `--successes`. `--causes` asks for causes, `--format` takes `text` (where it isn't said) or
-/// `json`, and `--quiet` asks for no progress. A value comes as the next word or after `=`; one that begins with `-` comes after `=`. No option
-/// comes twice.
+/// `json`, and `--quiet` asks for no progress and no hints. A value comes as the next word or after `=`; one that begins with `-` comes after `=`.
+/// No option comes twice.
 ///
 /// `Help` is the answer to `--help` or `-h`, and to `--version` or `-V` with `VERSION_LINE`, whichever comes first; `Refused` is the answer to
 /// words or values of another form, with a text that says what is wrong. The words are consumed.

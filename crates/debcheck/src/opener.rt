@@ -5,6 +5,7 @@ ghost use Rattle.debcheck.specs.Program.{IsHeld, IsUnopened};
 ghost use Rattle.debcheck.specs.declared.opener.OpenFault.TheVariants.{Unopened};
 
 use crate::device::Source;
+use crate::recording::Recording;
 use crate::std_device::Std;
 use std::fs::{File, Files, OpenFile};
 use std::io;
@@ -47,13 +48,13 @@ fn open_apart<R: Files>(rt: &R, name: &str) -> io::Result<R::File> {
 }
 
 impl<R: Files> Opener for Disk<'_, R> {
-    type File = Std<R::File>;
+    type File = Recording<Std<R::File>>;
 
     ghost named = { λ _ _. None };
 
-    fn open(&self, name: &str) -> Result<Std<R::File>, OpenFault> {
+    fn open(&self, name: &str) -> Result<Recording<Std<R::File>>, OpenFault> {
         match open_apart(self.0, name) {
-            Ok(file) => Ok(Std::new(file)),
+            Ok(file) => Ok(Recording::new(Std::new(file))),
             Err(error) if error.kind() == ErrorKind::OutOfMemory => Err(OpenFault::Memory),
             Err(_) => Err(OpenFault::Unopened),
         }

@@ -96,7 +96,7 @@ pub(crate) fn command<'a>(alloc: Global) -> Result<Command<'a>, AllocError>
     let successes = "Shows the packages that can be installed";
     let causes = "Tells what is wrong in the end, each cause with the packages that it breaks";
     let essential = "Asks for no essential packages in a set";
-    let quiet = "Shows no progress on a terminal";
+    let quiet = "Shows no progress and no hints on a terminal";
     with_values(alloc)?
         .arg(flag(alloc, "explain", explain))?
         .arg(flag(alloc, "failures", failures))?

@@ -8,15 +8,18 @@ ghost use Rattle.debcheck.specs.Program.{Asks, Ends, Refuses, Runs, RunsBehind, 
 
 use crate::device::{Sink, Source};
 use crate::fault::{RunFault, status};
+use crate::hints::{Clue, note, tell_hint};
 use crate::line::{LineFault, line_status, read_line, write_line_fault};
 use crate::opener::{Disk, OpenFault, Opener};
 use crate::output::write_fault;
 use crate::phases::run;
 use crate::progress::{Progress, Wiping};
+use crate::recording::Recording;
 use crate::since::run_since;
 use crate::std_device::Std;
 use crate::words::words_of;
 use deb_report::{Config, Summary};
+use input_hints::Input;
 use std::alloc::Global;
 use std::env::Env;
 use std::fs::Files;
@@ -69,6 +72,7 @@ fn run_behind<
     background: &mut B,
     output: &mut K,
     gate: &G,
+    clue: &mut Option<Clue>,
 ) -> Result<Summary, RunFault>
     requires workers { (0 < config.now.workers) × (config.now.workers ≤ 64) }
     requires chunk { 0 < config.now.chunk }
@@ -85,7 +89,7 @@ fn run_behind<
     };
     match files.open(file.as_str()) {
         Ok(mut earlier) => {
-            run_since(
+            let outcome = run_since(
                 rt,
                 alloc,
                 config,
@@ -94,10 +98,15 @@ fn run_behind<
                 &mut earlier,
                 output,
                 gate,
-            )
+            );
+            note(clue, &outcome, Input::Earlier, earlier.front());
+            outcome
         }
         Err(OpenFault::Memory) => Err(RunFault::Memory),
-        Err(OpenFault::Unopened) => Err(RunFault::EarlierRead),
+        Err(OpenFault::Unopened) => {
+            *clue = Some(Clue::Unopened(Input::Earlier));
+            Err(RunFault::EarlierRead)
+        }
     }
 }
 
@@ -109,6 +118,7 @@ fn open_and_run<O: Opener, S: Source, K: Sink, G: Gate + Sync, R: Threads + Sync
     reader: &mut S,
     output: &mut K,
     gate: &G,
+    clue: &mut Option<Clue>,
 ) -> Result<Summary, RunFault>
     requires workers { (0 < config.now.workers) × (config.now.workers ≤ 64) }
     requires chunk { 0 < config.now.chunk }
@@ -120,12 +130,28 @@ fn open_and_run<O: Opener, S: Source, K: Sink, G: Gate + Sync, R: Threads + Sync
 {
     let Some(name) = &config.bg else {
         let mut nothing = Std::new([].as_slice());
-        return run_behind(rt, config, files, reader, &mut nothing, output, gate);
+        return run_behind(rt, config, files, reader, &mut nothing, output, gate, clue);
     };
     match files.open(name.as_str()) {
-        Ok(mut background) => run_behind(rt, config, files, reader, &mut background, output, gate),
+        Ok(mut background) => {
+            let outcome = run_behind(
+                rt,
+                config,
+                files,
+                reader,
+                &mut background,
+                output,
+                gate,
+                clue,
+            );
+            note(clue, &outcome, Input::Background, background.front());
+            outcome
+        }
         Err(OpenFault::Memory) => Err(RunFault::Memory),
-        Err(OpenFault::Unopened) => Err(RunFault::BackgroundRead),
+        Err(OpenFault::Unopened) => {
+            *clue = Some(Clue::Unopened(Input::Background));
+            Err(RunFault::BackgroundRead)
+        }
     }
 }
 
@@ -168,9 +194,12 @@ fn run_asked<
 {
     let progress = Progress::new(rt, screen, config);
     let mut output = Wiping::new(&progress, output);
-    let outcome = open_and_run(rt, config, files, reader, &mut output, &progress);
+    let mut clue = None;
+    let outcome = open_and_run(rt, config, files, reader, &mut output, &progress, &mut clue);
     progress.wipe();
     tell_outcome(rt.alloc(), errors, &outcome);
+    note(&mut clue, &outcome, Input::Index, reader.front());
+    tell_hint(rt.alloc(), screen, config, &outcome, clue);
     Ended {
         status: status(&outcome),
         output: output.into_inner(),
@@ -197,7 +226,8 @@ fn config_of(alloc: Global, words: Result<Vec<String>, LineFault>) -> Result<Con
 /// where it fails, that is told as of a report; a refusal goes to the errors. The status is that of `status` or of `line_status`: a line that the
 /// errors don't take changes none.
 ///
-/// The screen may be where the errors go: the line of progress is taken away before anything else is written.
+/// The screen may be where the errors go: the line of progress is taken away before anything else is written. Where something looks like a slip, a
+/// line that begins with `hint: ` is written to it behind all else, if it is a terminal and quiet isn't asked for.
 pub fn run_program<
     O: Opener,
     S: Source,
@@ -243,7 +273,7 @@ pub fn run_process<R: Env + Files + Clock + Threads + Sync + AllocGlobal>(
         rt,
         words_of(rt),
         &Disk(rt),
-        &mut Std::new(input),
+        &mut Recording::new(Std::new(input)),
         Std::new(output),
         &mut Std::new(errors),
         errors,

@@ -11,12 +11,12 @@ ghost use Rattle.debcheck.specs.Since.{FailsEarlier, FailsSince, IsReportAfter, 
 
 use crate::asked::asked_places;
 use crate::device::{Sink, Source};
+use crate::earlier::read_earlier;
 use crate::fault::RunFault;
-use crate::input::read_all;
 use crate::output::write_all;
-use crate::phases::{index_both, index_from, read_texts};
+use crate::phases::{index_from, read_texts};
 use crate::verdicts::find_verdicts;
-use deb_index::{Index, TEXT_LIMIT};
+use deb_index::Index;
 use deb_report::{BrokenPackage, Config, Summary, broken_packages, earlier_places, report_since};
 use deb_verdict::Wanted;
 use std::alloc::{AllocError, Global};
@@ -33,28 +33,6 @@ fn as_earlier(fault: RunFault) -> RunFault
         RunFault::Index(fault) => RunFault::Earlier(fault),
         fault => fault,
     }
-}
-
-// The earlier index, of all that is left in the reader and of what stands behind it. The text is dropped at the end.
-fn read_earlier<E: Source, R: Threads + Sync>(
-    rt: &R,
-    alloc: Global,
-    config: &Config,
-    earlier: &mut E,
-    more: &[u8],
-) -> Result<Index, RunFault>
-    requires earlier { E.failed earlier.old ≡ false }
-    requires more { length more.now ≤ byte_limit }
-    ensures end { OnOk result (IsAtEnd (E.remaining earlier.new)) }
-    ensures unfailed { OnOk result (E.failed earlier.new ≡ false) }
-    ensures index { IfOk result (λ index. (background : Input) → IsReadAs (behind (settings_of config.now) background) more.now
-        → ReadsAs (settings_of config.now) (input (E.remaining earlier.old) (E.failed earlier.new)) background index) }
-    ensures refused { IfErr result (λ fault. (background : Input) → IsReadAs (behind (settings_of config.now) background) more.now
-        → FailsToIndex (settings_of config.now) (input (E.remaining earlier.old) (E.failed earlier.new)) background fault) }
-    ensures behind_read { IfErr result (λ fault. is_unread_behind (earlier_fault fault) ≡ false) }
-{
-    let text = read_all(alloc, earlier, TEXT_LIMIT)?;
-    index_both(rt, alloc, config, text.as_slice(), more)
 }
 
 // The broken packages of an earlier index, of those that are asked in it.

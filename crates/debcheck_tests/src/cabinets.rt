@@ -1,7 +1,7 @@
 //! Files over memory.
 
 use crate::devices::{Feed, source_of};
-use debcheck::{OpenFault, Opener};
+use debcheck::{OpenFault, Opener, Recording};
 use std::sync::atomic::{AtomicU32, Ordering};
 
 /// One name under which bytes stand, or nothing that can be opened. It counts what was asked of it.
@@ -35,17 +35,17 @@ impl<'a> Cabinet<'a> {
 impl<'a> Opener for Cabinet<'a> {
     ghost use Rattle.std.specs.Prelude.{None};
 
-    type File = Feed<'a>;
+    type File = Recording<Feed<'a>>;
 
     ghost named = { λ _ _. None };
 
-    fn open(&self, name: &str) -> Result<Feed<'a>, OpenFault> {
+    fn open(&self, name: &str) -> Result<Recording<Feed<'a>>, OpenFault> {
         self.asked.fetch_add(1, Ordering::SeqCst);
         match self.bytes {
             Some(bytes) if name == self.name => {
                 let mut file = source_of(bytes, 7);
                 file.fails = self.torn;
-                Ok(file)
+                Ok(Recording::new(file))
             }
             _ => Err(self.fault),
         }

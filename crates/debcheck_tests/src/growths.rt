@@ -4,6 +4,7 @@ ghost use Rattle.std.specs.Prelude.{◌≡◌, ◌<◌, ◌≤◌, IfOk, false};
 
 use crate::command_line::asking::{is_plain, read, sides_of};
 use crate::devices::{Feed, Held, sink_of, source_of};
+use crate::pieces::{TEXT, pieces_of};
 use crate::programs::{BACKGROUND, INDEX, WITH_BACKGROUND};
 use crate::progress::{expect_uncrowded, run_beside};
 use crate::runs::{CHAIN, CHAIN_REPORT, EMPTY, run_alone};
@@ -66,6 +67,19 @@ fn expect_told(
     }
     assert_eq!(rt; told, wanted.as_bytes());
     assert_eq!(rt; reader.reads, reads);
+    Ok(())
+}
+
+/// A text in many pieces.
+#[test]
+fn of_read_pieces(rt: HostRuntime) -> Result<(), Fail> {
+    let config = Config::usual(rt.alloc())?;
+    let mut reader = source_of(TEXT, 11);
+    let outcome = pieces_of(&rt, &config, &mut reader, 1);
+    if matches!(outcome, Err(RunFault::Memory)) {
+        return Err(Fail::new("out of memory"));
+    }
+    assert!(rt; outcome.is_ok_and(|index| index.len() == 4));
     Ok(())
 }
 

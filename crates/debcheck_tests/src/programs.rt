@@ -25,14 +25,45 @@ pub struct Case {
 pub const BACKGROUND: &[u8] =
     b"Package: b\nVersion: 2\nArchitecture: all\n\nPackage: zz\nVersion: 1\nArchitecture: all\n";
 
-pub const INDEX: &[u8] =
-    b"Package: a\nVersion: 1\nArchitecture: all\nDepends: b\n\nPackage: c\nVersion: 1\nArchitecture: all\nDepends: d\n";
+pub const INDEX: &[u8] = b"Package: a
+Version: 1
+Architecture: all
+Depends: b
+
+Package: c
+Version: 1
+Architecture: all
+Depends: d
+";
 
 pub const WITH_BACKGROUND: Case = Case {
     words: "|--arch|amd64|--explain|--bg|others",
     index: INDEX,
     status: 1,
-    output: b"architecture: amd64\nreport:\n -\n  package: a\n  version: 1\n  architecture: all\n  status: ok\n  installation-set:\n   - a 1\n   - b 2\n -\n  package: c\n  version: 1\n  architecture: all\n  status: broken\n  reasons:\n   - missing: c 1 Depends: d\nstanzas: 4\nskipped: 0\nduplicates: 0\nbackground: 2\nasked: 2\nbroken: 1\n",
+    output: b"architecture: amd64
+report:
+ -
+  package: a
+  version: 1
+  architecture: all
+  status: ok
+  installation-set:
+   - a 1
+   - b 2
+ -
+  package: c
+  version: 1
+  architecture: all
+  status: broken
+  reasons:
+   - missing: c 1 Depends: d
+stanzas: 4
+skipped: 0
+duplicates: 0
+background: 2
+asked: 2
+broken: 1
+",
     errors: b"",
 };
 
@@ -40,7 +71,24 @@ pub const WITHOUT_BACKGROUND: Case = Case {
     words: "|--arch|amd64|--failures",
     index: INDEX,
     status: 1,
-    output: b"architecture: amd64\nreport:\n -\n  package: a\n  version: 1\n  architecture: all\n  status: broken\n -\n  package: c\n  version: 1\n  architecture: all\n  status: broken\nstanzas: 2\nskipped: 0\nduplicates: 0\nasked: 2\nbroken: 2\n",
+    output: b"architecture: amd64
+report:
+ -
+  package: a
+  version: 1
+  architecture: all
+  status: broken
+ -
+  package: c
+  version: 1
+  architecture: all
+  status: broken
+stanzas: 2
+skipped: 0
+duplicates: 0
+asked: 2
+broken: 2
+",
     errors: b"",
 };
 
@@ -48,7 +96,13 @@ const CAUSES_IN_JSON: Case = Case {
     words: "|--arch|amd64|--format|json|--causes|--bg=others",
     index: INDEX,
     status: 1,
-    output: b"{\"architecture\":\"amd64\",\"report\":[\n{\"package\":\"a\",\"version\":\"1\",\"architecture\":\"all\",\"status\":\"ok\"},\n{\"package\":\"c\",\"version\":\"1\",\"architecture\":\"all\",\"status\":\"broken\"}\n],\"stanzas\":4,\"skipped\":0,\"duplicates\":0,\"background\":2,\"asked\":2,\"broken\":1,\"causes\":[\n{\"packages\":1,\"reasons\":[{\"kind\":\"missing\",\"package\":\"c\",\"version\":\"1\",\"field\":\"Depends\",\"relation\":\"d\"}],\"present\":[],\"broken\":[{\"package\":\"c\",\"version\":\"1\"}]}\n]}\n",
+    output: b"{\"architecture\":\"amd64\",\"report\":[
+{\"package\":\"a\",\"version\":\"1\",\"architecture\":\"all\",\"status\":\"ok\"},
+{\"package\":\"c\",\"version\":\"1\",\"architecture\":\"all\",\"status\":\"broken\"}
+],\"stanzas\":4,\"skipped\":0,\"duplicates\":0,\"background\":2,\"asked\":2,\"broken\":1,\"causes\":[
+{\"packages\":1,\"reasons\":[{\"kind\":\"missing\",\"package\":\"c\",\"version\":\"1\",\"field\":\"Depends\",\"relation\":\"d\"}],\"present\":[],\"broken\":[{\"package\":\"c\",\"version\":\"1\"}]}
+]}
+",
     errors: b"",
 };
 
@@ -56,7 +110,20 @@ const NOTHING_BROKEN: Case = Case {
     words: "|--arch|amd64|--checkonly|a|--bg|others|--quiet",
     index: INDEX,
     status: 0,
-    output: b"architecture: amd64\nreport:\n -\n  package: a\n  version: 1\n  architecture: all\n  status: ok\nstanzas: 4\nskipped: 0\nduplicates: 0\nbackground: 2\nasked: 1\nbroken: 0\n",
+    output: b"architecture: amd64
+report:
+ -
+  package: a
+  version: 1
+  architecture: all
+  status: ok
+stanzas: 4
+skipped: 0
+duplicates: 0
+background: 2
+asked: 1
+broken: 0
+",
     errors: b"",
 };
 
@@ -81,7 +148,10 @@ const REFUSED_VALUE: Case = Case {
     index: INDEX,
     status: 64,
     output: b"",
-    errors: b"error: invalid value \"all\" for '--arch <A>': one or more letters, digits and -, neither all nor any\n\nFor more information, try '--help'.\n",
+    errors: b"error: invalid value \"all\" for '--arch <A>': one or more letters, digits and -, neither all nor any
+
+For more information, try '--help'.
+",
 };
 
 const VERSION: Case = Case {

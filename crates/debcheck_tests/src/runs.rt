@@ -179,11 +179,50 @@ fn a_failing_writer_has_the_front_of_a_report(rt: HostRuntime) -> Result<(), Fai
     Ok(())
 }
 
-const ALTERNATIVES: &[u8] =
-    b"Package: a\nVersion: 1\nArchitecture: all\nDepends: b | c\n\nPackage: b\nVersion: 1\nArchitecture: all\n\nPackage: c\nVersion: 1\nArchitecture: all\n";
+const ALTERNATIVES: &[u8] = b"Package: a
+Version: 1
+Architecture: all
+Depends: b | c
 
-const ALTERNATIVES_REPORT: &[u8] =
-    b"architecture: amd64\nreport:\n -\n  package: a\n  version: 1\n  architecture: all\n  status: ok\n  installation-set:\n   - a 1\n   - c 1\n -\n  package: b\n  version: 1\n  architecture: all\n  status: ok\n  installation-set:\n   - b 1\n -\n  package: c\n  version: 1\n  architecture: all\n  status: ok\n  installation-set:\n   - c 1\nstanzas: 3\nskipped: 0\nduplicates: 0\nasked: 3\nbroken: 0\n";
+Package: b
+Version: 1
+Architecture: all
+
+Package: c
+Version: 1
+Architecture: all
+";
+
+const ALTERNATIVES_REPORT: &[u8] = b"architecture: amd64
+report:
+ -
+  package: a
+  version: 1
+  architecture: all
+  status: ok
+  installation-set:
+   - a 1
+   - c 1
+ -
+  package: b
+  version: 1
+  architecture: all
+  status: ok
+  installation-set:
+   - b 1
+ -
+  package: c
+  version: 1
+  architecture: all
+  status: ok
+  installation-set:
+   - c 1
+stanzas: 3
+skipped: 0
+duplicates: 0
+asked: 3
+broken: 0
+";
 
 #[test]
 fn alternatives(rt: HostRuntime) -> Result<(), Fail> {
@@ -201,11 +240,44 @@ fn alternatives(rt: HostRuntime) -> Result<(), Fail> {
     Ok(())
 }
 
-pub const CHAIN: &[u8] =
-    b"Package: a\nVersion: 1\nArchitecture: all\nDepends: b\n\nPackage: b\nVersion: 1\nArchitecture: all\nPre-Depends: c (>= 2)\n\nPackage: c\nVersion: 1\nArchitecture: all\n";
+pub const CHAIN: &[u8] = b"Package: a
+Version: 1
+Architecture: all
+Depends: b
 
-const CHAIN_FAILURES: &[u8] =
-    b"architecture: amd64\nreport:\n -\n  package: a\n  version: 1\n  architecture: all\n  status: broken\n  reasons:\n   - depends: a 1 Depends: b\n   - missing: b 1 Pre-Depends: c (>= 2)\n -\n  package: b\n  version: 1\n  architecture: all\n  status: broken\n  reasons:\n   - missing: b 1 Pre-Depends: c (>= 2)\nstanzas: 3\nskipped: 0\nduplicates: 0\nasked: 3\nbroken: 2\n";
+Package: b
+Version: 1
+Architecture: all
+Pre-Depends: c (>= 2)
+
+Package: c
+Version: 1
+Architecture: all
+";
+
+const CHAIN_FAILURES: &[u8] = b"architecture: amd64
+report:
+ -
+  package: a
+  version: 1
+  architecture: all
+  status: broken
+  reasons:
+   - depends: a 1 Depends: b
+   - missing: b 1 Pre-Depends: c (>= 2)
+ -
+  package: b
+  version: 1
+  architecture: all
+  status: broken
+  reasons:
+   - missing: b 1 Pre-Depends: c (>= 2)
+stanzas: 3
+skipped: 0
+duplicates: 0
+asked: 3
+broken: 2
+";
 
 #[test]
 fn failures_alone_with_their_reasons(rt: HostRuntime) -> Result<(), Fail> {
@@ -225,8 +297,36 @@ fn failures_alone_with_their_reasons(rt: HostRuntime) -> Result<(), Fail> {
 }
 
 /// The report on the same, where all is asked for.
-pub const CHAIN_REPORT: &[u8] =
-    b"architecture: amd64\nreport:\n -\n  package: a\n  version: 1\n  architecture: all\n  status: broken\n  reasons:\n   - depends: a 1 Depends: b\n   - missing: b 1 Pre-Depends: c (>= 2)\n -\n  package: b\n  version: 1\n  architecture: all\n  status: broken\n  reasons:\n   - missing: b 1 Pre-Depends: c (>= 2)\n -\n  package: c\n  version: 1\n  architecture: all\n  status: ok\n  installation-set:\n   - c 1\nstanzas: 3\nskipped: 0\nduplicates: 0\nasked: 3\nbroken: 2\n";
+pub const CHAIN_REPORT: &[u8] = b"architecture: amd64
+report:
+ -
+  package: a
+  version: 1
+  architecture: all
+  status: broken
+  reasons:
+   - depends: a 1 Depends: b
+   - missing: b 1 Pre-Depends: c (>= 2)
+ -
+  package: b
+  version: 1
+  architecture: all
+  status: broken
+  reasons:
+   - missing: b 1 Pre-Depends: c (>= 2)
+ -
+  package: c
+  version: 1
+  architecture: all
+  status: ok
+  installation-set:
+   - c 1
+stanzas: 3
+skipped: 0
+duplicates: 0
+asked: 3
+broken: 2
+";
 
 /// The names as a list.
 fn named(alloc: Global, names: &[&[u8]]) -> Result<Vec<Vec<u8>>, AllocError> {
@@ -249,8 +349,24 @@ fn by_two_of(alloc: Global, names: &[&[u8]]) -> Result<Config, AllocError>
     Ok(config)
 }
 
-const TWO_SHOWN: &[u8] =
-    b"architecture: amd64\nreport:\n -\n  package: a\n  version: 1\n  architecture: all\n  status: broken\n -\n  package: c\n  version: 1\n  architecture: all\n  status: ok\nstanzas: 3\nskipped: 0\nduplicates: 0\nasked: 2\nbroken: 1\n";
+const TWO_SHOWN: &[u8] = b"architecture: amd64
+report:
+ -
+  package: a
+  version: 1
+  architecture: all
+  status: broken
+ -
+  package: c
+  version: 1
+  architecture: all
+  status: ok
+stanzas: 3
+skipped: 0
+duplicates: 0
+asked: 2
+broken: 1
+";
 
 #[test]
 fn named_packages_in_the_order_of_the_index(rt: HostRuntime) -> Result<(), Fail> {

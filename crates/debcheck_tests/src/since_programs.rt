@@ -14,19 +14,61 @@ use std::thread::Threads;
 use std::time::Clock;
 
 /// In the earlier index `a`, `b` and `c` are broken, and `d` isn't.
-const EARLIER: &[u8] =
-    b"Package: a\nVersion: 1\nArchitecture: all\nDepends: x\n\nPackage: b\nVersion: 2\nArchitecture: all\nDepends: y\n\nPackage: c\nVersion: 1\nArchitecture: all\nDepends: z\n\nPackage: d\nVersion: 1\nArchitecture: all\n";
+const EARLIER: &[u8] = b"Package: a
+Version: 1
+Architecture: all
+Depends: x
+
+Package: b
+Version: 2
+Architecture: all
+Depends: y
+
+Package: c
+Version: 1
+Architecture: all
+Depends: z
+
+Package: d
+Version: 1
+Architecture: all
+";
 
 /// `a` is mended and `b` gone, `c` is broken as before, `d` and `e` are newly broken.
-const INDEX: &[u8] =
-    b"Package: a\nVersion: 2\nArchitecture: all\n\nPackage: c\nVersion: 2\nArchitecture: all\nDepends: z\n\nPackage: d\nVersion: 1\nArchitecture: all\nDepends: y\n\nPackage: e\nVersion: 1\nArchitecture: all\nDepends: d\n";
+const INDEX: &[u8] = b"Package: a
+Version: 2
+Architecture: all
+
+Package: c
+Version: 2
+Architecture: all
+Depends: z
+
+Package: d
+Version: 1
+Architecture: all
+Depends: y
+
+Package: e
+Version: 1
+Architecture: all
+Depends: d
+";
 
 /// What `b` and `d` need.
 const BACKGROUND: &[u8] = b"Package: y\nVersion: 1\nArchitecture: all\n";
 
 /// The same stanzas as of the earlier index, for another architecture.
-const ELSEWHERE: &[u8] =
-    b"Package: c\nVersion: 1\nArchitecture: arm64\nDepends: z\n\nPackage: d\nVersion: 1\nArchitecture: arm64\nDepends: y\n";
+const ELSEWHERE: &[u8] = b"Package: c
+Version: 1
+Architecture: arm64
+Depends: z
+
+Package: d
+Version: 1
+Architecture: arm64
+Depends: y
+";
 
 /// The earlier index, cut in the middle of its second stanza.
 const CUT: &[u8] =
@@ -149,14 +191,72 @@ fn expect_told(rt: &impl Abort, line: &str, left: &Left, status: u8, told: &str)
     assert!(rt; left.output.bytes.is_empty());
 }
 
-const NEWS: &str =
-    "architecture: amd64\nreport:\n -\n  package: d\n  version: 1\n  architecture: all\n  status: broken\n -\n  package: e\n  version: 1\n  architecture: all\n  status: broken\nstanzas: 4\nskipped: 0\nduplicates: 0\nasked: 4\nbroken: 3\nnewly-broken: 2\nmended:\n - a 1\ngone:\n - b 2\n";
+const NEWS: &str = "architecture: amd64
+report:
+ -
+  package: d
+  version: 1
+  architecture: all
+  status: broken
+ -
+  package: e
+  version: 1
+  architecture: all
+  status: broken
+stanzas: 4
+skipped: 0
+duplicates: 0
+asked: 4
+broken: 3
+newly-broken: 2
+mended:
+ - a 1
+gone:
+ - b 2
+";
 
-const EXPLAINED: &str =
-    "architecture: amd64\nreport:\n -\n  package: d\n  version: 1\n  architecture: all\n  status: broken\n  reasons:\n   - missing: d 1 Depends: y\n -\n  package: e\n  version: 1\n  architecture: all\n  status: broken\n  reasons:\n   - missing: d 1 Depends: y\n   - depends: e 1 Depends: d\nstanzas: 4\nskipped: 0\nduplicates: 0\nasked: 4\nbroken: 3\nnewly-broken: 2\nmended:\n - a 1\ngone:\n - b 2\ncauses:\n -\n  packages: 2\n  reasons:\n   - missing: d 1 Depends: y\n  broken:\n   - d 1\n   - e 1\n";
+const EXPLAINED: &str = "architecture: amd64
+report:
+ -
+  package: d
+  version: 1
+  architecture: all
+  status: broken
+  reasons:
+   - missing: d 1 Depends: y
+ -
+  package: e
+  version: 1
+  architecture: all
+  status: broken
+  reasons:
+   - missing: d 1 Depends: y
+   - depends: e 1 Depends: d
+stanzas: 4
+skipped: 0
+duplicates: 0
+asked: 4
+broken: 3
+newly-broken: 2
+mended:
+ - a 1
+gone:
+ - b 2
+causes:
+ -
+  packages: 2
+  reasons:
+   - missing: d 1 Depends: y
+  broken:
+   - d 1
+   - e 1
+";
 
-const DOCUMENT: &str =
-    "{\"architecture\":\"amd64\",\"report\":[\n{\"package\":\"d\",\"version\":\"1\",\"architecture\":\"all\",\"status\":\"broken\"},\n{\"package\":\"e\",\"version\":\"1\",\"architecture\":\"all\",\"status\":\"broken\"}\n],\"stanzas\":4,\"skipped\":0,\"duplicates\":0,\"asked\":4,\"broken\":3,\"newly-broken\":2,\"mended\":[{\"package\":\"a\",\"version\":\"1\"}],\"gone\":[{\"package\":\"b\",\"version\":\"2\"}]}\n";
+const DOCUMENT: &str = "{\"architecture\":\"amd64\",\"report\":[
+{\"package\":\"d\",\"version\":\"1\",\"architecture\":\"all\",\"status\":\"broken\"},
+{\"package\":\"e\",\"version\":\"1\",\"architecture\":\"all\",\"status\":\"broken\"}
+],\"stanzas\":4,\"skipped\":0,\"duplicates\":0,\"asked\":4,\"broken\":3,\"newly-broken\":2,\"mended\":[{\"package\":\"a\",\"version\":\"1\"}],\"gone\":[{\"package\":\"b\",\"version\":\"2\"}]}
+";
 
 /// What any number of workers finds, whatever is to be shown.
 #[test]
@@ -174,17 +274,62 @@ fn news_are_told_alone(rt: HostRuntime) -> Result<(), Fail> {
 }
 
 /// With the background behind each index `b` was not broken, and `d` isn't.
-const BEHIND: &str =
-    "architecture: amd64\nreport:\nstanzas: 5\nskipped: 0\nduplicates: 0\nbackground: 1\nasked: 4\nbroken: 1\nnewly-broken: 0\nmended:\n - a 1\ngone:\ncauses:\n";
+const BEHIND: &str = "architecture: amd64
+report:
+stanzas: 5
+skipped: 0
+duplicates: 0
+background: 1
+asked: 4
+broken: 1
+newly-broken: 0
+mended:
+ - a 1
+gone:
+causes:
+";
 
-const OF_E: &str =
-    "architecture: amd64\nreport:\n -\n  package: e\n  version: 1\n  architecture: all\n  status: broken\nstanzas: 4\nskipped: 0\nduplicates: 0\nasked: 1\nbroken: 1\nnewly-broken: 1\nmended:\ngone:\n";
+const OF_E: &str = "architecture: amd64
+report:
+ -
+  package: e
+  version: 1
+  architecture: all
+  status: broken
+stanzas: 4
+skipped: 0
+duplicates: 0
+asked: 1
+broken: 1
+newly-broken: 1
+mended:
+gone:
+";
 
-const OF_A_AND_C: &str =
-    "architecture: amd64\nreport:\nstanzas: 4\nskipped: 0\nduplicates: 0\nasked: 2\nbroken: 1\nnewly-broken: 0\nmended:\n - a 1\ngone:\n";
+const OF_A_AND_C: &str = "architecture: amd64
+report:
+stanzas: 4
+skipped: 0
+duplicates: 0
+asked: 2
+broken: 1
+newly-broken: 0
+mended:
+ - a 1
+gone:
+";
 
-const OF_THE_SAME: &str =
-    "architecture: amd64\nreport:\nstanzas: 4\nskipped: 0\nduplicates: 0\nasked: 4\nbroken: 3\nnewly-broken: 0\nmended:\ngone:\n";
+const OF_THE_SAME: &str = "architecture: amd64
+report:
+stanzas: 4
+skipped: 0
+duplicates: 0
+asked: 4
+broken: 3
+newly-broken: 0
+mended:
+gone:
+";
 
 /// A name that the earlier index doesn't have is no fault, and packages that are broken as before leave the status at 0.
 #[test]
@@ -198,8 +343,32 @@ fn other_words_ask_both_indexes(rt: HostRuntime) -> Result<(), Fail> {
     expect_report(&rt, "|--arch|amd64|--since|same", 0, OF_THE_SAME)
 }
 
-const ALL_NEW: &str =
-    "architecture: amd64\nreport:\n -\n  package: c\n  version: 2\n  architecture: all\n  status: broken\n -\n  package: d\n  version: 1\n  architecture: all\n  status: broken\n -\n  package: e\n  version: 1\n  architecture: all\n  status: broken\nstanzas: 4\nskipped: 0\nduplicates: 0\nasked: 4\nbroken: 3\nnewly-broken: 3\nmended:\ngone:\n";
+const ALL_NEW: &str = "architecture: amd64
+report:
+ -
+  package: c
+  version: 2
+  architecture: all
+  status: broken
+ -
+  package: d
+  version: 1
+  architecture: all
+  status: broken
+ -
+  package: e
+  version: 1
+  architecture: all
+  status: broken
+stanzas: 4
+skipped: 0
+duplicates: 0
+asked: 4
+broken: 3
+newly-broken: 3
+mended:
+gone:
+";
 
 /// An index of another architecture has no package, and so none that was broken.
 #[test]

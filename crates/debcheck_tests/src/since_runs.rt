@@ -18,8 +18,26 @@ pub const EARLIER: &[u8] = b"Package: b\nVersion: 2\nArchitecture: all\nDepends:
 
 pub const BACKGROUND: &[u8] = b"Package: z\nVersion: 1\nArchitecture: all\n";
 
-pub const REPORT: &[u8] =
-    b"architecture: amd64\nreport:\n -\n  package: d\n  version: 1\n  architecture: all\n  status: broken\n  reasons:\n   - missing: d 1 Depends: y\nstanzas: 2\nskipped: 0\nduplicates: 0\nbackground: 1\nasked: 1\nbroken: 1\nnewly-broken: 1\nmended:\ngone:\n - b 2\n";
+pub const REPORT: &[u8] = b"architecture: amd64
+report:
+ -
+  package: d
+  version: 1
+  architecture: all
+  status: broken
+  reasons:
+   - missing: d 1 Depends: y
+stanzas: 2
+skipped: 0
+duplicates: 0
+background: 1
+asked: 1
+broken: 1
+newly-broken: 1
+mended:
+gone:
+ - b 2
+";
 
 /// The usual settings, with a background.
 pub fn with_background(alloc: Global) -> Result<Config, AllocError>

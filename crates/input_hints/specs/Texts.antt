@@ -1,5 +1,6 @@
 -- What is said of an input.
-use Rattle.std.specs.Prelude.{ℕ, List, ◌++◌, Option, Some, None, codes}
+use Rattle.std.specs.Prelude.{ℕ, Bool, ◌==◌, ◌||◌, nat_lt, List, ◌++◌, Option, Some, None, codes, option_map, if◌then◌else◌}
+use Rattle.std.specs.List.{list_any}
 use Rattle.std.specs.Option.{option_map_or}
 use Rattle.input_hints.specs.declared.hint.Compression.TheVariants.{Gzip, Xz, Bzip2, Zstd, Lz4}
 use Rattle.input_hints.specs.declared.hint.Hint.{Hint}
@@ -72,3 +73,21 @@ run_hint_line NoStanza = codes "hint: the index is empty: see whether what write
 run_hint_line OtherArchitectures = codes "hint: no stanza is of this architecture or of all: give another by --arch\n"
 run_hint_line NothingAsked = codes "hint: nothing was asked: the index has no package of this architecture or of all\n"
 run_hint_line MostElsewhere = codes "hint: most stanzas are of other architectures than this one: give another by --arch\n"
+
+-- the option that names the file of an input, where one does
+unfoldable pub option_name : Input → Option (List ℕ)
+option_name Index = None
+option_name Background = Some (codes "--bg")
+option_name Earlier = Some (codes "--since")
+
+-- a control character of ASCII, or the first byte of those above it: 194 begins the UTF-8 of U+0080 to U+00BF
+abbrev pub is_control : ℕ → Bool
+is_control b = nat_lt b 32 || b == 127 || b == 194
+
+-- the line that tells of a file that isn't opened, by its name and by the option that names it
+unfoldable pub unopened_line : List ℕ → List ℕ → List ℕ
+unopened_line name option = codes "hint: " ++ option ++ codes " " ++ name ++ codes ": no file that can be read stands there\n"
+
+-- the same of an input's file, where it has one; nothing is told of a name that may have control characters
+unfoldable pub file_hint_line : Input → List ℕ → Option (List ℕ)
+file_hint_line input name = if list_any is_control name then None else option_map (unopened_line name) (option_name input)

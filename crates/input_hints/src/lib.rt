@@ -7,16 +7,18 @@
 //! - `lines`: the lines of a text, and the fields of its first stanza;
 //! - `beginning`: what the first bytes of an input tell;
 //! - `run`: what the numbers of a run tell;
-//! - `line`: the lines that tell it.
+//! - `line`: the lines that tell it; `file`: that of a file that isn't opened.
 #![tactic(auto)]
 
 mod beginning;
+mod file;
 mod hint;
 mod line;
 mod lines;
 mod run;
 
 pub use beginning::hint_of;
+pub use file::file_hint_line;
 pub use hint::{Compression, Hint};
 pub use line::{Input, hint_line};
 pub use run::{RunHint, run_hint, run_hint_line};

@@ -1,7 +1,7 @@
 //! Tests of the public calls of `input_hints`.
 //!
-//! `beginnings` has the first bytes of inputs of each kind, and of near cases; `told` the lines that are told of them and of runs; `growths` a test
-//! of the call that can want memory.
+//! `beginnings` has the first bytes of inputs of each kind, and of near cases; `told` the lines that are told of them, of runs and of files; `growths` a
+//! test of each call that can want memory.
 #![tactic(auto)]
 
 #[cfg(test)]

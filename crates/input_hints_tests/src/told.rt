@@ -1,6 +1,8 @@
 //! The lines that are told, and of which runs.
 
-use input_hints::{Compression, Hint, Input, RunHint, hint_line, run_hint, run_hint_line};
+use input_hints::{
+    Compression, Hint, Input, RunHint, file_hint_line, hint_line, run_hint, run_hint_line,
+};
 use std::process::Abort;
 use std::test::Fail;
 
@@ -140,4 +142,45 @@ fn of_lines_of_runs(rt: HostRuntime) {
     for (hint, line) in lines {
         assert_eq!(rt; run_hint_line(hint), line.as_bytes());
     }
+}
+
+/// Whether the line of a name is this one, or none.
+fn names(
+    rt: &impl AllocGlobal,
+    input: Input,
+    name: &str,
+    wanted: Option<&str>,
+) -> Result<bool, Fail> {
+    let line = file_hint_line(rt.alloc(), input, name.as_bytes())?;
+    Ok(match (&line, wanted) {
+        (Some(line), Some(wanted)) => line.as_slice() == wanted.as_bytes(),
+        (None, None) => true,
+        _ => false,
+    })
+}
+
+#[test]
+fn of_files_that_are_not_opened(rt: HostRuntime) -> Result<(), Fail> {
+    let cases = [
+        (
+            Input::Background,
+            "main/Packages",
+            Some("hint: --bg main/Packages: no file that can be read stands there\n"),
+        ),
+        (
+            Input::Earlier,
+            "Änderung ~ 1",
+            Some("hint: --since Änderung ~ 1: no file that can be read stands there\n"),
+        ),
+        (Input::Index, "Packages", None),
+        (Input::Background, "a\nb", None),
+        (Input::Background, "\x1b[2J", None),
+        (Input::Earlier, "a\x7f", None),
+        (Input::Earlier, "a\u{9b}2J", None),
+    ];
+    for (input, name, line) in cases {
+        let so = names(&rt, input, name, line)?;
+        assert!(rt; so, "another line of: {name}");
+    }
+    Ok(())
 }

@@ -1,4 +1,4 @@
-use Rattle.std.proofs.Common.{◌≡◌, ◌∷◌, ◌∙◌, [], List, Option, sym, ap, map, arith}
+use Rattle.std.proofs.Common.{◌∷◌, ◌∙◌, [], List, Option, sym, ap, map, arith}
 use Rattle.std.proofs.lemmas.List.{map-append}
 use Rattle.deb_index.specs.Packages.{PackageView}
 use Rattle.deb_index.specs.Reading.{reading_view, readings}

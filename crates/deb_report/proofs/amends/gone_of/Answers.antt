@@ -1,5 +1,5 @@
 use Rattle.std.proofs.Common.{◌≡◌, ◌<◌, ◌∙◌, Bor, ap, arith, false, length, rules, sym, true}
-use Rattle.deb_report.specs.declared.since.BrokenPackage.{BrokenPackage}
+use Rattle.deb_report.specs.declared.broken.BrokenPackage.{BrokenPackage}
 use Rattle.deb_report.specs.Since.{broken_view, is_gone}
 use Rattle.deb_report.proofs.AtomSteps.{kept, left_out}
 use Rattle.deb_report.proofs.amends.gone_of.Goals as goal

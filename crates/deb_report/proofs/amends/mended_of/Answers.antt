@@ -1,6 +1,6 @@
 use Rattle.std.proofs.Common.{◌≡◌, ◌<◌, ◌∙◌, Bor, ℕ, List, All, ap, arith, false, length, map, subst, sym, true}
 use Rattle.deb_health.specs.Verdicts.{VerdictView}
-use Rattle.deb_report.specs.declared.since.BrokenPackage.{BrokenPackage}
+use Rattle.deb_report.specs.declared.broken.BrokenPackage.{BrokenPackage}
 use Rattle.deb_report.specs.Since.{AreMarks, broken_view, has_named, is_mended}
 use Rattle.deb_report.specs.Told.{shown_view}
 use Rattle.deb_report.proofs.AtomSteps.{kept, left_out}

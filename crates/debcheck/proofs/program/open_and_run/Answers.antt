@@ -7,9 +7,9 @@ returns-in_default g c = runs_named _ _ _ _ _ _ _ _ c.run_behind.result (rw c.in
 
 pub returns-in-Ok : goal.returns-in-Ok
 returns-in-Ok g c =
-    runs_named _ _ _ _ _ _ _ _ c.run_behind-in-Ok.result
+    runs_named _ _ _ _ _ _ _ _ c.run_behind-outcome.result
     (named_by _ (option_map string_bytes c.args.config.now.bg) c.as_str.result.now (string_bytes c.in-Some.name) _ (rw c.in-Some.is refl) c.as_str.ensures.value c.in-Ok.ensures.opened)
-    c.run_behind-in-Ok.ensures
+    c.run_behind-outcome.ensures
 
 pub returns-in-Err-Memory : goal.returns-in-Err-Memory
 returns-in-Err-Memory g c = unbegun_background _ _ _ _ _ _ _ _ (unopened_memory _ _ _ (string_bytes c.in-Some.name) _ _ _ _ _ (rw c.in-Some.is refl) c.requires.reader)

@@ -8,8 +8,8 @@ returns-in_default g c =
 
 pub returns-in-Ok : goal.returns-in-Ok
 returns-in-Ok g c =
-    runs_since _ _ (option_map string_bytes c.args.config.now.since) c.as_str.result.now (string_bytes c.in-Some.file) _ _ _ _ _ c.run_since.result (rw c.in-Some.is refl) c.as_str.ensures.value c.in-Ok.ensures.opened
-    c.run_since.ensures.refused c.run_since.ensures.unfailed c.run_since.ensures.flushed c.run_since.ensures.report c.run_since.ensures.left
+    runs_since _ _ (option_map string_bytes c.args.config.now.since) c.as_str.result.now (string_bytes c.in-Some.file) _ _ _ _ _ c.run_since-outcome.result (rw c.in-Some.is refl) c.as_str.ensures.value c.in-Ok.ensures.opened
+    c.run_since-outcome.ensures.refused c.run_since-outcome.ensures.unfailed c.run_since-outcome.ensures.flushed c.run_since-outcome.ensures.report c.run_since-outcome.ensures.left
 
 pub returns-in-Err-Memory : goal.returns-in-Err-Memory
 returns-in-Err-Memory g c = unbegun_earlier _ _ _ _ _ _ _ _ (unopened_memory _ _ _ (string_bytes c.in-Some.file) _ _ _ _ _ (rw c.in-Some.is refl) c.requires.reader)

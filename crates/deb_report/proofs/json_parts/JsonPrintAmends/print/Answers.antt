@@ -1,5 +1,5 @@
 use Rattle.std.proofs.Common.{Bor, append_assoc, codes}
-use Rattle.deb_report.specs.declared.since.BrokenPackage.{BrokenPackage}
+use Rattle.deb_report.specs.declared.broken.BrokenPackage.{BrokenPackage}
 use Rattle.deb_report.specs.Json.{array, broken_json}
 use Rattle.deb_report.specs.Since.{broken_view}
 use Rattle.deb_report.proofs.JoinLemmas.{joined_map}

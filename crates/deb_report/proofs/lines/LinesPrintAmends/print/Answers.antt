@@ -1,5 +1,5 @@
 use Rattle.std.proofs.Common.{[], ◌++◌, Bor, append_assoc, codes}
-use Rattle.deb_report.specs.declared.since.BrokenPackage.{BrokenPackage}
+use Rattle.deb_report.specs.declared.broken.BrokenPackage.{BrokenPackage}
 use Rattle.std.specs.List.{flat_map}
 use Rattle.deb_report.specs.Lines.{broken_line, list_lines}
 use Rattle.deb_report.specs.Report.{line}

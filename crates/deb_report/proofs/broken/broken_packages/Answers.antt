@@ -7,7 +7,7 @@ use Rattle.deb_report.specs.Since.{broken_at, broken_of}
 use Rattle.deb_report.specs.Told.{shown_view}
 use Rattle.deb_report.proofs.ListLemmas.{all_item, map-twice}
 use Rattle.deb_report.proofs.ReportLemmas.{shown-placed}
-use Rattle.deb_report.proofs.since.broken_packages.Goals as goal
+use Rattle.deb_report.proofs.broken.broken_packages.Goals as goal
 
 pub broken_at-requires : goal.broken_at-requires
 broken_at-requires c =

@@ -1,0 +1,117 @@
+//! What looks like a slip after a run, told on a terminal.
+
+ghost use Rattle.std.specs.Prelude.{◌≡◌, IfOk, option_map, string_bytes};
+ghost use Rattle.debcheck.specs.Hints.{clue_after, hint_text, is_faulty, name_of, run_hint_text};
+
+use crate::fault::RunFault;
+use deb_report::{Config, Summary};
+use input_hints::{Hint, Input, file_hint_line, hint_line, hint_of, run_hint, run_hint_line};
+use std::alloc::{AllocError, Global};
+use std::io::{IsTerminal, Write};
+
+/// What was seen of an input that a run couldn't use.
+#[derive(Clone, Copy)]
+pub(crate) enum Clue {
+    /// Its file can't be opened.
+    Unopened(Input),
+    /// By its first bytes this is likely wrong with it.
+    Likely(Input, Hint),
+}
+
+// Whether a run ended with a fault of this input.
+#[tactic(auto, unfolding(crate::specs::Hints::is_faulty))]
+fn is_faulty(outcome: &Result<Summary, RunFault>, input: Input) -> bool
+    ensures { result ≡ is_faulty outcome.now input }
+{
+    match (outcome, input) {
+        (Err(RunFault::Index(_)), Input::Index) => true,
+        (Err(RunFault::Background(_)), Input::Background) => true,
+        (Err(RunFault::Earlier(_)), Input::Earlier) => true,
+        _ => false,
+    }
+}
+
+/// Notes what the first bytes of an input tell, where a run ended with a fault of it.
+#[tactic(auto, unfolding(crate::specs::Hints::clue_after))]
+pub(crate) fn note(
+    clue: &mut Option<Clue>,
+    outcome: &Result<Summary, RunFault>,
+    input: Input,
+    front: &[u8],
+)
+    ensures { clue.new ≡ clue_after clue.old outcome.now input front.now }
+{
+    if is_faulty(outcome, input) {
+        *clue = match hint_of(front) {
+            Some(hint) => Some(Clue::Likely(input, hint)),
+            None => None,
+        };
+    }
+}
+
+// The name of an input's file, where it has one.
+#[tactic(auto, unfolding(crate::specs::Hints::name_of))]
+fn name_of(config: &Config, input: Input) -> Option<&str>
+    ensures { option_map (λ name. name.now) result ≡ name_of (option_map string_bytes config.now.bg) (option_map string_bytes config.now.since) input }
+{
+    let name = match input {
+        Input::Index => return None,
+        Input::Background => &config.bg,
+        Input::Earlier => &config.since,
+    };
+    match name {
+        Some(name) => Some(name.as_str()),
+        None => None,
+    }
+}
+
+// The line on a run that has a report.
+#[tactic(auto, unfolding(crate::specs::Hints::run_hint_text))]
+fn run_hint_text(alloc: Global, summary: &Summary) -> Result<Option<Vec<u8>>, AllocError>
+    ensures { IfOk result (λ line. option_map (λ text. text.items) line ≡ run_hint_text summary.now) }
+{
+    match run_hint(summary.stanzas, summary.skipped, summary.asked) {
+        Some(hint) => Ok(Some(Vec::from_slice(alloc, run_hint_line(hint))?)),
+        None => Ok(None),
+    }
+}
+
+// The line that tells what looks like a slip, where something does.
+#[tactic(auto, unfolding(crate::specs::Hints::hint_text, crate::specs::Hints::unopened_text))]
+fn hint_text(
+    alloc: Global,
+    config: &Config,
+    outcome: &Result<Summary, RunFault>,
+    clue: Option<Clue>,
+) -> Result<Option<Vec<u8>>, AllocError>
+    ensures { IfOk result (λ line. option_map (λ text. text.items) line ≡
+        hint_text (option_map string_bytes config.now.bg) (option_map string_bytes config.now.since) outcome.now clue) }
+{
+    match (outcome, clue) {
+        (Ok(summary), _) => run_hint_text(alloc, summary),
+        (Err(_), Some(Clue::Likely(input, hint))) => Ok(Some(hint_line(alloc, input, hint)?)),
+        (Err(_), Some(Clue::Unopened(input))) => match name_of(config, input) {
+            Some(name) => file_hint_line(alloc, input, name.as_bytes()),
+            None => Ok(None),
+        },
+        (Err(_), None) => Ok(None),
+    }
+}
+
+/// Tells on a screen what looks like a slip, where that is a terminal and quiet isn't asked for. Where there is no memory for the line, or the
+/// screen doesn't take it, nothing is told.
+pub(crate) fn tell_hint<T: IsTerminal + Write + Copy>(
+    alloc: Global,
+    screen: T,
+    config: &Config,
+    outcome: &Result<Summary, RunFault>,
+    clue: Option<Clue>,
+) {
+    if config.quiet || !screen.is_terminal() {
+        return;
+    }
+    if let Ok(Some(line)) = hint_text(alloc, config, outcome, clue) {
+        let mut screen = screen;
+        let _ = screen.write(line.as_slice());
+    }
+}

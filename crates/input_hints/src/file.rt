@@ -1,0 +1,61 @@
+//! The line that tells of a file that isn't opened.
+
+ghost use Rattle.std.specs.Prelude.{◌≡◌, IfOk, option_map};
+ghost use Rattle.std.specs.List.{list_any};
+ghost use Rattle.std.specs.Option.{option_copied};
+ghost use Rattle.input_hints.specs.Texts.{file_hint_line, is_control, option_name, unopened_line};
+
+use crate::line::Input;
+use std::alloc::{AllocError, Global};
+
+// The option that names the file of an input, where one does.
+#[tactic(auto, unfolding(crate::specs::Texts::option_name))]
+fn option_name(input: Input) -> Option<&'static [u8]>
+    ensures { option_copied result ≡ option_name input }
+{
+    match input {
+        Input::Index => None,
+        Input::Background => Some(b"--bg"),
+        Input::Earlier => Some(b"--since"),
+    }
+}
+
+// Whether a name could do more to a terminal than to be shown.
+fn has_control(name: &[u8]) -> bool
+    ensures { result ≡ list_any is_control name.now }
+{
+    name.iter().any(|b| *b < 32 || *b == 127 || *b == 194)
+}
+
+#[tactic(auto, unfolding(crate::specs::Texts::unopened_line))]
+fn unopened_line(alloc: Global, option: &[u8], name: &[u8]) -> Result<Vec<u8>, AllocError>
+    ensures { IfOk result (λ line. line.items ≡ unopened_line name.now option.now) }
+{
+    let mut line = Vec::from_slice(alloc, b"hint: ")?;
+    line.extend_from_slice(option)?;
+    line.extend_from_slice(b" ")?;
+    line.extend_from_slice(name)?;
+    line.extend_from_slice(b": no file that can be read stands there\n")?;
+    Ok(line)
+}
+
+/// The line that tells that an input's file, of this name, can't be opened, with LF. None where the name may have control characters, and none of
+/// the index, which has no name.
+///
+/// `AllocError` where there is no memory for it.
+#[tactic(auto, unfolding(crate::specs::Texts::file_hint_line))]
+pub fn file_hint_line(
+    alloc: Global,
+    input: Input,
+    name: &[u8],
+) -> Result<Option<Vec<u8>>, AllocError>
+    ensures { IfOk result (λ line. option_map (λ text. text.items) line ≡ file_hint_line input name.now) }
+{
+    if has_control(name) {
+        return Ok(None);
+    }
+    match option_name(input) {
+        Some(option) => Ok(Some(unopened_line(alloc, option, name)?)),
+        None => Ok(None),
+    }
+}
