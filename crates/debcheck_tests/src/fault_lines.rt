@@ -1,10 +1,10 @@
 //! The line of each fault, and its status.
 
-use crate::devices::{Held, sink_of};
 use deb_index::{IndexError, RelField};
 use debcheck::{RunFault, Summary, fault_line, status, write_fault};
 use std::process::Abort;
 use std::test::Fail;
+use test_devices::{Held, sink_of};
 
 /// Compares the line of a fault, also as a device holds it, and its status. The line has `before` and `what` behind the program's name.
 fn says(

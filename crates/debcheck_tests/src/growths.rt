@@ -3,12 +3,8 @@
 ghost use Rattle.std.specs.Prelude.{◌≡◌, ◌<◌, ◌≤◌, IfOk, false};
 
 use crate::command_line::asking::{is_plain, read, sides_of};
-use crate::devices::{Feed, Held, sink_of, source_of};
 use crate::pieces::{TEXT, pieces_of};
-use crate::programs::{BACKGROUND, INDEX, WITH_BACKGROUND};
-use crate::progress::{expect_uncrowded, run_beside};
-use crate::runs::{CHAIN, CHAIN_REPORT, EMPTY, run_alone};
-use crate::screens::{Beside, Screen};
+use crate::runs::{EMPTY, run_alone};
 use crate::since_runs::{
     BACKGROUND as BEHIND, EARLIER, INDEX as LATER, REPORT, run_on, with_background,
 };
@@ -22,6 +18,9 @@ use std::alloc::{AllocError, Global};
 use std::process::Abort;
 use std::test::Fail;
 use std::thread::Threads;
+use test_devices::{
+    BACKED_REPORT, BACKGROUND, CHAIN, CHAIN_REPORT, Feed, Held, INDEX, sink_with_room, source_of,
+};
 use work_draw::OpenGate;
 
 /// Three bytes where three are allowed, one more, and a reader that fails.
@@ -92,15 +91,6 @@ fn config_with(alloc: Global, workers: u32) -> Result<Config, AllocError>
     config.workers = workers;
     config.chunk = 1;
     Ok(config)
-}
-
-/// A sink that needs no more memory for what is written to it here.
-fn sink_with_room(alloc: Global, step: usize, fails_at: u32) -> Result<Held, AllocError>
-    ensures { IfOk result (λ sink. sink.failed ≡ false) }
-{
-    let mut sink = sink_of(alloc, step, fails_at, false);
-    sink.bytes.reserve(10_000)?;
-    Ok(sink)
 }
 
 /// The whole report was written, or nothing at all.
@@ -260,7 +250,7 @@ fn expect_background(
         &mut output,
         &OpenGate,
     );
-    expect_report(rt, &output, &outcome, WITH_BACKGROUND.output, 1)
+    expect_report(rt, &output, &outcome, BACKED_REPORT, 1)
 }
 
 /// A package that needs one of the background, and a broken one, by two workers.
@@ -269,32 +259,6 @@ fn of_run_with_a_background(rt: HostRuntime) -> Result<(), Fail> {
     let mut config = config_with(rt.alloc(), 2)?;
     config.bg = Some(String::from_str(rt.alloc(), "others")?);
     expect_background(&rt, &config)
-}
-
-/// Where memory is wanted behind the first chunks, the line of progress is gone, too, before that is told.
-#[test]
-fn of_run_program(rt: HostRuntime) -> Result<(), Fail> {
-    let screen = Screen::new(true, b"");
-    let mut errors = Beside::new(&screen, sink_with_room(rt.alloc(), 1_000, 0)?);
-    let output = sink_with_room(rt.alloc(), 1_000, 0)?;
-    let ended = run_beside(&rt, &screen, output, &mut errors)?;
-    expect_uncrowded(&rt, &screen, &ended.output, &errors);
-    expect_ended(&rt, ended.status, &ended.output.held, &errors.held)
-}
-
-fn expect_ended(rt: &impl Abort, status: u8, output: &Held, errors: &Held) -> Result<(), Fail> {
-    if status == 69 {
-        assert_eq!(rt; output.calls, 0);
-        assert_eq!(rt;
-            errors.bytes.as_slice(),
-            b"debcheck: out of memory\n".as_slice()
-        );
-        return Err(Fail::new("out of memory"));
-    }
-    assert_eq!(rt; status, 1);
-    assert_eq!(rt; output.bytes.as_slice(), CHAIN_REPORT);
-    assert!(rt; errors.bytes.is_empty());
-    Ok(())
 }
 
 fn unknown_package(alloc: Global) -> Result<RunFault, AllocError> {

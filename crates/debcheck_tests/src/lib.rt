@@ -1,46 +1,28 @@
-//! Tests of the public calls of `debcheck`, on devices that fail.
+//! Tests of the public calls of `debcheck`; those of whole programs stand in `program_tests`, and what both run on in `test_devices`.
 //!
-//! `devices` has a reader and a writer over memory, `counted` such of std's kind, `cabinets` files, `screens` a screen and a clock, `tally` a gate that counts.
-//! `command_line` has the words of command lines and `environments` those of a process, `whole_texts` and `over_std` read and write whole texts, `pieces`
-//! reads one piece by piece, `recordings` has sources that keep their beginning, `fault_lines` the lines and statuses of faults, `runs` small runs, `progress`
-//! its line, `hints` those after a run, `programs` whole programs, `since_runs` and `since_programs` those since an earlier index,
-//! `failing_devices` those whose devices fail in turn, `growths` a test for each call that can want memory.
+//! `counted` has devices of std's kind that count, `tally` a gate that counts. `command_line` has the words of command lines and `environments` those of a
+//! process, `whole_texts` and `over_std` read and write whole texts, `pieces` reads one piece by piece, `recordings` has sources that keep their beginning,
+//! `fault_lines` the lines and statuses of faults, `runs` small runs, `since_runs` those since an earlier index, `growths` a test for each call that can want memory.
 #![tactic(auto)]
 
-#[cfg(test)]
-mod cabinets;
 #[cfg(test)]
 mod command_line;
 #[cfg(test)]
 mod counted;
 #[cfg(test)]
-mod devices;
-#[cfg(test)]
 mod environments;
-#[cfg(test)]
-mod failing_devices;
 #[cfg(test)]
 mod fault_lines;
 #[cfg(test)]
 mod growths;
 #[cfg(test)]
-mod hints;
-#[cfg(test)]
 mod over_std;
 #[cfg(test)]
 mod pieces;
 #[cfg(test)]
-mod programs;
-#[cfg(test)]
-mod progress;
-#[cfg(test)]
 mod recordings;
 #[cfg(test)]
 mod runs;
-#[cfg(test)]
-mod screens;
-#[cfg(test)]
-mod since_programs;
 #[cfg(test)]
 mod since_runs;
 #[cfg(test)]

@@ -2,13 +2,13 @@
 
 ghost use Rattle.std.specs.Prelude.{◌<◌};
 
-use crate::devices::{Feed, source_of};
 use deb_index::{Index, IndexError};
 use debcheck::{Config, RunFault, read_pieces};
 use std::alloc::{AllocError, Global};
 use std::process::Abort;
 use std::test::Fail;
 use std::thread::Threads;
+use test_devices::{Feed, source_of};
 
 /// Stanzas of two architectures, with a comment, a duplicate, and some empty lines too many.
 pub const TEXT: &[u8] = b"

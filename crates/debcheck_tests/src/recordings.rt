@@ -1,9 +1,9 @@
 //! Sources whose beginning is kept.
 
-use crate::devices::source_of;
 use debcheck::{Recording, Source, read_all};
 use std::process::Abort;
 use std::test::Fail;
+use test_devices::source_of;
 
 /// What is kept of so many bytes, of which so many come at each read.
 fn expect_front(rt: &(impl Abort + AllocGlobal), text: &[u8], step: usize) -> Result<(), Fail> {

@@ -2,13 +2,13 @@
 
 ghost use Rattle.std.specs.Prelude.{◌≡◌, ◌<◌, ◌≤◌, IfOk, false};
 
-use crate::devices::{Feed, Held, sink_of, source_of};
 use deb_index::IndexError;
 use debcheck::{Config, RunFault, Show, Summary, run, status};
 use std::alloc::{AllocError, Global};
 use std::process::Abort;
 use std::test::Fail;
 use std::thread::Threads;
+use test_devices::{CHAIN, Feed, Held, sink_of, source_of};
 use work_draw::OpenGate;
 
 /// What a run comes to that has no background. Nothing is read in the place of one.
@@ -240,21 +240,6 @@ fn alternatives(rt: HostRuntime) -> Result<(), Fail> {
     Ok(())
 }
 
-pub const CHAIN: &[u8] = b"Package: a
-Version: 1
-Architecture: all
-Depends: b
-
-Package: b
-Version: 1
-Architecture: all
-Pre-Depends: c (>= 2)
-
-Package: c
-Version: 1
-Architecture: all
-";
-
 const CHAIN_FAILURES: &[u8] = b"architecture: amd64
 report:
  -
@@ -295,38 +280,6 @@ fn failures_alone_with_their_reasons(rt: HostRuntime) -> Result<(), Fail> {
     );
     Ok(())
 }
-
-/// The report on the same, where all is asked for.
-pub const CHAIN_REPORT: &[u8] = b"architecture: amd64
-report:
- -
-  package: a
-  version: 1
-  architecture: all
-  status: broken
-  reasons:
-   - depends: a 1 Depends: b
-   - missing: b 1 Pre-Depends: c (>= 2)
- -
-  package: b
-  version: 1
-  architecture: all
-  status: broken
-  reasons:
-   - missing: b 1 Pre-Depends: c (>= 2)
- -
-  package: c
-  version: 1
-  architecture: all
-  status: ok
-  installation-set:
-   - c 1
-stanzas: 3
-skipped: 0
-duplicates: 0
-asked: 3
-broken: 2
-";
 
 /// The names as a list.
 fn named(alloc: Global, names: &[&[u8]]) -> Result<Vec<Vec<u8>>, AllocError> {

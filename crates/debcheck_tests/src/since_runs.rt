@@ -2,12 +2,12 @@
 
 ghost use Rattle.std.specs.Prelude.{◌≡◌, ◌<◌, ◌≤◌, IfOk, false, length};
 
-use crate::devices::{Feed, Held, sink_of, source_of};
 use debcheck::{Config, RunFault, Summary, run_since, status};
 use std::alloc::{AllocError, Global};
 use std::process::Abort;
 use std::test::Fail;
 use std::thread::Threads;
+use test_devices::{Feed, Held, sink_of, source_of};
 use work_draw::OpenGate;
 
 /// One package, which is broken.

@@ -1,8 +1,8 @@
 //! Reading to the end, and writing a whole text.
 
-use crate::devices::{Feed, Held, sink_of, source_of};
 use debcheck::{RunFault, read_all, write_fault};
 use std::alloc::Global;
+use test_devices::{Feed, Held, sink_of, source_of};
 
 /// The bytes that were read, or words for the fault.
 pub fn told_by(outcome: &Result<Vec<u8>, RunFault>) -> &[u8] {

@@ -1,7 +1,7 @@
 //! Each example gives its bytes.
 
 use crate::example::{Example, NEXT, gives, gives_by};
-use crate::json_reports::reads_back;
+use crate::read_back::reads_back;
 use crate::{meanings, qualifiers, refusals, relations, settings};
 use std::alloc::Global;
 use std::process::Abort;

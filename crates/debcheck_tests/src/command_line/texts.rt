@@ -1,11 +1,11 @@
 //! The texts of help, of the version and of refusals, and where they are written.
 
 use crate::command_line::asking::{expect_parts, fault_of, refuses};
-use crate::devices::sink_of;
 use debcheck::{LineFault, line_status, write_line_fault};
 use std::alloc::Global;
 use std::process::Abort;
 use std::test::Fail;
+use test_devices::sink_of;
 
 const OPTIONS: &str =
     "|--arch|--workers|--chunk|--explain|--failures|--successes|--ignore-essential|--checkonly|--bg|--since|--causes|--format|--quiet|-h, --help|-V, --version";

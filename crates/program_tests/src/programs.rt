@@ -2,15 +2,15 @@
 
 ghost use Rattle.std.specs.Prelude.{◌≡◌, false};
 
-use crate::cabinets::Cabinet;
-use crate::devices::{Feed, Held, sink_of, source_of};
-use crate::screens::Screen;
-use debcheck::{LineFault, OpenFault, run_program};
-use std::alloc::{AllocError, Global};
+use debcheck::{OpenFault, run_program};
+use std::alloc::AllocError;
 use std::process::Abort;
 use std::test::Fail;
 use std::thread::Threads;
 use std::time::Clock;
+use test_devices::{
+    BACKED_REPORT, BACKGROUND, Cabinet, Feed, Held, INDEX, Screen, sink_of, source_of, words_in,
+};
 
 /// What a program is given, and what it has to come to. The words have a `|` before each; the background stands under the name `others`.
 #[derive(Clone, Copy)]
@@ -22,48 +22,11 @@ pub struct Case {
     pub errors: &'static [u8],
 }
 
-pub const BACKGROUND: &[u8] =
-    b"Package: b\nVersion: 2\nArchitecture: all\n\nPackage: zz\nVersion: 1\nArchitecture: all\n";
-
-pub const INDEX: &[u8] = b"Package: a
-Version: 1
-Architecture: all
-Depends: b
-
-Package: c
-Version: 1
-Architecture: all
-Depends: d
-";
-
 pub const WITH_BACKGROUND: Case = Case {
     words: "|--arch|amd64|--explain|--bg|others",
     index: INDEX,
     status: 1,
-    output: b"architecture: amd64
-report:
- -
-  package: a
-  version: 1
-  architecture: all
-  status: ok
-  installation-set:
-   - a 1
-   - b 2
- -
-  package: c
-  version: 1
-  architecture: all
-  status: broken
-  reasons:
-   - missing: c 1 Depends: d
-stanzas: 4
-skipped: 0
-duplicates: 0
-background: 2
-asked: 2
-broken: 1
-",
+    output: BACKED_REPORT,
     errors: b"",
 };
 
@@ -161,15 +124,6 @@ const VERSION: Case = Case {
     output: b"debcheck 1.0.0\n",
     errors: b"",
 };
-
-/// The words, each of which has a `|` before it.
-pub fn words_in(alloc: Global, line: &str) -> Result<Vec<String>, AllocError> {
-    let mut words = Vec::new(alloc);
-    for word in line.split('|').skip(1) {
-        words.push(String::from_str(alloc, word)?)?;
-    }
-    Ok(words)
-}
 
 /// What a program left.
 #[derive(Drop)]

@@ -2,9 +2,6 @@
 
 ghost use Rattle.std.specs.Prelude.{◌≡◌, false};
 
-use crate::devices::{Feed, Held, sink_of, source_of};
-use crate::programs::words_in;
-use crate::screens::Screen;
 use debcheck::{OpenFault, Opener, Std, run_program};
 use std::alloc::AllocError;
 use std::process::Abort;
@@ -12,6 +9,7 @@ use std::sync::atomic::{AtomicU32, Ordering};
 use std::test::Fail;
 use std::thread::Threads;
 use std::time::Clock;
+use test_devices::{Held, Screen, sink_of, source_of, words_in};
 
 /// In the earlier index `a`, `b` and `c` are broken, and `d` isn't.
 const EARLIER: &[u8] = b"Package: a

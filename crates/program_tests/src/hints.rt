@@ -2,15 +2,14 @@
 
 ghost use Rattle.std.specs.Prelude.{◌≡◌, false};
 
-use crate::cabinets::Cabinet;
-use crate::devices::{sink_of, source_of};
-use crate::programs::{BACKGROUND, INDEX, words_in};
-use crate::screens::{Beside, Screen, clock_of};
 use debcheck::{Ended, OpenFault, Recording, run_program};
 use std::alloc::AllocError;
 use std::process::Abort;
 use std::test::Fail;
 use std::thread::Threads;
+use test_devices::{
+    BACKGROUND, Beside, Cabinet, INDEX, Screen, clock_of, sink_of, source_of, words_in,
+};
 
 /// What a program is given, and the hint that it tells, perhaps none. The words have a `|` before each; what is in the file stands under the name `others`.
 struct Case {

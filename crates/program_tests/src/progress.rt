@@ -2,16 +2,12 @@
 
 ghost use Rattle.std.specs.Prelude.{◌≡◌, false};
 
-use crate::cabinets::Cabinet;
-use crate::devices::{Held, sink_of, source_of};
-use crate::programs::words_in;
-use crate::runs::CHAIN;
-use crate::screens::{Beside, Screen, clock_of};
 use debcheck::{Config, Ended, OpenFault, Progress, run_program};
 use std::alloc::AllocError;
 use std::process::Abort;
 use std::test::Fail;
 use std::thread::Threads;
+use test_devices::{Beside, CHAIN, Cabinet, Held, Screen, clock_of, sink_of, source_of, words_in};
 use work_draw::Gate;
 
 /// What a screen has seen after so many chunks, each of them so many milliseconds after the one before: the lines of this text, those of others, and

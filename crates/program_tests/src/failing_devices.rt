@@ -2,14 +2,13 @@
 
 ghost use Rattle.std.specs.Prelude.{◌≡◌, false};
 
-use crate::cabinets::Cabinet;
-use crate::devices::{Held, sink_of, source_of};
-use crate::programs::{BACKGROUND, Case, INDEX, Left, WITH_BACKGROUND, WITHOUT_BACKGROUND, run_on};
+use crate::programs::{Case, Left, WITH_BACKGROUND, WITHOUT_BACKGROUND, run_on};
 use debcheck::OpenFault;
 use std::process::Abort;
 use std::test::Fail;
 use std::thread::Threads;
 use std::time::Clock;
+use test_devices::{BACKGROUND, Cabinet, Held, INDEX, sink_of, source_of};
 
 /// What a program comes to whose reader fails behind this front of an index. Its background fails at once.
 fn read_in_vain(

@@ -1,9 +1,9 @@
 //! A reader and a writer over memory, which fail where they are told to. A contract sees the bytes that are left, and those that were written.
 
-ghost use Rattle.std.specs.Prelude.{◌≡◌, Some, false};
+ghost use Rattle.std.specs.Prelude.{◌≡◌, IfOk, Some, false};
 
 use debcheck::{DeviceFault, Sink, Source};
-use std::alloc::Global;
+use std::alloc::{AllocError, Global};
 
 /// Gives some bytes of a text at each read. Behind them it ends, or fails at each read.
 #[derive(Drop)]
@@ -78,6 +78,15 @@ pub fn sink_of(alloc: Global, step: usize, fails_at: u32, flush_fails: bool) -> 
         failed: false,
         flushed: false,
     }
+}
+
+/// A sink that needs no more memory for what is written to it here.
+pub fn sink_with_room(alloc: Global, step: usize, fails_at: u32) -> Result<Held, AllocError>
+    ensures { IfOk result (λ sink. sink.failed ≡ false) }
+{
+    let mut sink = sink_of(alloc, step, fails_at, false);
+    sink.bytes.reserve(10_000)?;
+    Ok(sink)
 }
 
 impl Sink for Held {

@@ -1,0 +1,18 @@
+//! Tests of whole programs, from their words to their exit status.
+//!
+//! `programs` runs some, `since_programs` those since an earlier index, `hints` looks at the lines after a run, `progress` at the line during it,
+//! `failing_devices` has each device fail in turn, `growths` a program that wants memory.
+#![tactic(auto)]
+
+#[cfg(test)]
+mod failing_devices;
+#[cfg(test)]
+mod growths;
+#[cfg(test)]
+mod hints;
+#[cfg(test)]
+mod programs;
+#[cfg(test)]
+mod progress;
+#[cfg(test)]
+mod since_programs;
