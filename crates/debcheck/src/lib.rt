@@ -2,7 +2,8 @@
 //!
 //! What a run is asked for, and the report that it writes, are `deb_report`'s. The modules, in reading order:
 //!
-//! - `line`: what the words of a command line ask for, by the `options` that `clap` reads and the `values` that they take.
+//! - `line`: what the words of a command line ask for, by the `options` that `clap` reads and the `values` that they take; `other_words`: what
+//!   other programs call them.
 //! - `device`: what a run reads from and writes to; `std_device`: such devices over std's; `recording`: a source that keeps its beginning. `input` reads to
 //!   the end, `output` writes whole texts.
 //! - `phases`: a run, from bytes to bytes; `since`: one that tells what became of an earlier index, which `earlier` reads piece by piece; `asked`: the places
@@ -22,6 +23,7 @@ pub mod laws;
 mod line;
 mod opener;
 mod options;
+mod other_words;
 mod output;
 mod phases;
 mod program;

@@ -11,8 +11,9 @@ ghost use Rattle.debcheck.specs.declared.line.LineFault.TheVariants.{Memory};
 use crate::device::{DeviceFault, Sink};
 use crate::fault::memory_line;
 use crate::options::{command, given, is_set, value_of};
+use crate::other_words::advice_in;
 use crate::output::write_all;
-use crate::values::{count_of, format_of, is_architecture, names_of};
+use crate::values::{count_of, format_of, is_architecture, names_of, wrong_part};
 use clap::ArgMatches;
 use clap::error::ErrorKind;
 use deb_report::{CHUNK_LIMIT, Config, Format, Show};
@@ -64,6 +65,17 @@ pub fn line_status(fault: &LineFault) -> u8
     }
 }
 
+// The text of a refused word, with what stands for it here where it is one of other programs.
+fn unknown_text(alloc: Global, error: &clap::Error) -> Result<String, AllocError> {
+    let mut text = error.to_string(alloc)?;
+    if let Some(advice) = advice_in(text.as_str()) {
+        text.push_str("hint: ")?;
+        text.push_str(advice)?;
+        text.push_str("\n")?;
+    }
+    Ok(text)
+}
+
 // What a parse that gives no matches comes to.
 fn fault_from(alloc: Global, error: &clap::Error) -> Result<LineFault, AllocError>
     ensures { IfOk result (IsFaultOf (kind_of error.now)) }
@@ -75,6 +87,9 @@ fn fault_from(alloc: Global, error: &clap::Error) -> Result<LineFault, AllocErro
         },
         ErrorKind::DisplayVersion => LineFault::Help {
             text: String::from_str(alloc, VERSION_LINE)?,
+        },
+        ErrorKind::UnknownArgument => LineFault::Refused {
+            text: unknown_text(alloc, error)?,
         },
         _ => LineFault::Refused {
             text: error.to_string(alloc)?,
@@ -143,7 +158,7 @@ fn only(alloc: Global, matches: &ArgMatches<'_>) -> Result<Option<Vec<Vec<u8>>>,
         None => Err(refusal(
             alloc,
             "--checkonly <N1,N2,..>",
-            list,
+            wrong_part(list),
             "package names with commas between them",
         )?),
     }
@@ -257,7 +272,8 @@ fn read_words(alloc: Global, words: &[String]) -> Result<Config, LineFault>
 /// No option comes twice.
 ///
 /// `Help` is the answer to `--help` or `-h`, and to `--version` or `-V` with `VERSION_LINE`, whichever comes first; `Refused` is the answer to
-/// words or values of another form, with a text that says what is wrong. The words are consumed.
+/// words or values of another form, with a text that says what is wrong, of a list which part of it is, and of a word that a program like this one
+/// takes what to write here. The words are consumed.
 pub fn read_line(alloc: Global, words: Vec<String>) -> Result<Config, LineFault>
     ensures accepted { IfOk result (Accepts (map string_bytes words.items)) }
     ensures refused { IfErr result (RefusesLine (map string_bytes words.items)) }

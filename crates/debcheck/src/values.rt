@@ -81,3 +81,13 @@ pub(crate) fn names_of(alloc: Global, text: &str) -> Result<Option<Vec<Vec<u8>>>
     }
     Ok(Some(names))
 }
+
+/// The first part of a list that is no package name; the whole list where each is one.
+pub(crate) fn wrong_part(text: &str) -> &str {
+    for part in text.split(',') {
+        if !is_name(part.as_bytes()) {
+            return part;
+        }
+    }
+    text
+}

@@ -93,10 +93,12 @@ const NO_ARCHITECTURES: &str = "|--arch=all => |--arch|neither all nor any
 |--arch|-x => |-x
 |--arch|--explain => |--arch";
 
-/// Lists with a wrong name, and the list among what is said of them.
-const NO_NAMES: &str = "|--arch|amd64|--checkonly| => |--checkonly||package names
-|--arch|amd64|--checkonly|a! => |--checkonly|a!|package names
-|--arch|amd64|--checkonly|a,,b => |--checkonly|a,,b|package names";
+/// Lists with a wrong name, and it among what is said of them.
+const NO_NAMES: &str = "|--arch|amd64|--checkonly| => |--checkonly|value \"\" for|package names
+|--arch|amd64|--checkonly|a! => |--checkonly|value \"a!\" for|package names
+|--arch|amd64|--checkonly|a,,b => |--checkonly|value \"\" for|package names
+|--arch|amd64|--checkonly|a,B c,-d => |--checkonly|value \"B c\" for|package names
+|--arch|amd64|--checkonly|a,b, => |--checkonly|value \"\" for|package names";
 
 #[test]
 fn listed_names_are_names_of_packages(rt: HostRuntime) -> Result<(), Fail> {
