@@ -3,7 +3,7 @@
 //! `devices` has a reader and a writer over memory, `counted` such of std's kind, `cabinets` files, `screens` a screen and a clock, `tally` a gate that counts.
 //! `command_line` has the words of command lines and `environments` those of a process, `whole_texts` and `over_std` read and write whole texts, `pieces`
 //! reads one piece by piece, `recordings` has sources that keep their beginning, `fault_lines` the lines and statuses of faults, `runs` small runs, `progress`
-//! its line, `hints` those after a run, `programs` whole programs, `since_runs` and `since_programs` those since an earlier index,
+//! its line, `hints` those after a run, `programs` whole programs, `named_programs` those whose names stand in a file, `since_runs` and `since_programs` those since an earlier index,
 //! `failing_devices` those whose devices fail in turn, `growths` a test for each call that can want memory.
 #![tactic(auto)]
 
@@ -25,6 +25,8 @@ mod fault_lines;
 mod growths;
 #[cfg(test)]
 mod hints;
+#[cfg(test)]
+mod named_programs;
 #[cfg(test)]
 mod over_std;
 #[cfg(test)]

@@ -8,7 +8,7 @@ use std::process::Abort;
 use std::test::Fail;
 
 const OPTIONS: &str =
-    "|--arch|--workers|--chunk|--explain|--failures|--successes|--ignore-essential|--checkonly|--bg|--since|--causes|--format|--quiet|-h, --help|-V, --version";
+    "|--arch|--workers|--chunk|--explain|--failures|--successes|--ignore-essential|--checkonly|--bg|--since|--causes|--format|--strict|--quiet|-h, --help|-V, --version";
 
 /// The text of help or of the version; nothing for another fault.
 fn help_of(fault: &LineFault) -> &str {
