@@ -31,14 +31,21 @@ _debcheck() {
         mapfile -t COMPREPLY < <(compgen -P "$behind" -W 'text json' -- "$word")
         return
         ;;
-    --checkonly | --workers | --chunk) return ;;
+    --checkonly)
+        if [[ $word == @* ]]; then
+            compopt -o filenames
+            mapfile -t COMPREPLY < <(compgen -P "$behind@" -f -- "${word#@}")
+        fi
+        return
+        ;;
+    --workers | --chunk) return ;;
     esac
     # Each option is given once at most, and --since and --successes not together.
     given=" ${COMP_WORDS[*]:0:COMP_CWORD} ${COMP_WORDS[*]:COMP_CWORD + 1} "
     [[ $given != *" --since"[\ =]* ]] || given+='--successes '
     [[ $given != *' --successes '* ]] || given+='--since '
     for option in --arch --bg --since --checkonly --format --workers --chunk --explain --failures --successes --causes \
-        --ignore-essential --quiet --help --version; do
+        --ignore-essential --strict --quiet --help --version; do
         if [[ $option == "$word"* && $given != *" $option "* && $given != *" $option="* ]]; then
             COMPREPLY+=("$option")
         fi

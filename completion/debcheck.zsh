@@ -11,7 +11,7 @@ _arguments \
     '--arch=[architecture to check]:architecture:_debcheck_architectures' \
     '--bg=[file of a background, a second index]:file:_files' \
     '(--successes)--since=[tell what became broken since an earlier index]:file:_files' \
-    '--checkonly=[decide only the packages of these names]:names with commas between them: ' \
+    '--checkonly=[decide only the packages of these names]:names with commas between them, or @ and a file: ' \
     '--format=[form of the report]:form:(text json)' \
     '--workers=[how many workers decide packages]:number from 1 to 64: ' \
     '--chunk=[how many packages a worker takes at a time]:number from 1 to 1000000: ' \
@@ -20,6 +20,7 @@ _arguments \
     '(--since)--successes[show only the ok packages]' \
     '--causes[end the report with the causes of what is broken]' \
     '--ignore-essential[let no name be essential]' \
+    '--strict[end with a fault where nothing is asked]' \
     '--quiet[show no progress and no hints]' \
     '(- *)'{-h,--help}'[write a summary of the options]' \
     '(- *)'{-V,--version}'[write the version]'

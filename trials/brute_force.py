@@ -18,6 +18,10 @@ class Unknown(Exception):
     """A name that is asked for, and that no package of the foreground has."""
 
 
+class Slip(Exception):
+    """Why nothing is asked, where that is a fault."""
+
+
 class Atom(NamedTuple):
     name: str
     qualifier: str
@@ -289,6 +293,17 @@ def amends_of(index, asked, broken, before):
     names = lambda places: {index.packages[place].name for place in places}
     mended = [package for package in before if package.name in names(asked) - names(broken)]
     return [("mended", mended), ("gone", [package for package in before if package.name not in names(range(index.foreground))])]
+
+
+def see_slip(index, only):
+    """Refuses an index as a strict run does."""
+    asked = index.asked(only)
+    if not index.stanzas:
+        raise Slip("the index is empty")
+    if index.skipped == index.stanzas:
+        raise Slip("no stanza is of this architecture or of all")
+    if not asked:
+        raise Slip("nothing is asked")
 
 
 def report_of(index, words, with_background, before=None):

@@ -16,7 +16,7 @@ HERE = os.path.dirname(os.path.realpath(__file__))
 TOP = os.path.dirname(HERE)
 OPTIONS = [
     "--arch", "--bg", "--since", "--checkonly", "--format", "--workers", "--chunk", "--explain", "--failures", "--successes",
-    "--causes", "--ignore-essential", "--quiet", "--help", "--version",
+    "--causes", "--ignore-essential", "--strict", "--quiet", "--help", "--version",
 ]
 CASES = [
     ("--fo\tj\t", ["--format", "json"]),
@@ -30,6 +30,7 @@ CASES = [
     ("--fai\t--expl\t--cau\t", ["--failures", "--explain", "--causes"]),
     ("--ign\t--succ\t--qui\t", ["--ignore-essential", "--successes", "--quiet"]),
     ("--work\t4 --chu\t8 --check\ta,b", ["--workers", "4", "--chunk", "8", "--checkonly", "a,b"]),
+    ("--str\t", ["--strict"]),
     ("--vers\t", ["--version"]),
     ("--he\t", ["--help"]),
 ]

@@ -10,7 +10,7 @@ use Rattle.deb_report.specs.declared.config.Format.TheVariants.{Text}
 use Rattle.deb_report.specs.declared.config.Show.{Show}
 use Rattle.deb_report.specs.declared.config.Show.TheVariants.{All, Failures, Successes}
 
--- what a report depends on: the architecture, what is shown, whether names may be essential, the names that are asked, whether a background is read, whether causes are told, and the report's form;
+-- what a report depends on: the architecture, what is shown, whether names may be essential, the names that are asked, whether a background is read, whether an index that asks for nothing has no report, whether causes are told, and the report's form;
 -- not how the work is dealt out, which files the background and an earlier index are, or whether a run tells how far it has come
 pub record Settings : Type 0 where
   pub arch : List ℕ
@@ -19,6 +19,7 @@ pub record Settings : Type 0 where
   pub essential : Bool
   pub only : Option (List (List ℕ))
   pub background : Bool
+  pub strict : Bool
   pub causes : Bool
   pub format : Format
 
@@ -28,7 +29,7 @@ shows_installable All = true
 shows_installable Failures = false
 shows_installable Successes = true
 
--- the settings that a report depends on
+-- the settings that a report depends on; one since an earlier index is always strict
 abbrev pub settings_of : Config → Settings
 settings_of config = record {
   arch = string_bytes config.arch;
@@ -37,6 +38,7 @@ settings_of config = record {
   essential = config.essential;
   only = option_map (λ names. map (λ name. name.items) names.items) config.only;
   background = is_some config.bg;
+  strict = config.strict || is_some config.since;
   causes = config.causes;
   format = config.format;
 }
@@ -47,7 +49,7 @@ shows_sets settings = settings.explain && shows_installable settings.show
 
 -- the settings where nothing is said
 abbrev pub usual_settings : Settings
-usual_settings = record { arch = codes "amd64"; explain = true; show = All; essential = true; only = None; background = false; causes = false; format = Text }
+usual_settings = record { arch = codes "amd64"; explain = true; show = All; essential = true; only = None; background = false; strict = false; causes = false; format = Text }
 
 -- ---- architectures
 

@@ -44,10 +44,14 @@ pub struct Config {
     pub essential: bool,
     /// The names that are asked; all packages without it.
     pub only: Option<Vec<Vec<u8>>>,
+    /// The file that has the names that are asked, one a line. A report knows nothing of it: who reads it puts its names into `only`.
+    pub only_file: Option<String>,
     /// The file of a second index, whose packages may be used and are not asked; no second index without it.
     pub bg: Option<String>,
     /// The file of an earlier index, whose broken packages a report since then compares with; no such report without it.
     pub since: Option<String>,
+    /// Whether an index that asks for nothing is a fault of the run. With `since` it is one, whatever stands here.
+    pub strict: bool,
     /// Whether the report ends with the causes of what is broken.
     pub causes: bool,
     pub format: Format,
@@ -56,12 +60,13 @@ pub struct Config {
 }
 
 impl Config {
-    /// The settings where nothing is said: architecture `amd64`, with explanations, 4 workers and chunks of 64, no second index and no earlier one, and a report in plain text.
+    /// The settings where nothing is said: architecture `amd64`, with explanations, 4 workers and chunks of 64, no second index and no earlier one, nothing strict, and a report in plain text.
     pub fn usual(alloc: Global) -> Result<Config, AllocError>
         ensures settings { IfOk result (λ config. settings_of config ≡ usual_settings) }
         ensures workers { IfOk result (λ config. config.workers ≡ 4) }
         ensures chunk { IfOk result (λ config. config.chunk ≡ 64) }
         ensures background { IfOk result (λ config. config.bg ≡ None) }
+        ensures names { IfOk result (λ config. config.only_file ≡ None) }
         ensures since { IfOk result (λ config. config.since ≡ None) }
         ensures quiet { IfOk result (λ config. config.quiet ≡ false) }
     {
@@ -73,8 +78,10 @@ impl Config {
             show: Show::All,
             essential: true,
             only: None,
+            only_file: None,
             bg: None,
             since: None,
+            strict: false,
             causes: false,
             format: Format::Text,
             quiet: false,

@@ -7,7 +7,7 @@ use Rattle.deb_index.specs.Packages.{IndexView}
 use Rattle.deb_index.specs.Reading.{in_fore, index_of, index_of_both}
 use Rattle.deb_index.proofs.BackgroundLemmas.{both-empty}
 use Rattle.debcheck.specs.declared.fault.RunFault.{RunFault}
-use Rattle.debcheck.specs.declared.fault.RunFault.TheVariants.{Read, TooLong, BackgroundRead, BackgroundTooLong, EarlierRead, EarlierTooLong, Index, Background, Earlier, UnknownAsked, Memory, Write}
+use Rattle.debcheck.specs.declared.fault.RunFault.TheVariants.{Read, TooLong, BackgroundRead, BackgroundTooLong, EarlierRead, EarlierTooLong, NamesRead, NamesTooLong, BadNameLine, Index, Background, Earlier, UnknownAsked, Slipped, Memory, Write}
 use Rattle.deb_report.specs.declared.summary.Summary.{Summary}
 use Rattle.deb_report.specs.Settings.{Settings}
 use Rattle.debcheck.specs.Run.{Fails, Input, IsReadAs, IsReport, IsReportOn, behind, input, is_of_background}
@@ -66,11 +66,15 @@ fails-alone settings text background w BackgroundTooLong none h =
     absurd (omega arith)
 fails-alone settings text background w EarlierRead none h = refl
 fails-alone settings text background w EarlierTooLong none h = refl
+fails-alone settings text background w NamesRead none h = refl
+fails-alone settings text background w NamesTooLong none h = refl
+fails-alone settings text background w (BadNameLine line) none h = refl
 fails-alone settings text background w (Index fault) none h = refl
 fails-alone settings text background w (Background fault) none h =
     let asked = h.0 in
     absurd cc
 fails-alone settings text background w (Earlier fault) none h = refl
 fails-alone settings text background w (UnknownAsked name) none h = refl
+fails-alone settings text background w (Slipped slip) none h = refl
 fails-alone settings text background w Memory none h = refl
 fails-alone settings text background w Write none h = refl

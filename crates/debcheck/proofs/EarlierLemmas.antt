@@ -1,17 +1,16 @@
 -- Lemmas on a text that is read piece by piece.
-use Rattle.std.proofs.Common.{◌≡◌, ◌≢◌, ◌∙◌, ◌⊎◌, ℕ, ◌+◌, ◌<◌, ◌≤◌, Bool, false, List, [], ◌++◌, Option, Some, None, Result, Ok, Err, IfSome, OnOk, ap, append-nil, append_assoc, arith, inl, inr, length, length-append, refl, subst, sym}
+use Rattle.std.proofs.Common.{◌≡◌, ◌≢◌, ◌∙◌, ℕ, ◌+◌, ◌<◌, ◌≤◌, Bool, false, List, [], ◌++◌, Option, Some, None, Result, Ok, Err, IfSome, OnOk, ap, append-nil, append_assoc, arith, inl, inr, length, length-append, refl, subst, sym}
 use Rattle.std.specs.Io.KnownBytes.{Consumes, IsAtEnd}
 use Rattle.deb_control.specs.Stanzas.{IsClosed, runs, stanzas_of}
 use Rattle.deb_control.proofs.LineLemmas.{content_lines-nil}
 use Rattle.deb_control.proofs.RunLemmas.{runs-nil, stanzas_of-is}
-use Rattle.deb_index.specs.declared.error.BothError.TheVariants.{Fore}
 use Rattle.deb_index.specs.declared.error.IndexError.{IndexError}
 use Rattle.deb_index.specs.declared.error.IndexError.TheVariants as index_error
 use Rattle.deb_index.specs.Packages.{IndexView}
 use Rattle.deb_index.specs.Reading.{byte_limit, index_of, index_of_both}
 use Rattle.deb_report.specs.Settings.{Settings}
 use Rattle.debcheck.specs.declared.fault.RunFault.{RunFault}
-use Rattle.debcheck.specs.declared.fault.RunFault.TheVariants.{Read, TooLong, BackgroundRead, BackgroundTooLong, EarlierRead, EarlierTooLong, Index, Background, Earlier, UnknownAsked, Memory, Write}
+use Rattle.debcheck.specs.declared.fault.RunFault.TheVariants.{Read, TooLong, BackgroundRead, BackgroundTooLong, EarlierRead, EarlierTooLong, NamesRead, NamesTooLong, BadNameLine, Index, Background, Earlier, UnknownAsked, Slipped, Memory, Write}
 use Rattle.deb_index.specs.Pieces.{Accepts, Finishes, FrontView, IsFrontOf, Refuses}
 use Rattle.debcheck.specs.Earlier.{FailsInPieces, FailsLast, FailsToFinish, IsClosedFront, ReadsAll, ReadsFront, RefusesPiece, TakesPiece}
 use Rattle.debcheck.specs.Run.{FailsAtRead, FailsToIndex, FailsToRead, Input, IsReadAs, ReadsAs, behind, input}
@@ -143,10 +142,14 @@ fails-at-read text before mid failed limit BackgroundRead same h = absurd h
 fails-at-read text before mid failed limit BackgroundTooLong same h = absurd h
 fails-at-read text before mid failed limit EarlierRead same h = absurd h
 fails-at-read text before mid failed limit EarlierTooLong same h = absurd h
+fails-at-read text before mid failed limit NamesRead same h = absurd h
+fails-at-read text before mid failed limit NamesTooLong same h = absurd h
+fails-at-read text before mid failed limit (BadNameLine line) same h = absurd h
 fails-at-read text before mid failed limit (Index fault) same h = absurd h
 fails-at-read text before mid failed limit (Background fault) same h = absurd h
 fails-at-read text before mid failed limit (Earlier fault) same h = absurd h
 fails-at-read text before mid failed limit (UnknownAsked name) same h = absurd h
+fails-at-read text before mid failed limit (Slipped slip) same h = absurd h
 fails-at-read text before mid failed limit Memory same h = h ∙ same
 fails-at-read text before mid failed limit Write same h = absurd h
 
@@ -166,10 +169,14 @@ fails-behind old mid before marked failed bytes room limit BackgroundRead consum
 fails-behind old mid before marked failed bytes room limit BackgroundTooLong consumes fits same h = absurd h
 fails-behind old mid before marked failed bytes room limit EarlierRead consumes fits same h = absurd h
 fails-behind old mid before marked failed bytes room limit EarlierTooLong consumes fits same h = absurd h
+fails-behind old mid before marked failed bytes room limit NamesRead consumes fits same h = absurd h
+fails-behind old mid before marked failed bytes room limit NamesTooLong consumes fits same h = absurd h
+fails-behind old mid before marked failed bytes room limit (BadNameLine line) consumes fits same h = absurd h
 fails-behind old mid before marked failed bytes room limit (Index fault) consumes fits same h = absurd h
 fails-behind old mid before marked failed bytes room limit (Background fault) consumes fits same h = absurd h
 fails-behind old mid before marked failed bytes room limit (Earlier fault) consumes fits same h = absurd h
 fails-behind old mid before marked failed bytes room limit (UnknownAsked name) consumes fits same h = absurd h
+fails-behind old mid before marked failed bytes room limit (Slipped slip) consumes fits same h = absurd h
 fails-behind old mid before marked failed bytes room limit Memory consumes fits same h = h ∙ same
 fails-behind old mid before marked failed bytes room limit Write consumes fits same h = absurd h
 

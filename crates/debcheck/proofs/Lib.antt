@@ -6,6 +6,7 @@ mod IndexLemmas
 mod LineFacts
 mod LineLemmas
 mod MergeLemmas
+mod NameLemmas
 mod OneReport
 mod PhaseLemmas
 mod ProgramLemmas

@@ -1,5 +1,5 @@
 -- From what the parse of the words says to what the command line asks for.
-use Rattle.std.proofs.Common.{◌≡◌, ◌∙◌, ◌<◌, ◌≤◌, ◌==◌, ◌&&◌, ◌||◌, ◌⊎◌, ℕ, Bool, List, [], ◌∷◌, Result, Ok, Err, Option, Some, None, IfErr, IfOk, IfSome, OnOk, All, ap, ap₂, arith, codes, false, true, inl, inr, is_some, length, not, option_map, refl, string_bytes, sym, true≢false}
+use Rattle.std.proofs.Common.{◌≡◌, ◌∙◌, ◌<◌, ◌≤◌, ◌==◌, ◌&&◌, ◌||◌, ◌⊎◌, ℕ, Bool, List, [], ◌∷◌, Result, Ok, Err, Option, Some, None, IfErr, IfOk, IfSome, OnOk, All, ap, ap₂, arith, codes, false, true, if◌then◌else◌, inl, inr, is_some, length, not, refl, string_bytes, sym, true≢false}
 use Rattle.std.specs.List.{list_all, list_any}
 use Rattle.std.specs.Str.Parse.{digits_value}
 use Rattle.std.specs.Option.{option_map_or}
@@ -14,7 +14,7 @@ use Rattle.deb_report.specs.declared.config.Config.{Config}
 use Rattle.debcheck.specs.declared.line.LineFault.{LineFault}
 use Rattle.debcheck.specs.declared.line.LineFault.TheVariants.{Refused, Help, Memory}
 use Rattle.deb_report.specs.Settings.{is_architecture, settings_of}
-use Rattle.debcheck.specs.Line.{Accepts, IsFaultOf, RefusesLine, RefusesUnless, Request, asked_by, format_of, has_good_file, has_good_names, has_good_since, has_good_values, is_count, is_help, is_version, line_app, line_faults, line_rows, names_in, request_of, value_of}
+use Rattle.debcheck.specs.Line.{Accepts, IsFaultOf, RefusesLine, RefusesUnless, Request, asked_by, file_in, format_of, has_good_file, has_good_names, has_good_since, has_good_values, is_count, is_good_list, is_help, is_version, line_app, line_faults, line_rows, listed_in, names_in, request_of, value_of}
 use Rattle.debcheck.proofs.LineLemmas.{count-least}
 
 -- ---- the program's command
@@ -151,9 +151,14 @@ chunk-within (word ∷ words) config accepted =
     let are : config.chunk ≡ digits_value 10 (value_of (codes "chunk") rows) = ap (λ (r : Request). r.chunk) accepted.1 in
     (rw are within.1, rw are within.2)
 
-names-good : (list : Option Text) → option_map_or (λ text. list_all is_name (names_in text)) list true ≡ true → IfSome (option_map names_in list) (All (λ name. is_name name ≡ true))
+listed-good : (text : Text) (file : Option Text) → option_map_or (λ name. not (length name == 0)) file (list_all is_name (names_in text)) ≡ true
+    → IfSome (if is_some file then None else Some (names_in text)) (All (λ name. is_name name ≡ true))
+listed-good text None good = AllPass-from_list_all is_name (names_in text) good
+listed-good text (Some file) good = tt
+
+names-good : (list : Option Text) → option_map_or is_good_list list true ≡ true → IfSome (listed_in list) (All (λ name. is_name name ≡ true))
 names-good None good = tt
-names-good (Some text) good = AllPass-from_list_all is_name (names_in text) good
+names-good (Some text) good = listed-good text (file_in text) good
 
 pub only-good : (words : List Text) (config : Config) → Accepts words config → IfSome (settings_of config).only (All (λ name. is_name name ≡ true))
 only-good [] config accepted =
@@ -161,5 +166,5 @@ only-good [] config accepted =
     rw are tt
 only-good (word ∷ words) config accepted =
     let list = first_of (codes "checkonly") (line_rows (word ∷ words)) in
-    let are : (settings_of config).only ≡ option_map names_in list = ap (λ (r : Request). r.settings.only) accepted.1 in
+    let are : (settings_of config).only ≡ listed_in list = ap (λ (r : Request). r.settings.only) accepted.1 in
     rw are (names-good list (accepted-parts words word config accepted).3)

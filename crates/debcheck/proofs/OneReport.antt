@@ -42,8 +42,8 @@ one_report_by : OneInstallation → OneCore → (written : IndexView → List �
     (settings : Settings) (index : IndexView) (a b : List ℕ) (m n : Summary)
     → IsReportBy written counted settings index a m → IsReportBy written counted settings index b n → (a ≡ b) × (m ≡ n)
 one_report_by sets cores written counted settings index a b m n first second =
-    let asked_first = first.is_asked in
-    let asked_second = second.is_asked in
+    let asked_first = first.is_asked.are_asked in
+    let asked_second = second.is_asked.are_asked in
     let asked : first.asked ≡ second.asked = cc in
     let P : List ℕ → Type 0 = λ places. AnswersEach (IsVerdict index) places first.verdicts in
     let verdicts : first.verdicts ≡ second.verdicts = one_each sets cores index second.asked first.verdicts second.verdicts (subst P asked first.are_verdicts) second.are_verdicts in (

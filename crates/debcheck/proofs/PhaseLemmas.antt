@@ -5,7 +5,7 @@ use Rattle.deb_index.specs.Packages.{IndexView}
 use Rattle.deb_index.specs.Reading.{byte_limit, index_of, index_of_both}
 use Rattle.deb_index.specs.declared.error.BothError.TheVariants.{Back}
 use Rattle.debcheck.specs.declared.fault.RunFault.{RunFault}
-use Rattle.debcheck.specs.declared.fault.RunFault.TheVariants.{Read, TooLong, BackgroundRead, BackgroundTooLong, EarlierRead, EarlierTooLong, Index, Background, Earlier, UnknownAsked, Memory, Write}
+use Rattle.debcheck.specs.declared.fault.RunFault.TheVariants.{Read, TooLong, BackgroundRead, BackgroundTooLong, EarlierRead, EarlierTooLong, NamesRead, NamesTooLong, BadNameLine, Index, Background, Earlier, UnknownAsked, Slipped, Memory, Write}
 use Rattle.deb_report.specs.declared.summary.Summary.{Summary}
 use Rattle.debcheck.specs.Devices.{AppendsPart}
 use Rattle.deb_report.specs.Settings.{Settings}
@@ -28,11 +28,11 @@ told_within : (told : Option (List ℕ)) (bytes : List ℕ) → IfSome told (λ 
 told_within None bytes same within = tt
 told_within (Some all) bytes same within = rw same within
 
-read-as : (source : Input) (bytes : List ℕ) → IsReadAs source bytes → IsRead source
+pub read-as : (source : Input) (bytes : List ℕ) → IsReadAs source bytes → IsRead source
 read-as source bytes reads = (reads.0, told_within source.text bytes reads.1 reads.2)
 
 -- what holds of the bytes that were read, holds of those that are told
-told_text : (told : Option (List ℕ)) (bytes : List ℕ) (P : List ℕ → Type 0) → IfSome told (λ all. all ≡ bytes) → P bytes → IfSome told P
+pub told_text : (told : Option (List ℕ)) (bytes : List ℕ) (P : List ℕ → Type 0) → IfSome told (λ all. all ≡ bytes) → P bytes → IfSome told P
 told_text None bytes P same h = tt
 told_text (Some all) bytes P same h = subst P (sym same) h
 
@@ -51,6 +51,9 @@ accept-fails settings text background bytes more BackgroundRead first second h =
 accept-fails settings text background bytes more BackgroundTooLong first second h = absurd h
 accept-fails settings text background bytes more EarlierRead first second h = absurd h
 accept-fails settings text background bytes more EarlierTooLong first second h = absurd h
+accept-fails settings text background bytes more NamesRead first second h = absurd h
+accept-fails settings text background bytes more NamesTooLong first second h = absurd h
+accept-fails settings text background bytes more (BadNameLine line) first second h = absurd h
 accept-fails settings text background bytes more (Index fault) first second h = (
   h.0,
   (read-as text bytes first, read-as (behind settings background) more second),
@@ -64,6 +67,7 @@ accept-fails settings text background bytes more (Background fault) first second
 )
 accept-fails settings text background bytes more (Earlier fault) first second h = absurd h
 accept-fails settings text background bytes more (UnknownAsked name) first second h = absurd h
+accept-fails settings text background bytes more (Slipped slip) first second h = absurd h
 accept-fails settings text background bytes more Memory first second h = (first.0, second.0)
 accept-fails settings text background bytes more Write first second h = absurd h
 
@@ -85,10 +89,14 @@ indexing-fails settings text background BackgroundRead h = h
 indexing-fails settings text background BackgroundTooLong h = h
 indexing-fails settings text background EarlierRead h = absurd h
 indexing-fails settings text background EarlierTooLong h = absurd h
+indexing-fails settings text background NamesRead h = absurd h
+indexing-fails settings text background NamesTooLong h = absurd h
+indexing-fails settings text background (BadNameLine line) h = absurd h
 indexing-fails settings text background (Index fault) h = h
 indexing-fails settings text background (Background fault) h = h
 indexing-fails settings text background (Earlier fault) h = absurd h
 indexing-fails settings text background (UnknownAsked name) h = absurd h
+indexing-fails settings text background (Slipped slip) h = absurd h
 indexing-fails settings text background Memory h = h
 indexing-fails settings text background Write h = absurd h
 
@@ -119,10 +127,14 @@ report-fails settings text background index BackgroundRead reads h = absurd h
 report-fails settings text background index BackgroundTooLong reads h = absurd h
 report-fails settings text background index EarlierRead reads h = absurd h
 report-fails settings text background index EarlierTooLong reads h = absurd h
+report-fails settings text background index NamesRead reads h = absurd h
+report-fails settings text background index NamesTooLong reads h = absurd h
+report-fails settings text background index (BadNameLine line) reads h = absurd h
 report-fails settings text background index (Index fault) reads h = absurd h
 report-fails settings text background index (Background fault) reads h = absurd h
 report-fails settings text background index (Earlier fault) reads h = absurd h
 report-fails settings text background index (UnknownAsked name) reads h = as-indexed settings text background index (λ view. FailsToReport settings view (UnknownAsked name)) reads h
+report-fails settings text background index (Slipped slip) reads h = as-indexed settings text background index (λ view. FailsToReport settings view (Slipped slip)) reads h
 report-fails settings text background index Memory reads h = (reads.0.0.0, reads.0.1.0)
 report-fails settings text background index Write reads h = absurd h
 
@@ -134,10 +146,14 @@ fails-unwritten settings text background w BackgroundRead h = h
 fails-unwritten settings text background w BackgroundTooLong h = h
 fails-unwritten settings text background w EarlierRead h = h
 fails-unwritten settings text background w EarlierTooLong h = h
+fails-unwritten settings text background w NamesRead h = h
+fails-unwritten settings text background w NamesTooLong h = h
+fails-unwritten settings text background w (BadNameLine line) h = h
 fails-unwritten settings text background w (Index fault) h = h
 fails-unwritten settings text background w (Background fault) h = h
 fails-unwritten settings text background w (Earlier fault) h = h
 fails-unwritten settings text background w (UnknownAsked name) h = h
+fails-unwritten settings text background w (Slipped slip) h = h
 fails-unwritten settings text background w Memory h = h
 fails-unwritten settings text background w Write h =
     let failed = h.0 in
@@ -151,10 +167,14 @@ leaves-unwritten settings text background held BackgroundRead h = kept-itself he
 leaves-unwritten settings text background held BackgroundTooLong h = kept-itself held
 leaves-unwritten settings text background held EarlierRead h = kept-itself held
 leaves-unwritten settings text background held EarlierTooLong h = kept-itself held
+leaves-unwritten settings text background held NamesRead h = kept-itself held
+leaves-unwritten settings text background held NamesTooLong h = kept-itself held
+leaves-unwritten settings text background held (BadNameLine line) h = kept-itself held
 leaves-unwritten settings text background held (Index fault) h = kept-itself held
 leaves-unwritten settings text background held (Background fault) h = kept-itself held
 leaves-unwritten settings text background held (Earlier fault) h = kept-itself held
 leaves-unwritten settings text background held (UnknownAsked name) h = kept-itself held
+leaves-unwritten settings text background held (Slipped slip) h = kept-itself held
 leaves-unwritten settings text background held Memory h = kept-itself held
 leaves-unwritten settings text background held Write h =
     let failed = h.0 in

@@ -13,7 +13,8 @@ use Rattle.debcheck.specs.declared.line.LineFault.TheVariants.{Refused, Help, Me
 use Rattle.debcheck.specs.Devices.{AppendsPart}
 use Rattle.debcheck.specs.Faults.{status_of, told_line}
 use Rattle.debcheck.specs.Line.{Accepts, KeepsOther, RefusesLine, TellsFront, TellsLine, line_status_of, mark_of}
-use Rattle.debcheck.specs.Program.{Asks, Ends, IsEarlier, IsHeld, IsNamed, IsUnbegun, IsUnopened, Named, Refuses, Runs, RunsBehind, RunsTo, TellsFault, TellsOutcome, Written, written}
+use Rattle.debcheck.specs.Names.{FailsToName, ReadsNames}
+use Rattle.debcheck.specs.Program.{Asks, Ends, IsEarlier, IsHeld, IsNamed, IsUnbegun, FailsToTake, IsUnopened, Named, Refuses, Runs, RunsBehind, RunsNamed, RunsTo, TakesNames, TellsFault, TellsOutcome, Written, written}
 use Rattle.debcheck.specs.Run.{Fails, Input, Leaves, WritesReport, input}
 use Rattle.debcheck.specs.Since.{FailsSince, LeavesSince, WritesReportSince}
 
@@ -133,10 +134,53 @@ pub unbegun_background : (settings : Settings) (files : Named) (bg since : Optio
 unfolding Runs
 unbegun_background settings files bg since text rest output fault h = inl (fault, refl, h)
 
+-- ---- the names that are asked
+
+pub takes_none : (files : Named) (name : Option Text) (settings : Settings) → name ≡ None → TakesNames files name settings settings
+takes_none files None settings none = refl
+takes_none files (Some name) settings none = absurd cc
+
+pub takes_those : (files : Named) (name : Option Text) (told said : Text) (source : Input) (names : List (List ℕ)) (settings taken : Settings) → name ≡ Some said → told ≡ said
+    → IsHeld (files told) source.text → ReadsNames source names → taken ≡ record settings { only = Some names } → TakesNames files name settings taken
+takes_those files None told said source names settings taken is same held reads takes = absurd cc
+takes_those files (Some found) told said source names settings taken is same held reads takes =
+    let e : told ≡ found = cc in
+    let P : Text → Type 0 = λ t. IsHeld (files t) source.text in
+    (source, subst P e held, (names, reads, takes))
+
+pub takes_unopened : (files : Named) (name : Option Text) (told said : Text) (fault : RunFault) → name ≡ Some said → told ≡ said → fault ≡ run_fault.NamesRead → IsUnopened (files told) → FailsToTake files name fault
+takes_unopened files None told said fault is same unread none = absurd cc
+takes_unopened files (Some found) told said fault is same unread none =
+    let e : told ≡ found = cc in
+    let P : Text → Type 0 = λ t. IsUnopened (files t) in
+    inl (unread, subst P e none)
+
+pub takes_memory : (files : Named) (name : Option Text) (said : Text) (fault : RunFault) → name ≡ Some said → fault ≡ run_fault.Memory → FailsToTake files name fault
+takes_memory files None said fault is wanted = absurd cc
+takes_memory files (Some found) said fault is wanted = inr (inl wanted)
+
+pub takes_bad : (files : Named) (name : Option Text) (told said : Text) (source : Input) (fault : RunFault) → name ≡ Some said → told ≡ said → IsHeld (files told) source.text → FailsToName source fault
+    → FailsToTake files name fault
+takes_bad files None told said source fault is same held fails = absurd cc
+takes_bad files (Some found) told said source fault is same held fails =
+    let e : told ≡ found = cc in
+    let P : Text → Type 0 = λ t. IsHeld (files t) source.text in
+    inr (inr (source, subst P e held, fails))
+
+pub runs_taken : (names : Option Text) (settings taken : Settings) (files : Named) (bg since : Option Text) (text : Input) (rest : Option (List ℕ)) (output : Written) (r : Result Summary RunFault)
+    → TakesNames files names settings taken → Runs taken files bg since text rest output r → RunsNamed names settings files bg since text rest output r
+unfolding RunsNamed
+runs_taken names settings taken files bg since text rest output r takes runs = inr (taken, takes, runs)
+
+pub runs_untaken : (names : Option Text) (settings : Settings) (files : Named) (bg since : Option Text) (rest held : Option (List ℕ)) (read write flushed : Bool) (fault : RunFault)
+    → read ≡ false → FailsToTake files names fault → RunsNamed names settings files bg since (input rest read) rest (written held held write flushed) (Err fault)
+unfolding RunsNamed
+runs_untaken names settings files bg since rest held read write flushed fault unread fails = inl (fault, refl, unread, refl, refl, fails)
+
 -- ---- the program
 
 pub runs_to : (config : Config) (files : Named) (text : Input) (rest : Option (List ℕ)) (output errors : Written) (status : ℕ) (outcome : Result Summary RunFault) → status ≡ status_of outcome
-    → TellsOutcome errors outcome → Runs (settings_of config) files (option_map string_bytes config.bg) (option_map string_bytes config.since) text rest output outcome → RunsTo config files text rest output errors status
+    → TellsOutcome errors outcome → RunsNamed (option_map string_bytes config.only_file) (settings_of config) files (option_map string_bytes config.bg) (option_map string_bytes config.since) text rest output outcome → RunsTo config files text rest output errors status
 unfolding RunsTo
 runs_to config files text rest output errors status outcome is told runs = (outcome, is, told, runs)
 

@@ -1,13 +1,14 @@
 -- Lemmas on what a run answers.
-use Rattle.std.proofs.Common.{◌≡◌, ℕ, false, List, [], Some, Err, refl, ap, sym, subst, arith, inl, inr}
+use Rattle.std.proofs.Common.{◌≡◌, ℕ, false, List, [], Some, Ok, Err, refl, ap, sym, subst, arith, inl, inr}
 use Rattle.std.proofs.lemmas.Bool.{cases_Bool}
 use Rattle.deb_index.specs.Packages.{IndexView}
 use Rattle.debcheck.specs.declared.fault.RunFault.{RunFault}
-use Rattle.debcheck.specs.declared.fault.RunFault.TheVariants.{Read, TooLong, BackgroundRead, BackgroundTooLong, EarlierRead, EarlierTooLong, Index, Background, Earlier, UnknownAsked, Memory, Write}
+use Rattle.debcheck.specs.declared.fault.RunFault.TheVariants.{Read, TooLong, BackgroundRead, BackgroundTooLong, EarlierRead, EarlierTooLong, NamesRead, NamesTooLong, BadNameLine, Index, Background, Earlier, UnknownAsked, Slipped, Memory, Write}
 use Rattle.deb_report.specs.declared.summary.Summary.{Summary}
 use Rattle.deb_report.specs.Asked.{asked_places}
 use Rattle.deb_report.specs.Settings.{Settings}
 use Rattle.debcheck.specs.Run.{Fails, Input, IsReport, behind, input}
+use Rattle.debcheck.specs.Strict.{slip_of}
 use Rattle.debcheck.proofs.IndexLemmas.{fore-of-both}
 
 -- what is read behind the index is the background, where that is told: one that isn't asked for has no bytes
@@ -35,6 +36,9 @@ refused-behind settings text background output summary BackgroundTooLong is repo
     absurd (omega arith)
 refused-behind settings text background output summary EarlierRead is report fails = absurd fails
 refused-behind settings text background output summary EarlierTooLong is report fails = absurd fails
+refused-behind settings text background output summary NamesRead is report fails = absurd fails
+refused-behind settings text background output summary NamesTooLong is report fails = absurd fails
+refused-behind settings text background output summary (BadNameLine line) is report fails = absurd fails
 refused-behind settings text background output summary (Index fault) is report fails =
     let refused = fails.2 in
     let accepted = fore-of-both text background settings.arch settings.essential report.index report.is_index in
@@ -51,7 +55,21 @@ refused-behind settings text background output summary (UnknownAsked name) is re
     let same : found.0 ≡ report.index = cc in
     let P : IndexView → Type 0 = λ index. asked_places index settings.only ≡ Err name.items in
     let unknown = subst P same found.2 in
-    let asked = report.holds.is_asked in
+    let asked = report.holds.is_asked.are_asked in
+    cc
+refused-behind settings text background output summary (Slipped slip) is report fails =
+    let accepted = report.is_index in
+    let found = rw is at fails.1 in
+    let other = found.1 in
+    let same : found.0 ≡ report.index = cc in
+    let P : IndexView → Type 0 = λ index. (asked : List ℕ) × (asked_places index settings.only ≡ Ok asked) × (slip_of settings index asked ≡ Some slip) in
+    let slipped = subst P same found.2 in
+    let first = slipped.1 in
+    let second = report.holds.is_asked.are_asked in
+    let places : slipped.0 ≡ report.holds.asked = cc in
+    let Q : List ℕ → Type 0 = λ asked. slip_of settings report.index asked ≡ Some slip in
+    let some = subst Q places slipped.2 in
+    let none = report.holds.is_asked.no_slip in
     cc
 refused-behind settings text background output summary Memory is report fails = refl
 refused-behind settings text background output summary Write is report fails =

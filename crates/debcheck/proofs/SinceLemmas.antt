@@ -8,7 +8,7 @@ use Rattle.deb_health.specs.Verdicts.{Blocked, Found, IsVerdict, VerdictView}
 use Rattle.work_draw.specs.Checks.{AnswersEach}
 use Rattle.deb_report.specs.declared.config.Show.TheVariants.{Failures}
 use Rattle.deb_report.specs.declared.summary.Summary.{Summary}
-use Rattle.deb_report.specs.Asked.{asked_places, listed_places}
+use Rattle.deb_report.specs.Asked.{listed_places}
 use Rattle.deb_verdict.specs.Told.{as_told}
 use Rattle.deb_verdict.specs.declared.wanted.Wanted.{Wanted}
 use Rattle.deb_report.specs.Report.{is_broken}
@@ -17,9 +17,9 @@ use Rattle.deb_report.specs.Since.{BrokenView, broken_of, summary_since}
 use Rattle.deb_report.specs.Written.{written_since}
 use Rattle.deb_report.proofs.Unshown.{LeavesTold, broken_unchanged, since_unchanged, summary_since_unchanged}
 use Rattle.debcheck.specs.declared.fault.RunFault.{RunFault}
-use Rattle.debcheck.specs.declared.fault.RunFault.TheVariants.{Read, TooLong, BackgroundRead, BackgroundTooLong, EarlierRead, EarlierTooLong, Index, Background, Earlier, UnknownAsked, Memory, Write}
+use Rattle.debcheck.specs.declared.fault.RunFault.TheVariants.{Read, TooLong, BackgroundRead, BackgroundTooLong, EarlierRead, EarlierTooLong, NamesRead, NamesTooLong, BadNameLine, Index, Background, Earlier, UnknownAsked, Slipped, Memory, Write}
 use Rattle.debcheck.specs.Devices.{AppendsPart}
-use Rattle.debcheck.specs.Run.{Fails, FailsToAccept, FailsToIndex, FailsToRead, FailsToReport, HasAsked, HasIndex, IfIndexed, IfTold, Input, IsReadAs, ReadsAs, WritesBy, WritesFrontBy, behind, input}
+use Rattle.debcheck.specs.Run.{Fails, FailsToAccept, FailsToIndex, FailsToRead, FailsToReport, HasAsked, HasIndex, IfIndexed, IfTold, Input, IsAsked, IsReadAs, ReadsAs, WritesBy, WritesFrontBy, behind, input}
 use Rattle.debcheck.specs.Since.{FailsEarlier, FailsSince, IsReportAfter, IsReportSince, LeavesSince, TellsReportSince, WereBroken, WritesFrontSince, WritesReportSince, earlier_fault, is_unread_behind, wanted_since}
 use Rattle.debcheck.proofs.PhaseLemmas.{as-indexed, fails-unwritten, front-added, kept-itself, report-added, told_index, told_weaker}
 
@@ -45,7 +45,7 @@ were-broken change status settings index asked held told verdicts before are sam
 -- and one that leaves what a report since an earlier index tells leaves that report
 pub reported-after : (change : VerdictView → VerdictView) (settings : Settings) → LeavesTold settings.explain Failures settings.causes change
     → (index : IndexView) (asked : List ℕ) (told verdicts : List VerdictView) (before : List BrokenView) (output : List ℕ) (summary : Summary)
-    → asked_places index settings.only ≡ Ok asked → AnswersEach (IsVerdict index) asked verdicts → map change told ≡ map change verdicts → output ≡ written_since settings index asked told before
+    → IsAsked settings index asked → AnswersEach (IsVerdict index) asked verdicts → map change told ≡ map change verdicts → output ≡ written_since settings index asked told before
     → summary ≡ summary_since index asked told before → IsReportAfter before settings index output summary
 reported-after change settings leaves index asked told verdicts before output summary is each alike written counted = record {
   asked = asked;
@@ -91,10 +91,14 @@ reading-fails settings text before failed BackgroundRead unmarked h background m
 reading-fails settings text before failed BackgroundTooLong unmarked h background more second = absurd h
 reading-fails settings text before failed EarlierRead unmarked h background more second = absurd h
 reading-fails settings text before failed EarlierTooLong unmarked h background more second = absurd h
+reading-fails settings text before failed NamesRead unmarked h background more second = absurd h
+reading-fails settings text before failed NamesTooLong unmarked h background more second = absurd h
+reading-fails settings text before failed (BadNameLine line) unmarked h background more second = absurd h
 reading-fails settings text before failed (Index fault) unmarked h background more second = absurd h
 reading-fails settings text before failed (Background fault) unmarked h background more second = absurd h
 reading-fails settings text before failed (Earlier fault) unmarked h background more second = absurd h
 reading-fails settings text before failed (UnknownAsked name) unmarked h background more second = absurd h
+reading-fails settings text before failed (Slipped slip) unmarked h background more second = absurd h
 reading-fails settings text before failed Memory unmarked h background more second = (h ∙ unmarked, second.0)
 reading-fails settings text before failed Write unmarked h background more second = absurd h
 
@@ -106,10 +110,14 @@ reading-behind text before failed limit BackgroundRead h = absurd h
 reading-behind text before failed limit BackgroundTooLong h = absurd h
 reading-behind text before failed limit EarlierRead h = refl
 reading-behind text before failed limit EarlierTooLong h = refl
+reading-behind text before failed limit NamesRead h = refl
+reading-behind text before failed limit NamesTooLong h = refl
+reading-behind text before failed limit (BadNameLine line) h = refl
 reading-behind text before failed limit (Index fault) h = refl
 reading-behind text before failed limit (Background fault) h = refl
 reading-behind text before failed limit (Earlier fault) h = refl
 reading-behind text before failed limit (UnknownAsked name) h = refl
+reading-behind text before failed limit (Slipped slip) h = refl
 reading-behind text before failed limit Memory h = refl
 reading-behind text before failed limit Write h = refl
 
@@ -120,10 +128,14 @@ accepting-behind settings bytes more BackgroundRead h = absurd h
 accepting-behind settings bytes more BackgroundTooLong h = absurd h
 accepting-behind settings bytes more EarlierRead h = absurd h
 accepting-behind settings bytes more EarlierTooLong h = absurd h
+accepting-behind settings bytes more NamesRead h = absurd h
+accepting-behind settings bytes more NamesTooLong h = absurd h
+accepting-behind settings bytes more (BadNameLine line) h = absurd h
 accepting-behind settings bytes more (Index fault) h = (refl, refl)
 accepting-behind settings bytes more (Background fault) h = (refl, refl)
 accepting-behind settings bytes more (Earlier fault) h = absurd h
 accepting-behind settings bytes more (UnknownAsked name) h = absurd h
+accepting-behind settings bytes more (Slipped slip) h = absurd h
 accepting-behind settings bytes more Memory h = (refl, refl)
 accepting-behind settings bytes more Write h = absurd h
 
@@ -134,10 +146,14 @@ asking-behind settings index BackgroundRead h = absurd h
 asking-behind settings index BackgroundTooLong h = absurd h
 asking-behind settings index EarlierRead h = absurd h
 asking-behind settings index EarlierTooLong h = absurd h
+asking-behind settings index NamesRead h = absurd h
+asking-behind settings index NamesTooLong h = absurd h
+asking-behind settings index (BadNameLine line) h = absurd h
 asking-behind settings index (Index fault) h = absurd h
 asking-behind settings index (Background fault) h = absurd h
 asking-behind settings index (Earlier fault) h = absurd h
 asking-behind settings index (UnknownAsked name) h = refl
+asking-behind settings index (Slipped slip) h = refl
 asking-behind settings index Memory h = refl
 asking-behind settings index Write h = absurd h
 
@@ -164,10 +180,14 @@ earlier-unwritten settings earlier background BackgroundRead is h = absurd cc
 earlier-unwritten settings earlier background BackgroundTooLong is h = absurd cc
 earlier-unwritten settings earlier background EarlierRead is h = h
 earlier-unwritten settings earlier background EarlierTooLong is h = h
+earlier-unwritten settings earlier background NamesRead is h = h
+earlier-unwritten settings earlier background NamesTooLong is h = h
+earlier-unwritten settings earlier background (BadNameLine line) is h = h
 earlier-unwritten settings earlier background (Index fault) is h = absurd cc
 earlier-unwritten settings earlier background (Background fault) is h = absurd cc
 earlier-unwritten settings earlier background (Earlier fault) is h = h
 earlier-unwritten settings earlier background (UnknownAsked name) is h = h
+earlier-unwritten settings earlier background (Slipped slip) is h = h
 earlier-unwritten settings earlier background Memory is h = absurd cc
 earlier-unwritten settings earlier background Write is h = h
 
@@ -180,10 +200,14 @@ since-leaves settings text background earlier held BackgroundRead h = kept-itsel
 since-leaves settings text background earlier held BackgroundTooLong h = kept-itself held
 since-leaves settings text background earlier held EarlierRead h = kept-itself held
 since-leaves settings text background earlier held EarlierTooLong h = kept-itself held
+since-leaves settings text background earlier held NamesRead h = kept-itself held
+since-leaves settings text background earlier held NamesTooLong h = kept-itself held
+since-leaves settings text background earlier held (BadNameLine line) h = kept-itself held
 since-leaves settings text background earlier held (Index fault) h = kept-itself held
 since-leaves settings text background earlier held (Background fault) h = kept-itself held
 since-leaves settings text background earlier held (Earlier fault) h = kept-itself held
 since-leaves settings text background earlier held (UnknownAsked name) h = kept-itself held
+since-leaves settings text background earlier held (Slipped slip) h = kept-itself held
 since-leaves settings text background earlier held Memory h = kept-itself held
 since-leaves settings text background earlier held Write (inl h) =
     let failed = h.0.0 in

@@ -1,5 +1,5 @@
 -- What is told of the asked places stands for their verdicts, and the report on it is theirs.
-use Rattle.std.proofs.Common.{◌≡◌, ◌∙◌, ℕ, suc, ◌<◌, ◌≤◌, Bool, true, false, ◌&&◌, ◌||◌, if◌then◌else◌, List, [], ◌∷◌, Some, Ok, All, get_or, length, map, slice_get, ap, ap₂, refl, subst, sym, arith, inl, inr}
+use Rattle.std.proofs.Common.{◌≡◌, ◌∙◌, ℕ, suc, ◌<◌, ◌≤◌, Bool, true, false, ◌&&◌, ◌||◌, if◌then◌else◌, List, [], ◌∷◌, Some, All, get_or, length, map, slice_get, ap, ap₂, refl, subst, sym, arith, inl, inr}
 use Rattle.std.specs.List.{filter, zip}
 use Rattle.std.proofs.lemmas.Bool.{cases_Bool, false≢true, or_right}
 use Rattle.std.proofs.lemmas.List.Elements.{All-cons, All-filter, All-nil, All-same}
@@ -18,12 +18,11 @@ use Rattle.work_draw.specs.Checks.{AnswersEach}
 use Rattle.deb_report.specs.declared.config.Show.{Show}
 use Rattle.deb_report.specs.declared.config.Show.TheVariants as show
 use Rattle.deb_report.specs.declared.summary.Summary.{Summary}
-use Rattle.deb_report.specs.Asked.{asked_places}
 use Rattle.deb_report.specs.Report.{is_broken, is_shown, summary_of}
 use Rattle.deb_report.specs.Settings.{Settings, shows_installable, shows_sets}
 use Rattle.deb_report.specs.Written.{written_report}
 use Rattle.deb_report.proofs.Unshown.{LeavesTold, report_unchanged, summary_unchanged}
-use Rattle.debcheck.specs.Run.{IsReportOn}
+use Rattle.debcheck.specs.Run.{IsAsked, IsReportOn}
 use Rattle.debcheck.specs.Standing.{Merges, StandFor, is_unmarked, wanted_by}
 
 -- ---- what is left
@@ -162,7 +161,7 @@ module _ (settings : Settings) (index : IndexView) (asked : List ℕ) (told : Li
       ∙ ap (λ verdicts. summary_of index asked verdicts) stand.same
       ∙ summary_unchanged settings (as_told (wanted_by settings)) (leaves_told settings) index asked stand.verdicts
 
-  pub reported-told : (output : List ℕ) (summary : Summary) → asked_places index settings.only ≡ Ok asked → output ≡ written_report settings index asked told
+  pub reported-told : (output : List ℕ) (summary : Summary) → IsAsked settings index asked → output ≡ written_report settings index asked told
       → summary ≡ summary_of index asked told → IsReportOn settings index output summary
   reported-told output summary is written counted = record {
     asked = asked;

@@ -6,7 +6,9 @@ use Rattle.deb_index.specs.declared.error.IndexError.TheVariants.{BadLine, Repea
 use Rattle.deb_index.specs.declared.error.IndexError.TheVariants as index
 use Rattle.deb_index.specs.Reading.{field_name}
 use Rattle.debcheck.specs.declared.fault.RunFault.{RunFault}
-use Rattle.debcheck.specs.declared.fault.RunFault.TheVariants.{Read, TooLong, BackgroundRead, BackgroundTooLong, EarlierRead, EarlierTooLong, Index, Background, Earlier, UnknownAsked, Memory, Write}
+use Rattle.debcheck.specs.declared.fault.RunFault.TheVariants.{Read, TooLong, BackgroundRead, BackgroundTooLong, EarlierRead, EarlierTooLong, NamesRead, NamesTooLong, BadNameLine, Index, Background, Earlier, UnknownAsked, Slipped, Memory, Write}
+use Rattle.debcheck.specs.declared.strict.Slip.{Slip}
+use Rattle.debcheck.specs.declared.strict.Slip.TheVariants.{NoStanza, OtherArchitectures, NothingAsked}
 use Rattle.deb_report.specs.declared.summary.Summary.{Summary}
 
 -- a fault of a stanza, with its number
@@ -24,6 +26,12 @@ index_fault_text (BadRelation stanza field) = stanza_text stanza (codes "bad rel
 index_fault_text (TooManyStanzas stanza) = stanza_text stanza (codes "too many stanzas")
 index_fault_text index.Memory = codes "out of memory"
 
+-- what is said of a fault of a strict run
+unfoldable pub slip_text : Slip → List ℕ
+slip_text NoStanza = codes "the index is empty"
+slip_text OtherArchitectures = codes "no stanza is of this architecture or of all"
+slip_text NothingAsked = codes "nothing is asked"
+
 -- what is said of a fault
 unfoldable pub fault_text : RunFault → List ℕ
 fault_text Read = codes "cannot read the index"
@@ -32,10 +40,14 @@ fault_text BackgroundRead = codes "cannot read the background"
 fault_text BackgroundTooLong = codes "the background is too long"
 fault_text EarlierRead = codes "cannot read the earlier index"
 fault_text EarlierTooLong = codes "the earlier index is too long"
+fault_text NamesRead = codes "cannot read the names"
+fault_text NamesTooLong = codes "the names are too many"
+fault_text (BadNameLine line) = codes "names: line " ++ decimal line ++ codes ": bad name"
 fault_text (Index fault) = index_fault_text fault
 fault_text (Background fault) = codes "background: " ++ index_fault_text fault
 fault_text (Earlier fault) = codes "earlier index: " ++ index_fault_text fault
 fault_text (UnknownAsked name) = codes "unknown package " ++ name.items
+fault_text (Slipped slip) = slip_text slip
 fault_text Memory = codes "out of memory"
 fault_text Write = codes "cannot write the report"
 
@@ -57,6 +69,8 @@ status_of (Ok summary) = if told_broken summary == 0 then 0 else 1
 status_of (Err (Index fault)) = 65
 status_of (Err (Background fault)) = 65
 status_of (Err (Earlier fault)) = 65
+status_of (Err (Slipped slip)) = 65
+status_of (Err (BadNameLine line)) = 65
 status_of (Err (UnknownAsked name)) = 66
 status_of (Err Read) = 67
 status_of (Err TooLong) = 67
@@ -64,5 +78,7 @@ status_of (Err BackgroundRead) = 67
 status_of (Err BackgroundTooLong) = 67
 status_of (Err EarlierRead) = 67
 status_of (Err EarlierTooLong) = 67
+status_of (Err NamesRead) = 67
+status_of (Err NamesTooLong) = 67
 status_of (Err Write) = 68
 status_of (Err Memory) = 69

@@ -5,6 +5,7 @@ use Rattle.std.specs.List.{list_all, list_any, slice_split}
 use Rattle.std.specs.Option.{option_map, option_map_or, unwrap_or}
 use Rattle.std.specs.Str.{bytes_eq}
 use Rattle.std.specs.Str.Parse.{digits_value}
+use Rattle.clap.specs.Lexer.{strip_byte}
 use Rattle.clap.specs.Words.{App, Row, Rule, Text, fault_of, first_of, found_of, matches_of, new_app, new_rule, rows_of}
 use Rattle.clap.specs.declared.parser.matches.ArgMatches.{ArgMatches}
 use Rattle.clap.specs.declared.builder.action.ArgAction.TheVariants as action
@@ -28,6 +29,7 @@ use Rattle.deb_report.specs.Settings.{Settings, is_architecture, settings_of, us
 -- all that a configuration says
 pub record Request : Type 0 where
   pub settings : Settings
+  pub only_file : Option Text
   pub bg : Option Text
   pub since : Option Text
   pub workers : ℕ
@@ -37,6 +39,7 @@ pub record Request : Type 0 where
 abbrev pub request_of : Config → Request
 request_of config = record {
   settings = settings_of config;
+  only_file = option_map string_bytes config.only_file;
   bg = option_map string_bytes config.bg;
   since = option_map string_bytes config.since;
   workers = config.workers;
@@ -74,7 +77,7 @@ value_rules = record (value_rule (codes "arch")) { required = true }
 
 abbrev pub other_rules : List Rule
 other_rules = flag_rule (codes "explain") ∷ flag_rule (codes "failures") ∷ flag_rule (codes "successes") ∷ flag_rule (codes "causes") ∷ flag_rule (codes "ignore-essential")
-    ∷ flag_rule (codes "quiet") ∷ help_rule ∷ version_rule ∷ []
+    ∷ flag_rule (codes "strict") ∷ flag_rule (codes "quiet") ∷ help_rule ∷ version_rule ∷ []
 
 -- the program's command with these options, whose words come without the program's name
 abbrev pub app_with : List Rule → App
@@ -96,6 +99,20 @@ is_count most text = list_all is_ascii_digit text && not (length text == 0)
 abbrev pub names_in : List ℕ → List (List ℕ)
 names_in text = slice_split (λ b. b == 44) text
 
+-- the name of a file stands behind an @
+abbrev pub file_in : List ℕ → Option Text
+file_in text = strip_byte 64 text
+
+-- of the names that are asked, or of a file that has them: the names
+abbrev pub listed_in : Option Text → Option (List (List ℕ))
+listed_in None = None
+listed_in (Some text) = if is_some (file_in text) then None else Some (names_in text)
+
+-- and the file
+abbrev pub file_named : Option Text → Option Text
+file_named None = None
+file_named (Some text) = file_in text
+
 -- the options that are given in what was matched
 abbrev pub rows_in : ArgMatches → List Row
 rows_in matches = rows_of (found_of matches)
@@ -107,9 +124,13 @@ value_of name rows = unwrap_or (first_of name rows) []
 abbrev pub is_set : Text → List Row → Bool
 is_set name rows = option_map_or (λ value. bytes_eq value (codes "true")) (first_of name rows) false
 
--- the names that are asked, where some are, are names of packages
+-- each name is one of a package, or the file has a name
+abbrev pub is_good_list : List ℕ → Bool
+is_good_list text = option_map_or (λ file. not (length file == 0)) (file_in text) (list_all is_name (names_in text))
+
+-- so it is of the names that are asked, where some are
 abbrev pub has_good_names : List Row → Bool
-has_good_names rows = option_map_or (λ text. list_all is_name (names_in text)) (first_of (codes "checkonly") rows) true
+has_good_names rows = option_map_or is_good_list (first_of (codes "checkonly") rows) true
 
 -- the file that an option names, where it does, has a name
 abbrev pub has_good_file : Text → List Row → Bool
@@ -147,11 +168,13 @@ asked_by rows = record {
     explain = is_set (codes "explain") rows;
     show = show_of (is_set (codes "failures") rows) (is_set (codes "successes") rows);
     essential = not (is_set (codes "ignore-essential") rows);
-    only = option_map names_in (first_of (codes "checkonly") rows);
+    only = listed_in (first_of (codes "checkonly") rows);
     background = is_some (first_of (codes "bg") rows);
+    strict = is_set (codes "strict") rows || is_some (first_of (codes "since") rows);
     causes = is_set (codes "causes") rows;
     format = unwrap_or (format_of (value_of (codes "format") rows)) form.Text;
   };
+  only_file = file_named (first_of (codes "checkonly") rows);
   bg = first_of (codes "bg") rows;
   since = first_of (codes "since") rows;
   workers = digits_value 10 (value_of (codes "workers") rows);
@@ -163,7 +186,7 @@ asked_by rows = record {
 
 -- the request where nothing is said
 abbrev pub usual_request : Request
-usual_request = record { settings = usual_settings; bg = None; since = None; workers = 4; chunk = 64; quiet = false }
+usual_request = record { settings = usual_settings; only_file = None; bg = None; since = None; workers = 4; chunk = 64; quiet = false }
 
 -- the options that the words give, by the conventions of long options and of short ones
 unfoldable pub line_rows : List Text → List Row

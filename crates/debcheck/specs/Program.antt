@@ -12,6 +12,7 @@ use Rattle.debcheck.specs.declared.line.LineFault.TheVariants.{Refused, Help, Me
 use Rattle.debcheck.specs.Devices.{AppendsPart}
 use Rattle.debcheck.specs.Faults.{fault_line, status_of, told_line}
 use Rattle.debcheck.specs.Line.{Accepts, RefusesLine}
+use Rattle.debcheck.specs.Names.{FailsToName, ReadsNames}
 use Rattle.debcheck.specs.Run.{Input}
 use Rattle.debcheck.specs.Since.{FailsAny, LeavesAny, WritesAny}
 
@@ -108,12 +109,32 @@ unfoldable pub Runs : Settings → Named → Option Text → Option Text → Inp
 Runs settings files bg since text rest output outcome = ((fault : RunFault) × (outcome ≡ Err fault) × IsUnbegun files bg run_fault.BackgroundRead text rest output fault)
     ⊎ ((background : Input) × IsNamed files bg background × RunsBehind settings files since text background rest output outcome)
 
+-- ---- the names that are asked
+
+-- why the names are not taken from the file that has them, where there is one: it was not opened, or not read as names
+abbrev pub FailsToTake : Named → Option Text → RunFault → Type 0
+FailsToTake files None fault = ⊥
+FailsToTake files (Some name) fault = ((fault ≡ run_fault.NamesRead) × IsUnopened (files name)) ⊎ (fault ≡ run_fault.Memory)
+    ⊎ ((source : Input) × IsHeld (files name) source.text × FailsToName source fault)
+
+-- the settings with the names of the file that has them, where there is one
+abbrev pub TakesNames : Named → Option Text → Settings → Settings → Type 0
+TakesNames files None settings taken = taken ≡ settings
+TakesNames files (Some name) settings taken = (source : Input) × IsHeld (files name) source.text
+    × ((names : List (List ℕ)) × ReadsNames source names × (taken ≡ record settings { only = Some names }))
+
+-- a run by the names of this file, where there is one: they were not taken, before anything was read or written; or it is one under the settings with them
+unfoldable pub RunsNamed : Option Text → Settings → Named → Option Text → Option Text → Input → Option (List ℕ) → Written → Result Summary RunFault → Type 0
+RunsNamed names settings files bg since text rest output outcome =
+    ((fault : RunFault) × (outcome ≡ Err fault) × (text.failed ≡ false) × (rest ≡ text.text) × (output.now ≡ output.held) × FailsToTake files names fault)
+    ⊎ ((taken : Settings) × TakesNames files names settings taken × Runs taken files bg since text rest output outcome)
+
 -- ---- the program
 
 -- a run under a configuration, the line of its fault, and its exit status
 unfoldable pub RunsTo : Config → Named → Input → Option (List ℕ) → Written → Written → ℕ → Type 0
 RunsTo config files text rest output errors status = (outcome : Result Summary RunFault) × (status ≡ status_of outcome) × TellsOutcome errors outcome
-    × Runs (settings_of config) files (option_map string_bytes config.bg) (option_map string_bytes config.since) text rest output outcome
+    × RunsNamed (option_map string_bytes config.only_file) (settings_of config) files (option_map string_bytes config.bg) (option_map string_bytes config.since) text rest output outcome
 
 -- what comes of a line: a run, or what is said of it, and nothing is read then
 abbrev pub EndsBy : Named → Input → Option (List ℕ) → Written → Written → ℕ → Result Config LineFault → Type 0

@@ -1,5 +1,5 @@
 -- What a run answers and writes.
-use Rattle.std.specs.Prelude.{◌≡◌, ◌≢◌, ℕ, ◌+◌, ◌<◌, ◌≤◌, Bool, false, true, List, [], Option, Some, Ok, Err, IfSome, if◌then◌else◌, length}
+use Rattle.std.specs.Prelude.{◌≡◌, ◌≢◌, ℕ, ◌+◌, ◌<◌, ◌≤◌, Bool, false, true, List, [], Option, Some, None, Ok, Err, IfSome, if◌then◌else◌, length}
 use Rattle.std.specs.Io.KnownBytes.{Appends, Consumes, Keeps}
 use Rattle.deb_index.specs.Packages.{IndexView}
 use Rattle.deb_index.specs.Reading.{byte_limit, index_of, index_of_both}
@@ -8,20 +8,26 @@ use Rattle.work_draw.specs.Checks.{AnswersEach}
 use Rattle.deb_index.specs.declared.error.BothError.TheVariants.{Back, Fore}
 use Rattle.deb_index.specs.declared.error.IndexError.TheVariants as index_error
 use Rattle.debcheck.specs.declared.fault.RunFault.{RunFault}
-use Rattle.debcheck.specs.declared.fault.RunFault.TheVariants.{Read, TooLong, BackgroundRead, BackgroundTooLong, Index, Background, UnknownAsked, Memory, Write}
+use Rattle.debcheck.specs.declared.fault.RunFault.TheVariants.{Read, TooLong, BackgroundRead, BackgroundTooLong, Index, Background, UnknownAsked, Slipped, Memory, Write}
 use Rattle.deb_report.specs.declared.summary.Summary.{Summary}
 use Rattle.deb_report.specs.Asked.{asked_places}
 use Rattle.debcheck.specs.Devices.{AppendsPart}
 use Rattle.deb_report.specs.Report.{summary_of}
 use Rattle.deb_report.specs.Settings.{Settings}
 use Rattle.deb_report.specs.Written.{written_report}
+use Rattle.debcheck.specs.Strict.{slip_of}
+
+-- these places are asked of an index, and a strict run finds no fault in that
+pub record IsAsked (settings : Settings) (index : IndexView) (asked : List ℕ) : Type 0 where
+  pub are_asked : asked_places index settings.only ≡ Ok asked
+  pub no_slip : slip_of settings index asked ≡ None
 
 -- a report on an index, with its numbers, where these are what is written of asked places and their verdicts, and what is counted
 pub record IsReportBy (written : IndexView → List ℕ → List VerdictView → List ℕ) (counted : IndexView → List ℕ → List VerdictView → Summary)
     (settings : Settings) (index : IndexView) (output : List ℕ) (summary : Summary) : Type 0 where
   pub asked : List ℕ
   pub verdicts : List VerdictView
-  pub is_asked : asked_places index settings.only ≡ Ok asked
+  pub is_asked : IsAsked settings index asked
   pub are_verdicts : AnswersEach (IsVerdict index) asked verdicts
   pub is_output : output ≡ written index asked verdicts
   pub is_summary : summary ≡ counted index asked verdicts
@@ -174,19 +180,21 @@ is_unread Read = true
 is_unread TooLong = true
 is_unread _ = false
 
--- why there is no report on an index: an asked name is unknown, or memory was wanted
+-- why there is no report on an index: an asked name is unknown; or all are known, and a strict run has a fault; or memory was wanted
 abbrev pub FailsToReport : Settings → IndexView → RunFault → Type 0
 FailsToReport settings index (UnknownAsked name) = asked_places index settings.only ≡ Err name.items
+FailsToReport settings index (Slipped slip) = (asked : List ℕ) × (asked_places index settings.only ≡ Ok asked) × (slip_of settings index asked ≡ Some slip)
 FailsToReport settings index Memory = Unit {0}
 FailsToReport settings index _ = ⊥
 
--- each asked name is one of a package of the foreground
+-- each asked name is one of a package of the foreground, and a strict run has no fault
 abbrev pub HasAsked : Settings → IndexView → Type 0
-HasAsked settings index = (asked : List ℕ) × (asked_places index settings.only ≡ Ok asked)
+HasAsked settings index = (asked : List ℕ) × IsAsked settings index asked
 
--- why a run fails: there is no index; or there is one, and an asked name is unknown; or all are known, and the writer failed. Where memory was wanted, no read had failed
+-- why a run fails: there is no index; or there is one, and an asked name is unknown; or all are known, and a strict run has a fault; or it has none, and the writer failed. Where memory was wanted, no read had failed
 abbrev pub Fails : Settings → Input → Input → Bool → RunFault → Type 0
 Fails settings text background write_failed (UnknownAsked name) = IfIndexed settings text background (λ index. FailsToReport settings index (UnknownAsked name))
+Fails settings text background write_failed (Slipped slip) = IfIndexed settings text background (λ index. FailsToReport settings index (Slipped slip))
 Fails settings text background write_failed Write = (write_failed ≡ true) × IfIndexed settings text background (HasAsked settings)
 Fails settings text background write_failed fault = FailsToIndex settings text background fault
 

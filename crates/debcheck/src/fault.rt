@@ -1,15 +1,17 @@
 //! Why a run fails, and what is said of it.
 
-ghost use Rattle.std.specs.Prelude.{◌≡◌, ◌++◌, IfOk, OnOk, decimal};
-ghost use Rattle.debcheck.specs.Faults.{fault_line, fault_text, index_fault_text, stanza_text, status_of};
+ghost use Rattle.std.specs.Prelude.{◌≡◌, ◌++◌, IfOk, OnOk, codes, decimal};
+ghost use Rattle.debcheck.specs.Faults.{fault_line, fault_text, index_fault_text, slip_text, stanza_text, status_of};
 ghost use Rattle.debcheck.specs.declared.fault.RunFault.TheVariants.{Memory};
 
+use crate::strict::Slip;
 use deb_index::IndexError;
 use deb_report::Summary;
 use std::alloc::{AllocError, AllocFailed, Global};
 use thiserror::Error;
 
-/// Why there is no report, or no whole one. The first cause in this order is told, but for want of memory, which may come at any time before writing.
+/// Why there is no report, or no whole one. The first cause in this order is told, but for those of the names that are asked, which go before all
+/// others, and for want of memory, which may come at any time before writing.
 #[derive(Debug, Drop, Error)]
 pub enum RunFault {
     /// The reader failed.
@@ -30,6 +32,15 @@ pub enum RunFault {
     /// The earlier index has more than `deb_index::TEXT_LIMIT` bytes.
     #[error("the earlier index is too long")]
     EarlierTooLong,
+    /// The file of the names that are asked can't be opened, or its reader failed.
+    #[error("cannot read the names")]
+    NamesRead,
+    /// It has more than `deb_index::TEXT_LIMIT` bytes.
+    #[error("the names are too many")]
+    NamesTooLong,
+    /// A line of it is no package name: the first such line, counted from 1.
+    #[error("names: line {line}: bad name")]
+    BadNameLine { line: u64 },
     /// A stanza of the index has a fault: the first that has one. Never want of memory, which is `Memory`.
     #[error("{0}")]
     Index(IndexError),
@@ -42,6 +53,9 @@ pub enum RunFault {
     /// No package of the index has this name, whatever the background has: the first such name of those that were asked.
     #[error("unknown package")]
     UnknownAsked { name: Vec<u8> },
+    /// Nothing is asked of the index, or nothing that is in it, and the run is strict.
+    #[error("nothing is asked of the index")]
+    Slipped(Slip),
     /// Some growth was refused.
     #[error("out of memory")]
     Memory,
@@ -67,18 +81,20 @@ impl<T: Drop> From<AllocFailed<T>> for RunFault {
 }
 
 /// The exit status of a run: 0 where all asked packages can be installed, 1 where some cannot, or with an earlier index 0 where none is newly
-/// broken, 1 where some are; 65 for a fault of a text, 66 for an unknown name, 67 where reading failed or a text is too long, 68 where writing
-/// failed, 69 for want of memory.
+/// broken, 1 where some are; 65 for a fault of a text or of a strict run, 66 for an unknown name, 67 where reading failed or a text is too long,
+/// 68 where writing failed, 69 for want of memory.
 pub fn status(outcome: &Result<Summary, RunFault>) -> u8
     ensures { result ≡ status_of outcome.now }
 {
     match outcome {
         Ok(summary) => u8::from(summary.newly_broken.unwrap_or(summary.broken) != 0),
         Err(RunFault::Index(_) | RunFault::Background(_) | RunFault::Earlier(_)) => 65,
+        Err(RunFault::Slipped(_) | RunFault::BadNameLine { .. }) => 65,
         Err(RunFault::UnknownAsked { .. }) => 66,
         Err(RunFault::Read | RunFault::TooLong) => 67,
         Err(RunFault::BackgroundRead | RunFault::BackgroundTooLong) => 67,
         Err(RunFault::EarlierRead | RunFault::EarlierTooLong) => 67,
+        Err(RunFault::NamesRead | RunFault::NamesTooLong) => 67,
         Err(RunFault::Write) => 68,
         Err(RunFault::Memory) => 69,
     }
@@ -118,6 +134,27 @@ fn push_index_fault(alloc: Global, out: &mut Vec<u8>, fault: &IndexError) -> Res
     }
 }
 
+// What is said of a line that is no name.
+fn push_line(alloc: Global, out: &mut Vec<u8>, line: u64) -> Result<(), AllocError>
+    ensures { OnOk result (out.new.items ≡ out.old.items ++ codes "names: line " ++ decimal line ++ codes ": bad name") }
+{
+    out.extend_from_slice(b"names: line ")?;
+    out.extend_from_slice(line.to_string(alloc)?.as_str().as_bytes())?;
+    out.extend_from_slice(b": bad name")?;
+    Ok(())
+}
+
+#[tactic(auto, unfolding(crate::specs::Faults::slip_text))]
+fn slip_text(slip: Slip) -> &'static [u8]
+    ensures { result.now ≡ slip_text slip }
+{
+    match slip {
+        Slip::NoStanza => b"the index is empty",
+        Slip::OtherArchitectures => b"no stanza is of this architecture or of all",
+        Slip::NothingAsked => b"nothing is asked",
+    }
+}
+
 #[tactic(auto, unfolding(crate::specs::Faults::fault_text))]
 fn push_fault(alloc: Global, out: &mut Vec<u8>, fault: &RunFault) -> Result<(), AllocError>
     ensures { OnOk result (out.new.items ≡ out.old.items ++ fault_text fault.now) }
@@ -129,6 +166,9 @@ fn push_fault(alloc: Global, out: &mut Vec<u8>, fault: &RunFault) -> Result<(), 
         RunFault::BackgroundTooLong => out.extend_from_slice(b"the background is too long"),
         RunFault::EarlierRead => out.extend_from_slice(b"cannot read the earlier index"),
         RunFault::EarlierTooLong => out.extend_from_slice(b"the earlier index is too long"),
+        RunFault::NamesRead => out.extend_from_slice(b"cannot read the names"),
+        RunFault::NamesTooLong => out.extend_from_slice(b"the names are too many"),
+        RunFault::BadNameLine { line } => push_line(alloc, out, *line),
         RunFault::Index(fault) => push_index_fault(alloc, out, fault),
         RunFault::Background(fault) => {
             out.extend_from_slice(b"background: ")?;
@@ -145,6 +185,7 @@ fn push_fault(alloc: Global, out: &mut Vec<u8>, fault: &RunFault) -> Result<(), 
             out.extend_from_slice(name.as_slice())?;
             Ok(())
         }
+        RunFault::Slipped(slip) => out.extend_from_slice(slip_text(*slip)),
         RunFault::Memory => out.extend_from_slice(b"out of memory"),
         RunFault::Write => out.extend_from_slice(b"cannot write the report"),
     }

@@ -1,9 +1,10 @@
 //! What looks like a slip after a run, told on a terminal.
 
 ghost use Rattle.std.specs.Prelude.{◌≡◌, IfOk, option_map, string_bytes};
-ghost use Rattle.debcheck.specs.Hints.{clue_after, hint_text, is_faulty, name_of, run_hint_text};
+ghost use Rattle.debcheck.specs.Hints.{clue_after, fault_hint_text, hint_text, is_faulty, name_of, run_hint_text};
 
 use crate::fault::RunFault;
+use crate::strict;
 use deb_report::{Config, Summary};
 use input_hints::{Hint, Input, file_hint_line, hint_line, hint_of, run_hint, run_hint_line};
 use std::alloc::{AllocError, Global};
@@ -76,6 +77,20 @@ fn run_hint_text(alloc: Global, summary: &Summary) -> Result<Option<Vec<u8>>, Al
     }
 }
 
+// The line on a run without a report, where nothing was seen of its inputs.
+#[tactic(auto, unfolding(crate::specs::Hints::fault_hint_text))]
+fn fault_hint_text(alloc: Global, fault: &RunFault) -> Result<Option<Vec<u8>>, AllocError>
+    ensures { IfOk result (λ line. option_map (λ text. text.items) line ≡ fault_hint_text fault.now) }
+{
+    match fault {
+        RunFault::Slipped(slip) => {
+            let line = run_hint_line(strict::hint_of(*slip));
+            Ok(Some(Vec::from_slice(alloc, line)?))
+        }
+        _ => Ok(None),
+    }
+}
+
 // The line that tells what looks like a slip, where something does.
 #[tactic(auto, unfolding(crate::specs::Hints::hint_text, crate::specs::Hints::unopened_text))]
 fn hint_text(
@@ -94,7 +109,7 @@ fn hint_text(
             Some(name) => file_hint_line(alloc, input, name.as_bytes()),
             None => Ok(None),
         },
-        (Err(_), None) => Ok(None),
+        (Err(fault), None) => fault_hint_text(alloc, fault),
     }
 }
 

@@ -2,13 +2,15 @@
 //!
 //! What a run is asked for, and the report that it writes, are `deb_report`'s. The modules, in reading order:
 //!
-//! - `line`: what the words of a command line ask for, by the `options` that `clap` reads and the `values` that they take.
+//! - `line`: what the words of a command line ask for, by the `options` that `clap` reads and the `values` that they take; `other_words`: what
+//!   other programs call them.
 //! - `device`: what a run reads from and writes to; `std_device`: such devices over std's; `recording`: a source that keeps its beginning. `input` reads to
 //!   the end, `output` writes whole texts.
 //! - `phases`: a run, from bytes to bytes; `since`: one that tells what became of an earlier index, which `earlier` reads piece by piece; `asked`: the places
-//!   that are asked in it; `verdicts`: what is found of them for the report.
+//!   that are asked in it; `strict`: what a strict run takes for a fault of that; `verdicts`: what is found of them for the report.
 //! - `fault`: why a run fails, and the line and the status of that.
-//! - `program`: a program, from its words to its exit status, on the `words` of a process, the files that an `opener` opens, and with its `progress` and `hints` on a screen.
+//! - `program`: a program, from its words to its exit status, on the `words` of a process, the files that an `opener` opens, one of which
+//!   may have the `names` that are asked, and with its `progress` and `hints` on a screen.
 //! - `laws`: what holds of runs and of reports.
 #![tactic(auto)]
 
@@ -20,8 +22,10 @@ mod hints;
 mod input;
 pub mod laws;
 mod line;
+mod names;
 mod opener;
 mod options;
+mod other_words;
 mod output;
 mod phases;
 mod program;
@@ -29,6 +33,7 @@ mod progress;
 mod recording;
 mod since;
 mod std_device;
+mod strict;
 mod values;
 mod verdicts;
 mod words;
@@ -48,4 +53,5 @@ pub use progress::Progress;
 pub use recording::Recording;
 pub use since::run_since;
 pub use std_device::Std;
+pub use strict::Slip;
 pub use words::words_of;

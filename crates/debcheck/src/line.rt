@@ -1,18 +1,20 @@
 //! The command line.
 
 ghost use Rattle.std.specs.Prelude.{◌≡◌, ◌<◌, ◌≤◌, ℕ, All, IfOk, IfErr, IfSome, OnErr, OnOk, codes, is_some, map, option_map, string_bytes, true, false, unwrap_or};
+ghost use Rattle.std.specs.List.{list_all};
 ghost use Rattle.std.specs.Str.Parse.{digits_value};
 ghost use Rattle.clap.specs.Words.{first_of, kind_of};
 ghost use Rattle.deb_relation.specs.Relationship.{is_name};
 ghost use Rattle.deb_report.specs.Settings.{is_architecture, settings_of};
-ghost use Rattle.debcheck.specs.Line.{Accepts, IsFaultOf, IsRefusal, KeepsOther, RefusesLine, RefusesUnless, TellsFront, TellsLine, asked_by, format_of, has_good_file, has_good_names, has_good_since, has_good_values, is_count, is_set, line_status_of, mark_of, names_in, request_of, rows_in, show_of, value_of};
+ghost use Rattle.debcheck.specs.Line.{Accepts, IsFaultOf, IsRefusal, KeepsOther, RefusesLine, RefusesUnless, TellsFront, TellsLine, asked_by, file_named, format_of, has_good_file, has_good_names, has_good_since, has_good_values, is_count, is_set, line_status_of, listed_in, mark_of, names_in, request_of, rows_in, show_of, value_of};
 ghost use Rattle.debcheck.specs.declared.line.LineFault.TheVariants.{Memory};
 
 use crate::device::{DeviceFault, Sink};
 use crate::fault::memory_line;
 use crate::options::{command, given, is_set, value_of};
+use crate::other_words::advice_in;
 use crate::output::write_all;
-use crate::values::{count_of, format_of, is_architecture, names_of};
+use crate::values::{count_of, file_in, format_of, is_architecture, names_of, wrong_part};
 use clap::ArgMatches;
 use clap::error::ErrorKind;
 use deb_report::{CHUNK_LIMIT, Config, Format, Show};
@@ -22,6 +24,9 @@ use work_draw::WORKER_LIMIT;
 
 /// What `--version` writes: the name of the program and its version.
 pub const VERSION_LINE: &str = "debcheck 1.0.0\n";
+
+// How a refusal names the option for the names that are asked.
+const ONLY: &str = "--checkonly <N1,N2,..>";
 
 /// Why a command line gives no configuration.
 #[derive(Debug, Drop, Error)]
@@ -64,6 +69,17 @@ pub fn line_status(fault: &LineFault) -> u8
     }
 }
 
+// The text of a refused word, with what stands for it here where it is one of other programs.
+fn unknown_text(alloc: Global, error: &clap::Error) -> Result<String, AllocError> {
+    let mut text = error.to_string(alloc)?;
+    if let Some(advice) = advice_in(text.as_str()) {
+        text.push_str("hint: ")?;
+        text.push_str(advice)?;
+        text.push_str("\n")?;
+    }
+    Ok(text)
+}
+
 // What a parse that gives no matches comes to.
 fn fault_from(alloc: Global, error: &clap::Error) -> Result<LineFault, AllocError>
     ensures { IfOk result (IsFaultOf (kind_of error.now)) }
@@ -75,6 +91,9 @@ fn fault_from(alloc: Global, error: &clap::Error) -> Result<LineFault, AllocErro
         },
         ErrorKind::DisplayVersion => LineFault::Help {
             text: String::from_str(alloc, VERSION_LINE)?,
+        },
+        ErrorKind::UnknownArgument => LineFault::Refused {
+            text: unknown_text(alloc, error)?,
         },
         _ => LineFault::Refused {
             text: error.to_string(alloc)?,
@@ -129,23 +148,47 @@ fn chunk(alloc: Global, matches: &ArgMatches<'_>) -> Result<u32, LineFault>
     }
 }
 
+// The names in a list.
+fn listed(alloc: Global, list: &str) -> Result<Vec<Vec<u8>>, LineFault>
+    ensures value { IfOk result (λ names. map (λ name. name.items) names.items ≡ names_in list.now) }
+    ensures good { OnOk result (list_all is_name (names_in list.now) ≡ true) }
+    ensures refused { IfErr result (RefusesUnless (list_all is_name (names_in list.now))) }
+{
+    match names_of(alloc, list)? {
+        Some(names) => Ok(names),
+        None => {
+            let allowed = "package names with commas between them, or @ and the name of a file";
+            Err(refusal(alloc, ONLY, wrong_part(list), allowed)?)
+        }
+    }
+}
+
 fn only(alloc: Global, matches: &ArgMatches<'_>) -> Result<Option<Vec<Vec<u8>>>, LineFault>
     ensures value { IfOk result (λ only. option_map (λ names. map (λ name. name.items) names.items) only
-        ≡ option_map names_in (first_of (codes "checkonly") (rows_in matches.now))) }
+        ≡ listed_in (first_of (codes "checkonly") (rows_in matches.now))) }
     ensures good { OnOk result (has_good_names (rows_in matches.now) ≡ true) }
     ensures refused { IfErr result (RefusesUnless (has_good_names (rows_in matches.now))) }
 {
     let Some(list) = given(matches, "checkonly") else {
         return Ok(None);
     };
-    match names_of(alloc, list)? {
-        Some(names) => Ok(Some(names)),
-        None => Err(refusal(
-            alloc,
-            "--checkonly <N1,N2,..>",
-            list,
-            "package names with commas between them",
-        )?),
+    match file_in(list) {
+        Some("") => Err(refusal(alloc, ONLY, list, "the name of a file behind @")?),
+        Some(_) => Ok(None),
+        None => Ok(Some(listed(alloc, list)?)),
+    }
+}
+
+// The name of the file that has the names that are asked.
+fn only_file(alloc: Global, matches: &ArgMatches<'_>) -> Result<Option<String>, AllocError>
+    ensures { IfOk result (λ file. option_map string_bytes file ≡ file_named (first_of (codes "checkonly") (rows_in matches.now))) }
+{
+    let Some(list) = given(matches, "checkonly") else {
+        return Ok(None);
+    };
+    match file_in(list) {
+        Some(file) => Ok(Some(String::from_str(alloc, file)?)),
+        None => Ok(None),
     }
 }
 
@@ -220,8 +263,10 @@ fn config_of(alloc: Global, matches: &ArgMatches<'_>) -> Result<Config, LineFaul
         show: show(matches),
         essential: !is_set(matches, "ignore-essential"),
         only: only(alloc, matches)?,
+        only_file: only_file(alloc, matches)?,
         bg: file(alloc, matches, "bg", "--bg <FILE>")?,
         since: earlier(alloc, matches)?,
+        strict: is_set(matches, "strict"),
         causes: is_set(matches, "causes"),
         format: report_format(alloc, matches)?,
         quiet: is_set(matches, "quiet"),
@@ -251,13 +296,14 @@ fn read_words(alloc: Global, words: &[String]) -> Result<Config, LineFault>
 /// `--arch A` has to be said: one or more letters, digits and `-`, neither `all` nor `any`. `--workers N` (1 to 64, 4 where it isn't said)
 /// and `--chunk K` (1 to 1,000,000, 64) take decimal digits alone. `--explain` tells sets and reasons, `--failures` and `--successes` say which
 /// packages are shown (all for both or neither), `--ignore-essential` asks for no essential packages, and `--checkonly N1,N2,..` takes
-/// package names with commas between them. `--bg FILE` names the file of a background, and `--since FILE` that of an earlier index, neither of
-/// which is empty; beside `--since` there is no `--successes`. `--causes` asks for causes, `--format` takes `text` (where it isn't said) or
-/// `json`, and `--quiet` asks for no progress and no hints. A value comes as the next word or after `=`; one that begins with `-` comes after `=`.
+/// package names with commas between them, or the name of a file behind `@`, which has the names. `--bg FILE` names the file of a background, and `--since FILE` that of an earlier index, neither of
+/// which is empty; beside `--since` there is no `--successes`. `--strict` makes a fault of an index of which nothing is asked, as `--since` does.
+/// `--causes` asks for causes, `--format` takes `text` (where it isn't said) or `json`, and `--quiet` asks for no progress and no hints. A value comes as the next word or after `=`; one that begins with `-` comes after `=`.
 /// No option comes twice.
 ///
 /// `Help` is the answer to `--help` or `-h`, and to `--version` or `-V` with `VERSION_LINE`, whichever comes first; `Refused` is the answer to
-/// words or values of another form, with a text that says what is wrong. The words are consumed.
+/// words or values of another form, with a text that says what is wrong, of a list which part of it is, and of a word that a program like this one
+/// takes what to write here. The words are consumed.
 pub fn read_line(alloc: Global, words: Vec<String>) -> Result<Config, LineFault>
     ensures accepted { IfOk result (Accepts (map string_bytes words.items)) }
     ensures refused { IfErr result (RefusesLine (map string_bytes words.items)) }

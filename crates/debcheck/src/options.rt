@@ -96,6 +96,7 @@ pub(crate) fn command<'a>(alloc: Global) -> Result<Command<'a>, AllocError>
     let successes = "Shows the packages that can be installed";
     let causes = "Tells what is wrong in the end, each cause with the packages that it breaks";
     let essential = "Asks for no essential packages in a set";
+    let strict = "Ends with a fault where nothing is asked, and so does --since by itself";
     let quiet = "Shows no progress and no hints on a terminal";
     with_values(alloc)?
         .arg(flag(alloc, "explain", explain))?
@@ -103,6 +104,7 @@ pub(crate) fn command<'a>(alloc: Global) -> Result<Command<'a>, AllocError>
         .arg(flag(alloc, "successes", successes))?
         .arg(flag(alloc, "causes", causes))?
         .arg(flag(alloc, "ignore-essential", essential))?
+        .arg(flag(alloc, "strict", strict))?
         .arg(flag(alloc, "quiet", quiet))?
         .arg(help_flag(alloc))?
         .arg(version_flag(alloc))

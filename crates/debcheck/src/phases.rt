@@ -174,9 +174,9 @@ fn read_and_report<S: Source, B: Source, G: Gate + Sync, R: Threads + Sync>(
 ///
 /// The first of these faults is answered: `Read` (some read failed), `TooLong` (over `deb_index::TEXT_LIMIT` bytes), `BackgroundRead` and
 /// `BackgroundTooLong` (the same of the background, which is read only then), `Index` (the first stanza with a fault, Debian Policy 5.1 and 7.1),
-/// `Background` (the first one of the background), `UnknownAsked`, `Write` (some write or flush failed). Want of memory is `Memory`; it may come at
-/// any time before writing, and never after a failed read. All but `Write` leave the writer as it was; under `Write` a front of the report was
-/// written.
+/// `Background` (the first one of the background), `UnknownAsked`, `Slipped` (nothing is asked, or nothing of the index can be, where that is a
+/// fault), `Write` (some write or flush failed). Want of memory is `Memory`; it may come at any time before writing, and never after a failed read.
+/// All but `Write` leave the writer as it was; under `Write` a front of the report was written.
 pub fn run<S: Source, B: Source, K: Sink, G: Gate + Sync, R: Threads + Sync>(
     rt: &R,
     alloc: Global,

@@ -1,15 +1,16 @@
 //! A program, from its words to its exit status.
 
-ghost use Rattle.std.specs.Prelude.{◌≡◌, ◌<◌, ◌≤◌, IfOk, map, option_map, string_bytes, false};
+ghost use Rattle.std.specs.Prelude.{◌≡◌, ◌<◌, ◌≤◌, IfErr, IfOk, OnOk, map, option_map, string_bytes, false};
 ghost use Rattle.std.specs.Result.{result_map_both};
 ghost use Rattle.deb_report.specs.Settings.{settings_of};
 ghost use Rattle.debcheck.specs.Run.{input};
-ghost use Rattle.debcheck.specs.Program.{Asks, Ends, Refuses, Runs, RunsBehind, RunsTo, TellsOutcome, written};
+ghost use Rattle.debcheck.specs.Program.{Asks, Ends, FailsToTake, Refuses, Runs, RunsBehind, RunsNamed, RunsTo, TakesNames, TellsOutcome, written};
 
 use crate::device::{Sink, Source};
 use crate::fault::{RunFault, status};
 use crate::hints::{Clue, note, tell_hint};
 use crate::line::{LineFault, line_status, read_line, write_line_fault};
+use crate::names::read_names;
 use crate::opener::{Disk, OpenFault, Opener};
 use crate::output::write_fault;
 use crate::phases::run;
@@ -155,6 +156,54 @@ fn open_and_run<O: Opener, S: Source, K: Sink, G: Gate + Sync, R: Threads + Sync
     }
 }
 
+// Takes the names that are asked out of the file that has them, where the words name one.
+fn take_names<O: Opener>(alloc: Global, files: &O, config: &mut Config) -> Result<(), RunFault>
+    ensures taken { OnOk result (TakesNames (O.named files.now) (option_map string_bytes config.old.only_file)
+        (settings_of config.old) (settings_of config.new)) }
+    ensures refused { IfErr result (FailsToTake (O.named files.now) (option_map string_bytes config.old.only_file)) }
+    ensures workers { config.new.workers ≡ config.old.workers }
+    ensures chunk { config.new.chunk ≡ config.old.chunk }
+    ensures background { config.new.bg ≡ config.old.bg }
+    ensures since { config.new.since ≡ config.old.since }
+{
+    let Some(list) = &config.only_file else {
+        return Ok(());
+    };
+    match files.open(list.as_str()) {
+        Ok(mut file) => {
+            config.only = Some(read_names(alloc, &mut file)?);
+            Ok(())
+        }
+        Err(OpenFault::Memory) => Err(RunFault::Memory),
+        Err(OpenFault::Unopened) => Err(RunFault::NamesRead),
+    }
+}
+
+// The run under a configuration. The file of names is opened and read before all else.
+fn name_and_run<O: Opener, S: Source, K: Sink, G: Gate + Sync, R: Threads + Sync + AllocGlobal>(
+    rt: &R,
+    config: &mut Config,
+    files: &O,
+    reader: &mut S,
+    output: &mut K,
+    gate: &G,
+    clue: &mut Option<Clue>,
+) -> Result<Summary, RunFault>
+    requires workers { (0 < config.old.workers) × (config.old.workers ≤ 64) }
+    requires chunk { 0 < config.old.chunk }
+    requires reader { S.failed reader.old ≡ false }
+    requires output { K.failed output.old ≡ false }
+    ensures { RunsNamed (option_map string_bytes config.old.only_file) (settings_of config.old) (O.named files.now)
+        (option_map string_bytes config.old.bg) (option_map string_bytes config.old.since)
+        (input (S.remaining reader.old) (S.failed reader.new)) (S.remaining reader.new)
+        (written (K.contents output.old) (K.contents output.new) (K.failed output.new) (K.flushed output.new)) result }
+{
+    match take_names(rt.alloc(), files, config) {
+        Ok(()) => open_and_run(rt, config, files, reader, output, gate, clue),
+        Err(fault) => Err(fault),
+    }
+}
+
 // Tells the fault of a run that has one. A line that cannot be written changes no status.
 fn tell_outcome<E: Sink>(alloc: Global, errors: &mut E, outcome: &Result<Summary, RunFault>)
     ensures { TellsOutcome (written (E.contents errors.old) (E.contents errors.new) (E.failed errors.new) (E.flushed errors.new)) outcome.now }
@@ -177,29 +226,38 @@ fn run_asked<
     R: Clock + Threads + Sync + AllocGlobal,
 >(
     rt: &R,
-    config: &Config,
+    config: Config,
     files: &O,
     reader: &mut S,
     output: K,
     errors: &mut E,
     screen: T,
 ) -> Ended<K>
-    requires workers { (0 < config.now.workers) × (config.now.workers ≤ 64) }
-    requires chunk { 0 < config.now.chunk }
+    requires workers { (0 < config.workers) × (config.workers ≤ 64) }
+    requires chunk { 0 < config.chunk }
     requires reader { S.failed reader.old ≡ false }
     requires output { K.failed output ≡ false }
-    ensures { RunsTo config.now (O.named files.now) (input (S.remaining reader.old) (S.failed reader.new)) (S.remaining reader.new)
+    ensures { RunsTo config (O.named files.now) (input (S.remaining reader.old) (S.failed reader.new)) (S.remaining reader.new)
         (written (K.contents output) (K.contents result.output) (K.failed result.output) (K.flushed result.output))
         (written (E.contents errors.old) (E.contents errors.new) (E.failed errors.new) (E.flushed errors.new)) result.status }
 {
-    let progress = Progress::new(rt, screen, config);
+    let mut config = config;
+    let progress = Progress::new(rt, screen, &config);
     let mut output = Wiping::new(&progress, output);
     let mut clue = None;
-    let outcome = open_and_run(rt, config, files, reader, &mut output, &progress, &mut clue);
+    let outcome = name_and_run(
+        rt,
+        &mut config,
+        files,
+        reader,
+        &mut output,
+        &progress,
+        &mut clue,
+    );
     progress.wipe();
     tell_outcome(rt.alloc(), errors, &outcome);
     note(&mut clue, &outcome, Input::Index, reader.front());
-    tell_hint(rt.alloc(), screen, config, &outcome, clue);
+    tell_hint(rt.alloc(), screen, &config, &outcome, clue);
     Ended {
         status: status(&outcome),
         output: output.into_inner(),
@@ -220,8 +278,8 @@ fn config_of(alloc: Global, words: Result<Vec<String>, LineFault>) -> Result<Con
 
 /// The program that checks the index in the reader under the words of a command line.
 ///
-/// The background that they name is opened before anything is read, and then the earlier index; where one can't be opened, that is told as a failed
-/// read of it. After a report the output has got it, flushed, and the errors have got nothing. Under a fault its line, or that of want of memory,
+/// The file of names that they name is opened and read before anything else. The background is opened before the index is read, and then the earlier
+/// index; where one can't be opened, that is told as a failed read of it. After a report the output has got it, flushed, and the errors have got nothing. Under a fault its line, or that of want of memory,
 /// goes to the errors, and the output has got nothing, but for a front of the report where it failed. Help and the version go to the output, and
 /// where it fails, that is told as of a report; a refusal goes to the errors. The status is that of `status` or of `line_status`: a line that the
 /// errors don't take changes none.
@@ -253,7 +311,7 @@ pub fn run_program<
         (written (E.contents errors.old) (E.contents errors.new) (E.failed errors.new) (E.flushed errors.new)) result.status }
 {
     match config_of(rt.alloc(), words) {
-        Ok(config) => run_asked(rt, &config, files, reader, output, errors, screen),
+        Ok(config) => run_asked(rt, config, files, reader, output, errors, screen),
         Err(fault) => {
             let mut output = output;
             let status = refuse(rt.alloc(), &mut output, errors, &fault);

@@ -1,12 +1,13 @@
 //! A run that tells what became of an earlier index.
 
-ghost use Rattle.std.specs.Prelude.{◌≡◌, ◌≢◌, ◌<◌, ◌≤◌, ◌^◌, All, IfErr, IfOk, Ok, OnOk, false, length, map, true};
+ghost use Rattle.std.specs.Prelude.{◌≡◌, ◌≢◌, ◌<◌, ◌≤◌, ◌^◌, All, IfErr, IfOk, None, Ok, OnOk, false, length, map, true};
 ghost use Rattle.std.specs.Io.KnownBytes.{IsAtEnd};
 ghost use Rattle.deb_index.specs.Reading.{byte_limit};
 ghost use Rattle.deb_report.specs.Asked.{asked_places};
 ghost use Rattle.deb_report.specs.Settings.{settings_of};
 ghost use Rattle.deb_report.specs.Since.{broken_view};
 ghost use Rattle.debcheck.specs.Run.{FailsToIndex, IfIndexed, Input, IsReadAs, ReadsAs, behind, input, is_unread};
+ghost use Rattle.debcheck.specs.Strict.{slip_of};
 ghost use Rattle.debcheck.specs.Since.{FailsEarlier, FailsSince, IsReportAfter, LeavesSince, TellsReportSince, WereBroken, WritesReportSince, earlier_fault, is_unread_behind, wanted_since};
 
 use crate::asked::asked_places;
@@ -107,6 +108,7 @@ fn report_after<G: Gate + Sync, R: Threads + Sync>(
     requires workers { (0 < config.now.workers) × (config.now.workers ≤ 64) }
     requires chunk { 0 < config.now.chunk }
     requires asked { asked_places index.now (settings_of config.now).only ≡ Ok asked.now }
+    requires no_slip { slip_of (settings_of config.now) index.now asked.now ≡ None }
     requires few { length asked.now < 2 ^ 32 }
     requires within { All (λ place. place < length index.now.packages) asked.now }
     ensures { IfOk result (λ r. IsReportAfter (map broken_view before.now) (settings_of config.now) index.now r.0.items r.1) }
@@ -171,7 +173,7 @@ fn read_since<S: Source, B: Source, E: Source, G: Gate + Sync, R: Threads + Sync
 /// settings, for any number of workers (1 to 64) and any chunk from 1; the summary has its numbers. Without `bg` nothing is read from `background`.
 /// No device has failed before.
 ///
-/// The first of these faults is answered: those of `run` up to `UnknownAsked`; then `EarlierRead`, `EarlierTooLong` and `Earlier` (as `Read`,
+/// The first of these faults is answered: those of `run` up to `Slipped`; then `EarlierRead`, `EarlierTooLong` and `Earlier` (as `Read`,
 /// `TooLong` and `Index`, of the earlier index), and `Background` where the background and the earlier index have too many stanzas together;
 /// then `Write`. No reader is read where a read before it failed, or a text before it is too long. Want of memory is `Memory`; it may come at any
 /// time before writing, and never after a failed read of the index or the background. All but `Write` leave the writer as it was; under `Write` a

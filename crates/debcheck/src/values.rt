@@ -1,11 +1,11 @@
 //! The values of the command line's options.
 
-ghost use Rattle.std.specs.Prelude.{◌≡◌, ◌==◌, IfOk, MatchOption, map, true, false};
+ghost use Rattle.std.specs.Prelude.{◌≡◌, ◌==◌, IfOk, MatchOption, map, option_map, true, false};
 ghost use Rattle.std.specs.Char.{is_ascii_digit};
 ghost use Rattle.std.specs.List.{list_all};
 ghost use Rattle.std.specs.Str.Parse.{digits_value};
 ghost use Rattle.deb_report.specs.Settings.{is_architecture, is_architecture_byte};
-ghost use Rattle.debcheck.specs.Line.{format_of, is_count, names_in};
+ghost use Rattle.debcheck.specs.Line.{file_in, format_of, is_count, names_in};
 ghost use Rattle.deb_relation.specs.Relationship.{is_name};
 
 use deb_relation::is_name;
@@ -59,6 +59,13 @@ pub(crate) fn format_of(text: &str) -> Option<Format>
     }
 }
 
+// The name of a file that stands behind an `@`.
+pub(crate) fn file_in(text: &str) -> Option<&str>
+    ensures { option_map (λ file. file.now) result ≡ file_in text.now }
+{
+    text.strip_prefix('@')
+}
+
 // The parts of a text between its commas.
 fn parts_of<'t>(alloc: Global, text: &'t str) -> Result<Vec<&'t str>, AllocError>
     ensures { IfOk result (λ parts. map (λ part. part.now) parts.items ≡ names_in text.now) }
@@ -80,4 +87,15 @@ pub(crate) fn names_of(alloc: Global, text: &str) -> Result<Option<Vec<Vec<u8>>>
         names.push(Vec::from_slice(alloc, part.as_bytes())?)?;
     }
     Ok(Some(names))
+}
+
+/// The first part of a list that is no package name; the whole list where each is one.
+pub(crate) fn wrong_part(text: &str) -> &str {
+    for part in text.split(',') {
+        let name = part.as_bytes();
+        if !is_name(name) {
+            return part;
+        }
+    }
+    text
 }

@@ -1,7 +1,7 @@
 //! The line of each fault, and its status.
 
 use deb_index::{IndexError, RelField};
-use debcheck::{RunFault, Summary, fault_line, status, write_fault};
+use debcheck::{RunFault, Slip, Summary, fault_line, status, write_fault};
 use std::process::Abort;
 use std::test::Fail;
 use test_devices::{Held, sink_of};
@@ -104,6 +104,17 @@ fn faults_of_each_text_have_their_lines(rt: HostRuntime) -> Result<(), Fail> {
 }
 
 #[test]
+fn faults_of_a_strict_run_have_their_lines(rt: HostRuntime) -> Result<(), Fail> {
+    let empty = RunFault::Slipped(Slip::NoStanza);
+    says(&rt, empty, 65, "", "the index is empty")?;
+    let elsewhere = RunFault::Slipped(Slip::OtherArchitectures);
+    let what = "no stanza is of this architecture or of all";
+    says(&rt, elsewhere, 65, "", what)?;
+    let nothing = RunFault::Slipped(Slip::NothingAsked);
+    says(&rt, nothing, 65, "", "nothing is asked")
+}
+
+#[test]
 fn faults_of_a_run_have_their_lines(rt: HostRuntime) -> Result<(), Fail> {
     let name = Vec::from_slice(rt.alloc(), b"zz")?;
     let unknown = RunFault::UnknownAsked { name };
@@ -118,6 +129,16 @@ fn faults_of_a_run_have_their_lines(rt: HostRuntime) -> Result<(), Fail> {
     says(&rt, RunFault::EarlierRead, 67, "", unread)?;
     let long = "the earlier index is too long";
     says(&rt, RunFault::EarlierTooLong, 67, "", long)?;
+    says(&rt, RunFault::NamesRead, 67, "", "cannot read the names")?;
+    says(
+        &rt,
+        RunFault::NamesTooLong,
+        67,
+        "",
+        "the names are too many",
+    )?;
+    let bad = RunFault::BadNameLine { line: 30 };
+    says(&rt, bad, 65, "", "names: line 30: bad name")?;
     says(&rt, RunFault::Write, 68, "", "cannot write the report")?;
     says(&rt, RunFault::Memory, 69, "", "out of memory")
 }

@@ -117,6 +117,27 @@ const REPORTS: [Case; 5] = [
     },
 ];
 
+const STRICT: [Case; 3] = [
+    Case {
+        words: "|--arch|amd64|--strict",
+        index: b"",
+        file: None,
+        hint: b"hint: the index is empty: see whether what writes it failed\n",
+    },
+    Case {
+        words: "|--arch|i386|--since|others",
+        index: MOST,
+        file: Some(BACKGROUND),
+        hint: b"hint: no stanza is of this architecture or of all: give another by --arch\n",
+    },
+    Case {
+        words: "|--arch|amd64|--strict|--bg|others",
+        index: b"",
+        file: Some(BACKGROUND),
+        hint: b"hint: nothing was asked: the index has no package of this architecture or of all\n",
+    },
+];
+
 const PLAIN_FAULTS: [Case; 3] = [
     Case {
         words: "|--arch|amd64",
@@ -213,6 +234,14 @@ fn of_faults(rt: HostRuntime) -> Result<(), Fail> {
 #[test]
 fn of_reports(rt: HostRuntime) -> Result<(), Fail> {
     for case in &REPORTS {
+        expect_case(&rt, case)?;
+    }
+    Ok(())
+}
+
+#[test]
+fn of_faults_of_a_strict_run(rt: HostRuntime) -> Result<(), Fail> {
+    for case in &STRICT {
         expect_case(&rt, case)?;
     }
     Ok(())

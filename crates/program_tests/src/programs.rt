@@ -106,6 +106,90 @@ const UNKNOWN_NAME: Case = Case {
     errors: b"debcheck: unknown package zz\n",
 };
 
+/// One stanza of another architecture.
+const FOREIGN: &[u8] = b"Package: a
+Version: 1
+Architecture: arm64
+";
+
+const STRICT_FAULTS: [Case; 4] = [
+    Case {
+        words: "|--arch|amd64|--strict",
+        index: b"",
+        status: 65,
+        output: b"",
+        errors: b"debcheck: the index is empty\n",
+    },
+    Case {
+        words: "|--arch|amd64|--strict|--format|json",
+        index: FOREIGN,
+        status: 65,
+        output: b"",
+        errors: b"debcheck: no stanza is of this architecture or of all\n",
+    },
+    Case {
+        words: "|--arch|amd64|--bg|others|--strict",
+        index: FOREIGN,
+        status: 65,
+        output: b"",
+        errors: b"debcheck: nothing is asked\n",
+    },
+    Case {
+        words: "|--arch|amd64|--strict|--checkonly|a",
+        index: FOREIGN,
+        status: 66,
+        output: b"",
+        errors: b"debcheck: unknown package a\n",
+    },
+];
+
+/// Most stanzas are of other architectures, and one is not.
+const MOST_ELSEWHERE: Case = Case {
+    words: "|--arch|amd64|--strict",
+    index: b"Package: a
+Version: 1
+Architecture: arm64
+
+Package: b
+Version: 1
+Architecture: arm64
+
+Package: c
+Version: 1
+Architecture: amd64
+",
+    status: 0,
+    output: b"architecture: amd64
+report:
+ -
+  package: c
+  version: 1
+  architecture: amd64
+  status: ok
+stanzas: 3
+skipped: 2
+duplicates: 0
+asked: 1
+broken: 0
+",
+    errors: b"",
+};
+
+const NOT_STRICT: Case = Case {
+    words: "|--arch|amd64",
+    index: FOREIGN,
+    status: 0,
+    output: b"architecture: amd64
+report:
+stanzas: 1
+skipped: 1
+duplicates: 0
+asked: 0
+broken: 0
+",
+    errors: b"",
+};
+
 const REFUSED_VALUE: Case = Case {
     words: "|--arch|all",
     index: INDEX,
@@ -190,6 +274,17 @@ fn a_fault_goes_to_the_errors(rt: HostRuntime) -> Result<(), Fail> {
     expect_case(&rt, &FAULT)?;
     expect_case(&rt, &UNKNOWN_NAME)?;
     expect_case(&rt, &REFUSED_VALUE)
+}
+
+#[test]
+fn an_index_of_which_nothing_is_asked_is_a_fault_of_a_strict_run(
+    rt: HostRuntime,
+) -> Result<(), Fail> {
+    for case in &STRICT_FAULTS {
+        expect_case(&rt, case)?;
+    }
+    expect_case(&rt, &MOST_ELSEWHERE)?;
+    expect_case(&rt, &NOT_STRICT)
 }
 
 #[test]

@@ -392,6 +392,29 @@ fn faults_in_their_order(rt: HostRuntime) -> Result<(), Fail> {
     expect_fault(&rt, line, INDEX, 65, background)
 }
 
+/// One stanza, of another architecture.
+const FOREIGN: &[u8] = b"Package: c
+Version: 1
+Architecture: arm64
+";
+
+/// They go before those of the earlier index, and behind an unknown name. An earlier index without a package is none of them.
+#[test]
+fn an_index_without_a_package_is_a_fault(rt: HostRuntime) -> Result<(), Fail> {
+    let empty = "debcheck: the index is empty\n";
+    expect_fault(&rt, "|--arch|amd64|--since|old", b"", 65, empty)?;
+    expect_fault(&rt, "|--arch|amd64|--since|cut", b"\n", 65, empty)?;
+    let line = "|--arch|amd64|--strict|--quiet|--since|old";
+    expect_fault(&rt, line, b"", 65, empty)?;
+    let elsewhere = "debcheck: no stanza is of this architecture or of all\n";
+    expect_fault(&rt, "|--arch|amd64|--since|old", FOREIGN, 65, elsewhere)?;
+    let line = "|--arch|amd64|--since|old|--bg|others";
+    expect_fault(&rt, line, FOREIGN, 65, "debcheck: nothing is asked\n")?;
+    let unknown = "debcheck: unknown package c\n";
+    let line = "|--arch|amd64|--since|old|--checkonly|c";
+    expect_fault(&rt, line, FOREIGN, 66, unknown)
+}
+
 /// So many files were asked for, and nothing was read.
 fn expect_unopened(
     rt: &(impl Abort + Clock + Threads + Sync + AllocGlobal),

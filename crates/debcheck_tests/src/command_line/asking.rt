@@ -101,11 +101,21 @@ pub fn is_plain(config: &Config) -> bool {
         && config.show == Show::All
         && config.essential
         && config.only.is_none()
+        && config.only_file.is_none()
         && config.bg.is_none()
         && config.since.is_none()
+        && !config.strict
         && !config.causes
         && config.format == Format::Text
         && !config.quiet
+}
+
+/// The file of the names that are asked; nothing where there is none.
+pub fn names_file_of(config: &Config) -> &str {
+    match &config.only_file {
+        Some(file) => file.as_str(),
+        None => "",
+    }
 }
 
 /// The file of the background; nothing where there is none.

@@ -20,7 +20,7 @@ fn no_words_ask_for_explanations(rt: HostRuntime) -> Result<(), Fail> {
 }
 
 const ALL_OPTIONS: &str =
-    "|--checkonly|b,a+1.x_y,b|--ignore-essential|--explain|--failures|--chunk|1000000|--workers=64|--arch|i386|--quiet|--format|json|--bg|main/Packages|--causes";
+    "|--checkonly|b,a+1.x_y,b|--ignore-essential|--explain|--failures|--chunk|1000000|--workers=64|--arch|i386|--quiet|--format|json|--bg|main/Packages|--causes|--strict";
 
 #[test]
 fn a_line_of_all_options(rt: HostRuntime) -> Result<(), Fail> {
@@ -34,6 +34,7 @@ fn expect_all_options(rt: &impl Abort, config: &Config) {
     assert!(rt; config.arch.as_str() == "i386");
     assert!(rt; config.quiet);
     assert!(rt; config.causes);
+    assert!(rt; config.strict);
     assert!(rt; config.format == Format::Json);
     assert!(rt; background_of(config) == "main/Packages");
     assert_eq!(rt; config.workers, 64);
@@ -85,6 +86,7 @@ fn has_choices(config: &Config, option: &str) -> bool {
     config.explain == (option == "--explain")
         && config.essential == (option != "--ignore-essential")
         && config.causes == (option == "--causes")
+        && config.strict == (option == "--strict")
         && config.quiet == (option == "--quiet")
         && config.show == shown_by(option)
         && (config.format == Format::Json) == (option == "--format")
@@ -108,6 +110,7 @@ const ONE_OPTION: &str = "|--arch|amd64|--explain => --explain
 |--successes|--arch|amd64|--failures => none
 |--arch|amd64|--checkonly|zz => --checkonly
 |--arch|amd64|--causes => --causes
+|--arch|amd64|--strict => --strict
 |--arch|amd64|--quiet => --quiet
 |--arch|amd64|--bg|f => --bg
 |--arch|amd64|--since|f => --since
@@ -184,6 +187,8 @@ const NO_VALUES: &str = "|--arch|amd64|--explain|--explain => |--explain
 |--arch|amd64|--causes=yes => |--causes
 |--arch|amd64|--ignore-essential|--ignore-essential => |--ignore-essential
 |--arch|amd64|--ignore-essential=yes => |--ignore-essential
+|--arch|amd64|--strict|--strict => |--strict
+|--arch|amd64|--strict=yes => |--strict
 |--arch|amd64|--quiet|--quiet => |--quiet
 |--arch|amd64|--quiet=yes => |--quiet";
 

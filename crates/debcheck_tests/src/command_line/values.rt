@@ -1,6 +1,8 @@
 //! The values of options: numbers, architectures and names.
 
-use crate::command_line::asking::{config_of, refuses, refuses_each, refuses_values, sides_of};
+use crate::command_line::asking::{
+    config_of, names_file_of, refuses, refuses_each, refuses_values, sides_of,
+};
 use debcheck::Config;
 use std::alloc::Global;
 use std::process::Abort;
@@ -93,10 +95,40 @@ const NO_ARCHITECTURES: &str = "|--arch=all => |--arch|neither all nor any
 |--arch|-x => |-x
 |--arch|--explain => |--arch";
 
-/// Lists with a wrong name, and the list among what is said of them.
-const NO_NAMES: &str = "|--arch|amd64|--checkonly| => |--checkonly||package names
-|--arch|amd64|--checkonly|a! => |--checkonly|a!|package names
-|--arch|amd64|--checkonly|a,,b => |--checkonly|a,,b|package names";
+/// Lists with a wrong name, and it among what is said of them.
+const NO_NAMES: &str = "|--arch|amd64|--checkonly| => |--checkonly|value \"\" for|package names
+|--arch|amd64|--checkonly|a! => |--checkonly|value \"a!\" for|package names
+|--arch|amd64|--checkonly|a,,b => |--checkonly|value \"\" for|package names
+|--arch|amd64|--checkonly|a,B c,-d => |--checkonly|value \"B c\" for|package names
+|--arch|amd64|--checkonly|a,b, => |--checkonly|value \"\" for|package names
+|--arch|amd64|--checkonly|a,@b => |--checkonly|value \"@b\" for|package names
+|--arch|amd64|--checkonly|@ => |--checkonly|value \"@\" for|the name of a file
+|--arch|amd64|--checkonly=@ => |--checkonly|value \"@\" for|the name of a file";
+
+fn names_file(rt: &(impl Abort + AllocGlobal), line: &str, name: &str) -> Result<(), Fail> {
+    let config = config_of(rt.alloc(), line)?;
+    expect_file(rt, &config, name);
+    Ok(())
+}
+
+fn expect_file(rt: &impl Abort, config: &Config, name: &str) {
+    assert!(rt; config.only.is_none());
+    assert!(rt; names_file_of(config) == name);
+}
+
+/// Lines, and the name of the file that has the names.
+const FILES: &str = "|--arch|amd64|--checkonly|@f => f
+|--arch|amd64|--checkonly=@a,b c => a,b c
+|--checkonly|@@x|--arch|amd64|--bg|y => @x";
+
+#[test]
+fn names_may_stand_in_a_file(rt: HostRuntime) -> Result<(), Fail> {
+    for row in FILES.lines() {
+        let (line, name) = sides_of(row)?;
+        names_file(&rt, line, name)?;
+    }
+    Ok(())
+}
 
 #[test]
 fn listed_names_are_names_of_packages(rt: HostRuntime) -> Result<(), Fail> {

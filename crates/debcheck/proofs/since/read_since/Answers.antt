@@ -49,7 +49,7 @@ returns-in_err-broken-clause-refused g c =
     let index = c.in_ok-index.index in
     let reads = accepted-as settings text background c.in_ok-text.text.items c.in_ok-text.behind.items index c.in_ok-text.ensures.text c.in_ok-text.ensures.behind c.in_ok-index.ensures.index in
     let fails = c.in_err-broken.ensures.refused background (rw c.as_slice.ensures.value c.in_ok-text.ensures.behind) in
-    rw (p.1, p.2) (inr (as-indexed settings text background index (HasAsked settings) reads (c.in_ok-asked.asked.items, c.in_ok-asked.ensures.asked), fails))
+    rw (p.1, p.2) (inr (as-indexed settings text background index (HasAsked settings) reads (c.in_ok-asked.asked.items, record { are_asked = c.in_ok-asked.ensures.asked; no_slip = c.in_ok-asked.ensures.no_slip }), fails))
 
 pub returns-clause-report : goal.returns-clause-report
 returns-clause-report g c =

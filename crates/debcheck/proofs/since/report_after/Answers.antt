@@ -24,6 +24,6 @@ returns g c =
     let counted = ap (λ (verdicts : List Verdict). summary_since index asked (map verdict_view verdicts) before) c.as_slice.ensures.value in
     let stand = rw c.wanted_since-wanted.ensures at c.in_ok-verdicts.ensures.stand in
     both-ok c.report_since.result _ _ _
-    (λ r text numbers. reported-after (as_told (wanted_since settings)) settings (leaves_news settings) index asked told stand.verdicts before r.0.items r.1 c.requires.asked stand.are_verdicts stand.same
+    (λ r text numbers. reported-after (as_told (wanted_since settings)) settings (leaves_news settings) index asked told stand.verdicts before r.0.items r.1 record { are_asked = c.requires.asked; no_slip = c.requires.no_slip } stand.are_verdicts stand.same
     (text ∙ written) (numbers ∙ counted))
     c.report_since.ensures.text c.report_since.ensures.summary

@@ -1,0 +1,62 @@
+-- The lines of a file of names.
+use Rattle.std.proofs.Common.{◌≡◌, ◌∙◌, ◌+◌, ◌<◌, ℕ, Bool, Bor, List, ap, arith, false, get_or, length, map, sym, take, true}
+use Rattle.std.specs.List.{list_all, prefix_len}
+use Rattle.std.proofs.Math.ListN.{get_or-map}
+use Rattle.std.proofs.lemmas.List.{get_or-take, length-map, length-take-le, take-map}
+use Rattle.std.proofs.lemmas.List.Folds.{list_all_at}
+use Rattle.std.proofs.lemmas.List.Sums.{AllPass-from_list_all, prefix_len_is}
+use Rattle.deb_relation.specs.Relationship.{is_name}
+use Rattle.debcheck.specs.declared.fault.RunFault.{RunFault}
+use Rattle.debcheck.specs.declared.fault.RunFault.TheVariants.{Read, TooLong, BackgroundRead, BackgroundTooLong, EarlierRead, EarlierTooLong, NamesRead, NamesTooLong, BadNameLine, Index, Background, Earlier, UnknownAsked, Slipped, Memory, Write}
+use Rattle.debcheck.specs.Names.{FailsToName, ReadsNames, RefusesNames, are_names, bad_line, lines_in}
+use Rattle.debcheck.specs.Run.{Input, IsReadAs}
+use Rattle.debcheck.proofs.PhaseLemmas.{read-as, told_text}
+
+-- elements that pass, and then one that doesn't
+pub first-failing : {A : Type 0} (p : A → Bool) (xs : List A) (k : ℕ) (d : A) → k < length xs → list_all p (take k xs) ≡ true → p (get_or xs k d) ≡ false → (list_all p xs ≡ false) × (prefix_len p xs ≡ k)
+first-failing p xs k d within before bad =
+    let passes = AllPass-from_list_all p (take k xs) before in
+    let few : length (take k xs) ≡ k = length-take-le k xs (omega (arith, within)) in (
+      list_all_at p xs k d within bad,
+      prefix_len_is p xs k d (omega (arith, within)) (λ j below. ap p (sym (get_or-take k xs j d below)) ∙ passes j d (omega (arith, few, below))) (λ here. bad),
+    )
+
+first-unnamed : {A B : Type 0} (p : B → Bool) (f : A → B) (xs : List A) (k : ℕ) (d : A) → k < length xs → list_all p (map f (take k xs)) ≡ true → p (f (get_or xs k d)) ≡ false
+    → (list_all p (map f xs) ≡ false) × (prefix_len p (map f xs) ≡ k)
+first-unnamed p f xs k d within before bad =
+    first-failing p (map f xs) k (f d) (omega (arith, within, length-map xs f)) (ap (list_all p) (take-map f k xs) ∙ before) (ap p (get_or-map f xs k d) ∙ bad)
+
+-- the number of the line behind those that are names
+pub bad-line : {V : Type 0} (text : List ℕ) (items : List (Bor (List ℕ))) (names : List V) (k n : ℕ) (d : Bor (List ℕ)) (f : V → List ℕ) → map (λ line. line.now) items ≡ lines_in text → k < length items
+    → map f names ≡ map (λ line. line.now) (take k items) → list_all is_name (map (λ line. line.now) (take k items)) ≡ true → is_name (get_or items k d).now ≡ false → n ≡ length names
+    → (are_names text ≡ false) × (n + 1 ≡ bad_line text)
+bad-line text items names k n d f parts within same before bad counted =
+    let first = first-unnamed is_name (λ (line : Bor (List ℕ)). line.now) items k d within before bad in
+    let few : length (take k items) ≡ k = length-take-le k items (omega (arith, within)) in
+    let many : length names ≡ k = sym (length-map names f) ∙ ap length same ∙ length-map (take k items) (λ (line : Bor (List ℕ)). line.now) ∙ few in
+    rw (← parts) (first.0, rw first.1 (omega (arith, many, counted)))
+
+-- bytes that were read, as names
+pub names-read : (source : Input) (bytes : List ℕ) (names : List (List ℕ)) → IsReadAs source bytes → are_names bytes ≡ true → names ≡ lines_in bytes → ReadsNames source names
+names-read source bytes names reads good are =
+    (read-as source bytes reads, told_text source.text bytes (λ (all : List ℕ). (are_names all ≡ true) × (names ≡ lines_in all)) reads.1 (good, are))
+
+-- and as none
+pub names-refused : (source : Input) (bytes : List ℕ) (fault : RunFault) → IsReadAs source bytes → RefusesNames bytes fault → FailsToName source fault
+names-refused source bytes Read reads h = absurd h
+names-refused source bytes TooLong reads h = absurd h
+names-refused source bytes BackgroundRead reads h = absurd h
+names-refused source bytes BackgroundTooLong reads h = absurd h
+names-refused source bytes EarlierRead reads h = absurd h
+names-refused source bytes EarlierTooLong reads h = absurd h
+names-refused source bytes NamesRead reads h = absurd h
+names-refused source bytes NamesTooLong reads h = absurd h
+names-refused source bytes (BadNameLine line) reads h =
+    (read-as source bytes reads, told_text source.text bytes (λ (all : List ℕ). RefusesNames all (BadNameLine line)) reads.1 h)
+names-refused source bytes (Index fault) reads h = absurd h
+names-refused source bytes (Background fault) reads h = absurd h
+names-refused source bytes (Earlier fault) reads h = absurd h
+names-refused source bytes (UnknownAsked name) reads h = absurd h
+names-refused source bytes (Slipped slip) reads h = absurd h
+names-refused source bytes Memory reads h = reads.0
+names-refused source bytes Write reads h = absurd h

@@ -1,0 +1,63 @@
+//! Words that other programs of this kind take.
+
+use crate::command_line::asking::{fault_of, refuses_each};
+use debcheck::LineFault;
+use std::process::Abort;
+use std::test::Fail;
+
+/// Lines with such a word, and what is said of it.
+const WORDS_OF_OTHERS: &str = "|--arch|amd64|-e => |'-e'|hint: write --explain
+|-f|--arch|amd64 => |'-f'|hint: write --failures
+|--arch|amd64|-s => |'-s'|hint: write --successes
+|-a|amd64 => |'-a'|hint: write --arch A
+|--deb-native-arch|amd64 => |'--deb-native-arch'|hint: write --arch A
+|--deb-native-arch=amd64 => |'--deb-native-arch'|hint: write --arch A
+|--arch|amd64|--summary => |'--summary'|hint: write --causes
+|--arch|amd64|--deb-ignore-essential => |hint: write --ignore-essential
+|--arch|amd64|-o|report => |hint: the report goes to standard output, write > FILE
+|--arch|amd64|--fg|Packages => |'--fg'|hint: the index comes on standard input, write debcheck --arch A < Packages
+|--arch|amd64|--fg=Packages => |'--fg'|hint: the index comes on standard input
+|--arch|amd64|Packages => |'Packages'|hint: the index comes on standard input
+|amd64|Packages => |'amd64'|hint: the index comes on standard input
+|--arch|amd64|-m => |'-m'|hint: debcheck has no such option, see DIFFERENCES
+|--arch|amd64|--latest => |'--latest'|hint: debcheck has no such option
+|--arch|amd64|--latest=1 => |'--latest'|hint: debcheck has no such option
+|--arch|amd64|--coinst|a,b => |'--coinst'|hint: debcheck has no such option
+|--arch|amd64|--coinst=a,b => |'--coinst'|hint: debcheck has no such option
+|--arch|amd64|--deb-foreign-archs=i386 => |hint: debcheck has no such option
+|--arch|amd64|--dot => |'--dot'|hint: debcheck has no such option";
+
+#[test]
+fn a_word_of_another_program_is_refused_with_what_to_write(rt: HostRuntime) -> Result<(), Fail> {
+    refuses_each(&rt, WORDS_OF_OTHERS)
+}
+
+/// Whether a refusal has a hint.
+fn has_hint(fault: &LineFault) -> bool {
+    match fault {
+        LineFault::Refused { text } => text.contains("hint: "),
+        _ => true,
+    }
+}
+
+/// Lines that are refused, and no program's words are in them.
+const NO_HINTS: [&str; 4] = [
+    "|--arch|amd64|--frobnicate",
+    "|--arch|amd64|-q",
+    "|--arch|amd64|--explain=yes",
+    "|--arch|all",
+];
+
+fn expect_no_hint(rt: &(impl Abort + AllocGlobal), line: &str) -> Result<(), Fail> {
+    let fault = fault_of(rt.alloc(), line)?;
+    assert!(rt; !has_hint(&fault), "{line}");
+    Ok(())
+}
+
+#[test]
+fn nothing_is_said_of_words_that_are_nobodys(rt: HostRuntime) -> Result<(), Fail> {
+    for line in NO_HINTS {
+        expect_no_hint(&rt, line)?;
+    }
+    Ok(())
+}
