@@ -1,13 +1,13 @@
 -- Cores of what is left without the causes of the cores before them.
-use Rattle.std.proofs.Common.{◌≡◌, ◌≢◌, ℕ, zero, suc, ◌<◌, Bool, true, false, not, ◌&&◌, ◌||◌, List, [], ◌∷◌, ◌++◌, All, map, length, Some, slice_get, refl, sym, subst, ◌∙◌, ap, inl, inr, arith}
+use Rattle.std.proofs.Common.{◌≡◌, ◌≢◌, ℕ, zero, suc, ◌<◌, Bool, true, false, not, List, [], ◌∷◌, ◌++◌, All, map, length, Some, slice_get, refl, sym, subst, ◌∙◌, ap, inl, inr, arith}
 use Rattle.std.specs.Prelude.{slice_index_or}
-use Rattle.std.proofs.lemmas.Bool.{cases_Bool, false≢true, true≢false, and_parts, and_from, or_cases, or_left, or_right, both_ways, not_from_false}
+use Rattle.std.proofs.lemmas.Bool.{cases_Bool, false≢true, and_parts, and_from, or_cases, or_left, or_right, both_ways, not_from_false}
 use Rattle.std.proofs.lemmas.List.Elements.{All-cons, All-nil}
 use Rattle.std.proofs.lemmas.Option.{same_Some, slice_get_within, get_or_from_slice_get}
 use Rattle.deb_index.specs.declared.constraint.Constraint.{Constraint}
 use Rattle.deb_index.specs.Constraints.{Holds, constraints_of}
 use Rattle.deb_index.specs.Packages.{IndexView}
-use Rattle.number_sets.specs.Sets.{NumberSet, all_of, IsFirst, IsWithin, members_of}
+use Rattle.number_sets.specs.Sets.{NumberSet, all_of, IsFirst, IsUpward, IsWithin, members_of}
 use Rattle.number_sets.proofs.SetLemmas.{cut, first_once, first_within}
 use Rattle.number_sets.proofs.RisingLists.{rising_once}
 use Rattle.deb_health.specs.Causes.{AreCores, AreCoresWithout, cause_at, cause_in, causes_at, either, is_final_at, IsFirstWithout, nothing, without}
@@ -23,7 +23,7 @@ without_within out set k is_in = (and_parts (set k) (not (out k)) is_in).0
 pub without_has : (out set : NumberSet) (k : ℕ) → set k ≡ true → out k ≡ false → without out set k ≡ true
 without_has out set k is_in left = and_from (set k) (not (out k)) is_in (not_from_false (out k) left)
 
-true_not_false : (b : Bool) → not b ≡ true → b ≡ false
+pub true_not_false : (b : Bool) → not b ≡ true → b ≡ false
 true_not_false true never = absurd (false≢true never)
 true_not_false false left = refl
 
@@ -73,8 +73,8 @@ module _ (index : IndexView) (p : ℕ) where
   admits_more a b within admits = (admits.0, admits.1, λ k constraint asked there. admits.2 k constraint (within k asked) there)
 
   -- more of what is left admits none, too
-  pub failing_upward : (out a b : NumberSet) → IsWithin a b → AdmitsNone index p (without out a) → AdmitsNone index p (without out b)
-  failing_upward out a b within = admits_none_more (without out a) (without out b) (without_more out a b within)
+  pub without_upward : (out : NumberSet) → IsUpward (λ set. AdmitsNone index p (without out set))
+  without_upward out a b within = admits_none_more (without out a) (without out b) (without_more out a b within)
 
   -- a first core has nothing that is taken out
   pub core_left : (out : NumberSet) (core : List ℕ) → IsFirstWithout index p out core → (k : ℕ) → members_of core k ≡ true → out k ≡ false
@@ -133,9 +133,9 @@ module _ (index : IndexView) (p : ℕ) where
   cores_once : (out : NumberSet) (a b : List (List ℕ)) → AreCoresWithout index p out a → AreCoresWithout index p out b → a ≡ b
   cores_once out [] [] first second = refl
   cores_once out [] (core ∷ later) admits cores =
-      absurd (failing_upward out (members_of core) all_of (λ k is_in. refl) cores.0.first.0 admits)
+      absurd (without_upward out (members_of core) all_of (λ k is_in. refl) cores.0.first.0 admits)
   cores_once out (core ∷ later) [] cores admits =
-      absurd (failing_upward out (members_of core) all_of (λ k is_in. refl) cores.0.first.0 admits)
+      absurd (without_upward out (members_of core) all_of (λ k is_in. refl) cores.0.first.0 admits)
   cores_once out (core ∷ later) (other ∷ rest) first second =
       let sets : members_of core ≡ members_of other = first_once (λ set. AdmitsNone index p (without out set)) (members_of core) (members_of other) first.0.first second.0.first in
       let same : core ≡ other = rising_once core other first.0.rising second.0.rising (λ number. ap (λ (s : NumberSet). s number) sets) in

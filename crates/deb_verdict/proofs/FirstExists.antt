@@ -106,6 +106,15 @@ module _ (index : IndexView) where
     cut_admits positions set admits =
         (and_from (set p) (ltb p limit) admits.0 (lt-ltb p limit inside), cut_meets index none_of (λ q. ltb q limit) places_enough set (has_nothing set) positions admits.1)
 
+    -- where it can't be that none meets them, one does
+    pub admits_some : (positions : NumberSet) → (AdmitsNone index p positions → ⊥) → Admits index p positions
+    admits_some positions some = elim (first_or_none limit (AdmitsBy positions) (admits_by_or_not positions)) [
+      | inl found ↦ let has : AdmitsBy positions found.0 = found.1.0.1 in (found.0, has.0, has.1)
+      | inr neither ↦ absurd (some (λ admits.
+          let cut : AdmitsBy positions (cut_at limit admits.0) = cut_admits positions admits.0 (admits.1, admits.2) in
+          neither (cut_at limit admits.0) (cut_under limit admits.0, cut)))
+    ]
+
     -- ---- the first healthy set
 
     admits_installed : (set : NumberSet) → AdmitsBy all_of set → IsInstallation index p set
