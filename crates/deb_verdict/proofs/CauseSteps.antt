@@ -1,20 +1,17 @@
 -- Cores that are found one after the other, each with its cause taken out.
-use Rattle.std.proofs.Common.{◌≡◌, ℕ, zero, suc, ◌+◌, ◌<◌, ◌≤◌, Bool, true, false, ◌&&◌, ◌||◌, eqb, leb, List, [], ◌∷◌, ◌++◌, length, get_or, take, map, All, Some, slice_get, if◌then◌else◌, refl, sym, subst, ◌∙◌, ap, append_assoc, append-nil, inl, inr, arith}
+use Rattle.std.proofs.Common.{◌≡◌, ℕ, zero, suc, ◌+◌, ◌<◌, ◌≤◌, true, false, leb, List, [], ◌∷◌, ◌++◌, length, map, All, Some, slice_get, if◌then◌else◌, refl, sym, subst, ◌∙◌, ap, append_assoc, append-nil, inl, inr, arith}
 use mathlib.Core.Path.{fun_ext}
-use Rattle.std.proofs.Math.Bool.{or-false}
-use Rattle.std.proofs.lemmas.Bool.{cases_Bool, cases_lt, and_parts, eqb-true, le-leb, or_left, or_right}
+use Rattle.std.proofs.lemmas.Bool.{cases_Bool, cases_lt, and_parts, le-leb, or_left, or_right}
 use Rattle.std.proofs.lemmas.List.{map-append}
-use Rattle.std.proofs.lemmas.List.Folds.{list_any_more}
 use Rattle.deb_index.specs.declared.constraint.Constraint.{Constraint}
 use Rattle.deb_index.specs.Packages.{IndexView}
 use Rattle.deb_index.specs.Constraints.{constraints_of}
 use Rattle.number_sets.specs.Sets.{NumberSet, all_of, IsWithin, members_of}
 use Rattle.number_sets.proofs.ListMembers.{members_of_at}
-use Rattle.number_sets.proofs.MembersLemmas.{members_of_push}
 use Rattle.deb_health.specs.Causes.{AreCores, AreCoresWithout, cause_at, either, is_final_at, IsFirstWithout, nothing, without}
 use Rattle.deb_health.specs.Health.{Admits, AdmitsNone, admits_none_upward, IsHopeless, IsInstallable}
 use Rattle.deb_health.proofs.CauseLemmas.{core_has_final}
-use Rattle.deb_health.proofs.CoreLemmas.{core_left, without_more, without_nothing, without_within}
+use Rattle.deb_health.proofs.CoreLemmas.{core_left, without_more, without_nothing}
 use Rattle.core_extract.specs.Reduction.{left, IsRefutation}
 use Rattle.deb_verdict.proofs.Cutting.{meets_from_healthy}
 use Rattle.deb_verdict.proofs.FirstExists.{admits_some}
@@ -63,49 +60,6 @@ member_below : (xs : List ℕ) (bound q : ℕ) → All (λ k. k < bound) xs → 
 member_below xs bound q all is_in =
     let at = members_of_at xs q is_in in
     omega (arith, all at.0 0 at.1, at.2)
-
--- ---- positions of a cause, one after another
-
-one_added : (old seen here final : Bool) → (here ≡ true → final ≡ true) → ((old || (seen && final)) || (here || false)) ≡ (old || ((seen || here) && final))
-one_added true seen here final known = refl
-one_added false true true final known = rw (known refl) refl
-one_added false true false true known = refl
-one_added false true false false known = refl
-one_added false false true final known = rw (known refl) refl
-one_added false false false final known = refl
-
-one_passed : (old seen here final : Bool) → (here ≡ true → final ≡ false) → (old || (seen && final)) ≡ (old || ((seen || here) && final))
-one_passed true seen here final known = refl
-one_passed false true here final known = refl
-one_passed false false true final known = rw (known refl) refl
-one_passed false false false final known = refl
-
-module _ (index : IndexView) (old : NumberSet) (core : List ℕ) where
-  -- what is taken out, after so many positions of the core
-  abbrev pub AreTaken : ℕ → List ℕ → Type 0
-  AreTaken i out = (k : ℕ) → members_of out k ≡ either old (cause_at index (take i core)) k
-
-  pub none_taken : (out : List ℕ) → members_of out ≡ old → AreTaken 0 out
-  none_taken out same k = ap (λ (s : NumberSet). s k) same ∙ sym (or-false (old k))
-
-  module _ (i : ℕ) (out : List ℕ) (inside : i < length core) (taken : AreTaken i out) where
-    with_next : (k : ℕ) → members_of (take (i + 1) core) k ≡ (members_of (take i core) k || eqb (get_or core i 0) k)
-    with_next k = list_any_more (λ member. eqb member k) core i 0 inside
-
-    pub one_taken : is_final_at index (get_or core i 0) ≡ true → AreTaken (i + 1) (out ++ get_or core i 0 ∷ [])
-    one_taken final k =
-        let x : ℕ = get_or core i 0 in
-        members_of_push out x k
-        ∙ (ap (λ b. b || (eqb x k || false)) (taken k)
-        ∙ (one_added (old k) (members_of (take i core) k) (eqb x k) (is_final_at index k) (λ here. sym (ap (is_final_at index) (eqb-true x k here)) ∙ final)
-        ∙ ap (λ b. old k || (b && is_final_at index k)) (sym (with_next k))))
-
-    pub none_more_taken : is_final_at index (get_or core i 0) ≡ false → AreTaken (i + 1) out
-    none_more_taken passed k =
-        let x : ℕ = get_or core i 0 in
-        taken k
-        ∙ (one_passed (old k) (members_of (take i core) k) (eqb x k) (is_final_at index k) (λ here. sym (ap (is_final_at index) (eqb-true x k here)) ∙ passed)
-        ∙ ap (λ b. old k || (b && is_final_at index k)) (sym (with_next k)))
 
 -- ---- whether what is not taken out admits none
 

@@ -17,7 +17,7 @@ use Rattle.deb_verdict.specs.Told.{IsToldCore, IsToldSet, IsToldVerdict, as_told
 use Rattle.deb_verdict.specs.declared.wanted.Wanted.{Wanted}
 use Rattle.deb_verdict.proofs.Cutting.{IsEnough, none_of, cut_meets, has_nothing, healthy_from_meets, meets_from_healthy}
 use Rattle.deb_encode.proofs.IndexFacts.{named_is_place, answers_is_place}
-use Rattle.deb_verdict.proofs.FirstOfSets.{Decides, IsUnder, cut_at, cut_under, first_of_all, first_or_none, listed}
+use Rattle.deb_verdict.proofs.FirstOfSets.{Decides, cut_at, cut_under, first_of_all, first_or_none, listed}
 use Rattle.deb_verdict.proofs.Whole.{all_admit_none, named_all, none_in_list}
 
 -- what is known of each number below a limit is known of all of them

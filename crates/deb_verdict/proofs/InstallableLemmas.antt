@@ -1,5 +1,5 @@
 -- Sets that are healthy, and marks of their members.
-use Rattle.std.proofs.Common.{◌≡◌, ◌≢◌, ℕ, ◌<◌, Bool, true, false, eqb, leb, List, [], length, get_or, set, All, Some, refl, sym, subst, ◌∙◌, ap, inl, inr, arith}
+use Rattle.std.proofs.Common.{◌≡◌, ◌≢◌, ℕ, ◌<◌, Bool, true, eqb, leb, List, [], length, get_or, set, All, Some, refl, sym, subst, ◌∙◌, ap, inl, inr, arith}
 use Rattle.std.proofs.lemmas.Bool.{cases_Bool, and_from, or_right, le-leb, eqb-true, eq-eqb, both_ways}
 use Rattle.std.proofs.lemmas.List.{get_or-set_other, length-set}
 use Rattle.std.proofs.lemmas.List.Folds.{list_any_at}

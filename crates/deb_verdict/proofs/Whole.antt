@@ -19,7 +19,6 @@ use Rattle.deb_health.proofs.CoreLemmas.{without_has, without_left, without_with
 use Rattle.core_extract.specs.Reduction.{listed, IsRefutation}
 use Rattle.deb_verdict.proofs.Cutting.{healthy_from_meets}
 use Rattle.deb_encode.proofs.IndexFacts.{All-at}
-use Rattle.deb_verdict.proofs.Encoded.{sizes}
 
 module _ (index : IndexView) (p : ℕ) where
   -- where no healthy set has p, all constraints admit none

@@ -23,11 +23,7 @@ use number_sets::sort_once;
 use std::alloc::{AllocError, Global};
 
 /// Whether a constraint is no need that some package of the index meets. `found` is a buffer.
-fn is_final(
-    index: &Index,
-    constraint: Constraint,
-    found: &mut Vec<u32>,
-) -> Result<bool, AllocError>
+fn is_final(index: &Index, constraint: Constraint, found: &mut Vec<u32>) -> Result<bool, AllocError>
     requires { IsOfIndex index.now constraint }
     ensures { IfOk result (λ last. last ≡ is_final index.now constraint) }
 {

@@ -28,11 +28,7 @@ fn causes_of(
 }
 
 /// Cores and their causes as `cores [[Need(0, 0), Need(1, 0)]] causes [[Need(1, 0)]]`.
-fn written(
-    alloc: Global,
-    index: &Index,
-    cores: &[Vec<Constraint>],
-) -> Result<String, AllocError>
+fn written(alloc: Global, index: &Index, cores: &[Vec<Constraint>]) -> Result<String, AllocError>
     requires { All (λ core. All (IsOfIndex index.now) core.items) cores.now }
 {
     let causes = causes_of(alloc, index, cores)?;
@@ -123,7 +119,8 @@ Package: b
 Version: 1
 Architecture: all
 ";
-    let expected = "0 cores [[Need(0, 3)], [Need(0, 2)], [Need(0, 0)]] causes [[Need(0, 3)], [Need(0, 2)], [Need(0, 0)]]
+    let expected =
+        "0 cores [[Need(0, 3)], [Need(0, 2)], [Need(0, 0)]] causes [[Need(0, 3)], [Need(0, 2)], [Need(0, 0)]]
 1 cores [] causes []
 ";
     expect(&rt, text, expected)
@@ -172,7 +169,8 @@ Architecture: all
 Depends: absent
 Conflicts: a
 ";
-    let expected = "0 cores [[Need(0, 0), Apart(1, 0)], [Need(0, 0), Need(1, 0)]] causes [[Apart(1, 0)], [Need(1, 0)]]
+    let expected =
+        "0 cores [[Need(0, 0), Apart(1, 0)], [Need(0, 0), Need(1, 0)]] causes [[Apart(1, 0)], [Need(1, 0)]]
 1 cores [[Need(1, 0)]] causes [[Need(1, 0)]]
 ";
     expect(&rt, text, expected)
@@ -201,7 +199,8 @@ Version: 1
 Architecture: all
 Essential: yes
 ";
-    let expected = "0 cores [[Need(0, 0), Apart(0, 0), Apart(0, 1)], [Essential(2), Apart(0, 2)]] causes [[Apart(0, 0), Apart(0, 1)], [Essential(2), Apart(0, 2)]]
+    let expected =
+        "0 cores [[Need(0, 0), Apart(0, 0), Apart(0, 1)], [Essential(2), Apart(0, 2)]] causes [[Apart(0, 0), Apart(0, 1)], [Essential(2), Apart(0, 2)]]
 1 cores [] causes []
 ";
     expect(&rt, text, expected)

@@ -143,7 +143,11 @@ fn of_told_verdict_in(rt: HostRuntime) -> Result<(), Fail> {
 }
 
 /// The causes that an index with a groundwork has, before any verdict of it.
-fn expect_both_missing(rt: &impl Abort, alloc: Global, grounded: &Grounded<'_>) -> Result<(), Fail> {
+fn expect_both_missing(
+    rt: &impl Abort,
+    alloc: Global,
+    grounded: &Grounded<'_>,
+) -> Result<(), Fail> {
     let wanted = "cores [[Need(0, 1)], [Need(0, 0)]] causes [[Need(0, 1)], [Need(0, 0)]]";
     on_workspace(alloc, |workspace| {
         expect_causes(rt, alloc, workspace, grounded, 0, wanted)

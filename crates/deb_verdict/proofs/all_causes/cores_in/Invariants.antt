@@ -1,4 +1,4 @@
-use Rattle.std.proofs.Common.{◌≡◌, ◌<◌, List, Vec, Global, All, true, false, length, map}
+use Rattle.std.proofs.Common.{◌≡◌, Vec, Global, All, true, false, length, map}
 use Rattle.std.specs.List.Sorted.{IsStrictlyIncreasing}
 use Rattle.std.specs.Option.{ForSome}
 use Rattle.deb_index.specs.declared.constraint.Constraint.{Constraint}

@@ -1,11 +1,6 @@
-use Rattle.std.proofs.Common.{◌≡◌, ◌<◌, ℕ, List, [], ◌∷◌, ◌++◌, Bool, true, false, Option, get_or, length, Some, slice_get, sym, ◌∙◌, ap, subst}
-use Rattle.std.specs.Option.{option_map_or}
-use Rattle.deb_index.specs.declared.constraint.Constraint.{Constraint}
 use Rattle.deb_index.specs.Constraints.{IsOfIndex, constraints_of}
 use Rattle.deb_index.proofs.ConstraintLemmas.{constraints-within}
 use Rattle.deb_encode.proofs.IndexFacts.{All-at}
-use Rattle.deb_health.specs.Causes.{is_final}
-use Rattle.deb_verdict.proofs.CauseSteps.{one_taken, none_more_taken}
 use Rattle.deb_verdict.proofs.all_causes.take_out.Goals as goal
 
 pub is_final-requires : goal.is_final-requires
