@@ -109,6 +109,26 @@ module _ (index : IndexView) (p : ℕ) where
       (without_fewer (either out (either first rest)) (either (either out first) rest) all_of (right_assoc out first rest))
       (unmended (either out first) later last cores.1)
 
+  -- each core admits none
+  core_at : (out : NumberSet) (cores : List (List ℕ)) (i : ℕ) → i < length cores → AreCoresWithout index p out cores → AdmitsNone index p (members_of (slice_index_or cores i []))
+  core_at out [] i inside cores = absurd (omega arith)
+  core_at out (core ∷ later) zero inside cores = admits_none_more (without out (members_of core)) (members_of core) (without_within out (members_of core)) cores.0.first.0
+  core_at out (core ∷ later) (suc i) inside cores = core_at (either out (cause_at index core)) later i (omega arith) cores.1
+
+  -- as long as one cause is whole, none does, whatever else is taken out that is no need that some package meets
+  pub one_whole : (cores : List (List ℕ)) (i : ℕ) (out : NumberSet) → AreCoresWithout index p nothing cores → i < length cores → IsWithin out (is_final_at index)
+      → ((k : ℕ) → cause_at index (slice_index_or cores i []) k ≡ true → out k ≡ false) → AdmitsNone index p (without out all_of)
+  one_whole cores i out are inside final whole =
+      let core : NumberSet = members_of (slice_index_or cores i []) in
+      admits_none_more core (without out all_of)
+      (λ k is_in.
+      without_has out all_of k refl
+      (elim (cases_Bool (out k)) [
+        | inl taken ↦ whole k (and_from (core k) (is_final_at index k) is_in (final k taken))
+        | inr left ↦ left
+      ]))
+      (core_at nothing cores i inside are)
+
   -- no later core has what is taken out
   later_left : (out : NumberSet) (cores : List (List ℕ)) (j k : ℕ) → j < length cores → AreCoresWithout index p out cores → cause_at index (slice_index_or cores j []) k ≡ true → out k ≡ false
   later_left out [] j k inside cores is_in = absurd (omega arith)
