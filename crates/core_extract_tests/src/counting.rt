@@ -24,6 +24,8 @@ fn is_left(kept: &[u32], rest: u32, number: u32) -> bool
 }
 
 impl<'a> Question for Counting<'a> {
+    ghost use Rattle.std.specs.Prelude.{◌≡◌, refl};
+    ghost use Rattle.std.proofs.Common.{◌∙◌};
     ghost use Rattle.core_extract.specs.Reduction.{listed};
     ghost use Rattle.core_extract_tests.specs.Having.{HasAll, having_upward};
 
@@ -31,7 +33,13 @@ impl<'a> Question for Counting<'a> {
 
     ghost used = { λ q. listed q.needed.now };
 
+    ghost keeps = { λ before after. before.needed.now ≡ after.needed.now };
+
     ghost upward = { λ q. having_upward (listed q.needed.now) };
+
+    ghost keeps_itself = { λ q. refl };
+
+    ghost keeps_further = { λ first next last same also. same ∙ also };
 
     fn refute(&mut self, _alloc: Global, kept: &[u32], rest: u32) -> Result<bool, AllocError> {
         self.asked = self.asked.saturating_add(1);

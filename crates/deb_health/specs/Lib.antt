@@ -1,2 +1,3 @@
 pub mod Health
 pub mod Verdicts
+pub mod Causes

@@ -13,11 +13,12 @@ use Rattle.deb_index.specs.Packages.{IndexView, first_of_each}
 use Rattle.deb_index.specs.Tables.{IsTable, items_of, number_in}
 use Rattle.deb_index.proofs.TableLemmas.{number-within, put-at, put-first}
 use Rattle.deb_index.proofs.EnumerateLemmas.{filter-length}
+use Rattle.deb_health.specs.Causes.{cause_in, is_final}
 use Rattle.deb_health.specs.Verdicts.{VerdictView, Found, Blocked, SpeaksOf}
 use Rattle.deb_report.specs.declared.gathered.Cause.{Cause}
 use Rattle.deb_report.specs.declared.gathered.Gathered.{Gathered}
 use Rattle.deb_report.specs.CauseKeys.{cause_numbers}
-use Rattle.deb_report.specs.Causes.{CauseView, IsCauseOf, by_count, by_first, cause_at, cause_in, cause_view, causes_list, found_causes, gathered, has_count, is_final, places_broken_by, same_cause}
+use Rattle.deb_report.specs.Causes.{CauseView, IsCauseOf, by_count, by_first, cause_at, cause_view, causes_list, found_causes, gathered, has_count, places_broken_by, same_cause}
 use Rattle.deb_report.specs.Gathering.{IsGathered, keyed}
 use Rattle.deb_report.specs.Told.{IsAskedOf}
 use Rattle.deb_report.proofs.AtomSteps.{map_more}

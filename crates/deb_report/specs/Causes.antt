@@ -11,23 +11,13 @@ use Rattle.deb_index.specs.declared.constraint.Constraint.TheVariants.{Essential
 use Rattle.deb_index.specs.Constraints.{IsOfIndex}
 use Rattle.deb_index.specs.Meets.{is_providing}
 use Rattle.deb_index.specs.Packages.{IndexView, PackageView, first_of_each, is_named, need_at, package_at, package_view, places_where}
+use Rattle.deb_health.specs.Causes.{cause_in}
 use Rattle.deb_health.specs.Verdicts.{VerdictView, Found, Blocked}
 use Rattle.deb_report.specs.declared.gathered.Cause.{Cause}
 use Rattle.deb_report.specs.declared.near.NearMiss.{NearMiss}
-use Rattle.deb_report.specs.Report.{constraint_line, is_missing, label_of, line, place_line, titled}
+use Rattle.deb_report.specs.Report.{constraint_line, label_of, line, place_line, titled}
 
--- ---- what a cause is
-
--- no need that some package of the index meets
-unfoldable pub is_final : IndexView → Constraint → Bool
-is_final index (Essential name) = true
-is_final index (Need place number) = is_missing index (need_at index place number)
-is_final index (Apart place number) = true
-is_final index (Only name) = true
-
--- the cause that a core has: its constraints, in their order, without the needs that some package of the index meets
-abbrev pub cause_in : IndexView → List Constraint → List Constraint
-cause_in index core = filter (is_final index) core
+-- ---- the causes of verdicts
 
 -- the asked place with its cause, where the package is broken
 abbrev pub cause_at : IndexView → ℕ → VerdictView → List (List Constraint × ℕ)

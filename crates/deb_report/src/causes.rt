@@ -3,9 +3,10 @@
 ghost use Rattle.std.specs.Prelude.{◌≡◌, ◌≤◌, ◌++◌, ℕ, List, All, IfOk, OnOk, length, map};
 ghost use Rattle.deb_index.specs.declared.constraint.Constraint.{Constraint};
 ghost use Rattle.deb_index.specs.Constraints.{IsOfIndex};
+ghost use Rattle.deb_health.specs.Causes.{cause_in, is_final};
 ghost use Rattle.deb_health.specs.Verdicts.{SpeaksOf, verdict_view};
 ghost use Rattle.deb_report.specs.Gathering.{IsGathered};
-ghost use Rattle.deb_report.specs.Causes.{IsCauseOf, by_count, by_first, cause_at, cause_in, cause_view, causes_list, found_causes, is_final};
+ghost use Rattle.deb_report.specs.Causes.{IsCauseOf, by_count, by_first, cause_at, cause_view, causes_list, found_causes};
 ghost use Rattle.deb_report.specs.Told.{IsAskedOf, shown_view};
 
 use crate::gathered::{Cause, Gathered};
@@ -16,7 +17,6 @@ use deb_index::{Constraint, Index};
 use std::alloc::{AllocError, Global};
 
 /// Whether a constraint is no need that some package of the index meets.
-#[tactic(auto, unfolding(crate::specs::Causes::is_final))]
 fn is_final(alloc: Global, index: &Index, constraint: Constraint) -> Result<bool, AllocError>
     requires { IsOfIndex index.now constraint }
     ensures { IfOk result (λ last. last ≡ is_final index.now constraint) }

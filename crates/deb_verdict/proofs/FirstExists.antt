@@ -17,7 +17,7 @@ use Rattle.deb_verdict.specs.Told.{IsToldCore, IsToldSet, IsToldVerdict, as_told
 use Rattle.deb_verdict.specs.declared.wanted.Wanted.{Wanted}
 use Rattle.deb_verdict.proofs.Cutting.{IsEnough, none_of, cut_meets, has_nothing, healthy_from_meets, meets_from_healthy}
 use Rattle.deb_encode.proofs.IndexFacts.{named_is_place, answers_is_place}
-use Rattle.deb_verdict.proofs.FirstOfSets.{Decides, IsUnder, cut_at, cut_under, first_of_all, first_or_none, listed}
+use Rattle.deb_verdict.proofs.FirstOfSets.{Decides, cut_at, cut_under, first_of_all, first_or_none, listed}
 use Rattle.deb_verdict.proofs.Whole.{all_admit_none, named_all, none_in_list}
 
 -- what is known of each number below a limit is known of all of them
@@ -105,6 +105,15 @@ module _ (index : IndexView) where
     cut_admits : (positions set : NumberSet) → AdmitsBy positions set → AdmitsBy positions (cut_at limit set)
     cut_admits positions set admits =
         (and_from (set p) (ltb p limit) admits.0 (lt-ltb p limit inside), cut_meets index none_of (λ q. ltb q limit) places_enough set (has_nothing set) positions admits.1)
+
+    -- where it can't be that none meets them, one does
+    pub admits_some : (positions : NumberSet) → (AdmitsNone index p positions → ⊥) → Admits index p positions
+    admits_some positions some = elim (first_or_none limit (AdmitsBy positions) (admits_by_or_not positions)) [
+      | inl found ↦ let has : AdmitsBy positions found.0 = found.1.0.1 in (found.0, has.0, has.1)
+      | inr neither ↦ absurd (some (λ admits.
+          let cut : AdmitsBy positions (cut_at limit admits.0) = cut_admits positions admits.0 (admits.1, admits.2) in
+          neither (cut_at limit admits.0) (cut_under limit admits.0, cut)))
+    ]
 
     -- ---- the first healthy set
 

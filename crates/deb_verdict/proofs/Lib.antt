@@ -1,4 +1,5 @@
 pub mod Answered
+pub mod CauseSteps
 pub mod Cutting
 pub mod Derived
 pub mod Described

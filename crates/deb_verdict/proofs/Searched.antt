@@ -1,11 +1,10 @@
 -- Whether a rising list has a number, as a binary search for it tells.
-use Rattle.std.proofs.Common.{◌≡◌, ℕ, ◌<◌, ◌≤◌, true, false, ◌||◌, List, Result, Ok, Err, is_ok, length, get_or, MatchResult, sym, ◌∙◌, ap, refl, inl, inr, arith}
+use Rattle.std.proofs.Common.{◌≡◌, ℕ, ◌<◌, ◌≤◌, List, Result, Ok, Err, is_ok, length, get_or, MatchResult, sym, ◌∙◌, ap, inl, inr, arith}
 use Rattle.std.specs.List.Sorted.{IsStrictlyIncreasing, IsBinarySearchResult}
 use Rattle.std.specs.Ordering.{nat_cmp}
-use Rattle.std.proofs.lemmas.Bool.{cases_lt, lt-leb, false_from_ne_true}
+use Rattle.std.proofs.lemmas.Bool.{cases_lt, false_from_ne_true}
 use Rattle.std.proofs.lemmas.List.Sorted.{searched}
 use Rattle.number_sets.specs.Sets.{members_of}
-use Rattle.core_extract.specs.Reduction.{left}
 use Rattle.number_sets.proofs.ListMembers.{members_of_at, at_members_of}
 use Rattle.number_sets.proofs.RisingLists.{rising_lt}
 
@@ -28,13 +27,6 @@ told xs x (Err i) parts =
       | inr past ↦ absurd (omega (arith, parts.2 at.0 (omega arith) at.1, at.2))
     ]))
 
--- a number before the rest is in the part where it is kept
-pub kept_before : (kept : List ℕ) (rest number : ℕ) (r : Result ℕ ℕ) → IsStrictlyIncreasing kept → number < rest → IsBinarySearchResult (λ y. nat_cmp y number) kept r
-    → is_ok r ≡ left (members_of kept) rest number
-kept_before kept rest number r rising before found =
-    told kept number r (searched kept number r found (never_falls kept rising))
-    ∙ (or_false (members_of kept number) ∙ ap (λ b. members_of kept number || b) (sym (lt-leb rest number before)))
-  where
-    or_false : (b : _) → b ≡ (b || false)
-    or_false true = refl
-    or_false false = refl
+-- a binary search finds just the numbers of a rising list
+pub among : (numbers : List ℕ) (number : ℕ) (r : Result ℕ ℕ) → IsStrictlyIncreasing numbers → IsBinarySearchResult (λ y. nat_cmp y number) numbers r → is_ok r ≡ members_of numbers number
+among numbers number r rising found = told numbers number r (searched numbers number r found (never_falls numbers rising))

@@ -13,11 +13,12 @@ use Rattle.deb_index.proofs.ConstraintLemmas.{constraints-few}
 use Rattle.number_sets.specs.Sets.{NumberSet, members_of, IsFirst, all_of, all_below}
 use Rattle.number_sets.proofs.SetLemmas.{first_within}
 use Rattle.deb_verdict.specs.Closure.{cut}
-use Rattle.deb_health.specs.Health.{IsInstallation, AdmitsNone}
+use Rattle.deb_health.specs.Causes.{without}
+use Rattle.deb_health.specs.Health.{IsInstallation, AdmitsNone, admits_none_upward}
+use Rattle.deb_health.proofs.CoreLemmas.{without_has, without_left, without_within}
 use Rattle.core_extract.specs.Reduction.{listed, IsRefutation}
 use Rattle.deb_verdict.proofs.Cutting.{healthy_from_meets}
 use Rattle.deb_encode.proofs.IndexFacts.{All-at}
-use Rattle.deb_verdict.proofs.Encoded.{sizes}
 
 module _ (index : IndexView) (p : ℕ) where
   -- where no healthy set has p, all constraints admit none
@@ -29,12 +30,17 @@ module _ (index : IndexView) (p : ℕ) where
   none_in_list positions list whole none admits =
       none (admits.0, admits.1, λ k constraint asked there. admits.2 k constraint (and_from (positions k) (list k) asked (whole k (slice_get_within (constraints_of index) k constraint there))) there)
 
-  -- so the first ones that admit none are positions of the list
-  pub first_in_list : (positions : NumberSet) → IsFirst (AdmitsNone index p) positions → (k : ℕ) → positions k ≡ true → k < length (constraints_of index)
-  first_in_list positions first k is_in =
+  -- so the first ones that admit none, where some are taken out, are positions of the list
+  pub first_in_list : (out positions : NumberSet) → IsFirst (λ set. AdmitsNone index p (without out set)) positions → (k : ℕ) → positions k ≡ true → k < length (constraints_of index)
+  first_in_list out positions first k is_in =
       let list : NumberSet = all_below (length (constraints_of index)) in
-      let none : AdmitsNone index p (cut positions list) = none_in_list positions list (λ k below. lt-ltb k (length (constraints_of index)) below) first.0 in
-      let same : positions ≡ cut positions list = first_within (AdmitsNone index p) positions list first none in
+      let none : AdmitsNone index p (without out (cut positions list)) =
+      admits_none_upward index p (cut (without out positions) list) (without out (cut positions list))
+      (λ n is_left.
+      let parts = and_parts (without out positions n) (list n) is_left in
+      without_has out (cut positions list) n (and_from (positions n) (list n) (without_within out positions n parts.0) parts.1) (without_left out positions n parts.0))
+      (none_in_list (without out positions) list (λ n below. lt-ltb n (length (constraints_of index)) below) first.0) in
+      let same : positions ≡ cut positions list = first_within (λ set. AdmitsNone index p (without out set)) positions list first none in
       ltb-true k (length (constraints_of index)) ((and_parts (positions k) (list k) (sym (ap (λ (s : NumberSet). s k) same) ∙ is_in)).1)
 
   -- a refutation by a list is one by those of its numbers that have a next one
@@ -43,6 +49,13 @@ module _ (index : IndexView) (p : ℕ) where
   refuted_listed few few_asked part used refuted = record {
     within = λ k is_used. refuted.within k ((and_parts (members_of used k) (ltb k (2 ^ 32 - 1)) is_used).0);
     fails = none_in_list (members_of used) (λ k. ltb k (2 ^ 32 - 1)) (λ k below. lt-ltb k (2 ^ 32 - 1) (omega (arith, constraints-few index few few_asked))) refuted.fails;
+  }
+
+  -- a refutation of what is not taken out
+  pub refuted_without : (out part used : NumberSet) → IsRefutation (AdmitsNone index p) (without out part) used → IsRefutation (λ set. AdmitsNone index p (without out set)) part used
+  refuted_without out part used refuted = record {
+    within = λ k is_used. without_within out part k (refuted.within k is_used);
+    fails = admits_none_upward index p used (without out used) (λ k is_used. without_has out used k is_used (without_left out part k (refuted.within k is_used))) refuted.fails;
   }
 
 -- what holds of an answer that is there, and what follows from it

@@ -6,6 +6,7 @@ use Rattle.deb_index.specs.Packages.{IndexView, package_at, places_of, names, na
 use Rattle.deb_index.specs.Constraints.{Holds, constraints_of}
 use Rattle.number_sets.specs.Sets.{NumberSet, members_of}
 use Rattle.core_extract.specs.Reduction.{left, IsRefutation}
+use Rattle.deb_health.specs.Causes.{without}
 use Rattle.deb_health.specs.Health.{AdmitsNone}
 use Rattle.deb_verdict.specs.declared.part.Part.{Part}
 
@@ -15,7 +16,7 @@ HasNoEarlier index set place = set place ≡ true → (q : ℕ) → q < place �
 
 -- the positions of a part's constraints
 abbrev pub positions_in : Part → NumberSet
-positions_in part = left (members_of part.kept.now) part.rest
+positions_in part = without (members_of part.out.now) (left (members_of part.kept.now) part.rest)
 
 -- no set with p meets the part, as constraints at these positions of it show
 abbrev pub IsRefutedBy : List ℕ → Part → ℕ → Type 0

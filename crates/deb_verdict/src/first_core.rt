@@ -1,16 +1,51 @@
-//! The first set of constraints that admits no set with a package.
+//! The first set of constraints that admits no set with a package, out of all, or of those that are not taken out.
 
 ghost use Rattle.std.specs.Prelude.{◌<◌, All, IfOk, length};
-ghost use Rattle.deb_index.specs.Constraints.{IsOfIndex};
-ghost use Rattle.deb_health.specs.Health.{IsHopeless};
+ghost use Rattle.std.specs.List.Sorted.{IsStrictlyIncreasing};
+ghost use Rattle.std.specs.Option.{ForSome};
+ghost use Rattle.number_sets.specs.Sets.{all_of, members_of};
+ghost use Rattle.deb_index.specs.Constraints.{IsOfIndex, constraints_of};
+ghost use Rattle.deb_health.specs.Causes.{IsFirstWithout, without};
+ghost use Rattle.deb_health.specs.Health.{AdmitsNone, IsHopeless};
 ghost use Rattle.deb_health.specs.Verdicts.{IsFirstCore};
+ghost use Rattle.deb_verdict.specs.Formulas.{Tells};
 
+use crate::core_formula::CoreFormula;
 use crate::kept_positions::list_constraints;
 use crate::question::Blocking;
 use crate::workspace::Workspace;
 use core_extract::first_failing;
 use deb_index::{Constraint, Index};
 use std::alloc::{AllocError, Global};
+
+/// The positions, rising, of the first core of the constraints that are not taken out, where they admit no set with the package at a place.
+pub(crate) fn first_positions(
+    alloc: Global,
+    workspace: &mut Workspace,
+    index: &Index,
+    p: u32,
+    out: &[u32],
+    formula: &mut Option<CoreFormula>,
+) -> Result<Vec<u32>, AllocError>
+    requires place { p < length index.now.packages }
+    requires rising { IsStrictlyIncreasing out.now }
+    requires formula { ForSome formula.old (Tells index.now p) }
+    requires none { AdmitsNone index.now p (without (members_of out.now) all_of) }
+    ensures formula { ForSome formula.new (Tells index.now p) }
+    ensures first { IfOk result (λ core. IsFirstWithout index.now p (members_of out.now) core.items) }
+    ensures within { IfOk result (λ core. All (λ k. k < length (constraints_of index.now)) core.items) }
+{
+    let mut question = Blocking {
+        index,
+        p,
+        out,
+        workspace,
+        formula: formula.take(),
+    };
+    let positions = first_failing(alloc, &mut question)?;
+    *formula = question.formula.take();
+    Ok(positions)
+}
 
 /// The first set of constraints that no set with the package at a place meets, in the order of the index's list, where no healthy set has
 /// the package.
@@ -25,13 +60,7 @@ pub(crate) fn first_core(
     ensures first { IfOk result (λ core. IsFirstCore index.now p core.items) }
     ensures within { IfOk result (λ core. All (IsOfIndex index.now) core.items) }
 {
-    let mut question = Blocking {
-        index,
-        p,
-        workspace,
-        formula: None,
-    };
-    let positions = first_failing(alloc, &mut question)?;
+    let positions = first_positions(alloc, workspace, index, p, &[], &mut None)?;
     let mut core = Vec::new(alloc);
     list_constraints(index, &positions, &mut core)?;
     Ok(core)

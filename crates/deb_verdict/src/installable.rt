@@ -31,6 +31,7 @@ fn is_healthy(index: &Index, set: &SparseSet) -> bool
         index,
         kept: &[],
         rest: 0,
+        out: &[],
     };
     meets_part(&all, set)
 }

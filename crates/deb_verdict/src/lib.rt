@@ -16,10 +16,13 @@
 //!   - `witness` sees, without a search, that some set meets a part: `check` looks it up.
 //!   - `by_formula` knows of each part, by the `core_formula` of the package, which is made once: each constraint that speaks of the closure
 //!     (`kept_positions` lists them) is a group of clauses, the part says which groups are kept, and the solver which it used.
+//! - All causes: `all_causes` takes the cause of the first core out of the constraints, and looks for the first core of what is left, as long
+//!   as that admits no set.
 //! - Marks: `hopeless` finds places that no healthy set has. `installable` finds many that some healthy set has, for which no set need be
 //!   shown: an `installation` grows without a search, and is looked up by `check`.
 #![tactic(auto)]
 
+mod all_causes;
 mod by_formula;
 mod check;
 mod core_formula;
@@ -45,6 +48,7 @@ mod wanted;
 mod witness;
 mod workspace;
 
+pub use all_causes::{cause_in, cores_in};
 pub use deb_health::Verdict;
 pub use decision::{closure, is_installable_in, told_verdict_in, verdict, verdict_in};
 pub use groundwork::Groundwork;

@@ -2,16 +2,27 @@
 
 ghost use Rattle.std.specs.Prelude.{◌≡◌};
 ghost use Rattle.std.specs.List.Sorted.{IsStrictlyIncreasing};
+ghost use Rattle.number_sets.specs.Sets.{members_of};
 
 use deb_index::Index;
 
-/// Some constraints of an index by their positions in the list of all, and all from one position on.
+/// Some constraints of an index by their positions in the list of all, and all from one position on, without those that are taken out.
 #[derive(Clone, Copy)]
 pub(crate) struct Part<'a> {
     pub(crate) index: &'a Index,
     pub(crate) kept: &'a [u32],
     pub(crate) rest: u32,
+    pub(crate) out: &'a [u32],
     ghost rising: { IsStrictlyIncreasing kept.now },
+    ghost out_rising: { IsStrictlyIncreasing out.now },
+}
+
+/// Whether a rising list has a number.
+fn is_among(numbers: &[u32], number: u32) -> bool
+    requires { IsStrictlyIncreasing numbers.now }
+    ensures { result ≡ members_of numbers.now number }
+{
+    numbers.binary_search(&number).is_ok()
 }
 
 impl<'a> Part<'a> {
@@ -21,6 +32,14 @@ impl<'a> Part<'a> {
     pub(crate) fn has(&self, position: u32) -> bool
         ensures { result ≡ positions_in self.now position }
     {
-        position >= self.rest || self.kept.binary_search(&position).is_ok()
+        if is_among(self.out, position) {
+            return false;
+        }
+        position >= self.rest || is_among(self.kept, position)
+    }
+
+    /// Whether it may lack a constraint.
+    pub(crate) fn may_lack_one(&self) -> bool {
+        self.rest > 0 || !self.out.is_empty()
     }
 }

@@ -2,6 +2,7 @@
 
 ghost use Rattle.std.specs.Prelude.{◌≡◌, ◌<◌, true, false, IfOk, length};
 ghost use Rattle.std.specs.Option.{ForSome};
+ghost use Rattle.std.specs.List.Sorted.{IsStrictlyIncreasing};
 ghost use Rattle.deb_health.specs.Health.{AdmitsNone};
 ghost use Rattle.deb_verdict.specs.Parts.{positions_in, IsRefutedBy};
 ghost use Rattle.deb_verdict.specs.Formulas.{Tells};
@@ -18,7 +19,7 @@ use std::alloc::{AllocError, Global};
 
 /// Whether a part of the constraints admits no set with the package at a place. Where it admits none, the workspace's `used` then has the
 /// positions of constraints of the part that already do; where it admits one, `used` stays.
-fn refute_part(
+pub(crate) fn refute_part(
     alloc: Global,
     part: &Part<'_>,
     p: u32,
@@ -39,7 +40,7 @@ fn refute_part(
         return Ok(true);
     }
     // Each package whose core is looked for is broken, so only without some constraints is there a set.
-    if part.rest > 0 && is_seen_to_admit(part, p, &mut workspace.witness)? {
+    if part.may_lack_one() && is_seen_to_admit(part, p, &mut workspace.witness)? {
         return Ok(false);
     }
     if refute_by_forcing(part, p, propagation, used)? {
@@ -48,27 +49,40 @@ fn refute_part(
     refute_by_formula(alloc, part, p, formula, workspace)
 }
 
-/// Whether positions of the index's list of constraints admit no set with the package at a place.
+/// Whether positions of the index's list of constraints, without those that are taken out, admit no set with the package at a place.
 #[derive(Drop)]
 pub(crate) struct Blocking<'a> {
     pub(crate) index: &'a Index,
     pub(crate) p: u32,
+    pub(crate) out: &'a [u32],
     pub(crate) workspace: &'a mut Workspace,
     /// The package's formula, once a question needed it.
     pub(crate) formula: Option<CoreFormula>,
     ghost place: { p < length index.now.packages },
+    ghost rising: { IsStrictlyIncreasing out.now },
     ghost told: { ForSome formula (Tells index.now p) },
 }
 
 impl<'a> Question for Blocking<'a> {
-    ghost use Rattle.deb_health.specs.Health.{AdmitsNone, admits_none_upward};
+    ghost use Rattle.std.specs.Prelude.{◌≡◌, refl};
+    ghost use Rattle.std.proofs.Common.{◌∙◌};
+    ghost use Rattle.number_sets.specs.Sets.{members_of};
+    ghost use Rattle.deb_health.specs.Causes.{without};
+    ghost use Rattle.deb_health.proofs.CoreLemmas.{without_upward};
+    ghost use Rattle.deb_health.specs.Health.{AdmitsNone};
     ghost use Rattle.core_extract.specs.Reduction.{listed};
 
-    ghost is_failing = { λ q. AdmitsNone q.index.now q.p };
+    ghost is_failing = { λ q set. AdmitsNone q.index.now q.p (without (members_of q.out.now) set) };
 
     ghost used = { λ q. listed q.workspace.now.used.items };
 
-    ghost upward = { λ q. admits_none_upward q.index.now q.p };
+    ghost keeps = { λ before after. (after.index.now ≡ before.index.now) × (after.p ≡ before.p) };
+
+    ghost upward = { λ q. without_upward q.index.now q.p (members_of q.out.now) };
+
+    ghost keeps_itself = { λ q. (refl, refl) };
+
+    ghost keeps_further = { λ first next last same also. (also.0 ∙ same.0, also.1 ∙ same.1) };
 
     fn refute(&mut self, alloc: Global, kept: &[u32], rest: u32) -> Result<bool, AllocError> {
         let _limit = self.index.len();
@@ -76,6 +90,7 @@ impl<'a> Question for Blocking<'a> {
             index: self.index,
             kept,
             rest,
+            out: self.out,
         };
         refute_part(alloc, &part, self.p, &mut self.formula, self.workspace)
     }

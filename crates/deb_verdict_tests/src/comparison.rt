@@ -26,7 +26,7 @@ fn lists(numbers: &[u32], marked: &[bool]) -> bool {
 }
 
 /// Whether a list has the constraints that are chosen, in their order.
-fn lists_chosen(core: &[Constraint], constraints: &[Constraint], chosen: &[bool]) -> bool {
+pub fn lists_chosen(core: &[Constraint], constraints: &[Constraint], chosen: &[bool]) -> bool {
     let mut count = 0usize;
     for (number, constraint) in constraints.iter().enumerate() {
         if has(chosen, number) {

@@ -1,11 +1,14 @@
 //! The groundwork of an index, and the verdicts over it.
 
-ghost use Rattle.std.specs.Prelude.{◌≡◌, ◌<◌, length};
+ghost use Rattle.std.specs.Prelude.{◌≡◌, ◌<◌, All, IfOk, length};
+ghost use Rattle.deb_index.specs.Constraints.{IsOfIndex};
 
 use crate::expected::{compare, written};
 use crate::lent::on_index;
-use deb_index::Index;
-use deb_verdict::{Groundwork, Wanted, Workspace, is_installable_in, told_verdict_in, verdict_in};
+use deb_index::{Constraint, Index};
+use deb_verdict::{
+    Groundwork, Wanted, Workspace, cores_in, is_installable_in, told_verdict_in, verdict_in,
+};
 use std::alloc::{AllocError, Global};
 use std::process::Abort;
 use std::test::Fail;
@@ -64,6 +67,19 @@ impl<'a> Grounded<'a> {
         is_installable_in(alloc, workspace, &self.groundwork, p)
     }
 
+    /// The cores whose causes are all causes of the package at a place. The error is want of memory.
+    pub fn cores(
+        &self,
+        alloc: Global,
+        workspace: &mut Workspace,
+        p: u32,
+    ) -> Result<Vec<Vec<Constraint>>, AllocError>
+        requires { p < length self.now.index.now.packages }
+        ensures { IfOk result (λ cores. All (λ core. All (IsOfIndex self.now.index.now) core.items) cores.items) }
+    {
+        cores_in(alloc, workspace, &self.groundwork, p)
+    }
+
     /// Compares the verdict of the package at a place with what is expected.
     pub fn expect(
         &self,
@@ -81,9 +97,9 @@ impl<'a> Grounded<'a> {
 }
 
 /// Makes the groundwork of an index, and lends it to what asks for verdicts.
-pub fn on_groundwork<F>(alloc: Global, index: &Index, ask: F) -> Result<(), Fail>
+pub fn on_groundwork<T, F>(alloc: Global, index: &Index, ask: F) -> Result<T, Fail>
 where
-    F: FnOnce(&Grounded<'_>) -> Result<(), Fail> + Drop,
+    F: FnOnce(&Grounded<'_>) -> Result<T, Fail> + Drop,
     requires { F.IsAlwaysCallable ask }
 {
     let grounded = Grounded::new(alloc, index)?;
@@ -91,18 +107,18 @@ where
 }
 
 /// Makes the groundwork of the index of a text, and lends it.
-pub fn on_ground<F>(alloc: Global, text: &str, ask: F) -> Result<(), Fail>
+pub fn on_ground<T, F>(alloc: Global, text: &str, ask: F) -> Result<T, Fail>
 where
-    F: FnOnce(&Grounded<'_>) -> Result<(), Fail> + Drop,
+    F: FnOnce(&Grounded<'_>) -> Result<T, Fail> + Drop,
     requires { F.IsAlwaysCallable ask }
 {
     on_index(alloc, text, true, |index| on_groundwork(alloc, index, ask))
 }
 
 /// Makes a workspace, and lends it.
-pub fn on_workspace<F>(alloc: Global, ask: F) -> Result<(), Fail>
+pub fn on_workspace<T, F>(alloc: Global, ask: F) -> Result<T, Fail>
 where
-    F: FnOnce(&mut Workspace) -> Result<(), Fail> + Drop,
+    F: FnOnce(&mut Workspace) -> Result<T, Fail> + Drop,
     requires { F.IsAlwaysCallable ask }
 {
     let mut workspace = Workspace::new(alloc)?;

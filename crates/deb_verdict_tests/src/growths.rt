@@ -1,5 +1,6 @@
 //! One test for each call that can want memory; trials/growths runs them with each growth refused in turn.
 
+use crate::all_causes::expect_causes;
 use crate::expected::{compare, expect, expect_lines};
 use crate::grounded::{Grounded, on_ground, on_two, on_workspace};
 use crate::installable::expect_marks;
@@ -139,6 +140,25 @@ fn of_told_verdict_in(rt: HostRuntime) -> Result<(), Fail> {
 1 core [Essential(4), Apart(1, 0)]
 2 set [2, 4]";
     expect_all(&rt, ANSWER_BETWEEN, verdicts)
+}
+
+/// The causes that an index with a groundwork has, before any verdict of it.
+fn expect_both_missing(
+    rt: &impl Abort,
+    alloc: Global,
+    grounded: &Grounded<'_>,
+) -> Result<(), Fail> {
+    let wanted = "cores [[Need(0, 1)], [Need(0, 0)]] causes [[Need(0, 1)], [Need(0, 0)]]";
+    on_workspace(alloc, |workspace| {
+        expect_causes(rt, alloc, workspace, grounded, 0, wanted)
+    })
+}
+
+#[test]
+fn of_cores_in(rt: HostRuntime) -> Result<(), Fail> {
+    on_ground(rt.alloc(), TWO_MISSING, |grounded| {
+        expect_both_missing(&rt, rt.alloc(), grounded)
+    })
 }
 
 #[test]

@@ -58,6 +58,16 @@ fn count_named(index: &Index, set: &[bool], name: u32) -> u32 {
     count
 }
 
+/// Whether a package of the index meets an alternative of a group.
+fn some_may_answer(index: &Index, group: &[Atom]) -> bool {
+    for q in 0..index.len() {
+        if answers_some(index, q, group) {
+            return true;
+        }
+    }
+    false
+}
+
 /// The group with a number: those of Pre-Depends go before those of Depends.
 fn group(index: &Index, p: u32, number: usize) -> &[Atom] {
     if p >= index.len() {
@@ -115,6 +125,14 @@ fn all_hold(index: &Index, set: &[bool], constraints: &[Constraint], chosen: &[b
         }
     }
     true
+}
+
+/// Whether a constraint is a need that some package of the index answers.
+pub fn is_answerable(index: &Index, constraint: Constraint) -> bool {
+    match constraint {
+        Constraint::Need(p, number) => some_may_answer(index, group(index, p, number as usize)),
+        Constraint::Essential(_) | Constraint::Apart(_, _) | Constraint::Only(_) => false,
+    }
 }
 
 /// Makes `set` the first of all sets of places with a package that meets the chosen constraints; false where there is none.

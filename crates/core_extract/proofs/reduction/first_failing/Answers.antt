@@ -17,4 +17,5 @@ loop-number-preserved-in_ok-push g c =
           (c.in_ok-refute-2.ensures.still is_false) c.in_ok-push.ensures.items,
       rising_after numbers c.push.new.self.items c.loop-number.at next c.in-Some.ensures.some.0 so_far.1 so_far.0.settled c.in_ok-push.ensures.items,
       λ (set : NumberSet). (λ fails. (c.in_ok-refute-2.ensures.same set).0 ((so_far.2 set).0 fails), λ fails. (so_far.2 set).1 ((c.in_ok-refute-2.ensures.same set).1 fails)),
+      g.met.Q.Question.keeps_further c.refute.new.self c.loop-number.question c.refute-in-Some.new.self so_far.3 c.in_ok-refute-2.ensures.kept,
     )

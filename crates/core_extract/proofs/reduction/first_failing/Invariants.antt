@@ -9,6 +9,7 @@ invariant-loop-number g l =
     IsReduced (g.Q.Question.is_failing l.initial.question) (g.Q.Question.used l.question) (members_of l.kept.items) l.at
     × IsStrictlyIncreasing l.kept.items
     × AreSame (g.Q.Question.is_failing l.initial.question) (g.Q.Question.is_failing l.question)
+    × g.Q.Question.keeps l.initial.question l.question
 
 abbrev pub decreases-loop-number : goal.decreases-loop-number
 decreases-loop-number g l = 2 ^ 32 - l.at

@@ -1,5 +1,5 @@
 use Rattle.std.proofs.Common.{◌≡◌, filter, take}
-use Rattle.deb_report.specs.Causes.{is_final}
+use Rattle.deb_health.specs.Causes.{is_final}
 use Rattle.deb_report.proofs.causes.cause_in.Given as goal
 
 abbrev pub invariant-loop-constraint : goal.invariant-loop-constraint

@@ -1,0 +1,2 @@
+pub mod CauseLemmas
+pub mod CoreLemmas

@@ -1,0 +1,145 @@
+-- Cores that are found one after the other, each with its cause taken out.
+use Rattle.std.proofs.Common.{◌≡◌, ℕ, zero, suc, ◌+◌, ◌<◌, ◌≤◌, true, false, leb, List, [], ◌∷◌, ◌++◌, length, map, All, Some, slice_get, if◌then◌else◌, refl, sym, subst, ◌∙◌, ap, append_assoc, append-nil, inl, inr, arith}
+use mathlib.Core.Path.{fun_ext}
+use Rattle.std.proofs.lemmas.Bool.{cases_Bool, cases_lt, and_parts, le-leb, or_left, or_right}
+use Rattle.std.proofs.lemmas.List.{map-append}
+use Rattle.deb_index.specs.declared.constraint.Constraint.{Constraint}
+use Rattle.deb_index.specs.Packages.{IndexView}
+use Rattle.deb_index.specs.Constraints.{constraints_of}
+use Rattle.number_sets.specs.Sets.{NumberSet, all_of, IsWithin, members_of}
+use Rattle.number_sets.proofs.ListMembers.{members_of_at}
+use Rattle.deb_health.specs.Causes.{AreCores, AreCoresWithout, cause_at, either, is_final_at, IsFirstWithout, nothing, without}
+use Rattle.deb_health.specs.Health.{Admits, AdmitsNone, admits_none_upward, IsHopeless, IsInstallable}
+use Rattle.deb_health.proofs.CauseLemmas.{core_has_final}
+use Rattle.deb_health.proofs.CoreLemmas.{core_left, without_more, without_nothing}
+use Rattle.core_extract.specs.Reduction.{left, IsRefutation}
+use Rattle.deb_verdict.proofs.Cutting.{meets_from_healthy}
+use Rattle.deb_verdict.proofs.FirstExists.{admits_some}
+use Rattle.deb_verdict.proofs.Whole.{all_admit_none}
+
+-- ---- how many positions are not taken out
+
+abbrev pub count_left : NumberSet → ℕ → ℕ
+count_left out zero = 0
+count_left out (suc n) = (if out n then 0 else 1) + count_left out n
+
+left_no_more : (less more : NumberSet) (bound : ℕ) → IsWithin less more → count_left more bound ≤ count_left less bound
+left_no_more less more zero within = omega arith
+left_no_more less more (suc n) within =
+    let rest : count_left more n ≤ count_left less n = left_no_more less more n within in
+    elim (cases_Bool (less n)) [
+      | inl taken ↦ rw (taken, within n taken) (omega arith)
+      | inr left ↦ elim (cases_Bool (more n)) [
+        | inl now ↦ rw (left, now) (omega arith)
+        | inr still ↦ rw (left, still) (omega arith)
+      ]
+    ]
+
+left_fewer : (less more : NumberSet) (bound k : ℕ) → IsWithin less more → k < bound → less k ≡ false → more k ≡ true → count_left more bound < count_left less bound
+left_fewer less more zero k within below left taken = absurd (omega arith)
+left_fewer less more (suc n) k within below left taken =
+    elim (cases_lt k n) [
+      | inl under ↦
+          let rest : count_left more n < count_left less n = left_fewer less more n k within under left taken in
+          elim (cases_Bool (less n)) [
+            | inl also ↦ rw (also, within n also) (omega arith)
+            | inr not_yet ↦ elim (cases_Bool (more n)) [
+              | inl now ↦ rw (not_yet, now) (omega arith)
+              | inr still ↦ rw (not_yet, still) (omega arith)
+            ]
+          ]
+      | inr at ↦
+          let here : k ≡ n = omega arith in
+          let before : less n ≡ false = sym (ap less here) ∙ left in
+          let after : more n ≡ true = sym (ap more here) ∙ taken in
+          let rest : count_left more n ≤ count_left less n = left_no_more less more n within in
+          rw (before, after) (omega arith)
+    ]
+
+member_below : (xs : List ℕ) (bound q : ℕ) → All (λ k. k < bound) xs → members_of xs q ≡ true → q < bound
+member_below xs bound q all is_in =
+    let at = members_of_at xs q is_in in
+    omega (arith, all at.0 0 at.1, at.2)
+
+-- ---- whether what is not taken out admits none
+
+module _ (index : IndexView) (p : ℕ) (out : NumberSet) where
+  -- the part that has all of it
+  abbrev pub whole : NumberSet
+  whole = without out (left (members_of []) 0)
+
+  has_all : (set : NumberSet) → IsWithin set (left (members_of []) 0)
+  has_all set k is_in = or_right (members_of [] k) (leb 0 k) (le-leb 0 k (omega arith))
+
+  pub refuted_whole : (used : NumberSet) → IsRefutation (AdmitsNone index p) whole used → AdmitsNone index p (without out all_of)
+  refuted_whole used refuted =
+      admits_none_upward index p used (without out all_of)
+      (λ k is_used. without_more out (left (members_of []) 0) all_of (λ n here. refl) k (refuted.within k is_used)) refuted.fails
+
+  pub admitted_whole : p < length index.packages → (AdmitsNone index p whole → ⊥) → Admits index p (without out all_of)
+  admitted_whole inside some =
+      admits_some index p inside (without out all_of)
+      (λ none. some (admits_none_upward index p (without out all_of) whole (without_more out all_of (left (members_of []) 0) (has_all all_of)) none))
+
+-- ---- cores so far
+
+-- these cores are found, and what is taken out is their causes
+pub record AreFound (index : IndexView) (p : ℕ) (out : NumberSet) (cores : List (List Constraint)) : Type 0 where
+  pub positions : List (List ℕ)
+  pub further : (later : List (List ℕ)) → AreCoresWithout index p out later → AreCoresWithout index p nothing (positions ++ later)
+  pub stand_there : map (map (slice_get (constraints_of index))) positions ≡ map (map Some) cores
+
+module _ (index : IndexView) (p : ℕ) where
+  pub none_found : AreFound index p nothing []
+  none_found = record {
+    positions = [];
+    further = λ later cores. cores;
+    stand_there = refl;
+  }
+
+  module _ (out after : NumberSet) (core : List ℕ) (first : IsFirstWithout index p out core) (taken : (k : ℕ) → after k ≡ either out (cause_at index core) k) where
+    -- one core more
+    pub one_found : (constraints : List Constraint) (cores : List (List Constraint)) → map (slice_get (constraints_of index)) core ≡ map Some constraints
+        → AreFound index p out cores → AreFound index p after (cores ++ constraints ∷ [])
+    one_found constraints cores stand found =
+        let same : after ≡ either out (cause_at index core) = fun_ext taken in
+        record {
+          positions = found.positions ++ core ∷ [];
+          further = λ later are.
+              (let Later : NumberSet → Type 0 = λ set. AreCoresWithout index p set later in
+              let All : List (List ℕ) → Type 0 = λ lists. AreCoresWithout index p nothing lists in
+              subst All (sym (append_assoc found.positions (core ∷ []) later)) (found.further (core ∷ later) (first, subst Later same are)));
+          stand_there =
+              map-append (map (slice_get (constraints_of index))) found.positions (core ∷ [])
+              ∙ (ap (λ front. front ++ map (slice_get (constraints_of index)) core ∷ []) found.stand_there
+              ∙ (ap (λ last. map (map Some) cores ++ last ∷ []) stand
+              ∙ sym (map-append (map Some) cores (constraints ∷ []))));
+        }
+
+    -- with its cause fewer positions are left
+    pub fewer_left : All (λ k. k < length (constraints_of index)) core → count_left after (length (constraints_of index)) < count_left out (length (constraints_of index))
+    fewer_left within =
+        let one = core_has_final index p out core first.first.0 in
+        let is_in : members_of core one.0 ≡ true = (and_parts (members_of core one.0) (is_final_at index one.0) one.1).0 in
+        left_fewer out after (length (constraints_of index)) one.0
+        (λ k was. taken k ∙ or_left (out k) (cause_at index core k) was)
+        (member_below core (length (constraints_of index)) one.0 within is_in)
+        (core_left index p out core first one.0 is_in)
+        (taken one.0 ∙ or_right (out one.0) (cause_at index core one.0) one.1)
+
+  -- before anything is taken out
+  pub hopeless_whole : IsHopeless index p → AdmitsNone index p (without nothing all_of)
+  hopeless_whole hopeless = admits_none_upward index p all_of (without nothing all_of) (without_nothing nothing all_of (λ k. refl)) (all_admit_none index p hopeless)
+
+  pub installable_whole : IsInstallable index p → Admits index p (without nothing all_of)
+  installable_whole installable = (installable.0, installable.1.1, meets_from_healthy index installable.0 (without nothing all_of) installable.1.0)
+
+  -- where some set meets what is left, these are all
+  pub all_found : (out : NumberSet) (cores : List (List Constraint)) → AreFound index p out cores → Admits index p (without out all_of) → AreCores index p cores
+  all_found out cores found admits =
+      let All : List (List ℕ) → Type 0 = λ lists. AreCoresWithout index p nothing lists in
+      record {
+        positions = found.positions;
+        each_first = subst All (append-nil found.positions) (found.further [] admits);
+        stand_there = found.stand_there;
+      }

@@ -1,0 +1,132 @@
+//! All causes of a package that no healthy set has: that of its first core, then that of the first core of the constraints without the causes
+//! so far, as long as no set with the package meets what is left.
+
+ghost use Rattle.std.specs.Prelude.{◌≡◌, ◌<◌, ℕ, false, true, All, IfOk, OnOk, length, map};
+ghost use Rattle.std.specs.List.Sorted.{IsStrictlyIncreasing};
+ghost use Rattle.std.specs.Option.{ForSome};
+ghost use Rattle.number_sets.specs.Sets.{all_of, members_of};
+ghost use Rattle.deb_index.specs.Constraints.{IsOfIndex, constraints_of};
+ghost use Rattle.deb_health.specs.Causes.{AreCores, cause_at, cause_in, either, is_final, without};
+ghost use Rattle.deb_health.specs.Health.{Admits, AdmitsNone};
+ghost use Rattle.deb_verdict.specs.Formulas.{Tells};
+
+use crate::core_formula::CoreFormula;
+use crate::decision::is_installable_in;
+use crate::first_core::first_positions;
+use crate::groundwork::Groundwork;
+use crate::kept_positions::list_constraints;
+use crate::part::Part;
+use crate::question::refute_part;
+use crate::workspace::Workspace;
+use deb_index::{Constraint, Index};
+use number_sets::sort_once;
+use std::alloc::{AllocError, Global};
+
+/// Whether a constraint is no need that some package of the index meets. `found` is a buffer.
+fn is_final(index: &Index, constraint: Constraint, found: &mut Vec<u32>) -> Result<bool, AllocError>
+    requires { IsOfIndex index.now constraint }
+    ensures { IfOk result (λ last. last ≡ is_final index.now constraint) }
+{
+    match constraint {
+        Constraint::Need(place, number) => Ok(index.answers(place, number, found)?.is_empty()),
+        Constraint::Essential(_) | Constraint::Apart(_, _) | Constraint::Only(_) => Ok(true),
+    }
+}
+
+/// The cause that a core has: its constraints, in their order, without the needs that some package of the index meets.
+///
+/// The core has constraints of the index alone. The one error is want of memory.
+pub fn cause_in(
+    alloc: Global,
+    index: &Index,
+    core: &[Constraint],
+) -> Result<Vec<Constraint>, AllocError>
+    requires { All (IsOfIndex index.now) core.now }
+    ensures { IfOk result (λ cause. cause.items ≡ cause_in index.now core.now) }
+{
+    let mut found = Vec::new(alloc);
+    let mut cause = Vec::new(alloc);
+    for constraint in core {
+        if is_final(index, *constraint, &mut found)? {
+            cause.push(*constraint)?;
+        }
+    }
+    Ok(cause)
+}
+
+/// Takes out the cause that the core at these positions has. `found` is a buffer.
+fn take_out(
+    index: &Index,
+    core: &[u32],
+    found: &mut Vec<u32>,
+    out: &mut Vec<u32>,
+) -> Result<(), AllocError>
+    requires { All (λ k. k < length (constraints_of index.now)) core.now }
+    ensures rising { OnOk result (IsStrictlyIncreasing out.new.items) }
+    ensures taken { OnOk result ((k : ℕ) → members_of out.new.items k ≡ either (members_of out.old.items) (cause_at index.now core.now) k) }
+{
+    for position in core {
+        if is_final(index, index.constraint_at(*position), found)? {
+            out.push(*position)?;
+        }
+    }
+    sort_once(out);
+    Ok(())
+}
+
+/// Whether the constraints that are not taken out admit no set with the package at a place.
+fn is_blocked(
+    alloc: Global,
+    workspace: &mut Workspace,
+    index: &Index,
+    p: u32,
+    out: &[u32],
+    formula: &mut Option<CoreFormula>,
+) -> Result<bool, AllocError>
+    requires place { p < length index.now.packages }
+    requires rising { IsStrictlyIncreasing out.now }
+    requires formula { ForSome formula.old (Tells index.now p) }
+    ensures formula { ForSome formula.new (Tells index.now p) }
+    ensures none { IfOk result (λ blocked. blocked ≡ true → AdmitsNone index.now p (without (members_of out.now) all_of)) }
+    ensures some { IfOk result (λ blocked. blocked ≡ false → Admits index.now p (without (members_of out.now) all_of)) }
+{
+    let left = Part {
+        index,
+        kept: &[],
+        rest: 0,
+        out,
+    };
+    refute_part(alloc, &left, p, formula, workspace)
+}
+
+/// The cores whose causes are all causes of the package at a place of the index of a groundwork: none where some healthy set has the package.
+/// The first is its first core; the next is the first core of the constraints without those of the causes so far, as long as no set with the
+/// package meets what is left. Each core is in the order of the index's list.
+///
+/// They are found in the buffers of an earlier verdict, of whatever package and index, which change no answer. `p` is below the index's
+/// `len()`. The one error is want of memory.
+pub fn cores_in(
+    alloc: Global,
+    workspace: &mut Workspace,
+    groundwork: &Groundwork<'_>,
+    p: u32,
+) -> Result<Vec<Vec<Constraint>>, AllocError>
+    requires { p < length groundwork.now.index.now.packages }
+    ensures cores { IfOk result (λ cores. AreCores groundwork.now.index.now p (map (λ core. core.items) cores.items)) }
+    ensures within { IfOk result (λ cores. All (λ core. All (IsOfIndex groundwork.now.index.now) core.items) cores.items) }
+{
+    let index = groundwork.index;
+    let mut cores = Vec::new(alloc);
+    let mut out = Vec::new(alloc);
+    let mut formula = None;
+    let mut blocked = !is_installable_in(alloc, workspace, groundwork, p)?;
+    while blocked {
+        let positions = first_positions(alloc, workspace, index, p, &out, &mut formula)?;
+        let mut core = Vec::new(alloc);
+        list_constraints(index, &positions, &mut core)?;
+        take_out(index, &positions, &mut workspace.found, &mut out)?;
+        cores.push(core)?;
+        blocked = is_blocked(alloc, workspace, index, p, &out, &mut formula)?;
+    }
+    Ok(cores)
+}
