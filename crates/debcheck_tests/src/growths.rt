@@ -6,7 +6,7 @@ use crate::command_line::asking::{is_plain, read, sides_of};
 use crate::devices::{Feed, Held, sink_of, source_of};
 use crate::pieces::{TEXT, pieces_of};
 use crate::programs::{BACKGROUND, INDEX, WITH_BACKGROUND};
-use crate::progress::{expect_uncrowded, run_beside};
+use crate::progress::{ONE_BY_ONE, expect_uncrowded, run_beside};
 use crate::runs::{CHAIN, CHAIN_REPORT, EMPTY, run_alone};
 use crate::screens::{Beside, Screen};
 use crate::since_runs::{
@@ -277,7 +277,7 @@ fn of_run_program(rt: HostRuntime) -> Result<(), Fail> {
     let screen = Screen::new(true, b"");
     let mut errors = Beside::new(&screen, sink_with_room(rt.alloc(), 1_000, 0)?);
     let output = sink_with_room(rt.alloc(), 1_000, 0)?;
-    let ended = run_beside(&rt, &screen, output, &mut errors)?;
+    let ended = run_beside(&rt, ONE_BY_ONE, &screen, output, &mut errors)?;
     expect_uncrowded(&rt, &screen, &ended.output, &errors);
     expect_ended(&rt, ended.status, &ended.output.held, &errors.held)
 }
