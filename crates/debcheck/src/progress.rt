@@ -14,7 +14,7 @@ use work_draw::Gate;
 const TURNS: u32 = 5;
 
 // What takes the line away: as many blanks as its longest text has bytes.
-const BLANK: &[u8] = b"\r                              \r";
+const BLANK: &[u8] = b"\r                                               \r";
 
 // The turn at a time since the start; the first second has the turns below `TURNS`.
 fn turn_at(spent: Duration) -> u64 {
@@ -26,7 +26,7 @@ fn turn_at(spent: Duration) -> u64 {
 }
 
 // A number's digits, with commas between the thousands.
-fn grouped(alloc: Global, number: u64) -> Result<String, AllocError> {
+fn grouped(alloc: Global, number: u32) -> Result<String, AllocError> {
     let digits = number.to_string(alloc)?;
     let mut text = String::new(alloc);
     let mut left = digits.len();
@@ -40,8 +40,8 @@ fn grouped(alloc: Global, number: u64) -> Result<String, AllocError> {
     Ok(text)
 }
 
-/// Tells on a screen how many packages are checked, on one line that is written over, where that is a terminal and a second has passed.
-/// No call waits for another.
+/// Tells on a screen how many packages are checked, and of how many, on one line that is written over, where that is a terminal and a second has
+/// passed. No call waits for another.
 #[derive(Drop)]
 pub struct Progress<'a, R, T> {
     rt: &'a R,
@@ -49,8 +49,11 @@ pub struct Progress<'a, R, T> {
     // When the run began, where anything is told.
     began: Option<Instant>,
     chunk: u32,
-    // How many chunks are done.
-    done: AtomicU32,
+    // How many packages the check has.
+    all: AtomicU32,
+    // How many of them it begins with, and how many it has checked.
+    seen: AtomicU32,
+    checked: AtomicU32,
     // The turn in which the line was written; `TURNS` where it doesn't stand there.
     told: AtomicU64,
 }
@@ -68,19 +71,53 @@ impl<'a, R: Clock + AllocGlobal, T: IsTerminal + Write + Copy> Progress<'a, R, T
             screen,
             began,
             chunk: config.chunk,
-            done: AtomicU32::new(0),
+            all: AtomicU32::new(0),
+            seen: AtomicU32::new(0),
+            checked: AtomicU32::new(0),
             told: AtomicU64::new(u64::from(TURNS)),
         }
     }
 
+    // How many packages the chunk with a number has: the last one may be small.
+    fn size_of(&self, number: u32) -> u32 {
+        let all = self.all.load(Ordering::SeqCst);
+        let left = all.saturating_sub(self.seen.load(Ordering::SeqCst));
+        left.saturating_sub(number.saturating_mul(self.chunk))
+            .min(self.chunk)
+    }
+
     // Writes the line. Where it cannot be written, nothing is told.
-    fn tell(&self, packages: u64) -> Result<(), AllocError> {
+    fn tell(&self) -> Result<(), AllocError> {
         let alloc = self.rt.alloc();
-        let number = grouped(alloc, packages)?;
-        let line = format!(in alloc; "\r{number} packages checked")?;
+        let all = self.all.load(Ordering::SeqCst);
+        let checked = self.checked.load(Ordering::SeqCst).min(all);
+        let checked = grouped(alloc, checked)?;
+        let all = grouped(alloc, all)?;
+        let line = format!(in alloc; "\r{checked} of {all} packages checked")?;
         let mut screen = self.screen;
         let _ = screen.write(line.as_str().as_bytes());
         Ok(())
+    }
+
+    // Tells how far the check has come, where a turn has begun in which nobody told it.
+    fn tell_in_turn(&self) {
+        let Some(began) = self.began else {
+            return;
+        };
+        let Ok(spent) = began.elapsed(self.rt) else {
+            return;
+        };
+        let turn = turn_at(spent);
+        let told = self.told.load(Ordering::SeqCst);
+        // Of the workers that come in one turn, one writes.
+        if turn > told
+            && self
+                .told
+                .compare_exchange(told, turn, Ordering::SeqCst, Ordering::SeqCst)
+                .is_ok()
+        {
+            let _ = self.tell();
+        }
     }
 
     /// Takes the line away, where it stands.
@@ -94,29 +131,21 @@ impl<'a, R: Clock + AllocGlobal, T: IsTerminal + Write + Copy> Progress<'a, R, T
 }
 
 impl<R: Clock + AllocGlobal, T: IsTerminal + Write + Copy> Gate for Progress<'_, R, T> {
+    // The line of an earlier check goes, since it may be longer.
+    fn start(&self, seen: u32, all: u32) {
+        self.wipe();
+        self.all.store(all, Ordering::SeqCst);
+        self.seen.store(seen, Ordering::SeqCst);
+        self.checked.store(seen, Ordering::SeqCst);
+        self.tell_in_turn();
+    }
+
     fn before(&self, _number: u32) {}
 
-    fn after(&self, _number: u32) {
-        let Some(began) = self.began else {
-            return;
-        };
-        // The last chunk may be a small one, so one of those that are done isn't counted.
-        let full = self.done.fetch_add(1, Ordering::SeqCst);
-        let Ok(spent) = began.elapsed(self.rt) else {
-            return;
-        };
-        let turn = turn_at(spent);
-        let told = self.told.load(Ordering::SeqCst);
-        // Of the workers that come in one turn, one writes.
-        if full > 0
-            && turn > told
-            && self
-                .told
-                .compare_exchange(told, turn, Ordering::SeqCst, Ordering::SeqCst)
-                .is_ok()
-        {
-            let _ = self.tell(u64::from(full).saturating_mul(u64::from(self.chunk)));
-        }
+    fn after(&self, number: u32) {
+        self.checked
+            .fetch_add(self.size_of(number), Ordering::SeqCst);
+        self.tell_in_turn();
     }
 }
 

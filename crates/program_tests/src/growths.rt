@@ -1,6 +1,6 @@
 //! A whole program that can want memory; trials/growths runs it with each growth refused in turn.
 
-use crate::progress::{expect_uncrowded, run_beside};
+use crate::progress::{ONE_BY_ONE, expect_uncrowded, run_beside};
 use std::process::Abort;
 use std::test::Fail;
 use test_devices::{Beside, CHAIN_REPORT, Held, Screen, sink_with_room};
@@ -11,7 +11,7 @@ fn of_run_program(rt: HostRuntime) -> Result<(), Fail> {
     let screen = Screen::new(true, b"");
     let mut errors = Beside::new(&screen, sink_with_room(rt.alloc(), 1_000, 0)?);
     let output = sink_with_room(rt.alloc(), 1_000, 0)?;
-    let ended = run_beside(&rt, &screen, output, &mut errors)?;
+    let ended = run_beside(&rt, ONE_BY_ONE, &screen, output, &mut errors)?;
     expect_uncrowded(&rt, &screen, &ended.output, &errors);
     expect_ended(&rt, ended.status, &ended.output.held, &errors.held)
 }

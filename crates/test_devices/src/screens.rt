@@ -18,7 +18,9 @@ pub struct Screen<'a> {
     text: &'a [u8],
     lines: AtomicU32,
     others: AtomicU32,
-    stands: AtomicU32,
+    // How much of the screen's last line is written on.
+    width: AtomicU64,
+    ends_left: AtomicU32,
 }
 
 impl<'a> Screen<'a> {
@@ -29,7 +31,8 @@ impl<'a> Screen<'a> {
             text,
             lines: AtomicU32::new(0),
             others: AtomicU32::new(0),
-            stands: AtomicU32::new(0),
+            width: AtomicU64::new(0),
+            ends_left: AtomicU32::new(0),
         }
     }
 
@@ -45,7 +48,20 @@ impl<'a> Screen<'a> {
 
     /// Whether a line stands there.
     pub fn stands(&self) -> bool {
-        self.stands.load(Ordering::SeqCst) > 0
+        self.width.load(Ordering::SeqCst) > 0
+    }
+
+    /// How often the end of a line was left there, since what was written over it was shorter.
+    pub fn ends_left(&self) -> u32 {
+        self.ends_left.load(Ordering::SeqCst)
+    }
+
+    /// Writes over the line that stands there, of which so much stays.
+    fn cover(&self, written: usize, stays: usize) {
+        let stood = self.width.swap(stays as u64, Ordering::SeqCst);
+        if stood > written as u64 {
+            self.ends_left.fetch_add(1, Ordering::SeqCst);
+        }
     }
 }
 
@@ -55,15 +71,14 @@ impl IsTerminal for &Screen<'_> {
     }
 }
 
-/// Thirty blanks between two returns take a line away.
-const BLANK: &[u8] = b"\r                              \r";
-
+/// What ends with a return takes a line away; behind another return it has as many blanks.
 impl Write for &Screen<'_> {
     fn write(&mut self, buf: &[u8]) -> io::Result<usize> {
-        if buf == BLANK {
-            self.stands.store(0, Ordering::SeqCst);
+        let width = buf.len().saturating_sub(1);
+        if buf.ends_with(b"\r") {
+            self.cover(width.saturating_sub(1), 0);
         } else {
-            self.stands.store(1, Ordering::SeqCst);
+            self.cover(width, width);
             let count = if buf == self.text {
                 &self.lines
             } else {
