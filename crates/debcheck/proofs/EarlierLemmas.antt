@@ -1,10 +1,9 @@
 -- Lemmas on a text that is read piece by piece.
-use Rattle.std.proofs.Common.{◌≡◌, ◌≢◌, ◌∙◌, ◌⊎◌, ℕ, ◌+◌, ◌<◌, ◌≤◌, Bool, false, List, [], ◌++◌, Option, Some, None, Result, Ok, Err, IfSome, OnOk, ap, append-nil, append_assoc, arith, inl, inr, length, length-append, refl, subst, sym}
+use Rattle.std.proofs.Common.{◌≡◌, ◌≢◌, ◌∙◌, ℕ, ◌+◌, ◌<◌, ◌≤◌, Bool, false, List, [], ◌++◌, Option, Some, None, Result, Ok, Err, IfSome, OnOk, ap, append-nil, append_assoc, arith, inl, inr, length, length-append, refl, subst, sym}
 use Rattle.std.specs.Io.KnownBytes.{Consumes, IsAtEnd}
 use Rattle.deb_control.specs.Stanzas.{IsClosed, runs, stanzas_of}
 use Rattle.deb_control.proofs.LineLemmas.{content_lines-nil}
 use Rattle.deb_control.proofs.RunLemmas.{runs-nil, stanzas_of-is}
-use Rattle.deb_index.specs.declared.error.BothError.TheVariants.{Fore}
 use Rattle.deb_index.specs.declared.error.IndexError.{IndexError}
 use Rattle.deb_index.specs.declared.error.IndexError.TheVariants as index_error
 use Rattle.deb_index.specs.Packages.{IndexView}

@@ -1,4 +1,4 @@
-use Rattle.std.proofs.Common.{◌≡◌, ◌+◌, ◌≤◌, List, length, ℕ}
+use Rattle.std.proofs.Common.{◌≡◌, ◌+◌, List, length, ℕ}
 use Rattle.std.specs.Io.KnownBytes.{Consumes}
 use Rattle.debcheck.proofs.input.skip_rest.Given as goal
 
