@@ -7,7 +7,7 @@ ghost use Rattle.debcheck.specs.Standing.{Merges, StandFor, is_unmarked, wanted_
 
 use deb_index::Index;
 use deb_report::{Config, Show};
-use deb_verdict::{Verdict, Wanted, find_installable};
+use deb_verdict::{Groundwork, Verdict, Wanted, find_installable_on};
 use std::alloc::{AllocError, Global};
 use std::thread::Threads;
 use work_draw::{Gate, check_told};
@@ -59,9 +59,44 @@ pub(crate) fn wanted_of(config: &Config) -> Wanted
     }
 }
 
-// As much of the verdicts of the asked places as is wanted, in their order. Where no set is, it is enough to know that a package can be installed: what
-// `find_installable` marks has a verdict with an empty set, and only the other places are checked by workers. The chunks that the gate is told of are
-// those of these places.
+// As much of the verdicts of the asked places of a groundwork's index as is wanted, in their order. Where no set is, it is enough to know that a package
+// can be installed: what `find_installable_on` marks has a verdict with an empty set, and only the other places are checked by workers. The chunks that
+// the gate is told of are those of these places.
+fn find_on<G: Gate + Sync, R: Threads + Sync>(
+    rt: &R,
+    alloc: Global,
+    config: &Config,
+    wanted: Wanted,
+    groundwork: &Groundwork<'_>,
+    asked: &[u32],
+    gate: &G,
+) -> Result<Vec<Verdict>, AllocError>
+    requires places { All (λ place. place < length groundwork.now.index.now.packages) asked.now }
+    requires few { length asked.now < 2 ^ 32 }
+    requires workers { (0 < config.now.workers) × (config.now.workers ≤ 64) }
+    requires chunk { 0 < config.now.chunk }
+    ensures same { IfOk result (λ v. length v.items ≡ length asked.now) }
+    ensures within { IfOk result (λ v. All (SpeaksOf groundwork.now.index.now) (map verdict_view v.items)) }
+    ensures stand { IfOk result (λ v. StandFor wanted groundwork.now.index.now asked.now (map verdict_view v.items)) }
+{
+    let (workers, chunk) = (config.workers, config.chunk);
+    let all = asked.len() as u32;
+    if wanted.sets {
+        gate.start(0, all);
+        let verdicts = check_told(rt, alloc, groundwork, wanted, asked, workers, chunk, gate)?;
+        return Ok(verdicts);
+    }
+    let installable = find_installable_on(alloc, groundwork, asked)?;
+    let marks = installable.as_slice();
+    let left = unmarked(alloc, asked, marks)?;
+    let left = left.as_slice();
+    gate.start(all - left.len() as u32, all);
+    let found = check_told(rt, alloc, groundwork, wanted, left, workers, chunk, gate)?;
+    let told = merged(alloc, asked, marks, found)?;
+    Ok(told)
+}
+
+// As much of the verdicts of the asked places as is wanted, in their order, on one groundwork for all of them.
 pub(crate) fn find_verdicts<G: Gate + Sync, R: Threads + Sync>(
     rt: &R,
     alloc: Global,
@@ -79,16 +114,6 @@ pub(crate) fn find_verdicts<G: Gate + Sync, R: Threads + Sync>(
     ensures within { IfOk result (λ v. All (SpeaksOf index.now) (map verdict_view v.items)) }
     ensures stand { IfOk result (λ v. StandFor wanted index.now asked.now (map verdict_view v.items)) }
 {
-    let (workers, chunk) = (config.workers, config.chunk);
-    if wanted.sets {
-        let verdicts = check_told(rt, alloc, index, wanted, asked, workers, chunk, gate)?;
-        return Ok(verdicts);
-    }
-    let installable = find_installable(alloc, index, asked)?;
-    let marks = installable.as_slice();
-    let left = unmarked(alloc, asked, marks)?;
-    let left = left.as_slice();
-    let found = check_told(rt, alloc, index, wanted, left, workers, chunk, gate)?;
-    let told = merged(alloc, asked, marks, found)?;
-    Ok(told)
+    let groundwork = Groundwork::new(alloc, index)?;
+    find_on(rt, alloc, config, wanted, &groundwork, asked, gate)
 }

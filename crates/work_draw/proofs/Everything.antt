@@ -1,12 +1,12 @@
 -- Where all of each verdict is wanted, what is found are the verdicts.
-use Rattle.std.proofs.Common.{◌≡◌, ℕ, List, sym, subst}
+use Rattle.std.proofs.Common.{◌≡◌, ℕ, List, subst}
 use Rattle.deb_index.specs.Packages.{IndexView}
 use Rattle.deb_health.specs.Verdicts.{IsVerdict, VerdictView, verdict_view}
 use Rattle.deb_health.specs.declared.answer.Verdict.{Verdict}
 use Rattle.deb_verdict.specs.Told.{IsToldVerdict, everything}
 use Rattle.deb_verdict.specs.declared.wanted.Wanted.{Wanted}
 use Rattle.deb_verdict.proofs.ToldLemmas.{all_told}
-use Rattle.work_draw.specs.Checks.{AnswersEach, IsFound, IsFoundAs, chunk_of}
+use Rattle.work_draw.specs.Checks.{AnswersEach, IsFound, IsFoundAs}
 use Rattle.work_draw.specs.declared.pieces.Piece.{Piece}
 use Rattle.work_draw.specs.Pieces.{AreFound, Find}
 use Rattle.work_draw.proofs.Answered.{AnswersEach-weaker}

@@ -1,5 +1,8 @@
-//! The verdicts of one chunk of the asked places, and the gate that is told of it.
+//! The verdicts of one chunk of the asked places, what finds them, and the gate that is told of it.
 ghost use Rattle.std.specs.Prelude.{◌<◌, ◌*◌, All, IfOk, length};
+ghost use Rattle.deb_index.specs.Packages.{IndexView};
+ghost use Rattle.deb_health.specs.Verdicts.{SpeaksOf, verdict_view};
+ghost use Rattle.deb_verdict.specs.Told.{IsToldVerdict};
 ghost use Rattle.work_draw.specs.Checks.{AnswersEach, IsFoundAs, chunk_of};
 
 use deb_verdict::{Groundwork, Verdict, Wanted, Workspace, told_verdict_in};
@@ -7,6 +10,10 @@ use std::alloc::{AllocError, Global};
 
 /// Is told of each chunk, by the worker that checks it; shared between threads.
 pub trait Gate {
+    /// Before the first chunk: how many of the packages that are asked for are known already, and how many there are. Whoever knows the
+    /// first number calls it; `check_all` and `check_told` don't.
+    fn start(&self, _seen: u32, _all: u32) {}
+
     /// Before the chunk with this number, counted from 0, is checked. May wait.
     fn before(&self, number: u32);
 
@@ -23,30 +30,63 @@ impl Gate for OpenGate {
     fn after(&self, _number: u32) {}
 }
 
+/// Finds the verdicts of an index; shared between threads. A groundwork does, and workers name no type beside this trait: a closure for another thread
+/// tells its caller nothing where it captures a struct of references.
+pub(crate) trait Finder {
+    // The index that the verdicts speak of.
+    ghost index: { Self → IndexView };
+
+    /// As much of the verdict of the package at a place as is wanted, found in the buffers of an earlier one.
+    fn find(
+        &self,
+        alloc: Global,
+        workspace: &mut Workspace,
+        wanted: Wanted,
+        place: u32,
+    ) -> Result<Verdict, AllocError>
+        requires { place < length (index self.now).packages }
+        ensures told { IfOk result (λ found. IsToldVerdict wanted (index self.now) place (verdict_view found)) }
+        ensures within { IfOk result (λ found. SpeaksOf (index self.now) (verdict_view found)) };
+}
+
+impl Finder for Groundwork<'_> {
+    ghost index = { λ groundwork. groundwork.index.now };
+
+    fn find(
+        &self,
+        alloc: Global,
+        workspace: &mut Workspace,
+        wanted: Wanted,
+        place: u32,
+    ) -> Result<Verdict, AllocError> {
+        told_verdict_in(alloc, workspace, self, place, wanted)
+    }
+}
+
 /// As much of the verdict of each place as is wanted, found in one workspace.
-fn verdicts_of(
+fn verdicts_of<F: Finder>(
     alloc: Global,
     workspace: &mut Workspace,
-    groundwork: &Groundwork<'_>,
+    finder: &F,
     wanted: Wanted,
     places: &[u32],
 ) -> Result<Vec<Verdict>, AllocError>
-    requires { All (λ place. place < length groundwork.now.index.now.packages) places.now }
-    ensures { IfOk result (λ v. AnswersEach (IsFoundAs wanted groundwork.now.index.now) places.now v.items) }
+    requires { All (λ place. place < length (F.index finder.now).packages) places.now }
+    ensures { IfOk result (λ v. AnswersEach (IsFoundAs wanted (F.index finder.now)) places.now v.items) }
 {
     let mut verdicts = Vec::with_capacity(alloc, places.len())?;
     for place in places {
-        let verdict = told_verdict_in(alloc, workspace, groundwork, *place, wanted)?;
+        let verdict = finder.find(alloc, workspace, wanted, *place)?;
         verdicts.push(verdict)?;
     }
     Ok(verdicts)
 }
 
 /// As much of the verdicts of the chunk with a number as is wanted. The gate is told of the chunk before and, if all were found, after.
-pub(crate) fn check_chunk<G: Gate>(
+pub(crate) fn check_chunk<F: Finder, G: Gate>(
     alloc: Global,
     workspace: &mut Workspace,
-    groundwork: &Groundwork<'_>,
+    finder: &F,
     wanted: Wanted,
     asked: &[u32],
     chunk: u32,
@@ -54,13 +94,13 @@ pub(crate) fn check_chunk<G: Gate>(
     gate: &G,
 ) -> Result<Vec<Verdict>, AllocError>
     requires begins { number * chunk < length asked.now }
-    requires places { All (λ place. place < length groundwork.now.index.now.packages) asked.now }
-    ensures { IfOk result (λ v. AnswersEach (IsFoundAs wanted groundwork.now.index.now) (chunk_of asked.now chunk number) v.items) }
+    requires places { All (λ place. place < length (F.index finder.now).packages) asked.now }
+    ensures { IfOk result (λ v. AnswersEach (IsFoundAs wanted (F.index finder.now)) (chunk_of asked.now chunk number) v.items) }
 {
     gate.before(number);
     let rest = &asked[number as usize * chunk as usize..];
     let size = rest.len().min(chunk as usize);
-    let verdicts = verdicts_of(alloc, workspace, groundwork, wanted, &rest[..size])?;
+    let verdicts = verdicts_of(alloc, workspace, finder, wanted, &rest[..size])?;
     gate.after(number);
     Ok(verdicts)
 }

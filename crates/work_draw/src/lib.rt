@@ -4,7 +4,7 @@
 //!
 //! - `hand`: what a drawer knows, and the rule that ties the drawers of a board to its claim word.
 //! - `board`: the board and its drawers, which split, draw, join and close.
-//! - `chunks`: the verdicts of one chunk of the asked places, and the gate that is told of it.
+//! - `chunks`: the verdicts of one chunk of the asked places, what finds them, and the gate that is told of it.
 //! - `pieces`: what is made of the numbers that are drawn, and the order in which it is gathered.
 //! - `workers`: a worker, who draws until no number is left, and a crew of them.
 //! - `check`: all of it, from the asked places to their verdicts, or to as much of them as is wanted.

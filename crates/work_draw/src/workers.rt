@@ -5,27 +5,17 @@ ghost use Rattle.work_draw.specs.Checks.{IsFoundAs, chunk_count};
 ghost use Rattle.work_draw.specs.Pieces.{AreFound, Find, Gains, GainsButLast, GainsInAll, IsReady, after_crew};
 
 use crate::board::{Board, Drawer};
-use crate::chunks::{Gate, check_chunk};
+use crate::chunks::{Finder, Gate, check_chunk};
 use crate::pieces::{Drawn, Piece};
-use deb_index::Index;
 use deb_verdict::{Groundwork, Wanted, Workspace};
 use std::alloc::{AllocError, Global};
 use std::thread;
 use std::thread::Threads;
 
-/// The workspace and the groundwork of a worker, for all its chunks.
-fn workplace<'a>(alloc: Global, index: &'a Index) -> Result<(Workspace, Groundwork<'a>), AllocError>
-    ensures { IfOk result (λ r. r.1.index.now ≡ index.now) }
-{
-    let workspace = Workspace::new(alloc)?;
-    let groundwork = Groundwork::new(alloc, index)?;
-    Ok((workspace, groundwork))
-}
-
 /// What each worker of a crew runs: as `draw_pieces`, of as much of the verdicts as is wanted.
-fn draw_told<G: Gate>(
+fn draw_told<F: Finder, G: Gate>(
     alloc: Global,
-    index: &Index,
+    finder: &F,
     wanted: Wanted,
     asked: &[u32],
     chunk: u32,
@@ -33,25 +23,25 @@ fn draw_told<G: Gate>(
     drawer: Drawer,
     gate: &G,
 ) -> Drawn
-    requires { IsReady index.now asked.now chunk board.now drawer 1 }
+    requires { IsReady (F.index finder.now) asked.now chunk board.now drawer 1 }
     ensures same { result.drawer ≡ record drawer { numbers = result.drawer.numbers; past = result.drawer.past; done = result.drawer.done } }
     ensures gained { result.refused ≡ false → (result.drawer.done ≡ true) × Gains drawer.numbers result.pieces.items result.drawer.numbers }
     ensures refused { GainsButLast drawer.numbers result.pieces.items result.drawer.numbers }
-    ensures found { Find (IsFoundAs wanted index.now) asked.now chunk result.pieces.items }
+    ensures found { Find (IsFoundAs wanted (F.index finder.now)) asked.now chunk result.pieces.items }
 {
     let mut drawn = Drawn {
         drawer,
         pieces: Vec::new(alloc),
         refused: true,
     };
-    let Ok((mut workspace, groundwork)) = workplace(alloc, index) else {
+    let Ok(mut workspace) = Workspace::new(alloc) else {
         return drawn;
     };
     while let Some(number) = board.draw(&mut drawn.drawer) {
         let Ok(verdicts) = check_chunk(
             alloc,
             &mut workspace,
-            &groundwork,
+            finder,
             wanted,
             asked,
             chunk,
@@ -68,12 +58,12 @@ fn draw_told<G: Gate>(
     drawn
 }
 
-/// What each worker runs, in one workspace and on one groundwork: draws until no number is left, and makes a piece of each, in the order
-/// of the draws. Where memory is refused it stops with `refused`, and the last number drawn may lack its piece; else the drawer is done.
-/// It waits for the gate alone.
+/// What each worker runs, in one workspace and on a groundwork that it may share with others: draws until no number is left, and makes a piece of
+/// each, in the order of the draws. Where memory is refused it stops with `refused`, and the last number drawn may lack its piece; else the drawer is
+/// done. It waits for the gate alone.
 pub fn draw_pieces<G: Gate>(
     alloc: Global,
-    index: &Index,
+    groundwork: &Groundwork<'_>,
     asked: &[u32],
     chunk: u32,
     board: &Board,
@@ -81,23 +71,23 @@ pub fn draw_pieces<G: Gate>(
     gate: &G,
 ) -> Drawn
     requires board { drawer.board ≡ board.now }
-    requires places { All (λ place. place < length index.now.packages) asked.now }
+    requires places { All (λ place. place < length groundwork.now.index.now.packages) asked.now }
     requires chunk { 0 < chunk }
     requires total { board.now.total ≡ chunk_count asked.now chunk }
     ensures same { result.drawer ≡ record drawer { numbers = result.drawer.numbers; past = result.drawer.past; done = result.drawer.done } }
     ensures gained { result.refused ≡ false → (result.drawer.done ≡ true) × Gains drawer.numbers result.pieces.items result.drawer.numbers }
     ensures refused { GainsButLast drawer.numbers result.pieces.items result.drawer.numbers }
-    ensures found { AreFound index.now asked.now chunk result.pieces.items }
+    ensures found { AreFound groundwork.now.index.now asked.now chunk result.pieces.items }
 {
     let wanted = Wanted::everything();
-    draw_told(alloc, index, wanted, asked, chunk, board, drawer, gate)
+    draw_told(alloc, groundwork, wanted, asked, chunk, board, drawer, gate)
 }
 
 /// The crew of `crew`, for as much of the verdicts as is wanted.
-pub(crate) fn crew_told<G: Gate + Sync, R: Threads + Sync>(
+pub(crate) fn crew_told<F: Finder + Sync, G: Gate + Sync, R: Threads + Sync>(
     rt: &R,
     alloc: Global,
-    index: &Index,
+    finder: &F,
     wanted: Wanted,
     asked: &[u32],
     chunk: u32,
@@ -106,17 +96,17 @@ pub(crate) fn crew_told<G: Gate + Sync, R: Threads + Sync>(
     workers: u32,
     gate: &G,
 ) -> Result<(Drawer, Vec<Piece>), AllocError>
-    requires { IsReady index.now asked.now chunk board.now drawer workers }
+    requires { IsReady (F.index finder.now) asked.now chunk board.now drawer workers }
     ensures drawer { IfOk result (λ r. r.0 ≡ after_crew drawer workers r.0.past r.0.numbers) }
     ensures gained { IfOk result (λ r. GainsInAll drawer.numbers r.1.items r.0.numbers) }
-    ensures found { IfOk result (λ r. Find (IsFoundAs wanted index.now) asked.now chunk r.1.items) }
+    ensures found { IfOk result (λ r. Find (IsFoundAs wanted (F.index finder.now)) asked.now chunk r.1.items) }
 {
     if workers == 1 {
         let Drawn {
             drawer,
             pieces,
             refused,
-        } = draw_told(alloc, index, wanted, asked, chunk, board, drawer, gate);
+        } = draw_told(alloc, finder, wanted, asked, chunk, board, drawer, gate);
         return if refused {
             Err(AllocError)
         } else {
@@ -129,23 +119,23 @@ pub(crate) fn crew_told<G: Gate + Sync, R: Threads + Sync>(
     let (first, second) = thread::join(
         rt,
         move || -> Result<(Drawer, Vec<Piece>), AllocError>
-            requires { IsSync R.row × IsSync G.row × IsReady index.now asked.now chunk board.now theirs half }
+            requires { IsSync R.row × IsSync F.row × IsSync G.row × IsReady (F.index finder.now) asked.now chunk board.now theirs half }
             ensures drawer { IfOk result (λ r. r.0 ≡ after_crew theirs half r.0.past r.0.numbers) }
             ensures gained { IfOk result (λ r. GainsInAll theirs.numbers r.1.items r.0.numbers) }
-            ensures found { IfOk result (λ r. Find (IsFoundAs wanted index.entry.now) asked.entry.now chunk r.1.items) }
+            ensures found { IfOk result (λ r. Find (IsFoundAs wanted (F.index finder.entry.now)) asked.entry.now chunk r.1.items) }
         {
             crew_told(
-                rt, alloc, index, wanted, asked, chunk, board, theirs, half, gate,
+                rt, alloc, finder, wanted, asked, chunk, board, theirs, half, gate,
             )
         },
         move || -> Result<(Drawer, Vec<Piece>), AllocError>
-            requires { IsSync R.row × IsSync G.row × IsReady index.now asked.now chunk board.now mine rest }
+            requires { IsSync R.row × IsSync F.row × IsSync G.row × IsReady (F.index finder.now) asked.now chunk board.now mine rest }
             ensures drawer { IfOk result (λ r. r.0 ≡ after_crew mine rest r.0.past r.0.numbers) }
             ensures gained { IfOk result (λ r. GainsInAll mine.numbers r.1.items r.0.numbers) }
-            ensures found { IfOk result (λ r. Find (IsFoundAs wanted index.entry.now) asked.entry.now chunk r.1.items) }
+            ensures found { IfOk result (λ r. Find (IsFoundAs wanted (F.index finder.entry.now)) asked.entry.now chunk r.1.items) }
         {
             crew_told(
-                rt, alloc, index, wanted, asked, chunk, board, mine, rest, gate,
+                rt, alloc, finder, wanted, asked, chunk, board, mine, rest, gate,
             )
         },
     );
@@ -160,7 +150,7 @@ pub(crate) fn crew_told<G: Gate + Sync, R: Threads + Sync>(
 pub fn crew<G: Gate + Sync, R: Threads + Sync>(
     rt: &R,
     alloc: Global,
-    index: &Index,
+    groundwork: &Groundwork<'_>,
     asked: &[u32],
     chunk: u32,
     board: &Board,
@@ -169,16 +159,16 @@ pub fn crew<G: Gate + Sync, R: Threads + Sync>(
     gate: &G,
 ) -> Result<(Drawer, Vec<Piece>), AllocError>
     requires board { drawer.board ≡ board.now }
-    requires places { All (λ place. place < length index.now.packages) asked.now }
+    requires places { All (λ place. place < length groundwork.now.index.now.packages) asked.now }
     requires chunk { 0 < chunk }
     requires total { board.now.total ≡ chunk_count asked.now chunk }
     requires workers { (0 < workers) × (workers ≤ drawer.spare + 1) }
     ensures drawer { IfOk result (λ r. r.0 ≡ after_crew drawer workers r.0.past r.0.numbers) }
     ensures gained { IfOk result (λ r. GainsInAll drawer.numbers r.1.items r.0.numbers) }
-    ensures found { IfOk result (λ r. AreFound index.now asked.now chunk r.1.items) }
+    ensures found { IfOk result (λ r. AreFound groundwork.now.index.now asked.now chunk r.1.items) }
 {
     let wanted = Wanted::everything();
     crew_told(
-        rt, alloc, index, wanted, asked, chunk, board, drawer, workers, gate,
+        rt, alloc, groundwork, wanted, asked, chunk, board, drawer, workers, gate,
     )
 }

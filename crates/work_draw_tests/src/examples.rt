@@ -1,8 +1,9 @@
-//! An index of three packages, and places of an index.
+//! An index of three packages, places of an index, and the groundwork of one that has them.
 
-ghost use Rattle.std.specs.Prelude.{◌<◌, All, OnOk, length};
+ghost use Rattle.std.specs.Prelude.{◌<◌, All, IfOk, OnOk, length};
 
 use deb_index::Index;
+use deb_verdict::Groundwork;
 use std::alloc::Global;
 use std::test::Fail;
 
@@ -44,4 +45,20 @@ pub fn check_places(index: &Index, places: &[u32]) -> Result<(), &'static str>
         }
     }
     Ok(())
+}
+
+/// The groundwork of an index that has these places.
+///
+/// # Errors
+///
+/// There is no such place, or want of memory.
+pub fn ground_of<'a>(
+    alloc: Global,
+    index: &'a Index,
+    places: &[u32],
+) -> Result<Groundwork<'a>, Fail>
+    ensures { IfOk result (λ groundwork. All (λ place. place < length groundwork.index.now.packages) places.now) }
+{
+    check_places(index, places)?;
+    Ok(Groundwork::new(alloc, index)?)
 }

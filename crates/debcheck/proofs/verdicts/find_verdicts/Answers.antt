@@ -1,36 +1,23 @@
-use Rattle.std.proofs.Common.{◌∙◌, ◌≤◌, arith, length, map, sym}
-use Rattle.std.proofs.lemmas.List.{length-map}
-use Rattle.deb_health.specs.Verdicts.{verdict_view}
-use Rattle.debcheck.proofs.StandingLemmas.{Told, left-few, left-within, stands-told, told_by_marks}
+use Rattle.std.proofs.Common.{◌<◌, All, Global, Vec, length, map, subst, sym}
+use Rattle.std.proofs.lemmas.Result.{IfOk-weaker}
+use Rattle.deb_index.specs.Packages.{IndexView}
+use Rattle.deb_health.specs.Verdicts.{SpeaksOf, verdict_view}
+use Rattle.deb_health.specs.declared.answer.Verdict.{Verdict}
+use Rattle.debcheck.specs.Standing.{StandFor}
 use Rattle.debcheck.proofs.verdicts.find_verdicts.Goals as goal
 
-pub returns-then-wanted-clause-stand : goal.returns-then-wanted-clause-stand
-returns-then-wanted-clause-stand g c =
-    stands-told c.args.wanted c.args.index.now c.args.asked.now (map verdict_view c.in_ok-verdicts.verdicts.items) c.requires.places c.in_ok-verdicts.ensures.each
+pub find_on-requires-clause-places : goal.find_on-requires-clause-places
+find_on-requires-clause-places g c κs within =
+    subst (λ (index : IndexView). All (λ place. place < length index.packages) c.args.asked.now) (sym c.in_ok-groundwork.ensures) c.requires.places
 
-pub check_told-requires-2-clause-places : goal.check_told-requires-2-clause-places
-check_told-requires-2-clause-places g c κs within =
-    left-within c.as_slice-marks.result.now c.args.asked.now c.in_ok-left.left.items c.as_slice-left.result.now c.as_slice-left.ensures.value c.in_ok-left.ensures
-    (length c.args.index.now.packages) c.requires.places
+pub returns-clause-within : goal.returns-clause-within
+returns-clause-within g c =
+    IfOk-weaker c.find_on.result _ _
+    (λ (all : Vec Verdict Global) within. subst (λ (index : IndexView). All (SpeaksOf index) (map verdict_view all.items)) c.in_ok-groundwork.ensures within)
+    c.find_on.ensures.within
 
-pub check_told-requires-2-clause-few : goal.check_told-requires-2-clause-few
-check_told-requires-2-clause-few g c κs within =
-    let fewer : length c.as_slice-left.result.now ≤ length c.args.asked.now =
-    left-few c.as_slice-marks.result.now c.args.asked.now c.in_ok-left.left.items c.as_slice-left.result.now c.as_slice-left.ensures.value c.in_ok-left.ensures
-    in
-    omega (arith, fewer, c.requires.few)
-
-pub returns : goal.returns
-returns g c =
-    let told = map verdict_view c.in_ok-told.told.items in
-    let tells : Told c.args.wanted c.args.index.now c.args.asked.now told =
-    told_by_marks c.args.wanted c.if-wanted.false c.args.index.now c.in_ok-installable.installable.items c.as_slice-marks.result.now c.args.asked.now c.in_ok-left.left.items c.as_slice-left.result.now
-    (map verdict_view c.in_ok-found.found.items) told
-    c.as_slice-marks.ensures.value c.in_ok-installable.ensures.count c.in_ok-installable.ensures.marks c.requires.places c.as_slice-left.ensures.value c.in_ok-left.ensures
-    c.in_ok-found.ensures.each c.in_ok-found.ensures.within c.in_ok-told.ensures
-    in
-    record {
-      same = sym (length-map c.in_ok-told.told.items verdict_view) ∙ tells.count;
-      within = tells.within;
-      stand = stands-told c.args.wanted c.args.index.now c.args.asked.now told c.requires.places tells.each;
-    }
+pub returns-clause-stand : goal.returns-clause-stand
+returns-clause-stand g c =
+    IfOk-weaker c.find_on.result _ _
+    (λ (all : Vec Verdict Global) stand. subst (λ (index : IndexView). StandFor c.args.wanted index c.args.asked.now (map verdict_view all.items)) c.in_ok-groundwork.ensures stand)
+    c.find_on.ensures.stand

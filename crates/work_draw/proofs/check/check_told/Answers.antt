@@ -1,4 +1,4 @@
-use Rattle.std.proofs.Common.{◌≡◌, ◌*◌, ◌≤◌, ℕ, [], IfOk, List, Vec, Global, length, refl, ap, subst, sym}
+use Rattle.std.proofs.Common.{◌≡◌, ◌*◌, ◌≤◌, ℕ, [], IfOk, Vec, Global, length, refl, ap, subst, sym}
 use Rattle.std.proofs.lemmas.Grind.{div_ceil_times}
 use Rattle.std.proofs.lemmas.List.Sorted.{All-permutation}
 use Rattle.std.proofs.lemmas.Result.{IfOk-weaker}
@@ -24,7 +24,7 @@ gather-requires g c =
 
 pub returns : goal.returns
 returns g c =
-    let index = c.args.index.now in
+    let index = c.args.groundwork.now.index.now in
     let asked = c.args.asked.now in
     let found = IsFoundAs c.args.wanted index in
     let total = c.div_ceil-total.result in

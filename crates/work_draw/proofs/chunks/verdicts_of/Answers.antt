@@ -5,6 +5,6 @@ use Rattle.work_draw.proofs.Answered.{AnswersEach_more}
 use Rattle.work_draw.proofs.chunks.verdicts_of.Goals as goal
 
 pub loop-place-preserved : goal.loop-place-preserved
-loop-place-preserved c =
-    subst (λ (l : List Verdict). AnswersEach (IsFoundAs c.args.wanted c.args.groundwork.now.index.now) (take (c.loop-place.place-index + 1) c.args.places.now) l) (sym c.in_ok-push.ensures.items)
-    (AnswersEach_more (IsFoundAs c.args.wanted c.args.groundwork.now.index.now) c.args.places.now c.loop-place.place-index 0 c.loop-place.verdicts.items c.in_ok-verdict.verdict (omega arith) c.loop-place.invariant (c.in_ok-verdict.ensures.told, c.in_ok-verdict.ensures.within))
+loop-place-preserved g c =
+    subst (λ (l : List Verdict). AnswersEach (IsFoundAs c.args.wanted (g.F.Finder.index c.args.finder.now)) (take (c.loop-place.place-index + 1) c.args.places.now) l) (sym c.in_ok-push.ensures.items)
+    (AnswersEach_more (IsFoundAs c.args.wanted (g.F.Finder.index c.args.finder.now)) c.args.places.now c.loop-place.place-index 0 c.loop-place.verdicts.items c.in_ok-verdict.verdict (omega arith) c.loop-place.invariant (c.in_ok-verdict.ensures.told, c.in_ok-verdict.ensures.within))

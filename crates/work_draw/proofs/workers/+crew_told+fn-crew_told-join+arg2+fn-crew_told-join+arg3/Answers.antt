@@ -22,7 +22,7 @@ returns-clause-gained g t c =
 
 pub returns-clause-found : goal.returns-clause-found
 returns-clause-found g t c =
-    let found = IsFoundAs c.args.wanted c.args.index.now in
+    let found = IsFoundAs c.args.wanted (g.F.Finder.index c.args.finder.now) in
     let asked = c.args.asked.now in
     let size = c.args.chunk in
     let first : Find found asked size c.in_ok-other.pieces.items = search rules in

@@ -9,7 +9,7 @@ invariant-loop-number g l = record {
   refused : l.drawn.refused ≡ true;
   same : l.drawn.drawer ≡ record l.fn.drawer { numbers = l.drawn.drawer.numbers };
   gained : Gains l.fn.drawer.numbers l.drawn.pieces.items l.drawn.drawer.numbers;
-  found : Find (IsFoundAs l.wanted l.index) l.asked l.chunk l.drawn.pieces.items;
+  found : Find (IsFoundAs l.wanted (g.F.Finder.index l.finder)) l.asked l.chunk l.drawn.pieces.items;
 }
 
 abbrev pub decreases-loop-number : goal.decreases-loop-number
