@@ -7,6 +7,7 @@ ghost use Rattle.work_draw.specs.Pieces.{AreFound, Find, Gains, GainsButLast, Ga
 use crate::board::{Board, Drawer};
 use crate::chunks::{Finder, Gate, check_chunk};
 use crate::pieces::{Drawn, Piece};
+use deb_index::Index;
 use deb_verdict::{Groundwork, Wanted, Workspace};
 use std::alloc::{AllocError, Global};
 use std::thread;
@@ -58,12 +59,12 @@ fn draw_told<F: Finder, G: Gate>(
     drawn
 }
 
-/// What each worker runs, in one workspace and on a groundwork that it may share with others: draws until no number is left, and makes a piece of
-/// each, in the order of the draws. Where memory is refused it stops with `refused`, and the last number drawn may lack its piece; else the drawer is
-/// done. It waits for the gate alone.
+/// What each worker runs, in one workspace and on one groundwork: draws until no number is left, and makes a piece of each, in the order
+/// of the draws. Where memory is refused it stops with `refused`, and the last number drawn may lack its piece; else the drawer is done.
+/// It waits for the gate alone.
 pub fn draw_pieces<G: Gate>(
     alloc: Global,
-    groundwork: &Groundwork<'_>,
+    index: &Index,
     asked: &[u32],
     chunk: u32,
     board: &Board,
@@ -71,16 +72,32 @@ pub fn draw_pieces<G: Gate>(
     gate: &G,
 ) -> Drawn
     requires board { drawer.board ≡ board.now }
-    requires places { All (λ place. place < length groundwork.now.index.now.packages) asked.now }
+    requires places { All (λ place. place < length index.now.packages) asked.now }
     requires chunk { 0 < chunk }
     requires total { board.now.total ≡ chunk_count asked.now chunk }
     ensures same { result.drawer ≡ record drawer { numbers = result.drawer.numbers; past = result.drawer.past; done = result.drawer.done } }
     ensures gained { result.refused ≡ false → (result.drawer.done ≡ true) × Gains drawer.numbers result.pieces.items result.drawer.numbers }
     ensures refused { GainsButLast drawer.numbers result.pieces.items result.drawer.numbers }
-    ensures found { AreFound groundwork.now.index.now asked.now chunk result.pieces.items }
+    ensures found { AreFound index.now asked.now chunk result.pieces.items }
 {
+    let Ok(groundwork) = Groundwork::new(alloc, index) else {
+        return Drawn {
+            drawer,
+            pieces: Vec::new(alloc),
+            refused: true,
+        };
+    };
     let wanted = Wanted::everything();
-    draw_told(alloc, groundwork, wanted, asked, chunk, board, drawer, gate)
+    draw_told(
+        alloc,
+        &groundwork,
+        wanted,
+        asked,
+        chunk,
+        board,
+        drawer,
+        gate,
+    )
 }
 
 /// The crew of `crew`, for as much of the verdicts as is wanted.
@@ -96,7 +113,7 @@ pub(crate) fn crew_told<F: Finder + Sync, G: Gate + Sync, R: Threads + Sync>(
     workers: u32,
     gate: &G,
 ) -> Result<(Drawer, Vec<Piece>), AllocError>
-    requires { IsReady (F.index finder.now) asked.now chunk board.now drawer workers }
+    requires ready { IsReady (F.index finder.now) asked.now chunk board.now drawer workers }
     ensures drawer { IfOk result (λ r. r.0 ≡ after_crew drawer workers r.0.past r.0.numbers) }
     ensures gained { IfOk result (λ r. GainsInAll drawer.numbers r.1.items r.0.numbers) }
     ensures found { IfOk result (λ r. Find (IsFoundAs wanted (F.index finder.now)) asked.now chunk r.1.items) }
@@ -145,12 +162,12 @@ pub(crate) fn crew_told<F: Finder + Sync, G: Gate + Sync, R: Threads + Sync>(
     Ok((board.join(drawer, other), pieces))
 }
 
-/// So many workers at once, each by `draw_pieces`, on drawers that are split off and joined again. The pieces are those of
-/// the numbers that the drawer gained, each once, in any order. After a want of memory the drawers are gone, and the draws stand.
+/// So many workers at once, each as by `draw_pieces` but on a groundwork that all share, on drawers that are split off and joined again. The pieces
+/// are those of the numbers that the drawer gained, each once, in any order. After a want of memory the drawers are gone, and the draws stand.
 pub fn crew<G: Gate + Sync, R: Threads + Sync>(
     rt: &R,
     alloc: Global,
-    groundwork: &Groundwork<'_>,
+    index: &Index,
     asked: &[u32],
     chunk: u32,
     board: &Board,
@@ -159,16 +176,26 @@ pub fn crew<G: Gate + Sync, R: Threads + Sync>(
     gate: &G,
 ) -> Result<(Drawer, Vec<Piece>), AllocError>
     requires board { drawer.board ≡ board.now }
-    requires places { All (λ place. place < length groundwork.now.index.now.packages) asked.now }
+    requires places { All (λ place. place < length index.now.packages) asked.now }
     requires chunk { 0 < chunk }
     requires total { board.now.total ≡ chunk_count asked.now chunk }
     requires workers { (0 < workers) × (workers ≤ drawer.spare + 1) }
     ensures drawer { IfOk result (λ r. r.0 ≡ after_crew drawer workers r.0.past r.0.numbers) }
     ensures gained { IfOk result (λ r. GainsInAll drawer.numbers r.1.items r.0.numbers) }
-    ensures found { IfOk result (λ r. AreFound groundwork.now.index.now asked.now chunk r.1.items) }
+    ensures found { IfOk result (λ r. AreFound index.now asked.now chunk r.1.items) }
 {
+    let groundwork = Groundwork::new(alloc, index)?;
     let wanted = Wanted::everything();
     crew_told(
-        rt, alloc, groundwork, wanted, asked, chunk, board, drawer, workers, gate,
+        rt,
+        alloc,
+        &groundwork,
+        wanted,
+        asked,
+        chunk,
+        board,
+        drawer,
+        workers,
+        gate,
     )
 }

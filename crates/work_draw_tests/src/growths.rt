@@ -107,16 +107,7 @@ fn expect_statuses(
         sets: false,
         cores: false,
     };
-    let found = check_told(
-        rt,
-        rt.alloc(),
-        &groundwork,
-        wanted,
-        &asked,
-        2,
-        1,
-        &OpenGate,
-    )?;
+    let found = check_told(rt, rt.alloc(), &groundwork, wanted, &asked, 2, 1, &OpenGate)?;
     assert!(rt; are_statuses(&found, &[false, true, false]));
     Ok(())
 }
@@ -240,20 +231,12 @@ fn expect_pieces_of_a_worker(
     requires { first ≤ 1 }
 {
     let asked = [0u32, 1, 2];
-    let groundwork = ground_of(rt.alloc(), index, &asked)?;
+    check_places(index, &asked)?;
     let (board, mut drawer) = new_board(rt.alloc(), 2)?;
     if first > 0 {
         expect_first(rt, board.draw(&mut drawer));
     }
-    let drawn = draw_pieces(
-        rt.alloc(),
-        &groundwork,
-        &asked,
-        2,
-        &board,
-        drawer,
-        &OpenGate,
-    );
+    let drawn = draw_pieces(rt.alloc(), index, &asked, 2, &board, drawer, &OpenGate);
     expect_drawn(rt, board, drawn, first)
 }
 
@@ -292,19 +275,9 @@ fn expect_pieces_of_two_workers(
 ) -> Result<(), Fail> {
     let alloc = rt.alloc();
     let asked = [0u32, 1, 2];
-    let groundwork = ground_of(alloc, index, &asked)?;
+    check_places(index, &asked)?;
     let (board, drawer) = new_board(alloc, 2)?;
-    let (drawer, mut pieces) = crew(
-        rt,
-        alloc,
-        &groundwork,
-        &asked,
-        2,
-        &board,
-        drawer,
-        2,
-        &OpenGate,
-    )?;
+    let (drawer, mut pieces) = crew(rt, alloc, index, &asked, 2, &board, drawer, 2, &OpenGate)?;
     expect_all_drawn_by_two(rt, board, drawer);
     pieces.sort_unstable_by_key(|piece| piece.number);
     expect_both_pieces(rt, &pieces)
