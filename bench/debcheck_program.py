@@ -45,6 +45,6 @@ def check(program, words, arch, index, folder, limit):
         report = debcheck_report.read(out, arch, show, "--explain" in words)
     except debcheck_report.BadReport as fault:
         raise Failed("debcheck %s: %s" % (" ".join(words), fault))
-    if run.number != (1 if report.broken else 0):
-        raise Failed("debcheck %s: status %d with %d broken packages" % (" ".join(words), run.number, report.broken))
+    if run.number != (1 if report.told else 0):
+        raise Failed("debcheck %s: status %d with %d broken packages" % (" ".join(words), run.number, report.told))
     return run, report

@@ -11,6 +11,7 @@ APART = re.compile(r"   - conflict: %s %s (?:Conflicts|Breaks): %s" % (NAME, VER
 ONLY = re.compile(r"   - versions: %s" % NAME)
 REASONS = [ESSENTIAL, re.compile("%s|%s" % (NEED.pattern, APART.pattern)), ONLY]
 NEAR = re.compile(r"%s(?: \(provides %s(?:, %s)*\))?" % (MEMBER.pattern, ATOM, ATOM))
+CHANGED = re.compile(r" - (%s) (%s)" % (NAME, VERSION))
 COUNTS = ("stanzas", "skipped", "duplicates", "asked", "broken")
 
 
@@ -20,7 +21,7 @@ class BadReport(Exception):
 
 class Report:
     """`shown` is a list of (name, version, is it ok), `causes` one of how many packages each cause has, None without the block of causes;
-    the counts are attributes of their names."""
+    the counts are attributes of their names; `newly_broken` is None without an earlier index, and `told` counts what the status tells of."""
 
     def __init__(self, path, arch, explain):
         with open(path, encoding="ascii", newline="\n") as file:
@@ -96,6 +97,13 @@ class Report:
             self.shown.append(self.block(arch, explain))
         for label in COUNTS:
             setattr(self, label, int(self.value(label + ": ", "0|[1-9][0-9]*")))
+        self.newly_broken = None
+        if self.line is not None and self.line.startswith("newly-broken: "):
+            self.newly_broken = int(self.value("newly-broken: ", "0|[1-9][0-9]*"))
+            for title in ("mended:", "gone:"):
+                self.take(title)
+                self.all_of([CHANGED])
+        self.told = self.broken if self.newly_broken is None else self.newly_broken
         self.causes = None
         if self.line == "causes:":
             self.step()
@@ -107,16 +115,17 @@ class Report:
 
 
 def read(path, arch, show, explain):
-    """The report in the file, of a run that asked for all packages or for some, with its counts checked.
+    """The report in the file, of a run that asked for all packages or for some, with its counts checked. One since an earlier index shows
+    what is newly broken.
 
     `show` is "all" or "failures".
     """
     report = Report(path, arch, explain)
     broken = sum(not ok for _, _, ok in report.shown)
-    if broken != report.broken:
-        raise BadReport("the report counts %d broken packages and shows %d" % (report.broken, broken))
-    if report.causes is not None and sum(report.causes) != report.broken:
-        raise BadReport("the report counts %d broken packages and %d under causes" % (report.broken, sum(report.causes)))
-    if len(report.shown) != (report.asked if show == "all" else report.broken):
-        raise BadReport("the report shows %d packages of %d, %d of them broken" % (len(report.shown), report.asked, report.broken))
+    if broken != report.told:
+        raise BadReport("the report counts %d broken packages and shows %d" % (report.told, broken))
+    if report.causes is not None and sum(report.causes) != report.told:
+        raise BadReport("the report counts %d broken packages and %d under causes" % (report.told, sum(report.causes)))
+    if len(report.shown) != (report.asked if show == "all" and report.newly_broken is None else report.told):
+        raise BadReport("the report shows %d packages of %d, %d of them broken" % (len(report.shown), report.asked, report.told))
     return report
