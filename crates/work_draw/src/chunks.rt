@@ -1,11 +1,14 @@
 //! The verdicts of one chunk of the asked places, what finds them, and the gate that is told of it.
 ghost use Rattle.std.specs.Prelude.{◌<◌, ◌*◌, All, IfOk, length};
+ghost use Rattle.deb_index.specs.Constraints.{IsOfIndex};
 ghost use Rattle.deb_index.specs.Packages.{IndexView};
+ghost use Rattle.deb_health.specs.Causes.{AreCores};
 ghost use Rattle.deb_health.specs.Verdicts.{SpeaksOf, verdict_view};
 ghost use Rattle.deb_verdict.specs.Told.{IsToldVerdict};
-ghost use Rattle.work_draw.specs.Checks.{AnswersEach, IsFoundAs, chunk_of};
+ghost use Rattle.work_draw.specs.Checks.{AnswersEach, IsFoundAs, chunk_of, cores_view};
 
-use deb_verdict::{Groundwork, Verdict, Wanted, Workspace, told_verdict_in};
+use deb_index::Constraint;
+use deb_verdict::{Groundwork, Verdict, Wanted, Workspace, cores_in, told_verdict_in};
 use std::alloc::{AllocError, Global};
 
 /// Is told of each chunk, by the worker that checks it; shared between threads.
@@ -30,10 +33,10 @@ impl Gate for OpenGate {
     fn after(&self, _number: u32) {}
 }
 
-/// Finds the verdicts of an index; shared between threads. A groundwork does, and workers name no type beside this trait: a closure for another thread
-/// tells its caller nothing where it captures a struct of references.
+/// Finds the verdicts and the cores of the packages of an index; shared between threads. A groundwork does, and workers name no type beside this
+/// trait: a closure for another thread tells its caller nothing where it captures a struct of references.
 pub(crate) trait Finder {
-    // The index that the verdicts speak of.
+    // The index that the answers speak of.
     ghost index: { Self → IndexView };
 
     /// As much of the verdict of the package at a place as is wanted, found in the buffers of an earlier one.
@@ -47,6 +50,17 @@ pub(crate) trait Finder {
         requires { place < length (index self.now).packages }
         ensures told { IfOk result (λ found. IsToldVerdict wanted (index self.now) place (verdict_view found)) }
         ensures within { IfOk result (λ found. SpeaksOf (index self.now) (verdict_view found)) };
+
+    /// The cores of the package at a place whose causes are all its causes, found in the buffers of an earlier answer.
+    fn cores(
+        &self,
+        alloc: Global,
+        workspace: &mut Workspace,
+        place: u32,
+    ) -> Result<Vec<Vec<Constraint>>, AllocError>
+        requires { place < length (index self.now).packages }
+        ensures cores { IfOk result (λ found. AreCores (index self.now) place (cores_view found)) }
+        ensures within { IfOk result (λ found. All (λ core. All (IsOfIndex (index self.now)) core.items) found.items) };
 }
 
 impl Finder for Groundwork<'_> {
@@ -60,6 +74,15 @@ impl Finder for Groundwork<'_> {
         place: u32,
     ) -> Result<Verdict, AllocError> {
         told_verdict_in(alloc, workspace, self, place, wanted)
+    }
+
+    fn cores(
+        &self,
+        alloc: Global,
+        workspace: &mut Workspace,
+        place: u32,
+    ) -> Result<Vec<Vec<Constraint>>, AllocError> {
+        cores_in(alloc, workspace, self, place)
     }
 }
 

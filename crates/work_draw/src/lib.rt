@@ -8,11 +8,13 @@
 //! - `pieces`: what is made of the numbers that are drawn, and the order in which it is gathered.
 //! - `workers`: a worker, who draws until no number is left, and a crew of them.
 //! - `check`: all of it, from the asked places to their verdicts, or to as much of them as is wanted.
+//! - `cores`: all cores of many packages, by workers that draw nothing, but each take a part of the list.
 #![tactic(auto)]
 
 mod board;
 mod check;
 mod chunks;
+mod cores;
 mod hand;
 mod pieces;
 mod workers;
@@ -20,5 +22,6 @@ mod workers;
 pub use board::{Board, Drawer, WORKER_LIMIT, new_board};
 pub use check::{check_all, check_told};
 pub use chunks::{Gate, OpenGate};
+pub use cores::find_cores;
 pub use pieces::{Drawn, Piece, gather};
 pub use workers::{crew, draw_pieces};

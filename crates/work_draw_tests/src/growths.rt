@@ -2,6 +2,7 @@
 ghost use Rattle.std.specs.Prelude.{◌≡◌, ◌<◌, ◌≤◌, ◌^◌, length};
 
 use crate::boards::{expect_each_number_once, expect_no_number, expect_three_numbers};
+use crate::cores::finds_cores;
 use crate::examples::{check_places, ground_of, three_packages};
 use crate::gates::Tally;
 use crate::pieces::{are_sets, are_statuses, expect_both_pieces, expect_piece, piece_of};
@@ -117,6 +118,26 @@ fn expect_statuses(
 fn of_check_told(rt: HostRuntime) -> Result<(), Fail> {
     let index = Index::read(rt.alloc(), SOUND_AND_BROKEN, "amd64", true)?;
     let outcome = expect_statuses(&rt, &index);
+    drop(index);
+    outcome
+}
+
+fn expect_cores_of_both(
+    rt: &(impl Abort + Threads + Sync + AllocGlobal),
+    index: &Index,
+) -> Result<(), Fail> {
+    let asked = [1u32, 0, 1];
+    let groundwork = ground_of(rt.alloc(), index, &asked)?;
+    let wanted = ["[[Need(1, 0)]]", "[]", "[[Need(1, 0)]]"];
+    assert!(rt; finds_cores(rt, &groundwork, &asked, 2, &wanted)?);
+    Ok(())
+}
+
+/// One worker finds the cores of one place, the other those of two.
+#[test]
+fn of_find_cores(rt: HostRuntime) -> Result<(), Fail> {
+    let index = Index::read(rt.alloc(), SOUND_AND_BROKEN, "amd64", true)?;
+    let outcome = expect_cores_of_both(&rt, &index);
     drop(index);
     outcome
 }
