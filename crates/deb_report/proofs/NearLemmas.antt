@@ -11,7 +11,7 @@ use Rattle.deb_index.specs.Meets.{is_providing, provided_at}
 use Rattle.deb_index.specs.Packages.{IndexView, PackageView, is_named, places_of, places_where}
 use Rattle.deb_index.proofs.MemberLemmas.{below-places_where, member-places_where, rising-places_where}
 use Rattle.number_sets.proofs.RisingLists.{rising_once}
-use Rattle.deb_report.specs.Causes.{is_near, near_places}
+use Rattle.deb_report.specs.Near.{is_near, near_places}
 use Rattle.deb_report.specs.Report.{is_empty}
 use Rattle.deb_report.proofs.MissingLemmas.{one-is-some}
 use Rattle.deb_report.proofs.PlaceLemmas.{is_among, places_from, where_from}

@@ -1,21 +1,25 @@
 -- What no block and no cause tells of verdicts doesn't change a report.
-use Rattle.std.proofs.Common.{◌≡◌, ℕ, ◌+◌, Bool, true, false, cond, not, ◌&&◌, List, [], ◌∷◌, ◌++◌, length, map, filter, codes, fold, refl, sym, ap, ap₂, ◌∙◌, Some, inl, inr}
+use Rattle.std.proofs.Common.{◌≡◌, ℕ, ◌+◌, Bool, true, false, cond, not, ◌&&◌, ◌||◌, List, [], ◌∷◌, ◌++◌, length, map, filter, codes, fold, refl, sym, ap, ap₂, ◌∙◌, Option, Some, inl, inr}
+use mathlib.Core.Path.{fun_ext}
 use Rattle.std.specs.List.{flat_map, join_by}
 use Rattle.std.proofs.lemmas.Bool.{cases_Bool, true≢false, false≢true}
 use Rattle.std.proofs.lemmas.List.{length-map}
+use Rattle.deb_index.specs.declared.constraint.Constraint.{Constraint}
 use Rattle.deb_index.specs.Packages.{IndexView, package_at}
 use Rattle.deb_health.specs.Verdicts.{VerdictView, Found, Blocked}
 use Rattle.deb_report.specs.declared.config.Format.{Format}
 use Rattle.deb_report.specs.declared.config.Format.TheVariants.{Json, Text}
 use Rattle.deb_report.specs.declared.config.Show.{Show}
 use Rattle.deb_report.specs.declared.config.Show.TheVariants.{All, Failures, Successes}
+use Rattle.deb_report.specs.CauseLines.{causes_text}
+use Rattle.deb_report.specs.Causes.{CauseView}
 use Rattle.deb_report.specs.Content.{ContentView, causes_if, content_of, content_since}
-use Rattle.deb_report.specs.Json.{block_json, causes_json, escaped, json_text, list_json, member, number_json, object, quoted, tall_array}
-use Rattle.deb_report.specs.Lines.{causes_text, lines_text, list_lines}
-use Rattle.deb_report.specs.Report.{block_of, broken_ones, is_broken, is_shown, line, number_line, numbers_of, shown_of, status_of, summary_of, titled, without_set}
-use Rattle.deb_report.specs.Settings.{Settings, shows_installable, shows_sets}
+use Rattle.deb_report.specs.Json.{block_json, causes_json, escaped, explanation_json, head_json, json_text, list_json, member, number_json, object, quoted, tall_array, told_json}
+use Rattle.deb_report.specs.Lines.{block_of, explanation, lines_text, list_lines}
+use Rattle.deb_report.specs.Report.{TellingView, broken_ones, is_broken, is_shown, line, number_line, numbers_of, shown_of, status_of, summary_of, telling_of, titled, without_set}
+use Rattle.deb_report.specs.Settings.{Settings, shows_installable, shows_sets, tells_all_causes}
 use Rattle.deb_report.specs.Since.{BrokenView, amends_of, broken_at, broken_of, has_named, is_gone, news_of, summary_since, was_broken}
-use Rattle.deb_report.specs.Written.{text_in, written_report, written_since}
+use Rattle.deb_report.specs.Written.{text_in, written_report, written_since, written_told}
 use Rattle.deb_report.proofs.JoinLemmas.{joined_map, lines_map}
 
 -- a change of verdicts that leaves their statuses, what is explained in a block, and what causes are found in
@@ -50,24 +54,24 @@ seen_alike show change status text same (p ∷ ps) (v ∷ vs) =
 abbrev TellsStatus : {A : Type 0} → (ℕ × VerdictView → A) → Type 0
 TellsStatus text = (place : ℕ) (other verdict : VerdictView) → is_broken other ≡ is_broken verdict → text (place, other) ≡ text (place, verdict)
 
-block_tells_status : (index : IndexView) → TellsStatus (block_of index false)
+block_tells_status : (index : IndexView) (telling : TellingView) → telling.explain ≡ false → TellsStatus (block_of index telling)
 unfolding block_of status_of
-block_tells_status index place (Found others) (Found places) alike = refl
-block_tells_status index place (Found others) (Blocked core) alike = absurd (false≢true alike)
-block_tells_status index place (Blocked others) (Found places) alike = absurd (true≢false alike)
-block_tells_status index place (Blocked others) (Blocked core) alike = refl
+block_tells_status index telling silent place (Found others) (Found places) alike = rw silent refl
+block_tells_status index telling silent place (Found others) (Blocked core) alike = absurd (false≢true alike)
+block_tells_status index telling silent place (Blocked others) (Found places) alike = absurd (true≢false alike)
+block_tells_status index telling silent place (Blocked others) (Blocked core) alike = rw silent refl
 
-object_tells_status : (index : IndexView) → TellsStatus (block_json index false)
+object_tells_status : (index : IndexView) (telling : TellingView) → telling.explain ≡ false → TellsStatus (block_json index telling)
 unfolding block_json status_of
-object_tells_status index place (Found others) (Found places) alike = refl
-object_tells_status index place (Found others) (Blocked core) alike = absurd (false≢true alike)
-object_tells_status index place (Blocked others) (Found places) alike = absurd (true≢false alike)
-object_tells_status index place (Blocked others) (Blocked core) alike = refl
+object_tells_status index telling silent place (Found others) (Found places) alike = rw silent refl
+object_tells_status index telling silent place (Found others) (Blocked core) alike = absurd (false≢true alike)
+object_tells_status index telling silent place (Blocked others) (Found places) alike = absurd (true≢false alike)
+object_tells_status index telling silent place (Blocked others) (Blocked core) alike = rw silent refl
 
 -- ---- contents that tell the same
 
 record TellSame (explain : Bool) (one other : ContentView) : Type 0 where
-  blocks : (text : Bool → ℕ × VerdictView → List ℕ) → TellsStatus (text false) → map (text explain) one.blocks ≡ map (text explain) other.blocks
+  blocks : (text : ℕ × VerdictView → List ℕ) → (explain ≡ false → TellsStatus text) → map text one.blocks ≡ map text other.blocks
   numbers : one.numbers ≡ other.numbers
   lists : one.lists ≡ other.lists
   causes : one.causes ≡ other.causes
@@ -75,20 +79,20 @@ record TellSame (explain : Bool) (one other : ContentView) : Type 0 where
 abbrev whole : List ℕ → List ℕ
 whole bytes = bytes
 
-text_same : (format : Format) (index : IndexView) (explain : Bool) (one other : ContentView) → TellSame explain one other → text_in format index explain one ≡ text_in format index explain other
+text_same : (format : Format) (index : IndexView) (telling : TellingView) (one other : ContentView) → TellSame telling.explain one other → text_in format index telling one ≡ text_in format index telling other
 unfolding lines_text json_text tall_array
-text_same Text index explain one other same =
+text_same Text index telling one other same =
     ap₂ (λ front causes. front ++ causes_text index causes)
     (ap₂ (λ front lists. front ++ flat_map list_lines lists)
     (ap₂ (λ blocks numbers. line (codes "architecture: ") index.arch ++ titled (codes "report:") blocks ++ flat_map number_line numbers)
-    (sym (lines_map whole (block_of index explain) one.blocks) ∙ ap (flat_map whole) (same.blocks (block_of index) (block_tells_status index)) ∙ lines_map whole (block_of index explain) other.blocks)
+    (sym (lines_map whole (block_of index telling) one.blocks) ∙ ap (flat_map whole) (same.blocks (block_of index telling) (block_tells_status index telling)) ∙ lines_map whole (block_of index telling) other.blocks)
     same.numbers) same.lists) same.causes
-text_same Json index explain one other same =
-    ap₂ (λ front causes. object (member (codes "architecture") (quoted (escaped index.arch)) ∷ front ++ causes_json index causes) ++ codes "\n")
+text_same Json index telling one other same =
+    ap₂ (λ front causes. object (head_json telling.options ++ (member (codes "architecture") (quoted (escaped index.arch)) ∷ front ++ causes_json index causes)) ++ codes "\n")
     (ap₂ (λ front lists. front ++ map list_json lists)
     (ap₂ (λ blocks numbers. member (codes "report") (codes "[" ++ blocks ++ codes "\n]") ∷ map number_json numbers)
-    (sym (joined_map whole (block_json index explain) (codes ",") one.blocks) ∙ ap (join_by whole (codes ",")) (same.blocks (block_json index) (object_tells_status index))
-    ∙ joined_map whole (block_json index explain) (codes ",") other.blocks)
+    (sym (joined_map whole (block_json index telling) (codes ",") one.blocks) ∙ ap (join_by whole (codes ",")) (same.blocks (block_json index telling) (object_tells_status index telling))
+    ∙ joined_map whole (block_json index telling) (codes ",") other.blocks)
     same.numbers) same.lists) same.causes
 
 -- ---- a change that leaves what is told
@@ -103,9 +107,9 @@ module _ (change : VerdictView → VerdictView) (status : (verdict : VerdictView
 
   -- the places that are shown, and what is told of each
   blocks_alike : {A : Type 0} (explain : Bool) (show : Show) → ((verdict : VerdictView) → (explain && is_shown show verdict) ≡ true → change verdict ≡ verdict)
-      → (text : Bool → ℕ × VerdictView → A) → TellsStatus (text false) → map (text explain) (shown_of show asked (map change verdicts)) ≡ map (text explain) (shown_of show asked verdicts)
-  blocks_alike true show leaves text tells = seen_alike show change status (text true) (λ place verdict shows. ap (λ one. text true (place, one)) (leaves verdict shows)) asked verdicts
-  blocks_alike false show leaves text tells = seen_alike show change status (text false) (λ place verdict shows. tells place (change verdict) verdict (status verdict)) asked verdicts
+      → (text : ℕ × VerdictView → A) → (explain ≡ false → TellsStatus text) → map text (shown_of show asked (map change verdicts)) ≡ map text (shown_of show asked verdicts)
+  blocks_alike true show leaves text tells = seen_alike show change status text (λ place verdict shows. ap (λ one. text (place, one)) (leaves verdict shows)) asked verdicts
+  blocks_alike false show leaves text tells = seen_alike show change status text (λ place verdict shows. tells refl place (change verdict) verdict (status verdict)) asked verdicts
 
   places_alike : map (λ one. one.0) (broken_ones asked (map change verdicts)) ≡ map (λ one. one.0) (broken_ones asked verdicts)
   places_alike = seen_alike Failures change status (λ one. one.0) (λ place verdict shows. refl) asked verdicts
@@ -125,10 +129,10 @@ module _ (change : VerdictView → VerdictView) (status : (verdict : VerdictView
       itself [] = refl
       itself (x ∷ xs) = ap (λ rest. x ∷ rest) (itself xs)
 
-  causes_alike : (causes : Bool) (index : IndexView) (pick : List (ℕ × VerdictView) → List (ℕ × VerdictView)) → ((verdict : VerdictView) → causes ≡ true → is_broken verdict ≡ true → change verdict ≡ verdict)
-      → causes_if causes index (pick (broken_ones asked (map change verdicts))) ≡ causes_if causes index (pick (broken_ones asked verdicts))
-  causes_alike true index pick leaves = ap (λ broken. causes_if true index (pick broken)) (broken_same (λ verdict broken. leaves verdict refl broken))
-  causes_alike false index pick leaves = refl
+  causes_alike : (causes : Bool) (index : IndexView) (later : List (List (List Constraint))) (pick : List (ℕ × VerdictView) → List (ℕ × VerdictView)) → ((verdict : VerdictView) → causes ≡ true → is_broken verdict ≡ true → change verdict ≡ verdict)
+      → causes_if causes index later (pick (broken_ones asked (map change verdicts))) ≡ causes_if causes index later (pick (broken_ones asked verdicts))
+  causes_alike true index later pick leaves = ap (λ broken. causes_if true index later (pick broken)) (broken_same (λ verdict broken. leaves verdict refl broken))
+  causes_alike false index later pick leaves = refl
 
   summary_alike : (index : IndexView) → summary_of index asked (map change verdicts) ≡ summary_of index asked verdicts
   summary_alike index = ap (λ (count : ℕ). record (summary_of index asked verdicts) { broken = count }) (broken_count 0 verdicts)
@@ -147,21 +151,21 @@ module _ (change : VerdictView → VerdictView) (status : (verdict : VerdictView
         ]
 
     news_alike : {A : Type 0} (explain : Bool) → ((verdict : VerdictView) → (explain && is_shown Failures verdict) ≡ true → change verdict ≡ verdict)
-        → (text : Bool → ℕ × VerdictView → A) → TellsStatus (text false) → map (text explain) (news_of index asked (map change verdicts) before) ≡ map (text explain) (news_of index asked verdicts before)
+        → (text : ℕ × VerdictView → A) → (explain ≡ false → TellsStatus text) → map text (news_of index asked (map change verdicts) before) ≡ map text (news_of index asked verdicts before)
     unfolding news_of
     news_alike {A} explain leaves text tells =
-        let placed : Bool → ℕ × VerdictView → ℕ × A = λ told one. (one.0, text told one) in
-        sym (kept_images (text explain) (broken_ones asked (map change verdicts)))
+        let placed : ℕ × VerdictView → ℕ × A = λ one. (one.0, text one) in
+        sym (kept_images text (broken_ones asked (map change verdicts)))
         ∙ ap (λ (images : List (ℕ × A)). map (λ (h : ℕ × A). h.1) (filter (λ (h : ℕ × A). not (was_broken before (package_at index h.0).name)) images))
-        (blocks_alike explain Failures leaves placed (λ place other verdict alike. ap (λ told. (place, told)) (tells place other verdict alike)))
-        ∙ kept_images (text explain) (broken_ones asked verdicts)
+        (blocks_alike explain Failures leaves placed (λ silent place other verdict alike. ap (λ told. (place, told)) (tells silent place other verdict alike)))
+        ∙ kept_images text (broken_ones asked verdicts)
 
     news_count : length (news_of index asked (map change verdicts) before) ≡ length (news_of index asked verdicts before)
     news_count =
-        let place : Bool → ℕ × VerdictView → ℕ = λ told one. one.0 in
-        sym (length-map (news_of index asked (map change verdicts) before) (place false))
-        ∙ ap length (news_alike false (λ verdict shows. absurd (false≢true shows)) place (λ p other verdict alike. refl))
-        ∙ length-map (news_of index asked verdicts before) (place false)
+        let place : ℕ × VerdictView → ℕ = λ one. one.0 in
+        sym (length-map (news_of index asked (map change verdicts) before) place)
+        ∙ ap length (news_alike false (λ verdict shows. absurd (false≢true shows)) place (λ silent p other verdict alike. refl))
+        ∙ length-map (news_of index asked verdicts before) place
 
     since_alike : summary_since index asked (map change verdicts) before ≡ summary_since index asked verdicts before
     since_alike =
@@ -177,13 +181,14 @@ module _ (change : VerdictView → VerdictView) (status : (verdict : VerdictView
 
 -- a report is the same whatever it doesn't tell
 pub report_unchanged : (settings : Settings) (change : VerdictView → VerdictView) → LeavesTold settings.explain settings.show settings.causes change
-    → (index : IndexView) (asked : List ℕ) (verdicts : List VerdictView) → written_report settings index asked (map change verdicts) ≡ written_report settings index asked verdicts
-report_unchanged settings change leaves index asked verdicts =
-    text_same settings.format index settings.explain (content_of settings index asked (map change verdicts)) (content_of settings index asked verdicts) (record {
+    → (index : IndexView) (asked : List ℕ) (verdicts : List VerdictView) (later : List (List (List Constraint)))
+    → written_told settings index asked (map change verdicts) later ≡ written_told settings index asked verdicts later
+report_unchanged settings change leaves index asked verdicts later =
+    text_same settings.format index (telling_of settings false later) (content_of settings index asked (map change verdicts) later) (content_of settings index asked verdicts later) (record {
       blocks = λ text tells. blocks_alike change leaves.status asked verdicts settings.explain settings.show leaves.shown text tells;
       numbers = ap (numbers_of settings.background) (summary_alike change leaves.status asked verdicts index);
       lists = refl;
-      causes = causes_alike change leaves.status asked verdicts settings.causes index (λ broken. broken) leaves.caused;
+      causes = causes_alike change leaves.status asked verdicts settings.causes index later (λ broken. broken) leaves.caused;
     })
 
 -- and so are its numbers
@@ -193,14 +198,15 @@ summary_unchanged settings change leaves index asked verdicts = summary_alike ch
 
 -- the same of a report since an earlier index, which shows broken packages alone
 pub since_unchanged : (settings : Settings) (change : VerdictView → VerdictView) → LeavesTold settings.explain Failures settings.causes change
-    → (index : IndexView) (asked : List ℕ) (verdicts : List VerdictView) (before : List BrokenView) → written_since settings index asked (map change verdicts) before ≡ written_since settings index asked verdicts before
+    → (index : IndexView) (asked : List ℕ) (verdicts : List VerdictView) (later : List (List (List Constraint))) (before : List BrokenView)
+    → written_since settings index asked (map change verdicts) later before ≡ written_since settings index asked verdicts later before
 unfolding news_of
-since_unchanged settings change leaves index asked verdicts before =
-    text_same settings.format index settings.explain (content_since settings index asked (map change verdicts) before) (content_since settings index asked verdicts before) (record {
+since_unchanged settings change leaves index asked verdicts later before =
+    text_same settings.format index (telling_of settings true later) (content_since settings index asked (map change verdicts) later before) (content_since settings index asked verdicts later before) (record {
       blocks = λ text tells. news_alike change leaves.status asked verdicts index before settings.explain leaves.shown text tells;
       numbers = ap (numbers_of settings.background) (since_alike change leaves.status asked verdicts index before);
       lists = amends_alike change leaves.status asked verdicts index before;
-      causes = causes_alike change leaves.status asked verdicts settings.causes index (filter (λ one. not (was_broken before (package_at index one.0).name))) leaves.caused;
+      causes = causes_alike change leaves.status asked verdicts settings.causes index later (filter (λ one. not (was_broken before (package_at index one.0).name))) leaves.caused;
     })
 
 pub summary_since_unchanged : (settings : Settings) (change : VerdictView → VerdictView) → LeavesTold settings.explain Failures settings.causes change
@@ -225,10 +231,64 @@ set_caused causes (Found places) told broken = absurd (false≢true broken)
 set_caused causes (Blocked core) told broken = refl
 
 -- where no block tells a set that was found, the report is the same whatever the sets
-pub sets_unshown : (settings : Settings) (index : IndexView) (asked : List ℕ) (verdicts : List VerdictView) → shows_sets settings ≡ false
-    → written_report settings index asked (map without_set verdicts) ≡ written_report settings index asked verdicts
-sets_unshown settings index asked verdicts hidden =
-    report_unchanged settings without_set (record { status = set_status; shown = set_shown settings.explain settings.show hidden; caused = set_caused settings.causes }) index asked verdicts
+pub sets_unshown : (settings : Settings) (index : IndexView) (asked : List ℕ) (verdicts : List VerdictView) (later : List (List (List Constraint))) → shows_sets settings ≡ false
+    → written_told settings index asked (map without_set verdicts) later ≡ written_told settings index asked verdicts later
+sets_unshown settings index asked verdicts later hidden =
+    report_unchanged settings without_set (record { status = set_status; shown = set_shown settings.explain settings.show hidden; caused = set_caused settings.causes }) index asked verdicts later
 
 pub summary_without_sets : (index : IndexView) (asked : List ℕ) (verdicts : List VerdictView) → summary_of index asked (map without_set verdicts) ≡ summary_of index asked verdicts
 summary_without_sets index asked verdicts = summary_alike without_set set_status asked verdicts index
+
+-- ---- the cores behind the first
+
+left_untold : (a b : Bool) → (a || b) ≡ false → a ≡ false
+left_untold false b neither = refl
+left_untold true b neither = absurd (true≢false neither)
+
+right_untold : (a b : Bool) → (a || b) ≡ false → b ≡ false
+right_untold false b neither = neither
+right_untold true b neither = absurd (true≢false neither)
+
+module _ (settings : Settings) (untold : tells_all_causes settings ≡ false) (index : IndexView) (later : List (List (List Constraint))) where
+  reasons_untold : settings.all_reasons ≡ false
+  reasons_untold = right_untold settings.causes settings.all_reasons untold
+
+  block_alone : (since : Bool) (one : ℕ × VerdictView) → block_of index (telling_of settings since later) one ≡ block_of index (telling_of settings since []) one
+  unfolding block_of explanation
+  block_alone since (place, Found places) = refl
+  block_alone since (place, Blocked core) = rw reasons_untold refl
+
+  object_alone : (since : Bool) (one : ℕ × VerdictView) → block_json index (telling_of settings since later) one ≡ block_json index (telling_of settings since []) one
+  unfolding block_json explanation_json told_json
+  object_alone since (place, Found places) = refl
+  object_alone since (place, Blocked core) = rw reasons_untold refl
+
+  text_alone : (format : Format) (since : Bool) (content : ContentView) → text_in format index (telling_of settings since later) content ≡ text_in format index (telling_of settings since []) content
+  unfolding lines_text json_text
+  text_alone Text since content =
+      ap (λ (block : ℕ × VerdictView → List ℕ). line (codes "architecture: ") index.arch ++ titled (codes "report:") (flat_map block content.blocks)
+      ++ flat_map number_line content.numbers ++ flat_map list_lines content.lists ++ causes_text index content.causes)
+      (fun_ext (block_alone since))
+  text_alone Json since content =
+      ap (λ (block : ℕ × VerdictView → List ℕ). object (head_json (telling_of settings since []).options ++ (member (codes "architecture") (quoted (escaped index.arch))
+      ∷ member (codes "report") (tall_array block content.blocks)
+      ∷ map number_json content.numbers ++ map list_json content.lists ++ causes_json index content.causes)) ++ codes "\n")
+      (fun_ext (object_alone since))
+
+  causes_alone : (broken : List (ℕ × VerdictView)) → causes_if settings.causes index later broken ≡ causes_if settings.causes index [] broken
+  causes_alone broken = rw (left_untold settings.causes settings.all_reasons untold) refl
+
+  -- where a report tells neither all reasons nor causes, it is that of the verdicts alone
+  pub later_unread : (asked : List ℕ) (verdicts : List VerdictView) → written_told settings index asked verdicts later ≡ written_report settings index asked verdicts
+  later_unread asked verdicts =
+      ap (λ (causes : Option (List CauseView)). text_in settings.format index (telling_of settings false later) (record (content_of settings index asked verdicts []) { causes = causes }))
+      (causes_alone (broken_ones asked verdicts))
+      ∙ text_alone settings.format false (content_of settings index asked verdicts [])
+
+  -- and so is one since an earlier index
+  pub later_unread_since : (asked : List ℕ) (verdicts : List VerdictView) (before : List BrokenView)
+      → written_since settings index asked verdicts later before ≡ written_since settings index asked verdicts [] before
+  later_unread_since asked verdicts before =
+      ap (λ (causes : Option (List CauseView)). text_in settings.format index (telling_of settings true later) (record (content_since settings index asked verdicts [] before) { causes = causes }))
+      (causes_alone (news_of index asked verdicts before))
+      ∙ text_alone settings.format true (content_since settings index asked verdicts [] before)

@@ -1,34 +1,63 @@
--- The causes of broken packages, and what an index has near the missing ones.
-use Rattle.std.specs.Prelude.{ℕ, ◌==◌, ◌<◌, Bool, true, false, ◌&&◌, ◌||◌, All, List, [], ◌∷◌, ◌++◌, length, map, filter, codes, decimal, if◌then◌else◌}
+-- The causes of broken packages: what is wrong, whoever needs it, and the packages that it breaks.
+use Rattle.std.specs.Prelude.{ℕ, ◌==◌, ◌<◌, Bool, true, false, not, ◌&&◌, ◌||◌, All, List, [], ◌∷◌, ◌++◌, count_by, length, map, filter}
 use Prim.Native.Nat.{zero, suc}
-use Rattle.std.specs.List.{flat_map, join_by, list_any}
+use Rattle.std.specs.List.{flat_map, list_all, list_any}
 use Rattle.std.specs.Str.{bytes_eq}
-use Rattle.deb_relation.specs.AtomView.{atom_view}
-use Rattle.deb_relation.specs.Relationship.{AtomText, printed}
-use Rattle.deb_relation.specs.Usable.{is_usable}
 use Rattle.deb_index.specs.declared.constraint.Constraint.{Constraint}
 use Rattle.deb_index.specs.declared.constraint.Constraint.TheVariants.{Essential, Need, Apart, Only}
-use Rattle.deb_index.specs.Constraints.{IsOfIndex}
-use Rattle.deb_index.specs.Meets.{is_providing}
-use Rattle.deb_index.specs.Packages.{IndexView, PackageView, first_of_each, is_named, need_at, package_at, package_view, places_where}
+use Rattle.deb_index.specs.Constraints.{IsOfIndex, answers, below, constraints_of, has_name, hits}
+use Rattle.deb_index.specs.Packages.{IndexView, first_of_each, need_at}
 use Rattle.deb_health.specs.Causes.{cause_in}
 use Rattle.deb_health.specs.Verdicts.{VerdictView, Found, Blocked}
 use Rattle.deb_report.specs.declared.gathered.Cause.{Cause}
-use Rattle.deb_report.specs.declared.near.NearMiss.{NearMiss}
-use Rattle.deb_report.specs.Report.{constraint_line, label_of, line, place_line, titled}
+use Rattle.deb_report.specs.Report.{group_text, later_at}
 
--- ---- the causes of verdicts
+-- ---- what is wrong
 
--- the asked place with its cause, where the package is broken
-abbrev pub cause_at : IndexView → ℕ → VerdictView → List (List Constraint × ℕ)
-cause_at index place (Found places) = []
-cause_at index place (Blocked core) = (cause_in index core, place) ∷ []
+-- what a constraint says is wrong, whoever needs it, in numbers that tell it from all else: of a need the alternatives as they are printed, of an entry which
+-- entry of which package it is, else the name
+unfoldable pub says : IndexView → Constraint → List ℕ
+says index (Essential name) = 0 ∷ name ∷ []
+says index (Need place number) = 1 ∷ group_text (need_at index place number)
+says index (Apart place number) = 2 ∷ place ∷ number ∷ []
+says index (Only name) = 3 ∷ name ∷ []
 
--- the causes of asked places with these verdicts, each with its place
-unfoldable pub found_causes : IndexView → List (ℕ × VerdictView) → List (List Constraint × ℕ)
-found_causes index told = flat_map (λ one. cause_at index one.0 one.1) told
+-- the two say the same
+abbrev pub says_same : IndexView → Constraint → Constraint → Bool
+says_same index one other = bytes_eq (says index one) (says index other)
 
--- ---- causes with the packages that they break
+-- one of the constraints says the same
+abbrev pub is_said : IndexView → List Constraint → Constraint → Bool
+is_said index constraints one = list_any (says_same index one) constraints
+
+-- the two causes are one: they say the same
+abbrev pub same_cause : IndexView → List Constraint → List Constraint → Bool
+same_cause index one other = list_all (is_said index other) one && list_all (is_said index one) other
+
+-- ---- the cores of broken packages
+
+-- an asked place, and the cores of all its causes
+abbrev pub cores_of : List (List (List Constraint)) → ℕ × VerdictView → ℕ × List (List Constraint)
+cores_of later (place, Found places) = (place, [])
+cores_of later (place, Blocked core) = (place, core ∷ later_at later place)
+
+-- the core has the cause
+abbrev pub has_cause : IndexView → List Constraint → List Constraint → Bool
+has_cause index cause core = same_cause index cause (cause_in index core)
+
+-- the package has the cause among its causes
+abbrev pub is_broken_by : IndexView → List Constraint → ℕ × List (List Constraint) → Bool
+is_broken_by index cause broken = list_any (has_cause index cause) broken.1
+
+-- the package has the cause, and no other one
+abbrev pub is_freed_by : IndexView → List Constraint → ℕ × List (List Constraint) → Bool
+is_freed_by index cause broken = is_broken_by index cause broken && list_all (has_cause index cause) broken.1
+
+-- the cores that have it, of all these packages
+unfoldable pub cores_with : IndexView → List (ℕ × List (List Constraint)) → List Constraint → List (List Constraint)
+cores_with index broken cause = filter (has_cause index cause) (flat_map (λ one. one.1) broken)
+
+-- ---- what is told of such cores
 
 -- the two constraints are one
 abbrev pub same_constraint : Constraint → Constraint → Bool
@@ -38,34 +67,92 @@ same_constraint (Apart p j) (Apart q k) = p == q && j == k
 same_constraint (Only m) (Only n) = m == n
 same_constraint _ _ = false
 
--- the two causes are one: the same constraints
-abbrev pub same_cause : List Constraint → List Constraint → Bool
-same_cause [] [] = true
-same_cause (x ∷ xs) (y ∷ ys) = same_constraint x y && same_cause xs ys
-same_cause _ _ = false
+abbrev pub is_need : Constraint → Bool
+is_need (Essential name) = false
+is_need (Need place number) = true
+is_need (Apart place number) = false
+is_need (Only name) = false
 
--- a cause, and the places of the packages that it breaks
+-- the needs among the causes of the cores, each once, in the order of the index
+unfoldable pub needs_in : IndexView → List (List Constraint) → List Constraint
+needs_in index cores = filter (λ one. is_need one && list_any (same_constraint one) (flat_map (cause_in index) cores)) (constraints_of index)
+
+-- the constraint says that there may be one version of the package's name
+abbrev pub is_version_of : IndexView → ℕ → Constraint → Bool
+is_version_of index place (Essential name) = false
+is_version_of index place (Need needing number) = false
+is_version_of index place (Apart apart number) = false
+is_version_of index place (Only name) = has_name index place name
+
+-- the package answers the constraint, which is a need
+abbrev pub is_answer_to : IndexView → ℕ → Constraint → Bool
+is_answer_to index place (Essential name) = false
+is_answer_to index place (Need needing number) = answers index needing number place
+is_answer_to index place (Apart apart number) = false
+is_answer_to index place (Only name) = false
+
+-- the core says that there may be one version of the package's name, and asks for this one
+abbrev pub is_version_in : IndexView → ℕ → List Constraint → Bool
+is_version_in index place core = list_any (is_version_of index place) core && list_any (is_answer_to index place) core
+
+-- the places of such packages of the cores, rising
+unfoldable pub versions_in : IndexView → List (List Constraint) → List ℕ
+versions_in index cores = filter (λ place. list_any (is_version_in index place) cores) (below (length index.packages))
+
+-- the constraint is an entry that hits the package
+abbrev pub is_hit_by : IndexView → ℕ → Constraint → Bool
+is_hit_by index place (Essential name) = false
+is_hit_by index place (Need needing number) = false
+is_hit_by index place (Apart apart number) = hits index apart number place && not (place == apart)
+is_hit_by index place (Only name) = false
+
+-- the places of the packages that the entries among the constraints hit, rising
+unfoldable pub hits_of : IndexView → List Constraint → List ℕ
+hits_of index constraints = filter (λ place. list_any (is_hit_by index place) constraints) (below (length index.packages))
+
+-- ---- causes with the packages that they break
+
+-- the constraints of the cause, one of each that say the same; the places of the packages that have it among their causes; how many of these have no other; the needs that
+-- say so in their cores; the versions that these cores ask for, of the names of which there may be one
 pub record CauseView : Type 0 where
   pub constraints : List Constraint
   pub places : List ℕ
+  pub frees : ℕ
+  pub needs : List Constraint
+  pub versions : List ℕ
 
 abbrev pub cause_view : Cause → CauseView
-cause_view cause = record { constraints = cause.constraints.items; places = cause.places.items }
+cause_view cause = record {
+  constraints = cause.constraints.items;
+  places = cause.places.items;
+  frees = cause.frees;
+  needs = cause.needs.items;
+  versions = cause.versions.items;
+}
 
 -- it speaks of constraints and places that the index has
-abbrev pub IsCauseOf : IndexView → CauseView → Type 0
-IsCauseOf index cause = All (IsOfIndex index) cause.constraints × All (λ place. place < length index.packages) cause.places
+pub record IsCauseOf (index : IndexView) (cause : CauseView) : Type 0 where
+  pub constraints : All (IsOfIndex index) cause.constraints
+  pub places : All (λ place. place < length index.packages) cause.places
+  pub needs : All (IsOfIndex index) cause.needs
+  pub versions : All (λ place. place < length index.packages) cause.versions
 
--- the places that have this cause
-unfoldable pub places_broken_by : List (List Constraint × ℕ) → List Constraint → List ℕ
-places_broken_by pairs cause = map (λ pair. pair.1) (filter (λ pair. same_cause cause pair.0) pairs)
+abbrev pub gathered : IndexView → List (ℕ × List (List Constraint)) → List Constraint → CauseView
+gathered index broken cause = let cores = cores_with index broken cause in record {
+  constraints = first_of_each (says_same index) cause;
+  places = map (λ one. one.0) (filter (is_broken_by index cause) broken);
+  frees = count_by (is_freed_by index cause) broken;
+  needs = needs_in index cores;
+  versions = versions_in index cores;
+}
 
-abbrev pub gathered : List (List Constraint × ℕ) → List Constraint → CauseView
-gathered pairs cause = record { constraints = cause; places = places_broken_by pairs cause }
+-- all causes of the packages, one after the other
+abbrev pub found_causes : IndexView → List (ℕ × List (List Constraint)) → List (List Constraint)
+found_causes index broken = flat_map (λ one. map (cause_in index) one.1) broken
 
--- each cause once, with all its places, in the order of the first of these
-unfoldable pub by_first : List (List Constraint × ℕ) → List CauseView
-by_first pairs = map (gathered pairs) (first_of_each same_cause (map (λ pair. pair.0) pairs))
+-- each cause once, with all that is gathered of it, in the order of the first packages
+unfoldable pub by_first : IndexView → List (ℕ × List (List Constraint)) → List CauseView
+by_first index broken = map (gathered index broken) (first_of_each (same_cause index) (found_causes index broken))
 
 -- the cause has so many packages
 abbrev pub has_count : ℕ → CauseView → Bool
@@ -76,72 +163,6 @@ unfoldable pub by_count : ℕ → List CauseView → List CauseView
 by_count zero causes = filter (has_count 0) causes
 by_count (suc n) causes = filter (has_count (suc n)) causes ++ by_count n causes
 
--- the causes of broken packages with these verdicts: those of more packages first, then by their first packages
-unfoldable pub causes_list : IndexView → List (ℕ × VerdictView) → List CauseView
-causes_list index broken = by_count (length broken) (by_first (found_causes index broken))
-
--- ---- near misses
-
--- the alternatives of a need
-unfoldable pub alternatives : IndexView → Constraint → List AtomText
-alternatives index (Essential name) = []
-alternatives index (Need place number) = need_at index place number
-alternatives index (Apart place number) = []
-alternatives index (Only name) = []
-
--- one of the atoms has the name
-abbrev pub is_one_of : List AtomText → List ℕ → Bool
-is_one_of atoms name = list_any (λ atom. bytes_eq atom.name name) atoms
-
--- the entry provides the name of one of them
-abbrev pub provides_one : List ℕ → List AtomText → AtomText → Bool
-provides_one arch atoms entry = is_usable arch entry.qualifier && is_one_of atoms entry.name
-
--- the package has the name, or an entry of its Provides provides it
-abbrev pub is_near : List ℕ → PackageView → AtomText → Bool
-is_near arch deb atom = is_named atom.name deb || list_any (is_providing arch atom.name) deb.provides
-
--- a package that comes near: it has a name itself, and no entry is told; or these entries of its Provides have one
-pub record NearMissView : Type 0 where
-  pub deb : PackageView
-  pub provides : List AtomText
-
-abbrev pub near_view : NearMiss → NearMissView
-near_view miss = record { deb = package_view miss.deb.now; provides = map (λ entry. atom_view entry.now) miss.provides.items }
-
--- what is told of a package that comes near
-unfoldable pub near_miss : List ℕ → List AtomText → PackageView → NearMissView
-near_miss arch atoms deb = record { deb = deb; provides = if is_one_of atoms deb.name then [] else filter (provides_one arch atoms) deb.provides }
-
-abbrev pub near_miss_at : IndexView → List AtomText → ℕ → NearMissView
-near_miss_at index atoms place = near_miss index.arch atoms (package_at index place)
-
--- the places of the packages that have or provide the name of one of the atoms
-unfoldable pub near_places : IndexView → List AtomText → List ℕ
-near_places index atoms = places_where (λ deb. list_any (is_near index.arch deb) atoms) index.packages
-
--- the packages of the index, by place, that have or provide the name of an alternative of a need among these constraints
-unfoldable pub near_misses : IndexView → List Constraint → List NearMissView
-near_misses index constraints = let atoms = flat_map (alternatives index) constraints in
-    map (near_miss_at index atoms) (near_places index atoms)
-
--- ---- lines
-
--- what a package provides, where it comes near by that alone
-unfoldable pub provides_text : List AtomText → List ℕ
-provides_text entries = if length entries == 0 then [] else codes " (provides " ++ join_by printed (codes ", ") entries ++ codes ")"
-
--- the line of a near miss
-unfoldable pub near_line : NearMissView → List ℕ
-near_line miss = codes "   - " ++ label_of miss.deb ++ provides_text miss.provides ++ codes "\n"
-
--- the near misses, where there are some
-unfoldable pub present_text : List NearMissView → List ℕ
-present_text misses = if length misses == 0 then [] else titled (codes "  present:") (flat_map near_line misses)
-
--- the lines of a cause
-unfoldable pub cause_text : IndexView → CauseView → List ℕ
-cause_text index cause = line (codes " -") [] ++ line (codes "  packages: ") (decimal (length cause.places))
-    ++ titled (codes "  reasons:") (flat_map (constraint_line index) cause.constraints)
-    ++ present_text (near_misses index cause.constraints)
-    ++ titled (codes "  broken:") (flat_map (place_line index) cause.places)
+-- the causes of broken packages with these verdicts and later cores: those of more packages first, then by their first packages
+unfoldable pub causes_list : IndexView → List (List (List Constraint)) → List (ℕ × VerdictView) → List CauseView
+causes_list index later broken = by_count (length broken) (by_first index (map (cores_of later) broken))

@@ -1,5 +1,5 @@
 -- The report on an index.
-use Rattle.std.specs.Prelude.{ℕ, ◌==◌, ◌-◌, Bool, true, false, not, nat_lt, List, [], ◌∷◌, ◌++◌, Option, None, Some, length, codes, decimal, filter, if◌then◌else◌, count_by}
+use Rattle.std.specs.Prelude.{ℕ, ◌==◌, ◌-◌, Bool, true, false, not, nat_lt, List, [], ◌∷◌, ◌++◌, Option, None, Some, length, codes, decimal, filter, if◌then◌else◌, count_by, slice_index_or}
 use Rattle.std.specs.List.{flat_map, join_by, list_all, zip}
 use Rattle.deb_relation.specs.Relationship.{AtomText, printed}
 use Rattle.deb_index.specs.declared.constraint.Constraint.{Constraint}
@@ -10,6 +10,7 @@ use Rattle.deb_health.specs.Verdicts.{VerdictView, Found, Blocked}
 use Rattle.deb_report.specs.declared.config.Show.{Show}
 use Rattle.deb_report.specs.declared.config.Show.TheVariants.{All, Failures, Successes}
 use Rattle.deb_report.specs.declared.summary.Summary.{Summary}
+use Rattle.deb_report.specs.Settings.{Settings, options_of, tells_options}
 
 -- ---- lines
 
@@ -105,10 +106,36 @@ broken_ones asked verdicts = shown_of Failures asked verdicts
 abbrev pub titled : List ℕ → List ℕ → List ℕ
 titled title lines = line title [] ++ lines
 
--- the set that was found, or what stands against each set
-unfoldable pub explanation : IndexView → VerdictView → List ℕ
-explanation index (Found places) = titled (codes "  installation-set:") (flat_map (place_line index) places)
-explanation index (Blocked constraints) = titled (codes "  reasons:") (flat_map (constraint_line index) constraints)
+-- what is told of verdicts: whether they are explained; whether the cores behind the first are, and which these are, by place; whether the first core is told as it
+-- is walked; and the words that a document begins with, where it tells any
+pub record TellingView : Type 0 where
+  pub explain : Bool
+  pub also : Bool
+  pub later : List (List (List Constraint))
+  pub why : Bool
+  pub options : List (List ℕ)
+
+-- of a report that may be one since an earlier index, with the later cores by place
+abbrev pub telling_of : Settings → Bool → List (List (List Constraint)) → TellingView
+telling_of settings since later = record {
+  explain = settings.explain;
+  also = settings.all_reasons;
+  later = later;
+  why = settings.why;
+  options = if tells_options settings then options_of settings since else [];
+}
+
+-- the cores behind the first of the package at a place; past the end of the list none
+abbrev pub later_at : List (List (List Constraint)) → ℕ → List (List Constraint)
+later_at later place = slice_index_or later place []
+
+-- those that are told
+abbrev pub also_at : TellingView → ℕ → List (List Constraint)
+also_at telling place = if telling.also then later_at telling.later place else []
+
+-- the lines of a core, under a title
+unfoldable pub core_lines : IndexView → List ℕ → List Constraint → List ℕ
+core_lines index title core = titled title (flat_map (constraint_line index) core)
 
 -- the status of a package
 unfoldable pub status_of : VerdictView → List ℕ
@@ -121,12 +148,6 @@ heading deb = line (codes " -") []
     ++ line (codes "  package: ") deb.name
     ++ line (codes "  version: ") deb.version
     ++ line (codes "  architecture: ") deb.architecture
-
--- the lines of an asked place and its verdict
-unfoldable pub block_of : IndexView → Bool → ℕ × VerdictView → List ℕ
-block_of index explain asked = heading (package_at index asked.0)
-    ++ line (codes "  status: ") (status_of asked.1)
-    ++ (if explain then explanation index asked.1 else [])
 
 -- ---- numbers
 

@@ -1,5 +1,5 @@
 -- What a report depends on.
-use Rattle.std.specs.Prelude.{ℕ, ◌==◌, Bool, false, true, not, ◌&&◌, ◌||◌, List, Option, None, codes, is_some, length, map, string_bytes}
+use Rattle.std.specs.Prelude.{ℕ, ◌==◌, Bool, false, true, not, ◌&&◌, ◌||◌, List, [], ◌∷◌, ◌++◌, Option, None, codes, if◌then◌else◌, is_some, length, map, string_bytes}
 use Rattle.std.specs.Char.{is_ascii_alphanumeric}
 use Rattle.std.specs.List.{list_all}
 use Rattle.std.specs.Option.{option_map}
@@ -10,7 +10,7 @@ use Rattle.deb_report.specs.declared.config.Format.TheVariants.{Text}
 use Rattle.deb_report.specs.declared.config.Show.{Show}
 use Rattle.deb_report.specs.declared.config.Show.TheVariants.{All, Failures, Successes}
 
--- what a report depends on: the architecture, what is shown, whether names may be essential, the names that are asked, whether a background is read, whether an index that asks for nothing has no report, whether causes are told, and the report's form;
+-- what a report depends on: the architecture, what is shown, whether names may be essential, the names that are asked, whether a background is read, whether an index that asks for nothing has no report, whether causes are told, whether the cores of all causes are, whether a core is told as it is walked, and the report's form;
 -- not how the work is dealt out, which files the background and an earlier index are, or whether a run tells how far it has come
 pub record Settings : Type 0 where
   pub arch : List ℕ
@@ -21,6 +21,8 @@ pub record Settings : Type 0 where
   pub background : Bool
   pub strict : Bool
   pub causes : Bool
+  pub all_reasons : Bool
+  pub why : Bool
   pub format : Format
 
 -- whether packages that can be installed have a block
@@ -40,6 +42,8 @@ settings_of config = record {
   background = is_some config.bg;
   strict = config.strict || is_some config.since;
   causes = config.causes;
+  all_reasons = config.all_reasons;
+  why = config.why;
   format = config.format;
 }
 
@@ -47,9 +51,39 @@ settings_of config = record {
 abbrev pub shows_sets : Settings → Bool
 shows_sets settings = settings.explain && shows_installable settings.show
 
+-- whether all causes of a package are told
+abbrev pub tells_all_causes : Settings → Bool
+tells_all_causes settings = settings.causes || settings.all_reasons
+
+-- whether a document begins with the words that it was made under
+abbrev pub tells_options : Settings → Bool
+tells_options settings = tells_all_causes settings || settings.why
+
+-- a word, where it is said
+abbrev pub word_if : Bool → List ℕ → List (List ℕ)
+word_if said word = if said then word ∷ [] else []
+
+-- the word that says which packages have a block, where they are not all
+abbrev pub show_words : Show → List (List ℕ)
+show_words All = []
+show_words Failures = codes "failures" ∷ []
+show_words Successes = codes "successes" ∷ []
+
+-- the words of the command line that say of what packages a report tells, and what, in this order; it may be one since an earlier index
+unfoldable pub options_of : Settings → Bool → List (List ℕ)
+options_of settings since = word_if settings.explain (codes "explain")
+    ++ show_words settings.show
+    ++ word_if (not settings.essential) (codes "ignore-essential")
+    ++ word_if (is_some settings.only) (codes "checkonly")
+    ++ word_if settings.background (codes "bg")
+    ++ word_if since (codes "since")
+    ++ word_if settings.causes (codes "causes")
+    ++ word_if settings.all_reasons (codes "all-reasons")
+    ++ word_if settings.why (codes "why")
+
 -- the settings where nothing is said
 abbrev pub usual_settings : Settings
-usual_settings = record { arch = codes "amd64"; explain = true; show = All; essential = true; only = None; background = false; strict = false; causes = false; format = Text }
+usual_settings = record { arch = codes "amd64"; explain = true; show = All; essential = true; only = None; background = false; strict = false; causes = false; all_reasons = false; why = false; format = Text }
 
 -- ---- architectures
 

@@ -1,5 +1,6 @@
 -- The report in its form.
-use Rattle.std.specs.Prelude.{ℕ, Bool, List}
+use Rattle.std.specs.Prelude.{ℕ, false, true, List, []}
+use Rattle.deb_index.specs.declared.constraint.Constraint.{Constraint}
 use Rattle.deb_index.specs.Packages.{IndexView}
 use Rattle.deb_health.specs.Verdicts.{VerdictView}
 use Rattle.deb_report.specs.declared.config.Format.{Format}
@@ -7,18 +8,23 @@ use Rattle.deb_report.specs.declared.config.Format.TheVariants.{Json, Text}
 use Rattle.deb_report.specs.Content.{ContentView, content_of, content_since}
 use Rattle.deb_report.specs.Json.{json_text}
 use Rattle.deb_report.specs.Lines.{lines_text}
+use Rattle.deb_report.specs.Report.{TellingView, telling_of}
 use Rattle.deb_report.specs.Settings.{Settings}
 use Rattle.deb_report.specs.Since.{BrokenView}
 
 -- what is told in a form: lines, or a JSON document
-abbrev pub text_in : Format → IndexView → Bool → ContentView → List ℕ
-text_in Text index explain content = lines_text index explain content
-text_in Json index explain content = json_text index explain content
+abbrev pub text_in : Format → IndexView → TellingView → ContentView → List ℕ
+text_in Text index telling content = lines_text index telling content
+text_in Json index telling content = json_text index telling content
 
--- what is written of the asked places
+-- what is written of the asked places, and of the later cores, by place
+abbrev pub written_told : Settings → IndexView → List ℕ → List VerdictView → List (List (List Constraint)) → List ℕ
+written_told settings index asked verdicts later = text_in settings.format index (telling_of settings false later) (content_of settings index asked verdicts later)
+
+-- of the verdicts alone
 abbrev pub written_report : Settings → IndexView → List ℕ → List VerdictView → List ℕ
-written_report settings index asked verdicts = text_in settings.format index settings.explain (content_of settings index asked verdicts)
+written_report settings index asked verdicts = written_told settings index asked verdicts []
 
 -- what is written of them since an earlier index, whose broken packages are given
-abbrev pub written_since : Settings → IndexView → List ℕ → List VerdictView → List BrokenView → List ℕ
-written_since settings index asked verdicts before = text_in settings.format index settings.explain (content_since settings index asked verdicts before)
+abbrev pub written_since : Settings → IndexView → List ℕ → List VerdictView → List (List (List Constraint)) → List BrokenView → List ℕ
+written_since settings index asked verdicts later before = text_in settings.format index (telling_of settings true later) (content_since settings index asked verdicts later before)

@@ -1,86 +1,72 @@
 //! The causes of broken packages.
 
-ghost use Rattle.std.specs.Prelude.{◌≡◌, ◌≤◌, ◌++◌, ℕ, List, All, IfOk, OnOk, length, map};
-ghost use Rattle.deb_index.specs.declared.constraint.Constraint.{Constraint};
+ghost use Rattle.std.specs.Prelude.{◌≡◌, ◌<◌, ◌≤◌, ℕ, All, IfOk, OnOk, count_by, length, map};
 ghost use Rattle.deb_index.specs.Constraints.{IsOfIndex};
-ghost use Rattle.deb_health.specs.Causes.{cause_in, is_final};
-ghost use Rattle.deb_health.specs.Verdicts.{SpeaksOf, verdict_view};
-ghost use Rattle.deb_report.specs.Gathering.{IsGathered};
-ghost use Rattle.deb_report.specs.Causes.{IsCauseOf, by_count, by_first, cause_at, cause_view, causes_list, found_causes};
-ghost use Rattle.deb_report.specs.Told.{IsAskedOf, shown_view};
+ghost use Rattle.deb_report.specs.Causes.{IsCauseOf, by_count, cause_view, causes_list};
+ghost use Rattle.deb_report.specs.Gathered.{cause_from};
+ghost use Rattle.deb_report.specs.Gathering.{part_view, share_view};
+ghost use Rattle.deb_report.specs.Told.{AreLaterOf, IsAskedOf, later_view, shown_view};
 
-use crate::gathered::{Cause, Gathered};
-use crate::reasons::is_missing;
+use crate::cores::{needs_in, versions_in, wrongs_in};
+use crate::gathered::{Cause, Part, Share, parts_of};
+use crate::numbered::number_packages;
 use crate::shown::Shown;
-use deb_health::Verdict;
+use crate::wrongs::Wrongs;
 use deb_index::{Constraint, Index};
 use std::alloc::{AllocError, Global};
 
-/// Whether a constraint is no need that some package of the index meets.
-fn is_final(alloc: Global, index: &Index, constraint: Constraint) -> Result<bool, AllocError>
-    requires { IsOfIndex index.now constraint }
-    ensures { IfOk result (λ last. last ≡ is_final index.now constraint) }
+/// The places of packages.
+fn places_of(alloc: Global, shares: &[Share]) -> Result<Vec<u32>, AllocError>
+    ensures { IfOk result (λ places. places.items ≡ map (λ share. share.0) (map share_view shares.now)) }
 {
-    match constraint {
-        Constraint::Need(place, number) => is_missing(alloc, index, place, number),
-        Constraint::Essential(_) | Constraint::Apart(_, _) | Constraint::Only(_) => Ok(true),
+    let mut places = Vec::new(alloc);
+    for share in shares {
+        places.push(share.place)?;
     }
+    Ok(places)
 }
 
-/// The cause that a core has.
-fn cause_in(
-    alloc: Global,
-    index: &Index,
-    core: &[Constraint],
-) -> Result<Vec<Constraint>, AllocError>
-    requires { All (IsOfIndex index.now) core.now }
-    ensures { IfOk result (λ cause. cause.items ≡ cause_in index.now core.now) }
+/// How many of the packages have no other cause.
+fn count_alone(shares: &[Share]) -> usize
+    ensures { result ≡ count_by (λ share. share.1) (map share_view shares.now) }
 {
-    let mut cause = Vec::new(alloc);
-    for constraint in core {
-        if is_final(alloc, index, *constraint)? {
-            cause.push(*constraint)?;
+    let mut count = 0;
+    for share in shares {
+        if share.alone {
+            count += 1;
         }
     }
-    Ok(cause)
+    count
 }
 
-/// Adds a place to its cause, where its package is broken.
-fn add_verdict(
-    alloc: Global,
-    index: &Index,
-    place: u32,
-    verdict: &Verdict,
-    gathered: &mut Gathered,
-) -> Result<(), AllocError>
-    requires { SpeaksOf index.now (verdict_view verdict.now) }
-    ensures { OnOk result ((pairs : List (List Constraint × ℕ)) → IsGathered pairs gathered.old
-        → IsGathered (pairs ++ cause_at index.now place (verdict_view verdict.now)) gathered.new) }
+/// The cause that some cores have, with what is told of them and of the packages.
+fn cause_of(alloc: Global, index: &Index, part: &Part) -> Result<Cause, AllocError>
+    requires some { 0 < length part.now.cores.items }
+    requires within { All (λ core. All (IsOfIndex index.now) core.now) part.now.cores.items }
+    ensures { IfOk result (λ cause. cause_view cause ≡ cause_from index.now (part_view part.now)) }
 {
-    match verdict {
-        Verdict::Ok(_) => Ok(()),
-        Verdict::Broken(core) => {
-            let cause = cause_in(alloc, index, core.as_slice())?;
-            gathered.add(alloc, cause, place)?;
-            Ok(())
-        }
-    }
+    let cores = part.cores.as_slice();
+    let shares = part.shares.as_slice();
+    Ok(Cause {
+        constraints: wrongs_in(alloc, index, cores[0])?,
+        places: places_of(alloc, shares)?,
+        frees: count_alone(shares),
+        needs: needs_in(alloc, index, cores)?,
+        versions: versions_in(alloc, index, cores)?,
+    })
 }
 
-/// The causes of broken packages, each with its places, in the order of the first of these.
-fn found_causes(
-    alloc: Global,
-    index: &Index,
-    broken: &[Shown<'_>],
-) -> Result<Vec<Cause>, AllocError>
-    requires { All (λ one. IsAskedOf index.now (shown_view one)) broken.now }
-    ensures { IfOk result (λ causes. map cause_view causes.items ≡ by_first (found_causes index.now (map shown_view broken.now))) }
+/// The causes of all parts.
+fn list_causes(alloc: Global, index: &Index, parts: &[Part]) -> Result<Vec<Cause>, AllocError>
+    requires some { All (λ part. 0 < length part.cores.items) parts.now }
+    requires within { All (λ part. All (λ core. All (IsOfIndex index.now) core.now) part.cores.items) parts.now }
+    ensures { IfOk result (λ causes. map cause_view causes.items ≡ map (cause_from index.now) (map part_view parts.now)) }
 {
-    let mut gathered = Gathered::new(alloc);
-    for one in broken {
-        add_verdict(alloc, index, one.place, one.verdict, &mut gathered)?;
+    let mut causes = Vec::new(alloc);
+    for part in parts {
+        causes.push(cause_of(alloc, index, part)?)?;
     }
-    Ok(gathered.causes)
+    Ok(causes)
 }
 
 /// Brings causes of more packages to the front.
@@ -92,20 +78,25 @@ fn sort_by_count(causes: &mut Vec<Cause>) -> Result<(), AllocError>
     Ok(())
 }
 
-/// The causes of broken packages, each with the places that have it: those of more packages first, among equals those whose first place is
+/// The causes of broken packages, each with what is gathered of it: those of more packages first, among equals those whose first package is
 /// first in the list.
 ///
-/// The packages and their verdicts speak of what the index has. `AllocError` where there is no memory for it.
+/// The packages, their verdicts and the later cores speak of what the index has. `AllocError` where there is no memory for it.
 pub(crate) fn causes_of(
     alloc: Global,
     index: &Index,
+    later: &[Vec<Vec<Constraint>>],
     broken: &[Shown<'_>],
 ) -> Result<Vec<Cause>, AllocError>
-    requires { All (λ one. IsAskedOf index.now (shown_view one)) broken.now }
-    ensures causes { IfOk result (λ causes. map cause_view causes.items ≡ causes_list index.now (map shown_view broken.now)) }
+    requires broken { All (λ one. IsAskedOf index.now (shown_view one)) broken.now }
+    requires later { AreLaterOf index.now (later_view later.now) }
+    ensures causes { IfOk result (λ causes. map cause_view causes.items ≡ causes_list index.now (later_view later.now) (map shown_view broken.now)) }
     ensures within { IfOk result (λ causes. All (λ cause. IsCauseOf index.now (cause_view cause)) causes.items) }
 {
-    let mut causes = found_causes(alloc, index, broken)?;
+    let mut wrongs = Wrongs::new(alloc);
+    let packages = number_packages(alloc, index, later, broken, &mut wrongs)?;
+    let parts = parts_of(alloc, wrongs.count(), packages.as_slice())?;
+    let mut causes = list_causes(alloc, index, parts.as_slice())?;
     sort_by_count(&mut causes)?;
     Ok(causes)
 }

@@ -1,7 +1,7 @@
 //! What is asked of a run.
 
 ghost use Rattle.std.specs.Prelude.{◌≡◌, IfOk, false};
-ghost use Rattle.deb_report.specs.Settings.{settings_of, shows_sets, usual_settings};
+ghost use Rattle.deb_report.specs.Settings.{settings_of, shows_sets, tells_all_causes, tells_options, usual_settings};
 
 use std::alloc::{AllocError, Global};
 
@@ -54,13 +54,18 @@ pub struct Config {
     pub strict: bool,
     /// Whether the report ends with the causes of what is broken.
     pub causes: bool,
+    /// Whether a broken block that explains tells the cores of all causes, and not the first alone.
+    pub all_reasons: bool,
+    /// Whether a broken block that explains tells the first core as it is walked from the package, and not as a list.
+    pub why: bool,
     pub format: Format,
     /// Whether nothing tells how far a run has come. The report does not depend on it.
     pub quiet: bool,
 }
 
 impl Config {
-    /// The settings where nothing is said: architecture `amd64`, with explanations, 4 workers and chunks of 64, no second index and no earlier one, nothing strict, and a report in plain text.
+    /// The settings where nothing is said: architecture `amd64`, with explanations, 4 workers and chunks of 64, no second index and no earlier
+    /// one, nothing strict, and a report in plain text.
     pub fn usual(alloc: Global) -> Result<Config, AllocError>
         ensures settings { IfOk result (λ config. settings_of config ≡ usual_settings) }
         ensures workers { IfOk result (λ config. config.workers ≡ 4) }
@@ -83,9 +88,25 @@ impl Config {
             since: None,
             strict: false,
             causes: false,
+            all_reasons: false,
+            why: false,
             format: Format::Text,
             quiet: false,
         })
+    }
+
+    /// Whether the report tells all causes of a package, of which the first core says the first alone.
+    pub fn tells_all_causes(&self) -> bool
+        ensures { result ≡ tells_all_causes (settings_of self.now) }
+    {
+        self.causes || self.all_reasons
+    }
+
+    /// Whether a document begins with the words that it is made under.
+    pub(crate) fn tells_options(&self) -> bool
+        ensures { result ≡ tells_options (settings_of self.now) }
+    {
+        self.tells_all_causes() || self.why
     }
 
     /// Whether the report may tell a set that was found: blocks explain, and packages that can be installed have one.

@@ -7,7 +7,7 @@ ghost use Rattle.deb_report.specs.Causes.{IsCauseOf, cause_view};
 ghost use Rattle.deb_report.specs.Content.{causes_if, content_of, content_since};
 ghost use Rattle.deb_report.specs.Settings.{settings_of};
 ghost use Rattle.deb_report.specs.Since.{broken_view};
-ghost use Rattle.deb_report.specs.Told.{IsAskedOf, IsContentOf, content_view, shown_view};
+ghost use Rattle.deb_report.specs.Told.{AreLaterOf, IsAskedOf, IsContentOf, content_view, later_view, shown_view};
 
 use crate::amends::{Amends, amends_of};
 use crate::broken::BrokenPackage;
@@ -18,7 +18,7 @@ use crate::shown::{Shown, shown_of};
 use crate::since::news_of;
 use crate::summary::{Number, numbers_of};
 use deb_health::Verdict;
-use deb_index::Index;
+use deb_index::{Constraint, Index};
 use std::alloc::{AllocError, Global};
 
 /// What a report tells.
@@ -37,15 +37,18 @@ pub(crate) struct Content<'r> {
 fn causes_if(
     alloc: Global,
     index: &Index,
+    later: &[Vec<Vec<Constraint>>],
     broken: &[Shown<'_>],
     causes: bool,
 ) -> Result<Option<Vec<Cause>>, AllocError>
-    requires { All (λ one. IsAskedOf index.now (shown_view one)) broken.now }
-    ensures value { IfOk result (λ told. option_map (λ list. map cause_view list.items) told ≡ causes_if causes index.now (map shown_view broken.now)) }
+    requires broken { All (λ one. IsAskedOf index.now (shown_view one)) broken.now }
+    requires later { AreLaterOf index.now (later_view later.now) }
+    ensures value { IfOk result (λ told. option_map (λ list. map cause_view list.items) told ≡
+        causes_if causes index.now (later_view later.now) (map shown_view broken.now)) }
     ensures within { IfOk result (λ told. IfSome told (λ list. All (λ cause. IsCauseOf index.now (cause_view cause)) list.items)) }
 {
     if causes {
-        Ok(Some(causes_of(alloc, index, broken)?))
+        Ok(Some(causes_of(alloc, index, later, broken)?))
     } else {
         Ok(None)
     }
@@ -57,18 +60,21 @@ pub(crate) fn content_of<'r>(
     index: &Index,
     asked: &[u32],
     verdicts: &'r [Verdict],
+    later: &[Vec<Vec<Constraint>>],
     config: &Config,
 ) -> Result<Content<'r>, AllocError>
     requires same { length asked.now ≡ length verdicts.now }
     requires places { All (λ place. place < length index.now.packages) asked.now }
     requires within { All (SpeaksOf index.now) (map verdict_view verdicts.now) }
-    ensures content { IfOk result (λ content. content_view content ≡ content_of (settings_of config.now) index.now asked.now (map verdict_view verdicts.now)) }
+    requires later { AreLaterOf index.now (later_view later.now) }
+    ensures content { IfOk result (λ content. content_view content ≡
+        content_of (settings_of config.now) index.now asked.now (map verdict_view verdicts.now) (later_view later.now)) }
     ensures within { IfOk result (IsContentOf index.now) }
 {
     let blocks = shown_of(alloc, asked, verdicts, config.show)?;
     let numbers = numbers_of(alloc, index, asked, verdicts, config.bg.is_some(), None)?;
     let broken = shown_of(alloc, asked, verdicts, Show::Failures)?;
-    let causes = causes_if(alloc, index, broken.as_slice(), config.causes)?;
+    let causes = causes_if(alloc, index, later, broken.as_slice(), config.causes)?;
     Ok(Content {
         blocks,
         numbers,
@@ -83,14 +89,16 @@ pub(crate) fn content_since<'r>(
     index: &Index,
     asked: &[u32],
     verdicts: &'r [Verdict],
+    later: &[Vec<Vec<Constraint>>],
     before: &'r [BrokenPackage],
     config: &Config,
 ) -> Result<Content<'r>, AllocError>
     requires same { length asked.now ≡ length verdicts.now }
     requires places { All (λ place. place < length index.now.packages) asked.now }
     requires within { All (SpeaksOf index.now) (map verdict_view verdicts.now) }
+    requires later { AreLaterOf index.now (later_view later.now) }
     ensures content { IfOk result (λ content. content_view content ≡
-        content_since (settings_of config.now) index.now asked.now (map verdict_view verdicts.now) (map broken_view before.now)) }
+        content_since (settings_of config.now) index.now asked.now (map verdict_view verdicts.now) (later_view later.now) (map broken_view before.now)) }
     ensures within { IfOk result (IsContentOf index.now) }
 {
     let failures = shown_of(alloc, asked, verdicts, Show::Failures)?;
@@ -99,7 +107,7 @@ pub(crate) fn content_since<'r>(
     let count = Some(news.len());
     let numbers = numbers_of(alloc, index, asked, verdicts, config.bg.is_some(), count)?;
     let lists = amends_of(alloc, index, asked, broken, before)?;
-    let causes = causes_if(alloc, index, news.as_slice(), config.causes)?;
+    let causes = causes_if(alloc, index, later, news.as_slice(), config.causes)?;
     Ok(Content {
         blocks: news,
         numbers,

@@ -1,100 +1,160 @@
-//! Causes that are gathered one package after the other.
+//! Causes, each with what is gathered of it from the packages and cores that have its number.
 
-ghost use Rattle.std.specs.Prelude.{◌≡◌, ◌<◌, ◌≤◌, ◌++◌, ◌∷◌, [], ℕ, List, IfOk, IfSome, OnOk, length, map, vec_len};
+ghost use Rattle.std.specs.Prelude.{◌≡◌, ◌<◌, ◌++◌, ◌∷◌, ℕ, List, [], All, IfOk, OnOk, length, map};
+ghost use Rattle.std.specs.List.{list_all, list_any};
+ghost use Rattle.std.specs.List.Sorted.{IsStrictlyIncreasing};
 ghost use Rattle.deb_index.specs.declared.constraint.Constraint.{Constraint};
-ghost use Rattle.deb_index.specs.Tables.{number_in};
-ghost use Rattle.deb_report.specs.CauseKeys.{cause_numbers, constraint_numbers};
+ghost use Rattle.deb_index.specs.Constraints.{below};
+ghost use Rattle.number_sets.specs.Sets.{members_of};
+ghost use Rattle.deb_report.specs.Gathering.{PartView, has_number, is_alone, part_of, part_view, with_cores, with_share};
+ghost use Rattle.deb_report.specs.Numbered.{core_view, package_view};
 
+use crate::numbered::{NumberedCore, NumberedPackage};
 use deb_index::Constraint;
-use indexmap::IndexSet;
+use number_sets::sort_once;
 use std::alloc::{AllocError, Global};
 
-/// What is wrong in the end, and the packages that it breaks.
+/// What is wrong in the end, whoever needs it, and the packages that it breaks.
 #[derive(Drop)]
 pub(crate) struct Cause {
-    /// The constraints of a first core without the needs that some package of the index meets, in the core's order.
+    /// What is wrong, each once: the constraints of a core without the needs that some package of the index meets, in the core's order.
     pub(crate) constraints: Vec<Constraint>,
-    /// The places of the packages that have this cause, in the order in which they were asked.
+    /// The places of the packages that have this cause among their causes, in the order in which they were asked.
     pub(crate) places: Vec<u32>,
+    /// How many of these packages have no other cause.
+    pub(crate) frees: usize,
+    /// The needs that say so in their cores, each once, in the index's order.
+    pub(crate) needs: Vec<Constraint>,
+    /// The places, rising, of packages that these cores ask for, by a name of which there may be one version.
+    pub(crate) versions: Vec<u32>,
 }
 
-/// Adds the numbers of a constraint.
-fn push_numbers(key: &mut Vec<u32>, constraint: Constraint) -> Result<(), AllocError>
-    ensures { OnOk result (key.new.items ≡ key.old.items ++ constraint_numbers constraint) }
-{
-    match constraint {
-        Constraint::Essential(name) => key.extend_from_slice(&[0, name, 0]),
-        Constraint::Need(place, number) => key.extend_from_slice(&[1, place, number]),
-        Constraint::Apart(place, number) => key.extend_from_slice(&[2, place, number]),
-        Constraint::Only(name) => key.extend_from_slice(&[3, name, 0]),
-    }
-}
-
-/// The numbers of a cause's constraints, which tell it from all others.
-fn key_of(alloc: Global, constraints: &[Constraint]) -> Result<Vec<u32>, AllocError>
-    ensures { IfOk result (λ key. key.items ≡ cause_numbers constraints.now) }
-{
-    let mut key = Vec::new(alloc);
-    for constraint in constraints {
-        push_numbers(&mut key, *constraint)?;
-    }
-    Ok(key)
-}
-
-/// Causes in the order of their coming, and the key of each.
+/// A package that has a cause.
 #[derive(Drop)]
-pub(crate) struct Gathered {
-    keys: IndexSet<Vec<u32>>,
-    pub(crate) causes: Vec<Cause>,
-    ghost listed: { length keys.keys ≤ vec_len causes },
+pub(crate) struct Share {
+    pub(crate) place: u32,
+    /// Whether it has no other cause.
+    pub(crate) alone: bool,
 }
 
-impl Gathered {
-    ghost use Rattle.deb_report.specs.Gathering.{IsGathered};
+/// What has the number of a cause.
+#[derive(Drop)]
+pub(crate) struct Part<'v> {
+    pub(crate) cores: Vec<&'v [Constraint]>,
+    pub(crate) shares: Vec<Share>,
+}
 
-    /// None so far.
-    pub(crate) fn new(alloc: Global) -> Gathered
-        ensures { IsGathered [] result }
-    {
-        Gathered {
-            keys: IndexSet::new(alloc),
-            causes: Vec::new(alloc),
+/// As many parts, with nothing in them.
+fn no_parts<'v>(alloc: Global, count: usize) -> Result<Vec<Part<'v>>, AllocError>
+    ensures { IfOk result (λ parts. map part_view parts.items ≡ map (part_of []) (below count)) }
+{
+    let mut parts = Vec::new(alloc);
+    for _number in 0..count {
+        parts.push(Part {
+            cores: Vec::new(alloc),
+            shares: Vec::new(alloc),
+        })?;
+    }
+    Ok(parts)
+}
+
+/// Adds the cores to the parts that have their numbers.
+fn add_cores<'v>(cores: &[NumberedCore<'v>], parts: &mut Vec<Part<'v>>) -> Result<(), AllocError>
+    requires { All (λ core. core.number < length parts.old.items) cores.now }
+    ensures size { OnOk result (length parts.new.items ≡ length parts.old.items) }
+    ensures parts { OnOk result ((count : ℕ) (f : ℕ → PartView) → map part_view parts.old.items ≡ map f (below count)
+        → map part_view parts.new.items ≡ map (λ k. with_cores (map core_view cores.now) k (f k)) (below count)) }
+{
+    for one in cores {
+        parts[one.number as usize].cores.push(one.core)?;
+    }
+    Ok(())
+}
+
+/// The numbers of the cores, rising, each once.
+fn distinct_numbers(alloc: Global, cores: &[NumberedCore]) -> Result<Vec<u32>, AllocError>
+    ensures rising { IfOk result (λ numbers. IsStrictlyIncreasing numbers.items) }
+    ensures same { IfOk result (λ numbers. (k : ℕ) → members_of numbers.items k ≡ list_any (has_number k) (map core_view cores.now)) }
+{
+    let mut numbers = Vec::new(alloc);
+    for one in cores {
+        numbers.push(one.number)?;
+    }
+    sort_once(&mut numbers);
+    Ok(numbers)
+}
+
+/// Whether all cores have a number.
+fn have_number(cores: &[NumberedCore], number: u32) -> bool
+    ensures { result ≡ list_all (has_number number) (map core_view cores.now) }
+{
+    for one in cores {
+        if one.number != number {
+            return false;
         }
     }
+    true
+}
 
-    /// The number of the cause with a key.
-    fn number(&self, key: &[u32]) -> Option<usize>
-        ensures number { result ≡ number_in key.now (map (λ k. k.items) self.now.keys.keys) }
-        ensures within { IfSome result (λ i. i < length self.now.keys.keys) }
-    {
-        self.keys.get_index_of(key)
+/// Whether all cores have one number.
+fn is_alone(cores: &[NumberedCore]) -> bool
+    ensures { result ≡ is_alone (map core_view cores.now) }
+{
+    match cores {
+        [] => true,
+        [first, others @ ..] => have_number(others, first.number),
     }
+}
 
-    /// Adds the place of a package with its cause.
-    pub(crate) fn add(
-        &mut self,
-        alloc: Global,
-        constraints: Vec<Constraint>,
-        place: u32,
-    ) -> Result<(), AllocError>
-        ensures { OnOk result ((pairs : List (List Constraint × ℕ)) → IsGathered pairs self.old
-            → IsGathered (pairs ++ (constraints.items, place) ∷ []) self.new) }
-    {
-        let key = key_of(alloc, constraints.as_slice())?;
-        match self.number(key.as_slice()) {
-            Some(number) => {
-                self.causes[number].places.push(place)?;
-            }
-            None => {
-                let mut places = Vec::new(alloc);
-                places.push(place)?;
-                self.causes.push(Cause {
-                    constraints,
-                    places,
-                })?;
-                self.keys.insert(key)?;
-            }
-        }
-        Ok(())
+/// Adds a package to the parts with these numbers.
+fn add_shares(
+    numbers: &[u32],
+    place: u32,
+    alone: bool,
+    parts: &mut Vec<Part>,
+) -> Result<(), AllocError>
+    requires rising { IsStrictlyIncreasing numbers.now }
+    requires within { All (λ number. number < length parts.old.items) numbers.now }
+    ensures size { OnOk result (length parts.new.items ≡ length parts.old.items) }
+    ensures parts { OnOk result ((count : ℕ) (f : ℕ → PartView) → map part_view parts.old.items ≡ map f (below count)
+        → map part_view parts.new.items ≡ map (λ k. with_share (place, alone) (members_of numbers.now k) (f k)) (below count)) }
+{
+    for number in numbers {
+        parts[*number as usize].shares.push(Share { place, alone })?;
     }
+    Ok(())
+}
+
+/// Adds a package and its cores.
+fn add_package<'v>(
+    alloc: Global,
+    one: &NumberedPackage<'v>,
+    parts: &mut Vec<Part<'v>>,
+) -> Result<(), AllocError>
+    requires { All (λ core. core.number < length parts.old.items) one.now.cores.items }
+    ensures size { OnOk result (length parts.new.items ≡ length parts.old.items) }
+    ensures parts { OnOk result ((packages : List (ℕ × List (ℕ × List Constraint))) (count : ℕ) → map part_view parts.old.items ≡ map (part_of packages) (below count)
+        → map part_view parts.new.items ≡ map (part_of (packages ++ package_view one.now ∷ [])) (below count)) }
+{
+    let cores = one.cores.as_slice();
+    add_cores(cores, parts)?;
+    let numbers = distinct_numbers(alloc, cores)?;
+    add_shares(numbers.as_slice(), one.place, is_alone(cores), parts)?;
+    Ok(())
+}
+
+/// What has each number below the count.
+pub(crate) fn parts_of<'v>(
+    alloc: Global,
+    count: usize,
+    packages: &[NumberedPackage<'v>],
+) -> Result<Vec<Part<'v>>, AllocError>
+    requires { All (λ one. All (λ core. core.number < count) one.cores.items) packages.now }
+    ensures { IfOk result (λ parts. map part_view parts.items ≡ map (part_of (map package_view packages.now)) (below count)) }
+{
+    let mut parts = no_parts(alloc, count)?;
+    for one in packages {
+        add_package(alloc, one, &mut parts)?;
+    }
+    Ok(parts)
 }

@@ -2,25 +2,50 @@
 
 ghost use Rattle.std.specs.Prelude.{◌≡◌, ◌++◌, All, IfOk, OnOk, codes, map};
 ghost use Rattle.std.specs.List.{flat_map};
-ghost use Rattle.deb_report.specs.Causes.{IsCauseOf, cause_view};
-ghost use Rattle.deb_report.specs.Json.{block_json, cause_json, causes_json, closing, json_text, list_json, member, number_json, tall_array};
-ghost use Rattle.deb_report.specs.Told.{IsContentOf, content_view};
+ghost use Rattle.deb_report.specs.Json.{array, block_json, causes_json, closing, head_json, json_text, list_json, member, number_json, quoted, tall_array};
+ghost use Rattle.deb_report.specs.Told.{AreLaterOf, IsContentOf, content_view, later_view, telling_view};
 
+use crate::cause_json::push_causes;
 use crate::content::Content;
-use crate::gathered::Cause;
 use crate::json_parts::Json;
 use crate::json_text::{push_any_text, push_array};
 use crate::print::push_all;
+use crate::telling::Telling;
 use deb_index::Index;
 use std::alloc::{AllocError, Global};
 
 impl<'i> Json<'i> {
+    /// Adds the words that the document is made under.
+    #[tactic(auto, using(crate::proofs::JoinLemmas::joined_map), unfolding(crate::specs::Json::array))]
+    fn push_options(&self, out: &mut Vec<u8>, options: &[&'static str]) -> Result<(), AllocError>
+        ensures { OnOk result (out.new.items ≡
+            out.old.items ++ codes "," ++ member (codes "options") (array quoted (map (λ one. one.now) options.now))) }
+    {
+        push_array(out, ",", "options", self, options, "]")
+    }
+
+    /// Adds the brace of the object, and the members that stand before all others, where words are told.
+    #[tactic(auto, unfolding(crate::specs::Json::head_json, crate::specs::Json::member))]
+    fn push_head(&self, out: &mut Vec<u8>, options: &[&'static str]) -> Result<(), AllocError>
+        ensures { OnOk result (out.new.items ≡
+            out.old.items ++ codes "{" ++ flat_map (λ one. one ++ codes ",") (head_json (map (λ one. one.now) options.now))) }
+    {
+        out.extend_from_slice(b"{")?;
+        if !options.is_empty() {
+            out.extend_from_slice(b"\"format\":1")?;
+            self.push_options(out, options)?;
+            out.extend_from_slice(b",")?;
+        }
+        Ok(())
+    }
+
     /// Adds the member with the blocks.
     #[tactic(auto, using(crate::proofs::JoinLemmas::joined_map), unfolding(crate::specs::Json::tall_array))]
     fn push_blocks(&self, out: &mut Vec<u8>, content: &Content<'_>) -> Result<(), AllocError>
-        requires { IsContentOf self.now.index.now content.now }
+        requires content { IsContentOf self.now.index.now content.now }
+        requires later { AreLaterOf self.now.index.now (later_view self.now.telling.later.now) }
         ensures { OnOk result (out.new.items ≡ out.old.items ++ codes "," ++ member (codes "report")
-            (tall_array (block_json self.now.index.now self.now.explain) (content_view content.now).blocks)) }
+            (tall_array (block_json self.now.index.now (telling_view self.now.telling)) (content_view content.now).blocks)) }
     {
         push_array(out, ",", "report", self, content.blocks.as_slice(), "\n]")
     }
@@ -41,32 +66,22 @@ impl<'i> Json<'i> {
         push_all(out, self, content.lists.as_slice())
     }
 
-    /// Adds the member with causes.
-    #[tactic(auto, using(crate::proofs::JoinLemmas::joined_map), unfolding(crate::specs::Json::tall_array))]
-    fn push_causes(&self, out: &mut Vec<u8>, causes: &[Cause]) -> Result<(), AllocError>
-        requires { All (λ cause. IsCauseOf self.now.index.now (cause_view cause)) causes.now }
-        ensures { OnOk result (out.new.items ≡
-            out.old.items ++ codes "," ++ member (codes "causes") (tall_array (cause_json self.now.index.now) (map cause_view causes.now))) }
-    {
-        push_array(out, ",", "causes", self, causes, "\n]")
-    }
-
     /// Adds the causes, where they are told, and the end of the object.
     fn push_end(&self, out: &mut Vec<u8>, content: &Content<'_>) -> Result<(), AllocError>
         requires { IsContentOf self.now.index.now content.now }
         ensures { OnOk result (out.new.items ≡ out.old.items ++ closing (causes_json self.now.index.now (content_view content.now).causes)) }
     {
         if let Some(causes) = &content.causes {
-            self.push_causes(out, causes.as_slice())?;
+            push_causes(self, out, causes.as_slice())?;
         }
         out.extend_from_slice(b"}")?;
         Ok(())
     }
 }
 
-/// The report as one JSON document (RFC 8259): an object with the architecture, an array with the object of each place that has a block, each
-/// on a line of its own, the numbers, the lists of what became of packages since an earlier index, and where causes are told, an array with
-/// the object of each.
+/// The report as one JSON document (RFC 8259): an object with the number of its form and the words that it is made under, where such are told,
+/// the architecture, an array with the object of each place that has a block, each on a line of its own, the numbers, the lists of what became of
+/// packages since an earlier index, and where causes are told, an array with the object of each.
 ///
 /// What it tells is as in the report in lines. Texts stand as they are, since names, versions and relations have no byte that needs an escape;
 /// those of architectures are escaped. `AllocError` where there is no memory for it.
@@ -75,18 +90,21 @@ pub(crate) fn json_report(
     alloc: Global,
     index: &Index,
     content: &Content<'_>,
-    explain: bool,
+    telling: Telling<'_>,
 ) -> Result<Vec<u8>, AllocError>
-    requires { IsContentOf index.now content.now }
-    ensures { IfOk result (λ text. text.items ≡ json_text index.now explain (content_view content.now)) }
+    requires content { IsContentOf index.now content.now }
+    requires later { AreLaterOf index.now (later_view telling.later.now) }
+    ensures { IfOk result (λ text. text.items ≡ json_text index.now (telling_view telling.entry) (content_view content.now)) }
 {
     let json = Json {
         alloc,
         index,
-        explain,
+        telling,
     };
+    let options = telling.options(alloc)?;
     let mut out = Vec::new(alloc);
-    push_any_text(&mut out, "{", "architecture", index.arch())?;
+    json.push_head(&mut out, options.as_slice())?;
+    push_any_text(&mut out, "", "architecture", index.arch())?;
     json.push_blocks(&mut out, content)?;
     json.push_numbers(&mut out, content)?;
     json.push_lists(&mut out, content)?;

@@ -1,26 +1,30 @@
 //! What a report in JSON tells: packages, reasons, causes, asked places, numbers, and broken packages of an earlier index.
 
 ghost use Rattle.std.specs.Prelude.{◌≡◌, ◌++◌, ◌<◌, All, OnOk, codes, length, map};
+ghost use Rattle.std.specs.List.{flat_map};
 ghost use Rattle.deb_relation.specs.AtomView.{atom_view};
 ghost use Rattle.deb_relation.specs.Relationship.{printed};
 ghost use Rattle.deb_index.specs.Constraints.{IsOfIndex};
 ghost use Rattle.deb_index.specs.Packages.{package_view};
 ghost use Rattle.deb_health.specs.Verdicts.{SpeaksOf, verdict_view};
-ghost use Rattle.deb_report.specs.Causes.{IsCauseOf, cause_view, near_view};
-ghost use Rattle.deb_report.specs.Json.{architecture_json, array, block_json, broken_json, cause_json, constraint_json, explanation_json, label_json, label_members, list_json, member, near_json, number_json, place_json, quoted, reason_json};
+ghost use Rattle.deb_report.specs.Near.{near_view};
+ghost use Rattle.deb_report.specs.Json.{also_json, architecture_json, array, block_json, broken_json, constraint_json, core_json, explanation_json, label_json, label_members, list_json, member, near_json, number_json, place_json, quoted, reason_front, told_json};
 ghost use Rattle.deb_report.specs.Report.{OfRelation, group_text};
 ghost use Rattle.deb_report.specs.Since.{broken_view};
-ghost use Rattle.deb_report.specs.Told.{IsAskedOf, amends_view, number_view, reason_view, shown_view};
+ghost use Rattle.deb_report.specs.Told.{AreLaterOf, IsAskedOf, amends_view, later_view, number_view, reason_view, shown_view, telling_view};
 
 use crate::amends::Amends;
 use crate::broken::BrokenPackage;
-use crate::gathered::Cause;
-use crate::json_text::{push_any_text, push_array, push_number, push_text, push_title};
-use crate::near::{NearMiss, near_misses};
+use crate::json_text::{
+    push_any_text, push_array, push_list, push_number, push_quoted, push_text, push_title,
+};
+use crate::near::NearMiss;
 use crate::print::Print;
 use crate::reasons::{Reason, push_group, reason_of};
 use crate::shown::{Shown, status_text};
 use crate::summary::Number;
+use crate::telling::Telling;
+use crate::why_json::push_why;
 use deb_health::Verdict;
 use deb_index::{Constraint, Index, Package};
 use deb_relation::Atom;
@@ -31,8 +35,7 @@ use std::alloc::{AllocError, Global};
 pub(crate) struct Json<'i> {
     pub(crate) alloc: Global,
     pub(crate) index: &'i Index,
-    /// Whether verdicts are explained.
-    pub(crate) explain: bool,
+    pub(crate) telling: Telling<'i>,
 }
 
 /// Adds the members that are a package's name and its version.
@@ -46,7 +49,7 @@ fn push_label(out: &mut Vec<u8>, lead: &str, name: &[u8], version: &[u8]) -> Res
 }
 
 /// Adds the members that tell a package.
-fn push_package(out: &mut Vec<u8>, lead: &str, deb: &Package) -> Result<(), AllocError>
+pub(crate) fn push_package(out: &mut Vec<u8>, lead: &str, deb: &Package) -> Result<(), AllocError>
     ensures { OnOk result (out.new.items ≡ out.old.items ++ lead.now ++ label_json (package_view deb.now)) }
 {
     push_label(out, lead, deb.name.as_slice(), deb.version.text())
@@ -75,7 +78,7 @@ impl<'i> Print<u32> for Json<'i> {
 
 /// Adds the member that is the text of a relation.
 #[tactic(auto, unfolding(crate::specs::Json::member, crate::specs::Json::quoted))]
-fn push_relation(out: &mut Vec<u8>, relation: &[Atom]) -> Result<(), AllocError>
+pub(crate) fn push_relation(out: &mut Vec<u8>, relation: &[Atom]) -> Result<(), AllocError>
     ensures { OnOk result (out.new.items ≡ out.old.items ++ codes "," ++ member (codes "relation") (quoted (group_text (map atom_view relation.now)))) }
 {
     push_title(out, ",", "relation")?;
@@ -85,7 +88,8 @@ fn push_relation(out: &mut Vec<u8>, relation: &[Atom]) -> Result<(), AllocError>
     Ok(())
 }
 
-/// Adds the reason that a relation of a package is.
+/// Adds what is told of a relation of a package, up to the end of its object.
+#[tactic(auto, unfolding(crate::specs::Json::reason_front))]
 fn push_of_package(
     out: &mut Vec<u8>,
     kind: &[u8],
@@ -93,26 +97,24 @@ fn push_of_package(
     field: &[u8],
     relation: &[Atom],
 ) -> Result<(), AllocError>
-    ensures { OnOk result (out.new.items ≡ out.old.items ++ reason_json (OfRelation kind.now (package_view deb.now) field.now (map atom_view relation.now))) }
+    ensures { OnOk result (out.new.items ≡ out.old.items ++ reason_front (OfRelation kind.now (package_view deb.now) field.now (map atom_view relation.now))) }
 {
     push_text(out, "{", "kind", kind)?;
     push_package(out, ",", deb)?;
     push_text(out, ",", "field", field)?;
     push_relation(out, relation)?;
-    out.extend_from_slice(b"}")?;
     Ok(())
 }
 
-/// Adds a reason.
-#[tactic(auto, unfolding(crate::specs::Json::reason_json))]
-fn push_reason(out: &mut Vec<u8>, reason: &Reason<'_>) -> Result<(), AllocError>
-    ensures { OnOk result (out.new.items ≡ out.old.items ++ reason_json (reason_view reason.now)) }
+/// Adds what is told of a constraint, up to the end of its object.
+#[tactic(auto, unfolding(crate::specs::Json::reason_front))]
+fn push_front(out: &mut Vec<u8>, reason: &Reason<'_>) -> Result<(), AllocError>
+    ensures { OnOk result (out.new.items ≡ out.old.items ++ reason_front (reason_view reason.now)) }
 {
     match reason {
         Reason::Name { kind, name } => {
             push_text(out, "{", "kind", kind)?;
             push_text(out, ",", "name", name)?;
-            out.extend_from_slice(b"}")?;
         }
         Reason::Relation {
             kind,
@@ -127,11 +129,54 @@ fn push_reason(out: &mut Vec<u8>, reason: &Reason<'_>) -> Result<(), AllocError>
 impl<'i> Print<Constraint> for Json<'i> {
     ghost fits = { λ json constraint. IsOfIndex json.index.now constraint };
 
-    ghost text = { λ json constraint. constraint_json json.index.now constraint };
+    ghost text = { λ json constraint. told_json json.index.now (telling_view json.telling) constraint };
 
+    #[tactic(auto, unfolding(crate::specs::Json::told_json))]
     fn print(&self, out: &mut Vec<u8>, constraint: &Constraint) -> Result<(), AllocError> {
         let reason = reason_of(self.alloc, self.index, *constraint)?;
-        push_reason(out, &reason)
+        push_front(out, &reason)?;
+        if self.telling.config.why {
+            push_why(self, out, *constraint)?;
+        }
+        out.extend_from_slice(b"}")?;
+        Ok(())
+    }
+}
+
+impl<'i> Json<'i> {
+    /// Adds a constraint alone, without where a walk goes on from it.
+    pub(crate) fn push_constraint(
+        &self,
+        out: &mut Vec<u8>,
+        constraint: Constraint,
+    ) -> Result<(), AllocError>
+        requires { IsOfIndex self.now.index.now constraint }
+        ensures { OnOk result (out.new.items ≡ out.old.items ++ constraint_json self.now.index.now constraint) }
+    {
+        let reason = reason_of(self.alloc, self.index, constraint)?;
+        push_front(out, &reason)?;
+        out.extend_from_slice(b"}")?;
+        Ok(())
+    }
+}
+
+impl<'i> Print<Vec<Constraint>> for Json<'i> {
+    ghost fits = { λ json core. All (IsOfIndex json.index.now) core.items };
+
+    ghost text = { λ json core. core_json json.index.now (telling_view json.telling) core.items };
+
+    fn print(&self, out: &mut Vec<u8>, core: &Vec<Constraint>) -> Result<(), AllocError> {
+        push_list(out, self, core.as_slice())
+    }
+}
+
+impl<'i> Print<&'static str> for Json<'i> {
+    ghost fits = { λ _ _. Unit {0} };
+
+    ghost text = { λ _ word. quoted word.now };
+
+    fn print(&self, out: &mut Vec<u8>, word: &&'static str) -> Result<(), AllocError> {
+        push_quoted(out, word.as_bytes())
     }
 }
 
@@ -165,25 +210,6 @@ impl<'i, 'm> Print<NearMiss<'m>> for Json<'i> {
     }
 }
 
-impl<'i> Print<Cause> for Json<'i> {
-    ghost fits = { λ json cause. IsCauseOf json.index.now (cause_view cause) };
-
-    ghost text = { λ json cause. cause_json json.index.now (cause_view cause) };
-
-    #[tactic(auto, unfolding(crate::specs::Json::cause_json, crate::specs::Json::array))]
-    fn print(&self, out: &mut Vec<u8>, cause: &Cause) -> Result<(), AllocError> {
-        let constraints = cause.constraints.as_slice();
-        let places = cause.places.as_slice();
-        let misses = near_misses(self.alloc, self.index, constraints)?;
-        push_number(self.alloc, out, "\n{", "packages", places.len())?;
-        push_array(out, ",", "reasons", self, constraints, "]")?;
-        self.push_present(out, misses.as_slice())?;
-        push_array(out, ",", "broken", self, places, "]")?;
-        out.extend_from_slice(b"}")?;
-        Ok(())
-    }
-}
-
 impl<'i> Json<'i> {
     /// Adds the entries that a package provides.
     #[tactic(auto, using(crate::proofs::JoinLemmas::joined_map), unfolding(crate::specs::Json::array))]
@@ -196,33 +222,64 @@ impl<'i> Json<'i> {
 
     /// Adds the member with the near misses.
     #[tactic(auto, using(crate::proofs::JoinLemmas::joined_map), unfolding(crate::specs::Json::array))]
-    fn push_present(&self, out: &mut Vec<u8>, misses: &[NearMiss<'_>]) -> Result<(), AllocError>
+    pub(crate) fn push_present(
+        &self,
+        out: &mut Vec<u8>,
+        misses: &[NearMiss<'_>],
+    ) -> Result<(), AllocError>
         ensures { OnOk result (out.new.items ≡ out.old.items ++ codes "," ++ member (codes "present") (array near_json (map near_view misses.now))) }
     {
         push_array(out, ",", "present", self, misses, "]")
     }
 
+    /// Adds the member with cores behind the first.
+    #[tactic(auto, using(crate::proofs::JoinLemmas::joined_map), unfolding(crate::specs::Json::array))]
+    fn push_also(&self, out: &mut Vec<u8>, cores: &[Vec<Constraint>]) -> Result<(), AllocError>
+        requires { All (λ core. All (IsOfIndex self.now.index.now) core.items) cores.now }
+        ensures { OnOk result (out.new.items ≡
+            out.old.items ++ codes ","
+            ++ member (codes "also") (array (core_json self.now.index.now (telling_view self.now.telling)) (map (λ core. core.items) cores.now))) }
+    {
+        push_array(out, ",", "also", self, cores, "]")
+    }
+
+    /// Adds the cores behind the first of the package at a place, where they are told.
+    fn push_later(&self, out: &mut Vec<u8>, place: u32) -> Result<(), AllocError>
+        requires { AreLaterOf self.now.index.now (later_view self.now.telling.later.now) }
+        ensures { OnOk result (out.new.items ≡ out.old.items ++ flat_map (λ part. codes "," ++ part)
+            (also_json self.now.index.now (telling_view self.now.telling) place)) }
+    {
+        if self.telling.config.all_reasons {
+            self.push_also(out, self.telling.also_at(place))?;
+        }
+        Ok(())
+    }
+
     /// Adds what explains a verdict.
     #[tactic(auto, unfolding(crate::specs::Json::explanation_json, crate::specs::Json::array))]
-    fn push_explanation(&self, out: &mut Vec<u8>, verdict: &Verdict) -> Result<(), AllocError>
-        requires { SpeaksOf self.now.index.now (verdict_view verdict.now) }
-        ensures { OnOk result (out.new.items ≡ out.old.items ++ codes "," ++ explanation_json self.now.index.now (verdict_view verdict.now)) }
+    fn push_explanation(&self, out: &mut Vec<u8>, shown: &Shown<'_>) -> Result<(), AllocError>
+        requires asked { IsAskedOf self.now.index.now (shown_view shown.now) }
+        requires later { AreLaterOf self.now.index.now (later_view self.now.telling.later.now) }
+        ensures { OnOk result (out.new.items ≡
+            out.old.items
+            ++ flat_map (λ part. codes "," ++ part) (explanation_json self.now.index.now (telling_view self.now.telling) (shown_view shown.now))) }
     {
-        match verdict {
+        match shown.verdict {
             Verdict::Ok(places) => {
                 push_array(out, ",", "installation-set", self, places.as_slice(), "]")
             }
-            Verdict::Broken(constraints) => {
-                push_array(out, ",", "reasons", self, constraints.as_slice(), "]")
+            Verdict::Broken(core) => {
+                push_array(out, ",", "reasons", self, core.as_slice(), "]")?;
+                self.push_later(out, shown.place)
             }
         }
     }
 }
 
 impl<'i, 'v> Print<Shown<'v>> for Json<'i> {
-    ghost fits = { λ json shown. IsAskedOf json.index.now (shown_view shown) };
+    ghost fits = { λ json shown. IsAskedOf json.index.now (shown_view shown) × AreLaterOf json.index.now (later_view json.telling.later.now) };
 
-    ghost text = { λ json shown. block_json json.index.now json.explain (shown_view shown) };
+    ghost text = { λ json shown. block_json json.index.now (telling_view json.telling) (shown_view shown) };
 
     #[tactic(auto, unfolding(crate::specs::Json::block_json))]
     fn print(&self, out: &mut Vec<u8>, shown: &Shown<'v>) -> Result<(), AllocError> {
@@ -230,8 +287,8 @@ impl<'i, 'v> Print<Shown<'v>> for Json<'i> {
         push_package(out, "\n{", deb)?;
         push_architecture(out, deb)?;
         push_text(out, ",", "status", status_text(shown.verdict))?;
-        if self.explain {
-            self.push_explanation(out, shown.verdict)?;
+        if self.telling.config.explain {
+            self.push_explanation(out, shown)?;
         }
         out.extend_from_slice(b"}")?;
         Ok(())

@@ -2,7 +2,7 @@
 
 ghost use Rattle.std.specs.Prelude.{◌≡◌, ◌++◌, ◌<◌, All, OnOk, codes, decimal};
 ghost use Rattle.std.specs.Char.{digit_char};
-ghost use Rattle.deb_report.specs.Json.{escaped, escaped_byte, listed, member, quoted};
+ghost use Rattle.deb_report.specs.Json.{array, escaped, escaped_byte, listed, member, quoted};
 
 use crate::print::{Print, push_joined};
 use std::alloc::{AllocError, Global};
@@ -47,7 +47,7 @@ fn push_escaped(out: &mut Vec<u8>, text: &[u8]) -> Result<(), AllocError>
 
 /// Adds a text as a string: no byte of it needs an escape.
 #[tactic(auto, unfolding(crate::specs::Json::quoted))]
-fn push_quoted(out: &mut Vec<u8>, text: &[u8]) -> Result<(), AllocError>
+pub(crate) fn push_quoted(out: &mut Vec<u8>, text: &[u8]) -> Result<(), AllocError>
     ensures { OnOk result (out.new.items ≡ out.old.items ++ quoted text.now) }
 {
     out.extend_from_slice(b"\"")?;
@@ -112,6 +112,22 @@ pub(crate) fn push_number(
 {
     push_title(out, lead, title)?;
     out.extend_from_slice(number.to_string(alloc)?.as_str().as_bytes())?;
+    Ok(())
+}
+
+/// Adds an array.
+#[tactic(auto, unfolding(crate::specs::Json::array))]
+pub(crate) fn push_list<T, P: Print<T>>(
+    out: &mut Vec<u8>,
+    printer: &P,
+    elements: &[T],
+) -> Result<(), AllocError>
+    requires { All (P.fits printer.now) elements.now }
+    ensures { OnOk result (out.new.items ≡ out.old.items ++ array (P.text printer.now) elements.now) }
+{
+    out.extend_from_slice(b"[")?;
+    push_joined(out, ",", printer, elements)?;
+    out.extend_from_slice(b"]")?;
     Ok(())
 }
 

@@ -1,6 +1,6 @@
 //! Laws of the definitions: functions without work, whose contracts say what holds.
 
-ghost use Rattle.std.specs.Prelude.{◌≡◌, ◌≢◌, ◌<◌, ◌∷◌, ℕ, Bool, List, [], All, Ok, codes, length, map, true};
+ghost use Rattle.std.specs.Prelude.{◌≡◌, ◌≢◌, ◌<◌, ◌≤◌, ◌∷◌, ℕ, Bool, List, [], All, Ok, Some, codes, length, map, slice_get, true};
 ghost use Rattle.std.specs.List.{list_all};
 ghost use Rattle.deb_index.specs.declared.constraint.Constraint.{Constraint};
 ghost use Rattle.deb_index.specs.Packages.{IndexView, names};
@@ -8,6 +8,7 @@ ghost use Rattle.deb_index.specs.Reading.{index_of_both};
 ghost use Rattle.deb_health.specs.Causes.{cause_in};
 ghost use Rattle.deb_health.specs.Verdicts.{IsVerdict, Blocked, VerdictView};
 ghost use Rattle.deb_report.specs.Asked.{foreground_packages};
+ghost use Rattle.deb_report.specs.Causes.{CauseView, causes_list, same_cause};
 ghost use Rattle.deb_report.specs.Json.{escaped};
 ghost use Rattle.deb_report.specs.Plain.{has_plain_texts, is_plain};
 ghost use Rattle.deb_report.specs.Report.{broken_ones, is_broken};
@@ -26,6 +27,15 @@ pub fn plain_texts()
 /// The cause of a broken package is never empty, since the set of all packages meets each need that some package meets.
 pub fn causes_have_reasons()
     ensures { (index : IndexView) (place : ℕ) (core : List Constraint) → IsVerdict index place (Blocked core) → cause_in index core ≢ [] }
+{}
+
+/// No two of the causes in a report say the same, and none frees more packages than it breaks.
+pub fn causes_stand_once()
+    ensures once { (index : IndexView) (later : List (List (List Constraint))) (told : List (ℕ × VerdictView)) (j k : ℕ) (one other : CauseView)
+        → slice_get (causes_list index later told) j ≡ Some one → slice_get (causes_list index later told) k ≡ Some other
+        → same_cause index one.constraints other.constraints ≡ true → j ≡ k }
+    ensures frees { (index : IndexView) (later : List (List (List Constraint))) (told : List (ℕ × VerdictView))
+        → All (λ cause. cause.frees ≤ length cause.places) (causes_list index later told) }
 {}
 
 /// Since an index itself, where the same places are asked, all of the foreground, and are found broken, nothing is newly broken, mended or gone.

@@ -4,8 +4,8 @@ ghost use Rattle.std.specs.Prelude.{◌≡◌, ◌<◌, ◌^◌, All, IfOk, leng
 ghost use Rattle.deb_health.specs.Verdicts.{SpeaksOf, verdict_view};
 ghost use Rattle.deb_report.specs.Settings.{settings_of};
 ghost use Rattle.deb_report.specs.Since.{broken_view, summary_since};
-ghost use Rattle.deb_report.specs.Told.{IsContentOf, content_view};
-ghost use Rattle.deb_report.specs.Written.{text_in, written_report, written_since};
+ghost use Rattle.deb_report.specs.Told.{AreLaterOf, IsContentOf, content_view, later_view, telling_view};
+ghost use Rattle.deb_report.specs.Written.{text_in, written_report, written_since, written_told};
 
 use crate::broken::BrokenPackage;
 use crate::config::{Config, Format};
@@ -13,8 +13,9 @@ use crate::content::{Content, content_of, content_since};
 use crate::json::json_report;
 use crate::lines::lines_report;
 use crate::summary::{Summary, summary_with};
+use crate::telling::Telling;
 use deb_health::Verdict;
-use deb_index::Index;
+use deb_index::{Constraint, Index};
 use std::alloc::{AllocError, Global};
 
 /// What a report tells, in the form that is asked for.
@@ -22,14 +23,15 @@ fn text_in(
     alloc: Global,
     index: &Index,
     content: &Content<'_>,
-    config: &Config,
+    telling: Telling<'_>,
 ) -> Result<Vec<u8>, AllocError>
-    requires { IsContentOf index.now content.now }
-    ensures { IfOk result (λ text. text.items ≡ text_in config.now.format index.now config.now.explain (content_view content.now)) }
+    requires content { IsContentOf index.now content.now }
+    requires later { AreLaterOf index.now (later_view telling.later.now) }
+    ensures { IfOk result (λ text. text.items ≡ text_in telling.entry.config.now.format index.now (telling_view telling.entry) (content_view content.now)) }
 {
-    match config.format {
-        Format::Text => lines_report(alloc, index, content, config.explain),
-        Format::Json => json_report(alloc, index, content, config.explain),
+    match telling.config.format {
+        Format::Text => lines_report(alloc, index, content, telling),
+        Format::Json => json_report(alloc, index, content, telling),
     }
 }
 
@@ -52,14 +54,41 @@ pub fn report(
     requires within { All (SpeaksOf index.now) (map verdict_view verdicts.now) }
     ensures { IfOk result (λ text. text.items ≡ written_report (settings_of config.now) index.now asked.now (map verdict_view verdicts.now)) }
 {
-    let content = content_of(alloc, index, asked, verdicts, config)?;
-    text_in(alloc, index, &content, config)
+    report_told(alloc, index, asked, verdicts, &[], config)
+}
+
+/// The report on the asked places, as `report` gives it, where the cores behind the first of each package are known: `later` has them by place, and
+/// none for a place past its end. With `all_reasons` a block tells these, too, and the causes are those of all cores.
+///
+/// The constraints of all cores are the index's.
+pub fn report_told(
+    alloc: Global,
+    index: &Index,
+    asked: &[u32],
+    verdicts: &[Verdict],
+    later: &[Vec<Vec<Constraint>>],
+    config: &Config,
+) -> Result<Vec<u8>, AllocError>
+    requires same { length asked.now ≡ length verdicts.now }
+    requires places { All (λ place. place < length index.now.packages) asked.now }
+    requires within { All (SpeaksOf index.now) (map verdict_view verdicts.now) }
+    requires later { AreLaterOf index.now (later_view later.now) }
+    ensures { IfOk result (λ text. text.items ≡
+        written_told (settings_of config.now) index.now asked.now (map verdict_view verdicts.now) (later_view later.now)) }
+{
+    let content = content_of(alloc, index, asked, verdicts, later, config)?;
+    let telling = Telling {
+        config,
+        since: false,
+        later,
+    };
+    text_in(alloc, index, &content, telling)
 }
 
 /// The report on what became of the asked places since an earlier index, with its numbers. `before` has the broken packages of that index, as
 /// `broken_packages` gives them.
 ///
-/// As `report`, but a block and a cause have the newly broken packages alone, whatever is to be shown: those of whose name no package was
+/// As `report_told`, but a block and a cause have the newly broken packages alone, whatever is to be shown: those of whose name no package was
 /// broken before. Behind the numbers, the last of which is theirs, stand the packages that were broken and are mended, and those that are
 /// gone, in the order of the earlier index, each with its name and its version.
 pub fn report_since(
@@ -67,6 +96,7 @@ pub fn report_since(
     index: &Index,
     asked: &[u32],
     verdicts: &[Verdict],
+    later: &[Vec<Vec<Constraint>>],
     before: &[BrokenPackage],
     config: &Config,
 ) -> Result<(Vec<u8>, Summary), AllocError>
@@ -74,12 +104,19 @@ pub fn report_since(
     requires same { length asked.now ≡ length verdicts.now }
     requires places { All (λ place. place < length index.now.packages) asked.now }
     requires within { All (SpeaksOf index.now) (map verdict_view verdicts.now) }
+    requires later { AreLaterOf index.now (later_view later.now) }
     ensures text { IfOk result (λ told. told.0.items ≡
-        written_since (settings_of config.now) index.now asked.now (map verdict_view verdicts.now) (map broken_view before.now)) }
+        written_since (settings_of config.now) index.now asked.now (map verdict_view verdicts.now) (later_view later.now)
+        (map broken_view before.now)) }
     ensures summary { IfOk result (λ told. told.1 ≡ summary_since index.now asked.now (map verdict_view verdicts.now) (map broken_view before.now)) }
 {
-    let content = content_since(alloc, index, asked, verdicts, before, config)?;
-    let text = text_in(alloc, index, &content, config)?;
+    let content = content_since(alloc, index, asked, verdicts, later, before, config)?;
+    let telling = Telling {
+        config,
+        since: true,
+        later,
+    };
+    let text = text_in(alloc, index, &content, telling)?;
     let summary = summary_with(index, asked, verdicts, Some(content.blocks.len() as u32));
     Ok((text, summary))
 }

@@ -3,9 +3,15 @@
 //! The modules, in reading order:
 //!
 //! - `config`: what is asked of a run; a report depends on a part of it. `asked`: the places that are asked.
-//! - `layout`: the report in its form, by `lines` or by `json`, whose parts are in `json_parts`.
-//! - `content`: what both tell. `summary`, the numbers of a report; `shown`, the places that are shown; `reasons`, what stands against a package;
-//!   `causes`, what is wrong in the end, and what it breaks, as `gathered` collects it; `near`, packages near to a missing one.
+//! - `layout`: the report in its form, by `lines` or by `json`, whose parts are in `json_parts`. `telling`: what of verdicts it tells;
+//!   `options`: the words that it is made under.
+//! - `content`: what both tell. `summary`, the numbers of a report; `shown`, the places that are shown; `reasons`, what stands against a package.
+//! - `causes`: what is wrong in the end, and what it breaks. `numbering` gives each text a number, `wrongs` one to each cause, `numbered` to each
+//!   core that of its cause; `gathered` gathers by these numbers, `cores` says what the cores of a cause tell.
+//! - What an index has near a cause: `near`, packages of missing names; `stems` and `similar`, names that differ in numbers alone; `hits`, what
+//!   entries hit. `cause_lines` and `cause_json` tell causes in both forms.
+//! - `walk`: the steps of a core as it is walked from the package, over a table of what it says of each (`own`) and sets of places (`place_set`);
+//!   `walk_lines` tells them in lines; `why_json`: where a walk goes on, in JSON.
 //! - `broken`: the broken packages of an earlier index; `since`: which are newly broken; `amends`: those that are mended or gone; `marks`: marks on names.
 //! - `print`: texts of elements, one after the other; `json_text`: the texts, members and arrays of JSON.
 //! - `laws`: what holds of reports.
@@ -14,10 +20,14 @@
 mod amends;
 mod asked;
 mod broken;
+mod cause_json;
+mod cause_lines;
 mod causes;
 mod config;
 mod content;
+mod cores;
 mod gathered;
+mod hits;
 mod json;
 mod json_parts;
 mod json_text;
@@ -26,14 +36,26 @@ mod layout;
 mod lines;
 mod marks;
 mod near;
+mod numbered;
+mod numbering;
+mod options;
+mod own;
+mod place_set;
 mod print;
 mod reasons;
 mod shown;
+mod similar;
 mod since;
+mod stems;
 mod summary;
+mod telling;
+mod walk;
+mod walk_lines;
+mod why_json;
+mod wrongs;
 
 pub use asked::{AskedFault, asked_places, earlier_places};
 pub use broken::{BrokenPackage, broken_packages};
 pub use config::{CHUNK_LIMIT, Config, Format, Show};
-pub use layout::{report, report_since};
+pub use layout::{report, report_since, report_told};
 pub use summary::{Summary, summary_of};

@@ -1,44 +1,41 @@
 //! The report in lines.
 
 ghost use Rattle.std.specs.Prelude.{◌≡◌, ◌++◌, ◌<◌, All, IfOk, OnOk, codes, decimal, length, map};
-ghost use Rattle.std.specs.List.{flat_map, join_by};
-ghost use Rattle.deb_relation.specs.AtomView.{atom_view};
-ghost use Rattle.deb_relation.specs.Relationship.{printed};
+ghost use Rattle.std.specs.List.{flat_map};
 ghost use Rattle.deb_index.specs.Constraints.{IsOfIndex};
 ghost use Rattle.deb_index.specs.Packages.{package_view};
 ghost use Rattle.deb_health.specs.Verdicts.{SpeaksOf, verdict_view};
-ghost use Rattle.deb_report.specs.Causes.{IsCauseOf, cause_text, cause_view, near_line, near_view, present_text, provides_text};
-ghost use Rattle.deb_report.specs.Lines.{broken_line, causes_text, lines_text, list_lines};
-ghost use Rattle.deb_report.specs.Report.{block_of, constraint_line, explanation, heading, label_of, label_text, line, number_line, place_line, reason_line, titled};
+ghost use Rattle.deb_report.specs.CauseLines.{causes_text};
+ghost use Rattle.deb_report.specs.Lines.{block_of, broken_line, explanation, first_core, lines_text, list_lines};
+ghost use Rattle.deb_report.specs.Report.{also_at, constraint_line, core_lines, heading, label_of, label_text, line, number_line, place_line, reason_line, titled};
 ghost use Rattle.deb_report.specs.Since.{broken_view};
-ghost use Rattle.deb_report.specs.Told.{IsAskedOf, IsContentOf, amends_view, content_view, number_view, reason_view, shown_view};
+ghost use Rattle.deb_report.specs.Told.{AreLaterOf, IsAskedOf, IsContentOf, amends_view, content_view, later_view, number_view, reason_view, shown_view, telling_view};
 
 use crate::amends::Amends;
 use crate::broken::BrokenPackage;
+use crate::cause_lines::push_causes;
 use crate::content::Content;
-use crate::gathered::Cause;
-use crate::near::{NearMiss, near_misses};
-use crate::print::{Plainly, Print, push_all, push_joined};
+use crate::print::{Print, push_all};
 use crate::reasons::{Reason, push_group, reason_of};
 use crate::shown::{Shown, status_text};
 use crate::summary::Number;
+use crate::telling::Telling;
+use crate::walk_lines::push_walk;
 use deb_health::Verdict;
 use deb_index::{Constraint, Index, Package};
-use deb_relation::Atom;
 use std::alloc::{AllocError, Global};
 
 /// What is told of an index, in lines.
 #[derive(Drop)]
-struct Lines<'i> {
-    alloc: Global,
-    index: &'i Index,
-    /// Whether verdicts are explained.
-    explain: bool,
+pub(crate) struct Lines<'i> {
+    pub(crate) alloc: Global,
+    pub(crate) index: &'i Index,
+    pub(crate) telling: Telling<'i>,
 }
 
 /// Adds a line of a title and a text.
 #[tactic(auto, unfolding(crate::specs::Report::line))]
-fn push_line(out: &mut Vec<u8>, title: &str, text: &[u8]) -> Result<(), AllocError>
+pub(crate) fn push_line(out: &mut Vec<u8>, title: &str, text: &[u8]) -> Result<(), AllocError>
     ensures { OnOk result (out.new.items ≡ out.old.items ++ line title.now text.now) }
 {
     out.extend_from_slice(title.as_bytes())?;
@@ -48,7 +45,12 @@ fn push_line(out: &mut Vec<u8>, title: &str, text: &[u8]) -> Result<(), AllocErr
 }
 
 /// Adds a line of a title and a number.
-fn push_count(alloc: Global, out: &mut Vec<u8>, title: &str, count: usize) -> Result<(), AllocError>
+pub(crate) fn push_count(
+    alloc: Global,
+    out: &mut Vec<u8>,
+    title: &str,
+    count: usize,
+) -> Result<(), AllocError>
     ensures { OnOk result (out.new.items ≡ out.old.items ++ line title.now (decimal count)) }
 {
     push_line(out, title, count.to_string(alloc)?.as_str().as_bytes())?;
@@ -56,7 +58,7 @@ fn push_count(alloc: Global, out: &mut Vec<u8>, title: &str, count: usize) -> Re
 }
 
 /// Adds the lines of elements under a title.
-fn push_titled<T, P: Print<T>>(
+pub(crate) fn push_titled<T, P: Print<T>>(
     out: &mut Vec<u8>,
     title: &str,
     printer: &P,
@@ -82,7 +84,7 @@ fn push_label(out: &mut Vec<u8>, name: &[u8], version: &[u8]) -> Result<(), Allo
 }
 
 /// Adds a package's name and version.
-fn push_package(out: &mut Vec<u8>, deb: &Package) -> Result<(), AllocError>
+pub(crate) fn push_package(out: &mut Vec<u8>, deb: &Package) -> Result<(), AllocError>
     ensures { OnOk result (out.new.items ≡ out.old.items ++ label_of (package_view deb.now)) }
 {
     push_label(out, deb.name.as_slice(), deb.version.text())
@@ -146,95 +148,77 @@ impl<'i> Print<Constraint> for Lines<'i> {
     }
 }
 
-/// Adds entries of Provides.
-#[tactic(auto, using(crate::proofs::JoinLemmas::joined_map))]
-fn push_entries(out: &mut Vec<u8>, entries: &[&Atom]) -> Result<(), AllocError>
-    ensures { OnOk result (out.new.items ≡ out.old.items ++ join_by printed (codes ", ") (map (λ entry. atom_view entry.now) entries.now)) }
-{
-    push_joined(out, ", ", &Plainly, entries)
-}
-
-/// Adds what a package provides, where it comes near by that alone.
-#[tactic(auto, unfolding(crate::specs::Causes::provides_text))]
-fn push_provides(out: &mut Vec<u8>, provides: &[&Atom]) -> Result<(), AllocError>
-    ensures { OnOk result (out.new.items ≡ out.old.items ++ provides_text (map (λ entry. atom_view entry.now) provides.now)) }
-{
-    if !provides.is_empty() {
-        out.extend_from_slice(b" (provides ")?;
-        push_entries(out, provides)?;
-        out.extend_from_slice(b")")?;
+impl<'i> Lines<'i> {
+    /// Adds the lines of a core under a title.
+    #[tactic(auto, unfolding(crate::specs::Report::core_lines))]
+    fn push_core(
+        &self,
+        out: &mut Vec<u8>,
+        title: &str,
+        core: &[Constraint],
+    ) -> Result<(), AllocError>
+        requires { All (IsOfIndex self.now.index.now) core.now }
+        ensures { OnOk result (out.new.items ≡ out.old.items ++ core_lines self.now.index.now title.now core.now) }
+    {
+        push_titled(out, title, self, core)
     }
-    Ok(())
 }
 
-impl<'i, 'm> Print<NearMiss<'m>> for Lines<'i> {
-    ghost fits = { λ _ _. Unit {0} };
+impl<'i> Print<Vec<Constraint>> for Lines<'i> {
+    ghost fits = { λ lines core. All (IsOfIndex lines.index.now) core.items };
 
-    ghost text = { λ _ miss. near_line (near_view miss) };
+    ghost text = { λ lines core. core_lines lines.index.now (codes "  also:") core.items };
 
-    #[tactic(auto, unfolding(crate::specs::Causes::near_line))]
-    fn print(&self, out: &mut Vec<u8>, miss: &NearMiss<'m>) -> Result<(), AllocError> {
-        out.extend_from_slice(b"   - ")?;
-        push_package(out, miss.deb)?;
-        push_provides(out, miss.provides.as_slice())?;
-        out.extend_from_slice(b"\n")?;
-        Ok(())
+    fn print(&self, out: &mut Vec<u8>, core: &Vec<Constraint>) -> Result<(), AllocError> {
+        self.push_core(out, "  also:", core.as_slice())
     }
 }
 
 impl<'i> Lines<'i> {
-    /// Adds the near misses.
-    #[tactic(auto, using(crate::proofs::JoinLemmas::lines_map))]
-    fn push_misses(&self, out: &mut Vec<u8>, misses: &[NearMiss<'_>]) -> Result<(), AllocError>
-        ensures { OnOk result (out.new.items ≡ out.old.items ++ titled (codes "  present:") (flat_map near_line (map near_view misses.now))) }
+    /// Adds the cores behind the first of the package at a place, where they are told.
+    fn push_later(&self, out: &mut Vec<u8>, place: u32) -> Result<(), AllocError>
+        requires { AreLaterOf self.now.index.now (later_view self.now.telling.later.now) }
+        ensures { OnOk result (out.new.items ≡
+            out.old.items ++ flat_map (core_lines self.now.index.now (codes "  also:")) (also_at (telling_view self.now.telling) place)) }
     {
-        push_titled(out, "  present:", self, misses)
+        push_all(out, self, self.telling.also_at(place))?;
+        Ok(())
     }
 
-    /// Adds the near misses, where there are some.
-    #[tactic(auto, unfolding(crate::specs::Causes::present_text))]
-    fn push_present(&self, out: &mut Vec<u8>, misses: &[NearMiss<'_>]) -> Result<(), AllocError>
-        ensures { OnOk result (out.new.items ≡ out.old.items ++ present_text (map near_view misses.now)) }
+    /// Adds the first core of the package at a place.
+    fn push_first(
+        &self,
+        out: &mut Vec<u8>,
+        place: u32,
+        core: &[Constraint],
+    ) -> Result<(), AllocError>
+        requires place { place < length self.now.index.now.packages }
+        requires core { All (IsOfIndex self.now.index.now) core.now }
+        ensures { OnOk result (out.new.items ≡ out.old.items ++ first_core self.now.index.now (telling_view self.now.telling) place core.now) }
     {
-        if !misses.is_empty() {
-            self.push_misses(out, misses)?;
+        if self.telling.config.why {
+            push_walk(self.alloc, out, self.index, place, core)
+        } else {
+            self.push_core(out, "  reasons:", core)
         }
-        Ok(())
     }
 
     /// Adds what explains a verdict.
-    #[tactic(auto, unfolding(crate::specs::Report::explanation))]
-    fn push_explanation(&self, out: &mut Vec<u8>, verdict: &Verdict) -> Result<(), AllocError>
-        requires { SpeaksOf self.now.index.now (verdict_view verdict.now) }
-        ensures { OnOk result (out.new.items ≡ out.old.items ++ explanation self.now.index.now (verdict_view verdict.now)) }
+    #[tactic(auto, unfolding(crate::specs::Lines::explanation))]
+    fn push_explanation(&self, out: &mut Vec<u8>, shown: &Shown<'_>) -> Result<(), AllocError>
+        requires asked { IsAskedOf self.now.index.now (shown_view shown.now) }
+        requires later { AreLaterOf self.now.index.now (later_view self.now.telling.later.now) }
+        ensures { OnOk result (out.new.items ≡ out.old.items ++ explanation self.now.index.now (telling_view self.now.telling) (shown_view shown.now)) }
     {
-        match verdict {
+        match shown.verdict {
             Verdict::Ok(places) => {
                 push_titled(out, "  installation-set:", self, places.as_slice())
             }
-            Verdict::Broken(constraints) => {
-                push_titled(out, "  reasons:", self, constraints.as_slice())
+            Verdict::Broken(core) => {
+                self.push_first(out, shown.place, core.as_slice())?;
+                self.push_later(out, shown.place)
             }
         }
-    }
-}
-
-impl<'i> Print<Cause> for Lines<'i> {
-    ghost fits = { λ lines cause. IsCauseOf lines.index.now (cause_view cause) };
-
-    ghost text = { λ lines cause. cause_text lines.index.now (cause_view cause) };
-
-    #[tactic(auto, unfolding(crate::specs::Causes::cause_text))]
-    fn print(&self, out: &mut Vec<u8>, cause: &Cause) -> Result<(), AllocError> {
-        let constraints = cause.constraints.as_slice();
-        let places = cause.places.as_slice();
-        let misses = near_misses(self.alloc, self.index, constraints)?;
-        push_line(out, " -", b"")?;
-        push_count(self.alloc, out, "  packages: ", places.len())?;
-        push_titled(out, "  reasons:", self, constraints)?;
-        self.push_present(out, misses.as_slice())?;
-        push_titled(out, "  broken:", self, places)?;
-        Ok(())
     }
 }
 
@@ -251,16 +235,16 @@ fn push_heading(out: &mut Vec<u8>, deb: &Package) -> Result<(), AllocError>
 }
 
 impl<'i, 'v> Print<Shown<'v>> for Lines<'i> {
-    ghost fits = { λ lines shown. IsAskedOf lines.index.now (shown_view shown) };
+    ghost fits = { λ lines shown. IsAskedOf lines.index.now (shown_view shown) × AreLaterOf lines.index.now (later_view lines.telling.later.now) };
 
-    ghost text = { λ lines shown. block_of lines.index.now lines.explain (shown_view shown) };
+    ghost text = { λ lines shown. block_of lines.index.now (telling_view lines.telling) (shown_view shown) };
 
-    #[tactic(auto, unfolding(crate::specs::Report::block_of))]
+    #[tactic(auto, unfolding(crate::specs::Lines::block_of))]
     fn print(&self, out: &mut Vec<u8>, shown: &Shown<'v>) -> Result<(), AllocError> {
         push_heading(out, self.index.package(shown.place))?;
         push_line(out, "  status: ", status_text(shown.verdict))?;
-        if self.explain {
-            self.push_explanation(out, shown.verdict)?;
+        if self.telling.config.explain {
+            self.push_explanation(out, shown)?;
         }
         Ok(())
     }
@@ -313,9 +297,10 @@ impl<'i> Lines<'i> {
     /// Adds the blocks.
     #[tactic(auto, using(crate::proofs::JoinLemmas::lines_map))]
     fn push_blocks(&self, out: &mut Vec<u8>, content: &Content<'_>) -> Result<(), AllocError>
-        requires { IsContentOf self.now.index.now content.now }
+        requires content { IsContentOf self.now.index.now content.now }
+        requires later { AreLaterOf self.now.index.now (later_view self.now.telling.later.now) }
         ensures { OnOk result (out.new.items ≡ out.old.items ++ titled (codes "report:")
-            (flat_map (block_of self.now.index.now self.now.explain) (content_view content.now).blocks)) }
+            (flat_map (block_of self.now.index.now (telling_view self.now.telling)) (content_view content.now).blocks)) }
     {
         push_titled(out, "report:", self, content.blocks.as_slice())
     }
@@ -336,14 +321,13 @@ impl<'i> Lines<'i> {
         push_all(out, self, content.lists.as_slice())
     }
 
-    /// Adds the block of causes, where they are told.
-    #[tactic(auto, using(crate::proofs::JoinLemmas::lines_map))]
+    /// Adds the causes, where they are told.
     fn push_causes(&self, out: &mut Vec<u8>, content: &Content<'_>) -> Result<(), AllocError>
         requires { IsContentOf self.now.index.now content.now }
         ensures { OnOk result (out.new.items ≡ out.old.items ++ causes_text self.now.index.now (content_view content.now).causes) }
     {
         if let Some(causes) = &content.causes {
-            push_titled(out, "causes:", self, causes.as_slice())?;
+            push_causes(self, out, causes.as_slice())?;
         }
         Ok(())
     }
@@ -355,15 +339,16 @@ pub(crate) fn lines_report(
     alloc: Global,
     index: &Index,
     content: &Content<'_>,
-    explain: bool,
+    telling: Telling<'_>,
 ) -> Result<Vec<u8>, AllocError>
-    requires { IsContentOf index.now content.now }
-    ensures { IfOk result (λ text. text.items ≡ lines_text index.now explain (content_view content.now)) }
+    requires content { IsContentOf index.now content.now }
+    requires later { AreLaterOf index.now (later_view telling.later.now) }
+    ensures { IfOk result (λ text. text.items ≡ lines_text index.now (telling_view telling.entry) (content_view content.now)) }
 {
     let lines = Lines {
         alloc,
         index,
-        explain,
+        telling,
     };
     let mut out = Vec::new(alloc);
     push_line(&mut out, "architecture: ", index.arch())?;

@@ -6,8 +6,11 @@ ghost use Rattle.deb_relation.specs.AtomView.{atom_view};
 ghost use Rattle.deb_index.specs.Constraints.{IsOfIndex};
 ghost use Rattle.deb_index.specs.Meets.{provided_at};
 ghost use Rattle.deb_index.specs.Packages.{package_view, places_of};
-ghost use Rattle.deb_report.specs.Causes.{alternatives, is_one_of, near_miss, near_miss_at, near_misses, near_places, near_view, provides_one};
+ghost use Rattle.deb_report.specs.Json.{answers_to};
+ghost use Rattle.deb_report.specs.Walk.{brought};
+ghost use Rattle.deb_report.specs.Near.{alternatives, is_one_of, near_miss, near_miss_at, near_misses, near_places, near_view, provides_one};
 
+use crate::walk::brought;
 use deb_index::{Constraint, Index, Package};
 use deb_relation::Atom;
 use number_sets::sort_once;
@@ -22,7 +25,7 @@ pub(crate) struct NearMiss<'i> {
 }
 
 /// Adds the alternatives of a constraint, where it is a need.
-#[tactic(auto, unfolding(crate::specs::Causes::alternatives))]
+#[tactic(auto, unfolding(crate::specs::Near::alternatives))]
 fn push_alternatives<'i>(
     index: &'i Index,
     constraint: Constraint,
@@ -42,7 +45,7 @@ fn push_alternatives<'i>(
 }
 
 /// The alternatives of all needs among the constraints.
-fn alternatives_of<'i>(
+pub(crate) fn alternatives_of<'i>(
     alloc: Global,
     index: &'i Index,
     constraints: &[Constraint],
@@ -120,7 +123,7 @@ fn provided_of<'i>(
 }
 
 /// What is told of a package that comes near.
-#[tactic(auto, unfolding(crate::specs::Causes::near_miss))]
+#[tactic(auto, unfolding(crate::specs::Near::near_miss))]
 fn near_miss<'i>(
     alloc: Global,
     arch: &[u8],
@@ -157,7 +160,7 @@ fn misses_at<'i>(
 /// The packages of the index, by place, that have the name of an alternative of a need among these constraints, or provide it.
 ///
 /// The constraints are of the index. `AllocError` where there is no memory for it.
-#[tactic(auto, unfolding(crate::specs::Causes::near_misses))]
+#[tactic(auto, unfolding(crate::specs::Near::near_misses))]
 pub(crate) fn near_misses<'i>(
     alloc: Global,
     index: &'i Index,
@@ -168,5 +171,55 @@ pub(crate) fn near_misses<'i>(
 {
     let atoms = alternatives_of(alloc, index, constraints)?;
     let places = near_places(alloc, index, atoms.as_slice())?;
+    misses_at(alloc, index, atoms.as_slice(), places.as_slice())
+}
+
+/// What is told of a package that answers a constraint: with the entries of its Provides that have the name of an alternative, where it has none itself.
+///
+/// The constraint and the place are of the index. `AllocError` where there is no memory for it.
+pub(crate) fn answer_at<'i>(
+    alloc: Global,
+    index: &'i Index,
+    constraint: Constraint,
+    place: u32,
+) -> Result<NearMiss<'i>, AllocError>
+    requires constraint { IsOfIndex index.now constraint }
+    requires place { place < length index.now.packages }
+    ensures { IfOk result (λ answer. near_view answer ≡ near_miss_at index.now (alternatives index.now constraint) place) }
+{
+    let mut atoms = Vec::new(alloc);
+    push_alternatives(index, constraint, &mut atoms)?;
+    near_miss(alloc, index.arch(), atoms.as_slice(), index.package(place))
+}
+
+/// The places of the packages that a constraint brings.
+fn places_brought(
+    alloc: Global,
+    index: &Index,
+    constraint: Constraint,
+) -> Result<Vec<u32>, AllocError>
+    requires { IsOfIndex index.now constraint }
+    ensures { IfOk result (λ places. places.items ≡ brought index.now constraint) }
+{
+    let mut found = Vec::new(alloc);
+    let places = brought(index, constraint, &mut found)?;
+    Ok(Vec::from_slice(alloc, places)?)
+}
+
+/// What is told of the packages that a constraint brings.
+///
+/// The constraint is of the index. `AllocError` where there is no memory for it.
+#[tactic(auto, unfolding(crate::specs::Json::answers_to))]
+pub(crate) fn answers_to<'i>(
+    alloc: Global,
+    index: &'i Index,
+    constraint: Constraint,
+) -> Result<Vec<NearMiss<'i>>, AllocError>
+    requires { IsOfIndex index.now constraint }
+    ensures { IfOk result (λ answers. map near_view answers.items ≡ answers_to index.now constraint) }
+{
+    let mut atoms = Vec::new(alloc);
+    push_alternatives(index, constraint, &mut atoms)?;
+    let places = places_brought(alloc, index, constraint)?;
     misses_at(alloc, index, atoms.as_slice(), places.as_slice())
 }

@@ -54,7 +54,7 @@ pub(crate) fn is_missing(
 
 /// The field that a group stands in.
 #[tactic(auto, unfolding(crate::specs::Report::group_field))]
-fn group_field(deb: &Package, number: u32) -> &'static str
+pub(crate) fn group_field(deb: &Package, number: u32) -> &'static str
     ensures { result.now ≡ group_field (package_view deb.now) number }
 {
     if (number as usize) < deb.pre_depends.len() {
@@ -66,7 +66,7 @@ fn group_field(deb: &Package, number: u32) -> &'static str
 
 /// The field that an entry stands in.
 #[tactic(auto, unfolding(crate::specs::Report::entry_field))]
-fn entry_field(deb: &Package, number: u32) -> &'static str
+pub(crate) fn entry_field(deb: &Package, number: u32) -> &'static str
     ensures { result.now ≡ entry_field (package_view deb.now) number }
 {
     if (number as usize) < deb.conflicts.len() {

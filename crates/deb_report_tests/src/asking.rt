@@ -13,8 +13,11 @@ pub struct Asked<'a> {
     pub explain: bool,
     pub show: Show,
     pub only: Option<&'a [&'a [u8]]>,
+    pub essential: bool,
     pub background: bool,
     pub causes: bool,
+    pub all_reasons: bool,
+    pub why: bool,
     pub format: Format,
 }
 
@@ -23,8 +26,11 @@ pub const USUAL: Asked<'static> = Asked {
     explain: true,
     show: Show::All,
     only: None,
+    essential: true,
     background: false,
     causes: false,
+    all_reasons: false,
+    why: false,
     format: Format::Text,
 };
 
@@ -32,7 +38,10 @@ pub fn config_of(alloc: Global, asked: &Asked<'_>) -> Result<Config, AllocError>
     let mut config = Config::usual(alloc)?;
     config.explain = asked.explain;
     config.show = asked.show;
+    config.essential = asked.essential;
     config.causes = asked.causes;
+    config.all_reasons = asked.all_reasons;
+    config.why = asked.why;
     config.format = asked.format;
     if asked.background {
         config.bg = Some(String::from_str(alloc, "background")?);

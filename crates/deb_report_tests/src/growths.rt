@@ -3,7 +3,10 @@
 use crate::asking::{
     Answer, Asked, USUAL, expect_places, expect_report, expect_report_on, on_index,
 };
+use crate::causes::{CAUSES_ALONE, SHARED, SHARED_CAUSES, SHARED_HEAD};
+use crate::later::{ALL_IN_JSON, FIRST_DOCUMENT, MISSING, expect_told};
 use crate::since::{BLOCKS, EARLIER, HEAD, LATER, NUMBERS, ONE_CAUSE, expect_since};
+use crate::why::{EDITOR, EDITOR_REASONS, expect_reasons, expect_walk};
 use deb_index::Index;
 use deb_report::{Config, Format, Show};
 use std::alloc::Global;
@@ -21,6 +24,8 @@ fn is_usual(config: &Config) -> bool {
         && config.bg.is_none()
         && config.since.is_none()
         && !config.causes
+        && !config.all_reasons
+        && !config.why
         && config.format == Format::Text
         && !config.quiet
 }
@@ -121,11 +126,14 @@ asked: 3
 broken: 2
 ";
 
-const CHAIN_CAUSES: &str = "causes:
+const CHAIN_CAUSES: &str = "causes: 1
  -
   packages: 2
+  frees: 2
   reasons:
-   - missing: b 1 Depends: c (>= 2)
+   - missing: c (>= 2)
+  needed-by:
+   - b 1 Depends: c (>= 2)
   present:
    - c 1
   broken:
@@ -195,6 +203,31 @@ fn of_json_report(rt: HostRuntime) -> Result<(), Fail> {
     expect_report(&rt, CHAIN, &asked, &[CHAIN_DOCUMENT])
 }
 
+/// All reasons that are known, in JSON.
+#[test]
+fn of_report_told(rt: HostRuntime) -> Result<(), Fail> {
+    expect_told(&rt, MISSING, 1, &ALL_IN_JSON, &FIRST_DOCUMENT)
+}
+
+/// All causes that are known.
+#[test]
+fn of_report_told_with_causes(rt: HostRuntime) -> Result<(), Fail> {
+    let wanted = [SHARED_HEAD, SHARED_CAUSES];
+    expect_told(&rt, SHARED, 3, &CAUSES_ALONE, &wanted)
+}
+
+/// A core as it is walked.
+#[test]
+fn of_report_with_walk(rt: HostRuntime) -> Result<(), Fail> {
+    expect_walk(&rt, &EDITOR)
+}
+
+/// Where a walk goes on from each reason, in JSON.
+#[test]
+fn of_json_report_with_walk(rt: HostRuntime) -> Result<(), Fail> {
+    expect_reasons(&rt, &EDITOR, EDITOR_REASONS)
+}
+
 /// The broken packages of an earlier index, and what became of them, with the causes of what is newly broken.
 #[test]
 fn of_report_since(rt: HostRuntime) -> Result<(), Fail> {
@@ -206,11 +239,12 @@ fn of_report_since(rt: HostRuntime) -> Result<(), Fail> {
     expect_since(&rt, EARLIER, LATER, &asked, &wanted)
 }
 
-const SINCE_DOCUMENT: &str = r#"{"architecture":"amd64","report":[
+const SINCE_DOCUMENT: &str =
+    r#"{"format":1,"options":["explain","since","causes"],"architecture":"amd64","report":[
 {"package":"c","version":"1","architecture":"amd64","status":"broken","reasons":[{"kind":"missing","package":"c","version":"1","field":"Depends","relation":"lib"}]},
 {"package":"d","version":"1","architecture":"all","status":"broken","reasons":[{"kind":"missing","package":"c","version":"1","field":"Depends","relation":"lib"},{"kind":"depends","package":"d","version":"1","field":"Depends","relation":"c"}]}
 ],"stanzas":3,"skipped":0,"duplicates":0,"asked":3,"broken":2,"newly-broken":2,"mended":[{"package":"a","version":"1"}],"gone":[{"package":"b","version":"2"}],"causes":[
-{"packages":2,"reasons":[{"kind":"missing","package":"c","version":"1","field":"Depends","relation":"lib"}],"present":[],"broken":[{"package":"c","version":"1"},{"package":"d","version":"1"}]}
+{"packages":2,"frees":2,"reasons":[{"kind":"missing","relation":"lib"}],"needed-by":[{"package":"c","version":"1","field":"Depends","relation":"lib"}],"hits":[],"versions":[],"present":[],"similar":[],"broken":[{"package":"c","version":"1"},{"package":"d","version":"1"}]}
 ]}
 "#;
 

@@ -120,11 +120,14 @@ gone:
  - b 2
 ";
 
-pub const ONE_CAUSE: &str = "causes:
+pub const ONE_CAUSE: &str = "causes: 1
  -
   packages: 2
+  frees: 2
   reasons:
-   - missing: c 1 Depends: lib
+   - missing: lib
+  needed-by:
+   - c 1 Depends: lib
   broken:
    - c 1
    - d 1
@@ -258,11 +261,14 @@ mended:
  - k 2
  - k 1
 gone:
-causes:
+causes: 1
  -
   packages: 1
+  frees: 1
   reasons:
-   - missing: m 2 Depends: lib
+   - missing: lib
+  needed-by:
+   - m 2 Depends: lib
   broken:
    - m 2
 ";
@@ -287,7 +293,7 @@ broken: 2
 newly-broken: 0
 mended:
 gone:
-causes:
+causes: 0
 ";
 
 /// Since the index itself.

@@ -1,6 +1,6 @@
 use Rattle.std.proofs.Common.{codes}
-use Rattle.deb_report.specs.Json.{block_json, causes_json, escaped, json_text, member, quoted, tall_array}
-use Rattle.deb_report.specs.Told.{content_view}
+use Rattle.deb_report.specs.Json.{block_json, causes_json, escaped, head_json, json_text, member, quoted, tall_array}
+use Rattle.deb_report.specs.Told.{content_view, telling_view}
 use Rattle.deb_report.proofs.JoinLemmas.{document-of}
 use Rattle.deb_report.proofs.json.json_report.Goals as goal
 
@@ -9,7 +9,8 @@ unfolding json_text
 returns c =
     let index = c.args.index.now in
     let content = content_view c.args.content.now in
+    let telling = telling_view c.args.telling in
     let first = member (codes "architecture") (quoted (escaped index.arch)) in
-    let second = member (codes "report") (tall_array (block_json index c.args.explain) content.blocks) in
-    rw (c.in_ok-extend_from_slice.ensures.items, c.in_ok-push_end.ensures, c.in_ok-push_lists.ensures, c.in_ok-push_numbers.ensures, c.in_ok-push_blocks.ensures, c.in_ok-push_any_text.ensures, c.new-out.ensures.items, c.arch.ensures)
-    (document-of first second content.numbers content.lists (causes_json index content.causes))
+    let second = member (codes "report") (tall_array (block_json index telling) content.blocks) in
+    rw (c.in_ok-extend_from_slice.ensures.items, c.in_ok-push_end.ensures, c.in_ok-push_lists.ensures, c.in_ok-push_numbers.ensures, c.in_ok-push_blocks.ensures, c.in_ok-push_any_text.ensures, c.in_ok-push_head.ensures, c.as_slice.ensures.value, c.in_ok-options.ensures, c.new-out.ensures.items, c.arch.ensures)
+    (document-of (head_json telling.options) first second content.numbers content.lists (causes_json index content.causes))

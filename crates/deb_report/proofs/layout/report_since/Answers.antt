@@ -2,10 +2,11 @@ use Rattle.std.proofs.Common.{arith, map}
 use Rattle.deb_health.specs.Verdicts.{verdict_view}
 use Rattle.deb_report.specs.Settings.{settings_of}
 use Rattle.deb_report.specs.Since.{broken_view}
+use Rattle.deb_report.specs.Told.{later_view}
 use Rattle.deb_report.proofs.ReportLemmas.{few-blocks}
 use Rattle.deb_report.proofs.layout.report_since.Goals as goal
 
 pub overflow_cast-len : goal.overflow_cast-len
 overflow_cast-len c =
-    let few = few-blocks (settings_of c.args.config.now) c.args.index.now c.args.asked.now (map verdict_view c.args.verdicts.now) (map broken_view c.args.before.now) c.in_ok-content.content c.in_ok-content.ensures.content in
+    let few = few-blocks (settings_of c.args.config.now) c.args.index.now c.args.asked.now (map verdict_view c.args.verdicts.now) (later_view c.args.later.now) (map broken_view c.args.before.now) c.in_ok-content.content c.in_ok-content.ensures.content in
     omega (arith, c.requires.few)

@@ -1,7 +1,7 @@
 use Rattle.std.proofs.Common.{◌≡◌, map, take}
 use Rattle.std.specs.List.{flat_map}
 use Rattle.deb_relation.specs.AtomView.{atom_view}
-use Rattle.deb_report.specs.Causes.{alternatives}
+use Rattle.deb_report.specs.Near.{alternatives}
 use Rattle.deb_report.proofs.near.alternatives_of.Given as goal
 
 abbrev pub invariant-loop-constraint : goal.invariant-loop-constraint

@@ -1,6 +1,6 @@
 use Rattle.std.proofs.Common.{◌≡◌, false, map, take}
 use Rattle.deb_relation.specs.AtomView.{atom_view}
-use Rattle.deb_report.specs.Causes.{is_one_of}
+use Rattle.deb_report.specs.Near.{is_one_of}
 use Rattle.deb_report.proofs.near.is_one_of.Given as goal
 
 abbrev pub invariant-loop-atom : goal.invariant-loop-atom

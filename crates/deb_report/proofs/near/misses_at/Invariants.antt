@@ -1,6 +1,6 @@
 use Rattle.std.proofs.Common.{◌≡◌, map, take}
 use Rattle.deb_relation.specs.AtomView.{atom_view}
-use Rattle.deb_report.specs.Causes.{near_miss_at, near_view}
+use Rattle.deb_report.specs.Near.{near_miss_at, near_view}
 use Rattle.deb_report.proofs.near.misses_at.Given as goal
 
 abbrev pub invariant-loop-place : goal.invariant-loop-place

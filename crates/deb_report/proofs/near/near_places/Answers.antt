@@ -4,7 +4,7 @@ use Rattle.std.proofs.lemmas.List.Elements.{All-same}
 use Rattle.std.specs.List.{flat_map}
 use Rattle.deb_relation.specs.declared.atom.Atom.{Atom}
 use Rattle.deb_relation.specs.AtomView.{atom_view}
-use Rattle.deb_report.specs.Causes.{near_places}
+use Rattle.deb_report.specs.Near.{near_places}
 use Rattle.deb_index.specs.Meets.{provided_at}
 use Rattle.deb_index.specs.Packages.{places_of}
 use Rattle.deb_report.proofs.AtomSteps.{gathered}

@@ -2,7 +2,7 @@ use Rattle.std.proofs.Common.{◌≡◌, ◌<◌, ◌++◌, ◌∷◌, [], ◌�
 use Rattle.std.proofs.lemmas.List.{map-append}
 use Rattle.deb_relation.specs.declared.atom.Atom.{Atom}
 use Rattle.deb_relation.specs.AtomView.{atom_view}
-use Rattle.deb_report.specs.Causes.{provides_one}
+use Rattle.deb_report.specs.Near.{provides_one}
 use Rattle.deb_report.proofs.AtomSteps.{map_more}
 use Rattle.deb_report.proofs.ListLemmas.{filter_fails, filter_passes}
 use Rattle.deb_report.proofs.near.provided_of.Goals as goal

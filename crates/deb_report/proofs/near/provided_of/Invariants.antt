@@ -1,6 +1,6 @@
 use Rattle.std.proofs.Common.{◌≡◌, filter, map, take}
 use Rattle.deb_relation.specs.AtomView.{atom_view}
-use Rattle.deb_report.specs.Causes.{provides_one}
+use Rattle.deb_report.specs.Near.{provides_one}
 use Rattle.deb_report.proofs.near.provided_of.Given as goal
 
 abbrev pub invariant-loop-entry : goal.invariant-loop-entry

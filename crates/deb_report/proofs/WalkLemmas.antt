@@ -1,0 +1,192 @@
+-- Lemmas on the walk through a core.
+use Rattle.std.proofs.Common.{◌≡◌, ◌==◌, ℕ, zero, suc, ◌+◌, ◌-◌, ◌<◌, ◌≤◌, ◌||◌, Bool, List, [], ◌∷◌, ◌++◌, All, filter, length, get_or, take, map, reverse, append-nil, refl, sym, ap, subst, ◌∙◌, inl, inr, arith}
+use Rattle.std.proofs.lemmas.Bool.{cases_Bool}
+use Rattle.std.proofs.lemmas.Grind.{flat_map-append}
+use Rattle.std.proofs.lemmas.List.{append_assoc, reverse-append, take_more}
+use Rattle.std.proofs.lemmas.List.Elements.{All-append, All-cons, All-head, All-nil, All-tail, All-weaker}
+use Rattle.std.proofs.lemmas.List.Folds.{list_any-append}
+use Rattle.std.specs.List.{flat_map, list_any}
+use Rattle.number_sets.specs.Sets.{NumberSet, members_of}
+use Rattle.deb_relation.specs.Relationship.{AtomText}
+use Rattle.deb_index.specs.declared.constraint.Constraint.{Constraint}
+use Rattle.deb_index.specs.declared.constraint.Constraint.TheVariants.{Essential, Need, Apart, Only}
+use Rattle.deb_index.specs.Constraints.{IsOfIndex}
+use Rattle.deb_index.specs.Meets.{meets, meets_need, satisfiers}
+use Rattle.deb_index.specs.Packages.{IndexView, is_named, name_at, need_at, places_of, places_where}
+use Rattle.deb_index.proofs.MemberLemmas.{below-places_where}
+use Rattle.deb_report.specs.declared.walk.Step.{Step}
+use Rattle.deb_report.specs.declared.walk.Step.TheVariants.{Begin, Meet, Tell}
+use Rattle.deb_report.specs.Walk.{IsStepOf, are_told, begin_step, brought, comers, depth_of, essential_step, first_steps, hits_in, is_hit, is_own, met_steps, only_step, own_step, own_steps, step_text, steps_behind, told_behind, versions_coming, walk}
+
+-- what is brought is of the index
+pub brought-within : (index : IndexView) (constraint : Constraint) → All (λ place. place < length index.packages) (brought index constraint)
+unfolding brought
+brought-within index (Essential name) = below-places_where (is_named (name_at index name)) index.packages
+brought-within index (Need place number) = below-places_where (λ q. list_any (meets_need index.arch q) (need_at index place number)) index.packages
+brought-within index (Apart place number) = All-nil (λ place. place < length index.packages)
+brought-within index (Only name) = All-nil (λ place. place < length index.packages)
+
+-- what one constraint more brings
+comers_more : (index : IndexView) (core : List Constraint) (i place : ℕ) (d c : Constraint) (q : ℕ) → i < length core → c ≡ get_or core i d
+    → members_of (comers index (take (i + 1) core) place) q ≡ (members_of (comers index (take i core) place) q || members_of (brought index c) q)
+comers_more index core i place d c q inside is =
+    let more : take (i + 1) core ≡ take i core ++ c ∷ [] = take_more core i d inside ∙ ap (λ (last : Constraint). take i core ++ last ∷ []) (sym is) in
+    let all : flat_map (brought index) (take (i + 1) core) ≡ flat_map (brought index) (take i core) ++ brought index c =
+    ap (flat_map (brought index)) more ∙ flat_map-append (brought index) (take i core) (c ∷ []) ∙ ap (λ last. flat_map (brought index) (take i core) ++ last) (append-nil (brought index c)) in
+    ap (λ places. members_of (place ∷ places) q) all ∙ list_any-append (λ member. member == q) (place ∷ flat_map (brought index) (take i core)) (brought index c)
+
+-- the set of the packages that come, where the row of what is brought is known by an equation
+pub coming_row : (index : IndexView) (core : List Constraint) (i place : ℕ) (d c : Constraint) (old new row : List ℕ) (q : ℕ) → i < length core → c ≡ get_or core i d → row ≡ brought index c
+    → members_of old q ≡ members_of (comers index (take i core) place) q → members_of new q ≡ (members_of old q || members_of row q)
+    → members_of new q ≡ members_of (comers index (take (i + 1) core) place) q
+coming_row index core i place d c old new row q inside is row_is before grown =
+    grown ∙ ap (λ b. b || members_of row q) before ∙ ap (λ ps. members_of (comers index (take i core) place) q || members_of ps q) row_is
+    ∙ sym (comers_more index core i place d c q inside is)
+
+-- what holds of each number holds of those that are kept
+pub filter_all : (P : ℕ → Type 0) (test : ℕ → Bool) (xs : List ℕ) → All P xs → All P (filter test xs)
+filter_all P test [] all = All-nil P
+filter_all P test (x ∷ xs) all =
+    let later : All P (filter test xs) = filter_all P test xs (All-tail P x xs all) in
+    elim (cases_Bool (test x)) [
+      | inl passes ↦ rw passes (All-cons P x (filter test xs) (All-head P x xs all) later)
+      | inr fails ↦ rw fails later
+    ]
+
+-- the packages that are hit, and the versions, are of the index
+pub hits-within : (index : IndexView) (coming : NumberSet) (place : ℕ) (atom : AtomText) → All (λ hit. hit < length index.packages) (hits_in index coming place atom)
+hits-within index coming place atom =
+    filter_all (λ hit. hit < length index.packages) (is_hit coming place) (satisfiers index atom) (below-places_where (λ q. meets index.arch q atom) index.packages)
+
+pub versions-within : (index : IndexView) (coming : NumberSet) (name : ℕ) → All (λ version. version < length index.packages) (versions_coming index coming name)
+versions-within index coming name =
+    filter_all (λ version. version < length index.packages) coming (places_of index (name_at index name)) (below-places_where (is_named (name_at index name)) index.packages)
+
+-- the next step is the last of the stack
+pub next_is : {A : Type 0} (old new : List A) (x : A) → old ≡ new ++ x ∷ [] → reverse old ≡ x ∷ reverse new
+next_is old new x is = ap reverse is ∙ reverse-append new (x ∷ [])
+
+-- a step goes from one list to the stack
+pub moved : {A : Type 0} (left next stack higher : List A) (x : A) → left ≡ next ++ x ∷ [] → higher ≡ stack ++ x ∷ [] → next ++ reverse higher ≡ left ++ reverse stack
+moved left next stack higher x taken put =
+    ap (λ back. next ++ back) (next_is higher stack x put)
+    ∙ sym (ap (λ front. front ++ reverse stack) taken ∙ append_assoc next (x ∷ []) (reverse stack))
+
+-- ---- one step of the walk
+
+-- with no step left nothing is told
+pub walk_none : (count : ℕ) (index : IndexView) (core : List Constraint) (coming : NumberSet) (told : List ℕ) → walk count index core coming told [] ≡ []
+unfolding walk
+walk_none zero index core coming told = refl
+walk_none (suc count) index core coming told = refl
+
+walk_one : (count : ℕ) (index : IndexView) (core : List Constraint) (coming : NumberSet) (told : List ℕ) (step : Step) (steps : List Step)
+    → walk (suc count) index core coming told (step ∷ steps) ≡ step_text index core coming told step ++ walk count index core coming (told_behind told step) (steps_behind index core told step ++ steps)
+unfolding walk
+walk_one count index core coming told step steps = refl
+
+-- the text goes on with that of the step, and what is left with what follows from it
+pub gone : (index : IndexView) (core : List Constraint) (coming : NumberSet) (told later : List ℕ) (limit counter : ℕ) (out longer total : List ℕ) (stack popped next steps : List Step) (step : Step)
+    → counter < limit → stack ≡ popped ++ step ∷ [] → longer ≡ out ++ step_text index core coming told step → later ≡ told_behind told step
+    → reverse next ≡ steps ++ reverse popped → steps ≡ steps_behind index core told step
+    → out ++ walk (limit - counter) index core coming told (reverse stack) ≡ total
+    → longer ++ walk (limit - (counter + 1)) index core coming later (reverse next) ≡ total
+gone index core coming told later limit counter out longer total stack popped next steps step more top text marked put follow before =
+    let left : limit - counter ≡ suc (limit - (counter + 1)) = omega arith in
+    let rest : List ℕ = walk (limit - (counter + 1)) index core coming (told_behind told step) (steps_behind index core told step ++ reverse popped) in
+    let one : walk (limit - counter) index core coming told (reverse stack) ≡ step_text index core coming told step ++ rest =
+    rw (left, next_is stack popped step top) (walk_one (limit - (counter + 1)) index core coming told step (reverse popped)) in
+    rw (text, marked, put, follow) (append_assoc out (step_text index core coming told step) rest ∙ ap (λ back. out ++ back) (sym one) ∙ before)
+
+-- the walk ends where no step is left, and where no more are counted
+pub ended : (index : IndexView) (core : List Constraint) (coming : NumberSet) (told : List ℕ) (count : ℕ) (out total : List ℕ) (stack : List Step) → length stack ≡ 0
+    → out ++ walk count index core coming told (reverse stack) ≡ total → out ≡ total
+ended index core coming told count out total [] none before = sym (ap (λ rest. out ++ rest) (walk_none count index core coming told) ∙ append-nil out) ∙ before
+ended index core coming told count out total (step ∷ steps) none before = absurd (omega arith)
+
+pub run_out : (index : IndexView) (core : List Constraint) (coming : NumberSet) (told : List ℕ) (limit counter : ℕ) (out total : List ℕ) (steps : List Step) → limit ≤ counter
+    → out ++ walk (limit - counter) index core coming told steps ≡ total → out ≡ total
+unfolding walk
+run_out index core coming told limit counter out total steps over before =
+    let none : limit - counter ≡ zero = omega arith in
+    sym (append-nil out) ∙ (rw none at before)
+
+-- ---- steps of the index
+
+flat_all : {A B : Type 0} (P : A → Type 0) (Q : B → Type 0) (f : A → List B) (xs : List A) → ((x : A) → P x → All Q (f x)) → All P xs → All Q (flat_map f xs)
+flat_all P Q f [] gives all = All-nil Q
+flat_all P Q f (x ∷ xs) gives all = All-append Q (f x) (flat_map f xs) (gives x (All-head P x xs all)) (flat_all P Q f xs gives (All-tail P x xs all))
+
+map_all : {A B : Type 0} (P : A → Type 0) (Q : B → Type 0) (f : A → B) (xs : List A) → ((x : A) → P x → Q (f x)) → All P xs → All Q (map f xs)
+map_all P Q f [] gives all = All-nil Q
+map_all P Q f (x ∷ xs) gives all = All-cons Q (f x) (map f xs) (gives x (All-head P x xs all)) (map_all P Q f xs gives (All-tail P x xs all))
+
+own-within : (index : IndexView) (core : List Constraint) (depth place : ℕ) → All (IsOfIndex index) core → All (IsStepOf index) (own_steps core depth place)
+unfolding own_steps
+own-within index core depth place all = flat_all (IsOfIndex index) (IsStepOf index) (own_step depth place) core one all
+  where
+    one : (c : Constraint) → IsOfIndex index c → All (IsStepOf index) (own_step depth place c)
+    one c within = elim (cases_Bool (is_own place c)) [
+      | inl passes ↦ rw passes (All-cons (IsStepOf index) (Tell depth c) [] within (All-nil (IsStepOf index)))
+      | inr fails ↦ rw fails (All-nil (IsStepOf index))
+    ]
+
+met-within : (index : IndexView) (told : List ℕ) (depth : ℕ) (c : Constraint) → IsOfIndex index c → All (IsStepOf index) (met_steps index told depth c)
+unfolding met_steps
+met-within index told depth c within = elim (cases_Bool (are_told told (brought index c))) [
+  | inl passes ↦ rw passes (All-nil (IsStepOf index))
+  | inr fails ↦ rw fails (map_all (λ place. place < length index.packages) (IsStepOf index) (λ place. Meet (depth_of depth (brought index c)) place c) (brought index c)
+      (λ place inside. (inside, within)) (brought-within index c))
+]
+
+-- what follows from a step of the index is of the index
+pub behind-within : (index : IndexView) (core : List Constraint) (told : List ℕ) (step : Step) → All (IsOfIndex index) core → IsStepOf index step → All (IsStepOf index) (steps_behind index core told step)
+unfolding steps_behind
+behind-within index core told (Begin place) all within = elim (cases_Bool (members_of told place)) [
+  | inl passes ↦ rw passes (All-nil (IsStepOf index))
+  | inr fails ↦ rw fails (own-within index core 0 place all)
+]
+behind-within index core told (Meet depth place c) all within = elim (cases_Bool (members_of told place)) [
+  | inl passes ↦ rw passes (All-nil (IsStepOf index))
+  | inr fails ↦ rw fails (own-within index core depth place all)
+]
+behind-within index core told (Tell depth c) all within = met-within index told depth c within
+
+-- the next step, and those behind it
+pub next-within : (index : IndexView) (stack popped : List Step) (step : Step) → stack ≡ popped ++ step ∷ [] → All (IsStepOf index) (reverse stack) → IsStepOf index step
+next-within index stack popped step top all =
+    All-head (IsStepOf index) step (reverse popped) (rw (next_is stack popped step top) at all)
+
+pub left-within : (index : IndexView) (core : List Constraint) (told : List ℕ) (stack popped next steps : List Step) (step : Step) → stack ≡ popped ++ step ∷ [] → reverse next ≡ steps ++ reverse popped
+    → steps ≡ steps_behind index core told step → All (IsOfIndex index) core → All (IsStepOf index) (reverse stack) → All (IsStepOf index) (reverse next)
+left-within index core told stack popped next steps step top put follow core_within all =
+    let those : All (IsStepOf index) (step ∷ reverse popped) = rw (next_is stack popped step top) at all in
+    rw (put, follow) (All-append (IsStepOf index) (steps_behind index core told step) (reverse popped)
+    (behind-within index core told step core_within (All-head (IsStepOf index) step (reverse popped) those)) (All-tail (IsStepOf index) step (reverse popped) those))
+
+-- the first steps are of the index
+pub first-within : (index : IndexView) (core : List Constraint) (place : ℕ) → place < length index.packages → All (IsOfIndex index) core → All (IsStepOf index) (first_steps core place)
+unfolding first_steps
+first-within index core place inside all =
+    let P : Step → Type 0 = IsStepOf index in
+    All-cons P (Begin place) _ inside (All-append P (flat_map essential_step core ++ flat_map only_step core) (flat_map begin_step core)
+    (All-append P (flat_map essential_step core) (flat_map only_step core) (flat_all (IsOfIndex index) P essential_step core essential all) (flat_all (IsOfIndex index) P only_step core only all))
+    (flat_all (IsOfIndex index) P begin_step core begin all))
+  where
+    essential : (c : Constraint) → IsOfIndex index c → All (IsStepOf index) (essential_step c)
+    essential (Essential name) within = All-cons (IsStepOf index) (Tell 0 (Essential name)) [] within (All-nil (IsStepOf index))
+    essential (Need p j) within = All-nil (IsStepOf index)
+    essential (Apart p j) within = All-nil (IsStepOf index)
+    essential (Only name) within = All-nil (IsStepOf index)
+
+    only : (c : Constraint) → IsOfIndex index c → All (IsStepOf index) (only_step c)
+    only (Essential name) within = All-nil (IsStepOf index)
+    only (Need p j) within = All-nil (IsStepOf index)
+    only (Apart p j) within = All-nil (IsStepOf index)
+    only (Only name) within = All-cons (IsStepOf index) (Tell 0 (Only name)) [] within (All-nil (IsStepOf index))
+
+    begin : (c : Constraint) → IsOfIndex index c → All (IsStepOf index) (begin_step c)
+    begin (Essential name) within = All-nil (IsStepOf index)
+    begin (Need p j) within = All-cons (IsStepOf index) (Begin p) [] within.0 (All-nil (IsStepOf index))
+    begin (Apart p j) within = All-cons (IsStepOf index) (Begin p) [] within.0 (All-nil (IsStepOf index))
+    begin (Only name) within = All-nil (IsStepOf index)

@@ -1,6 +1,0 @@
-use Rattle.std.proofs.Common.{◌∙◌}
-use Rattle.deb_index.proofs.TableLemmas.{position-is}
-use Rattle.deb_report.proofs.gathered.Gathered.number.Goals as goal
-
-pub returns-clause-number : goal.returns-clause-number
-returns-clause-number c = c.get_index_of.ensures.index ∙ position-is c.args.key.now (λ k. k.items) c.args.self.now.keys.keys

@@ -1,0 +1,192 @@
+//! Causes in JSON.
+
+ghost use Rattle.std.specs.Prelude.{◌≡◌, ◌++◌, All, OnOk, codes, map};
+ghost use Rattle.deb_relation.specs.AtomView.{atom_view};
+ghost use Rattle.deb_relation.specs.Relationship.{printed};
+ghost use Rattle.deb_index.specs.Constraints.{IsOfIndex};
+ghost use Rattle.deb_report.specs.Causes.{IsCauseOf, cause_view, hits_of};
+ghost use Rattle.deb_report.specs.Json.{array, cause_json, member, near_json, needed_json, place_json, quoted, tall_array, wrong_json};
+ghost use Rattle.deb_report.specs.Near.{near_misses, near_view, similar_names};
+ghost use Rattle.deb_report.specs.Similar.{FitsCause, IsSimilarOf, stems_in};
+ghost use Rattle.deb_report.specs.Stems.{AreSought};
+
+use crate::gathered::Cause;
+use crate::hits::hits_of;
+use crate::json_parts::{Json, push_package, push_relation};
+use crate::json_text::{push_array, push_number, push_quoted, push_text};
+use crate::near::{NearMiss, near_misses};
+use crate::print::Print;
+use crate::reasons::group_field;
+use crate::similar::Similar;
+use deb_index::Constraint;
+use deb_relation::Atom;
+use std::alloc::AllocError;
+
+/// What is wrong, in JSON.
+#[derive(Drop)]
+struct WrongJson<'p, 'i> {
+    json: &'p Json<'i>,
+}
+
+impl<'p, 'i> Print<Constraint> for WrongJson<'p, 'i> {
+    ghost fits = { λ wrong constraint. IsOfIndex wrong.json.now.index.now constraint };
+
+    ghost text = { λ wrong constraint. wrong_json wrong.json.now.index.now constraint };
+
+    #[tactic(auto, unfolding(crate::specs::Json::wrong_json))]
+    fn print(&self, out: &mut Vec<u8>, constraint: &Constraint) -> Result<(), AllocError> {
+        match *constraint {
+            Constraint::Need(place, number) => {
+                push_text(out, "{", "kind", b"missing")?;
+                push_relation(out, self.json.index.need(place, number))?;
+                out.extend_from_slice(b"}")?;
+                Ok(())
+            }
+            Constraint::Essential(_) | Constraint::Apart(_, _) | Constraint::Only(_) => {
+                self.json.push_constraint(out, *constraint)
+            }
+        }
+    }
+}
+
+/// Who needs it, in JSON.
+#[derive(Drop)]
+struct NeededJson<'p, 'i> {
+    json: &'p Json<'i>,
+}
+
+impl<'p, 'i> Print<Constraint> for NeededJson<'p, 'i> {
+    ghost fits = { λ needed constraint. IsOfIndex needed.json.now.index.now constraint };
+
+    ghost text = { λ needed constraint. needed_json needed.json.now.index.now constraint };
+
+    #[tactic(auto, unfolding(crate::specs::Json::needed_json))]
+    fn print(&self, out: &mut Vec<u8>, constraint: &Constraint) -> Result<(), AllocError> {
+        match *constraint {
+            Constraint::Need(place, number) => {
+                let deb = self.json.index.package(place);
+                push_package(out, "{", deb)?;
+                push_text(out, ",", "field", group_field(deb, number).as_bytes())?;
+                push_relation(out, self.json.index.need(place, number))?;
+                out.extend_from_slice(b"}")?;
+                Ok(())
+            }
+            Constraint::Essential(_) | Constraint::Apart(_, _) | Constraint::Only(_) => {
+                self.json.push_constraint(out, *constraint)
+            }
+        }
+    }
+}
+
+/// Causes of an index, in JSON.
+#[derive(Drop)]
+struct CauseJson<'p, 'i> {
+    json: &'p Json<'i>,
+    similar: Similar,
+}
+
+impl<'p, 'i, 'n> Print<&'n [u8]> for CauseJson<'p, 'i> {
+    ghost fits = { λ _ _. Unit {0} };
+
+    ghost text = { λ _ name. quoted name.now };
+
+    fn print(&self, out: &mut Vec<u8>, name: &&'n [u8]) -> Result<(), AllocError> {
+        push_quoted(out, name)
+    }
+}
+
+impl<'p, 'i> CauseJson<'p, 'i> {
+    /// Adds the members with what is wrong, and with who needs it.
+    #[tactic(auto, unfolding(crate::specs::Json::array))]
+    fn push_wrong(&self, out: &mut Vec<u8>, cause: &Cause) -> Result<(), AllocError>
+        requires { IsCauseOf self.now.json.now.index.now (cause_view cause.now) }
+        ensures { OnOk result (out.new.items ≡ ((out.old.items
+            ++ codes ",") ++ member (codes "reasons") (array (wrong_json self.now.json.now.index.now) cause.now.constraints.items))
+            ++ codes "," ++ member (codes "needed-by") (array (needed_json self.now.json.now.index.now) cause.now.needs.items)) }
+    {
+        let json = self.json;
+        let constraints = cause.constraints.as_slice();
+        push_array(out, ",", "reasons", &WrongJson { json }, constraints, "]")?;
+        let needs = cause.needs.as_slice();
+        push_array(out, ",", "needed-by", &NeededJson { json }, needs, "]")?;
+        Ok(())
+    }
+
+    /// Adds the members with the packages that stand in the way.
+    #[tactic(auto, unfolding(crate::specs::Json::array))]
+    fn push_packages(&self, out: &mut Vec<u8>, cause: &Cause) -> Result<(), AllocError>
+        requires { IsCauseOf self.now.json.now.index.now (cause_view cause.now) }
+        ensures { OnOk result (out.new.items ≡ ((out.old.items
+            ++ codes ",") ++ member (codes "hits")
+            (array (place_json self.now.json.now.index.now) (hits_of self.now.json.now.index.now cause.now.constraints.items)))
+            ++ codes "," ++ member (codes "versions") (array (place_json self.now.json.now.index.now) cause.now.versions.items)) }
+    {
+        let json = self.json;
+        let hits = hits_of(json.alloc, json.index, cause.constraints.as_slice())?;
+        push_array(out, ",", "hits", json, hits.as_slice(), "]")?;
+        push_array(out, ",", "versions", json, cause.versions.as_slice(), "]")?;
+        Ok(())
+    }
+
+    /// Adds the member with the near misses.
+    fn push_present(&self, out: &mut Vec<u8>, constraints: &[Constraint]) -> Result<(), AllocError>
+        requires { All (IsOfIndex self.now.json.now.index.now) constraints.now }
+        ensures { OnOk result (out.new.items ≡ out.old.items ++ codes ","
+            ++ member (codes "present") (array near_json (near_misses self.now.json.now.index.now constraints.now))) }
+    {
+        let misses = near_misses(self.json.alloc, self.json.index, constraints)?;
+        self.json.push_present(out, misses.as_slice())
+    }
+
+    /// Adds the member with the similar names.
+    #[tactic(auto, using(crate::proofs::JoinLemmas::joined_map), unfolding(crate::specs::Json::array))]
+    fn push_similar(&self, out: &mut Vec<u8>, constraints: &[Constraint]) -> Result<(), AllocError>
+        requires within { All (IsOfIndex self.now.json.now.index.now) constraints.now }
+        requires found { IsSimilarOf self.now.json.now.index.now self.now.similar }
+        requires sought { AreSought self.now.json.now.index.now (stems_in self.now.similar) constraints.now }
+        ensures { OnOk result (out.new.items ≡ out.old.items ++ codes ","
+            ++ member (codes "similar") (array quoted (similar_names self.now.json.now.index.now constraints.now))) }
+    {
+        let names = self
+            .similar
+            .names(self.json.alloc, self.json.index, constraints)?;
+        push_array(out, ",", "similar", self, names.as_slice(), "]")
+    }
+}
+
+impl<'p, 'i> Print<Cause> for CauseJson<'p, 'i> {
+    ghost fits = { λ printer cause. FitsCause printer.json.now.index.now printer.similar cause };
+
+    ghost text = { λ printer cause. cause_json printer.json.now.index.now (cause_view cause) };
+
+    #[tactic(auto, unfolding(crate::specs::Json::cause_json, crate::specs::Json::array))]
+    fn print(&self, out: &mut Vec<u8>, cause: &Cause) -> Result<(), AllocError> {
+        let json = self.json;
+        let constraints = cause.constraints.as_slice();
+        push_number(json.alloc, out, "\n{", "packages", cause.places.len())?;
+        push_number(json.alloc, out, ",", "frees", cause.frees)?;
+        self.push_wrong(out, cause)?;
+        self.push_packages(out, cause)?;
+        self.push_present(out, constraints)?;
+        self.push_similar(out, constraints)?;
+        push_array(out, ",", "broken", json, cause.places.as_slice(), "]")?;
+        out.extend_from_slice(b"}")?;
+        Ok(())
+    }
+}
+
+/// Adds the member with causes.
+#[tactic(auto, using(crate::proofs::JoinLemmas::joined_map), unfolding(crate::specs::Json::tall_array))]
+pub(crate) fn push_causes(
+    json: &Json<'_>,
+    out: &mut Vec<u8>,
+    causes: &[Cause],
+) -> Result<(), AllocError>
+    requires { All (λ cause. IsCauseOf json.now.index.now (cause_view cause)) causes.now }
+    ensures { OnOk result (out.new.items ≡
+        out.old.items ++ codes "," ++ member (codes "causes") (tall_array (cause_json json.now.index.now) (map cause_view causes.now))) }
+{
+    let similar = Similar::find(json.alloc, json.index, causes)?;
+    let printer = CauseJson { json, similar };
+    push_array(out, ",", "causes", &printer, causes, "\n]")
+}

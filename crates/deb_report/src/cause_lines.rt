@@ -1,0 +1,258 @@
+//! Causes in lines.
+
+ghost use Rattle.std.specs.Prelude.{◌≡◌, ◌++◌, All, OnOk, Some, codes, decimal, length, map};
+ghost use Rattle.std.specs.List.{flat_map, join_by};
+ghost use Rattle.deb_relation.specs.AtomView.{atom_view};
+ghost use Rattle.deb_relation.specs.Relationship.{printed};
+ghost use Rattle.deb_index.specs.Constraints.{IsOfIndex};
+ghost use Rattle.deb_report.specs.CauseLines.{cause_text, causes_text, name_line, near_line, needed_line, provides_text, titled_if, wrong_line};
+ghost use Rattle.deb_report.specs.Causes.{IsCauseOf, cause_view, hits_of};
+ghost use Rattle.deb_report.specs.Near.{near_misses, near_view, similar_names};
+ghost use Rattle.deb_report.specs.Report.{line, place_line, titled};
+ghost use Rattle.deb_report.specs.Similar.{FitsCause, IsSimilarOf, stems_in};
+ghost use Rattle.deb_report.specs.Stems.{AreSought};
+
+use crate::gathered::Cause;
+use crate::hits::hits_of;
+use crate::lines::{Lines, push_count, push_line, push_package, push_titled};
+use crate::near::{NearMiss, near_misses};
+use crate::print::{Plainly, Print, push_all, push_joined};
+use crate::reasons::{group_field, push_group};
+use crate::similar::Similar;
+use deb_index::Constraint;
+use deb_relation::Atom;
+use std::alloc::AllocError;
+
+/// Adds the lines of elements under a title, where there are some.
+#[tactic(auto, unfolding(crate::specs::CauseLines::titled_if))]
+fn push_titled_if<T, P: Print<T>>(
+    out: &mut Vec<u8>,
+    title: &str,
+    printer: &P,
+    elements: &[T],
+) -> Result<(), AllocError>
+    requires { All (P.fits printer.now) elements.now }
+    ensures { OnOk result (out.new.items ≡ out.old.items ++ titled_if title.now (P.text printer.now) elements.now) }
+{
+    if !elements.is_empty() {
+        push_titled(out, title, printer, elements)?;
+    }
+    Ok(())
+}
+
+/// What is wrong, in lines.
+#[derive(Drop)]
+struct WrongLines<'p, 'i> {
+    lines: &'p Lines<'i>,
+}
+
+impl<'p, 'i> Print<Constraint> for WrongLines<'p, 'i> {
+    ghost fits = { λ wrong constraint. IsOfIndex wrong.lines.now.index.now constraint };
+
+    ghost text = { λ wrong constraint. wrong_line wrong.lines.now.index.now constraint };
+
+    #[tactic(auto, unfolding(crate::specs::CauseLines::wrong_line))]
+    fn print(&self, out: &mut Vec<u8>, constraint: &Constraint) -> Result<(), AllocError> {
+        match *constraint {
+            Constraint::Need(place, number) => {
+                out.extend_from_slice(b"   - missing: ")?;
+                push_group(out, self.lines.index.need(place, number))?;
+                out.extend_from_slice(b"\n")?;
+                Ok(())
+            }
+            Constraint::Essential(_) | Constraint::Apart(_, _) | Constraint::Only(_) => {
+                self.lines.print(out, constraint)
+            }
+        }
+    }
+}
+
+/// Who needs it, in lines.
+#[derive(Drop)]
+struct NeededLines<'p, 'i> {
+    lines: &'p Lines<'i>,
+}
+
+impl<'p, 'i> Print<Constraint> for NeededLines<'p, 'i> {
+    ghost fits = { λ needed constraint. IsOfIndex needed.lines.now.index.now constraint };
+
+    ghost text = { λ needed constraint. needed_line needed.lines.now.index.now constraint };
+
+    #[tactic(auto, unfolding(crate::specs::CauseLines::needed_line))]
+    fn print(&self, out: &mut Vec<u8>, constraint: &Constraint) -> Result<(), AllocError> {
+        match *constraint {
+            Constraint::Need(place, number) => {
+                let deb = self.lines.index.package(place);
+                out.extend_from_slice(b"   - ")?;
+                push_package(out, deb)?;
+                out.extend_from_slice(b" ")?;
+                out.extend_from_slice(group_field(deb, number).as_bytes())?;
+                out.extend_from_slice(b": ")?;
+                push_group(out, self.lines.index.need(place, number))?;
+                out.extend_from_slice(b"\n")?;
+                Ok(())
+            }
+            Constraint::Essential(_) | Constraint::Apart(_, _) | Constraint::Only(_) => {
+                self.lines.print(out, constraint)
+            }
+        }
+    }
+}
+
+/// Causes of an index, in lines.
+#[derive(Drop)]
+struct CauseLines<'p, 'i> {
+    lines: &'p Lines<'i>,
+    similar: Similar,
+}
+
+/// Adds entries of Provides.
+#[tactic(auto, using(crate::proofs::JoinLemmas::joined_map))]
+fn push_entries(out: &mut Vec<u8>, entries: &[&Atom]) -> Result<(), AllocError>
+    ensures { OnOk result (out.new.items ≡ out.old.items ++ join_by printed (codes ", ") (map (λ entry. atom_view entry.now) entries.now)) }
+{
+    push_joined(out, ", ", &Plainly, entries)
+}
+
+/// Adds what a package provides, where it comes near by that alone.
+#[tactic(auto, unfolding(crate::specs::CauseLines::provides_text))]
+pub(crate) fn push_provides(out: &mut Vec<u8>, provides: &[&Atom]) -> Result<(), AllocError>
+    ensures { OnOk result (out.new.items ≡ out.old.items ++ provides_text (map (λ entry. atom_view entry.now) provides.now)) }
+{
+    if !provides.is_empty() {
+        out.extend_from_slice(b" (provides ")?;
+        push_entries(out, provides)?;
+        out.extend_from_slice(b")")?;
+    }
+    Ok(())
+}
+
+impl<'p, 'i, 'm> Print<NearMiss<'m>> for CauseLines<'p, 'i> {
+    ghost fits = { λ _ _. Unit {0} };
+
+    ghost text = { λ _ miss. near_line (near_view miss) };
+
+    #[tactic(auto, unfolding(crate::specs::CauseLines::near_line))]
+    fn print(&self, out: &mut Vec<u8>, miss: &NearMiss<'m>) -> Result<(), AllocError> {
+        out.extend_from_slice(b"   - ")?;
+        push_package(out, miss.deb)?;
+        push_provides(out, miss.provides.as_slice())?;
+        out.extend_from_slice(b"\n")?;
+        Ok(())
+    }
+}
+
+impl<'p, 'i, 'n> Print<&'n [u8]> for CauseLines<'p, 'i> {
+    ghost fits = { λ _ _. Unit {0} };
+
+    ghost text = { λ _ name. name_line name.now };
+
+    #[tactic(auto, unfolding(crate::specs::CauseLines::name_line))]
+    fn print(&self, out: &mut Vec<u8>, name: &&'n [u8]) -> Result<(), AllocError> {
+        push_line(out, "   - ", name)
+    }
+}
+
+impl<'p, 'i> CauseLines<'p, 'i> {
+    /// Adds what is wrong, and who needs it.
+    fn push_wrong(&self, out: &mut Vec<u8>, cause: &Cause) -> Result<(), AllocError>
+        requires { IsCauseOf self.now.lines.now.index.now (cause_view cause.now) }
+        ensures { OnOk result (out.new.items ≡ (out.old.items
+            ++ titled (codes "  reasons:") (flat_map (wrong_line self.now.lines.now.index.now) cause.now.constraints.items))
+            ++ titled_if (codes "  needed-by:") (needed_line self.now.lines.now.index.now) cause.now.needs.items) }
+    {
+        let lines = self.lines;
+        push_titled(
+            out,
+            "  reasons:",
+            &WrongLines { lines },
+            cause.constraints.as_slice(),
+        )?;
+        push_titled_if(
+            out,
+            "  needed-by:",
+            &NeededLines { lines },
+            cause.needs.as_slice(),
+        )?;
+        Ok(())
+    }
+
+    /// Adds the packages that stand in the way.
+    fn push_packages(&self, out: &mut Vec<u8>, cause: &Cause) -> Result<(), AllocError>
+        requires { IsCauseOf self.now.lines.now.index.now (cause_view cause.now) }
+        ensures { OnOk result (out.new.items ≡ out.old.items
+            ++ titled_if (codes "  hits:") (place_line self.now.lines.now.index.now) (hits_of self.now.lines.now.index.now cause.now.constraints.items)
+            ++ titled_if (codes "  versions:") (place_line self.now.lines.now.index.now) cause.now.versions.items) }
+    {
+        let lines = self.lines;
+        let hits = hits_of(lines.alloc, lines.index, cause.constraints.as_slice())?;
+        push_titled_if(out, "  hits:", lines, hits.as_slice())?;
+        push_titled_if(out, "  versions:", lines, cause.versions.as_slice())?;
+        Ok(())
+    }
+
+    /// Adds the near misses.
+    #[tactic(auto, using(crate::proofs::JoinLemmas::titled_map))]
+    fn push_present(&self, out: &mut Vec<u8>, constraints: &[Constraint]) -> Result<(), AllocError>
+        requires { All (IsOfIndex self.now.lines.now.index.now) constraints.now }
+        ensures { OnOk result (out.new.items ≡ out.old.items
+            ++ titled_if (codes "  present:") near_line (near_misses self.now.lines.now.index.now constraints.now)) }
+    {
+        let misses = near_misses(self.lines.alloc, self.lines.index, constraints)?;
+        push_titled_if(out, "  present:", self, misses.as_slice())
+    }
+
+    /// Adds the similar names.
+    #[tactic(auto, using(crate::proofs::JoinLemmas::titled_map))]
+    fn push_similar(&self, out: &mut Vec<u8>, constraints: &[Constraint]) -> Result<(), AllocError>
+        requires within { All (IsOfIndex self.now.lines.now.index.now) constraints.now }
+        requires found { IsSimilarOf self.now.lines.now.index.now self.now.similar }
+        requires sought { AreSought self.now.lines.now.index.now (stems_in self.now.similar) constraints.now }
+        ensures { OnOk result (out.new.items ≡ out.old.items
+            ++ titled_if (codes "  similar:") name_line (similar_names self.now.lines.now.index.now constraints.now)) }
+    {
+        let names = self
+            .similar
+            .names(self.lines.alloc, self.lines.index, constraints)?;
+        push_titled_if(out, "  similar:", self, names.as_slice())
+    }
+}
+
+impl<'p, 'i> Print<Cause> for CauseLines<'p, 'i> {
+    ghost fits = { λ printer cause. FitsCause printer.lines.now.index.now printer.similar cause };
+
+    ghost text = { λ printer cause. cause_text printer.lines.now.index.now (cause_view cause) };
+
+    #[tactic(auto, unfolding(crate::specs::CauseLines::cause_text))]
+    fn print(&self, out: &mut Vec<u8>, cause: &Cause) -> Result<(), AllocError> {
+        let alloc = self.lines.alloc;
+        let constraints = cause.constraints.as_slice();
+        push_line(out, " -", b"")?;
+        push_count(alloc, out, "  packages: ", cause.places.len())?;
+        push_count(alloc, out, "  frees: ", cause.frees)?;
+        self.push_wrong(out, cause)?;
+        self.push_packages(out, cause)?;
+        self.push_present(out, constraints)?;
+        self.push_similar(out, constraints)?;
+        push_titled(out, "  broken:", self.lines, cause.places.as_slice())?;
+        Ok(())
+    }
+}
+
+/// Adds causes behind their number.
+#[tactic(auto, using(crate::proofs::JoinLemmas::lines_map))]
+pub(crate) fn push_causes(
+    lines: &Lines<'_>,
+    out: &mut Vec<u8>,
+    causes: &[Cause],
+) -> Result<(), AllocError>
+    requires { All (λ cause. IsCauseOf lines.now.index.now (cause_view cause)) causes.now }
+    ensures { OnOk result (out.new.items ≡ out.old.items
+        ++ causes_text lines.now.index.now (Some (map cause_view causes.now))) }
+{
+    let similar = Similar::find(lines.alloc, lines.index, causes)?;
+    let printer = CauseLines { lines, similar };
+    push_count(lines.alloc, out, "causes: ", causes.len())?;
+    push_all(out, &printer, causes)?;
+    Ok(())
+}

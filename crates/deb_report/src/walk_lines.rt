@@ -1,0 +1,489 @@
+//! A core as it is walked from the package, in lines.
+
+ghost use Rattle.std.specs.Prelude.{◌≡◌, ◌<◌, ◌++◌, [], All, IfOk, OnOk, codes, length, map, reverse};
+ghost use Rattle.std.specs.List.{join_by};
+ghost use Rattle.deb_relation.specs.AtomView.{atom_view};
+ghost use Rattle.deb_index.specs.declared.constraint.Constraint.{Constraint};
+ghost use Rattle.deb_index.specs.Constraints.{IsOfIndex};
+ghost use Rattle.deb_index.specs.Packages.{need_at, package_view};
+ghost use Rattle.number_sets.specs.Sets.{members_of};
+ghost use Rattle.deb_report.specs.declared.walk.Step.{Step};
+ghost use Rattle.deb_report.specs.Near.{near_view};
+ghost use Rattle.deb_report.specs.Walk.{IsStepOf, above_text, are_told, asked_text, brought, constraint_text, hits_text, lead, missing_text, near_text, need_ending, own_steps, package_line, package_text, present_text, seen_text, seen_texts, step_limit, step_text, steps_behind, told_behind, walk, walk_lines};
+
+use crate::cause_lines::push_provides;
+use crate::lines::{push_line, push_package};
+use crate::near::{NearMiss, answer_at, near_misses};
+use crate::own::OwnTable;
+use crate::place_set::PlaceSet;
+use crate::print::{Print, push_joined};
+use crate::reasons::{entry_field, group_field, is_missing, push_group};
+use crate::walk::{
+    Step, are_told, brought, comers, first_steps, hits_in, met_steps, own_steps, put_before,
+    versions_coming,
+};
+use deb_index::{Constraint, Index, Package};
+use deb_relation::Atom;
+use std::alloc::{AllocError, Global};
+use std::slice;
+
+/// Adds what stands before a line.
+#[tactic(auto, unfolding(crate::specs::Walk::lead))]
+fn push_lead(out: &mut Vec<u8>, depth: u32) -> Result<(), AllocError>
+    ensures { OnOk result (out.new.items ≡ out.old.items ++ lead depth) }
+{
+    for _ in 0..depth {
+        out.extend_from_slice(b"  ")?;
+    }
+    out.extend_from_slice(b"   - ")?;
+    Ok(())
+}
+
+/// Adds the mark of what was told already.
+#[tactic(auto, unfolding(crate::specs::Walk::above_text))]
+fn push_above(out: &mut Vec<u8>, told: bool) -> Result<(), AllocError>
+    ensures { OnOk result (out.new.items ≡ out.old.items ++ above_text told) }
+{
+    if told {
+        out.extend_from_slice(b" (above)")?;
+    }
+    Ok(())
+}
+
+/// Packages that may be told already.
+#[derive(Drop)]
+struct Seen<'t> {
+    index: &'t Index,
+    told: &'t PlaceSet,
+}
+
+impl<'t> Print<u32> for Seen<'t> {
+    ghost fits = { λ seen place. place < length seen.index.now.packages };
+
+    ghost text = { λ seen place. seen_text seen.index.now seen.told.now place };
+
+    #[tactic(auto, unfolding(crate::specs::Walk::seen_text))]
+    fn print(&self, out: &mut Vec<u8>, place: &u32) -> Result<(), AllocError> {
+        push_package(out, self.index.package(*place))?;
+        push_above(out, self.told.contains(*place))?;
+        Ok(())
+    }
+}
+
+/// Near misses in one line.
+#[derive(Drop)]
+struct InLine;
+
+impl<'m> Print<NearMiss<'m>> for InLine {
+    ghost fits = { λ _ _. Unit {0} };
+
+    ghost text = { λ _ miss. near_text (near_view miss) };
+
+    #[tactic(auto, unfolding(crate::specs::Walk::near_text))]
+    fn print(&self, out: &mut Vec<u8>, miss: &NearMiss<'m>) -> Result<(), AllocError> {
+        push_package(out, miss.deb)?;
+        push_provides(out, miss.provides.as_slice())?;
+        Ok(())
+    }
+}
+
+/// Adds near misses, with a comma between two.
+#[tactic(auto, using(crate::proofs::JoinLemmas::joined_map))]
+fn push_near(out: &mut Vec<u8>, misses: &[NearMiss<'_>]) -> Result<(), AllocError>
+    ensures { OnOk result (out.new.items ≡ out.old.items ++ join_by near_text (codes ", ") (map near_view misses.now)) }
+{
+    push_joined(out, ", ", &InLine, misses)
+}
+
+/// Adds what comes near to a need, where something does.
+#[tactic(auto, unfolding(crate::specs::Walk::present_text))]
+fn push_present(out: &mut Vec<u8>, misses: &[NearMiss<'_>]) -> Result<(), AllocError>
+    ensures { OnOk result (out.new.items ≡ out.old.items ++ present_text (map near_view misses.now)) }
+{
+    if !misses.is_empty() {
+        out.extend_from_slice(b"; present: ")?;
+        push_near(out, misses)?;
+    }
+    Ok(())
+}
+
+/// Adds that nothing meets a need, and what comes near.
+#[tactic(auto, unfolding(crate::specs::Walk::missing_text))]
+fn push_missing(out: &mut Vec<u8>, misses: &[NearMiss<'_>]) -> Result<(), AllocError>
+    ensures { OnOk result (out.new.items ≡ out.old.items ++ missing_text (map near_view misses.now)) }
+{
+    out.extend_from_slice(b" missing")?;
+    push_present(out, misses)?;
+    Ok(())
+}
+
+/// Adds packages that may be told already, with a comma between two.
+fn push_seen(
+    out: &mut Vec<u8>,
+    index: &Index,
+    told: &PlaceSet,
+    places: &[u32],
+) -> Result<(), AllocError>
+    requires { All (λ place. place < length index.now.packages) places.now }
+    ensures { OnOk result (out.new.items ≡ out.old.items ++ seen_texts index.now told.now places.now) }
+{
+    push_joined(out, ", ", &Seen { index, told }, places)
+}
+
+/// Adds what an entry hits.
+#[tactic(auto, unfolding(crate::specs::Walk::hits_text))]
+fn push_hits(
+    out: &mut Vec<u8>,
+    index: &Index,
+    told: &PlaceSet,
+    places: &[u32],
+) -> Result<(), AllocError>
+    requires { All (λ place. place < length index.now.packages) places.now }
+    ensures { OnOk result (out.new.items ≡ out.old.items ++ hits_text index.now told.now places.now) }
+{
+    if !places.is_empty() {
+        out.extend_from_slice(b" hits ")?;
+        push_seen(out, index, told, places)?;
+    }
+    Ok(())
+}
+
+/// Adds what a package asks for.
+#[tactic(auto, unfolding(crate::specs::Walk::asked_text))]
+fn push_asked(
+    out: &mut Vec<u8>,
+    deb: &Package,
+    field: &str,
+    relation: &[Atom],
+) -> Result<(), AllocError>
+    ensures { OnOk result (out.new.items ≡ out.old.items ++ asked_text (package_view deb.now) field.now (map atom_view relation.now)) }
+{
+    push_package(out, deb)?;
+    out.extend_from_slice(b" ")?;
+    out.extend_from_slice(field.as_bytes())?;
+    out.extend_from_slice(b": ")?;
+    push_group(out, relation)?;
+    Ok(())
+}
+
+/// Adds the line of a package.
+#[tactic(auto, unfolding(crate::specs::Walk::package_line))]
+fn push_package_line(
+    out: &mut Vec<u8>,
+    index: &Index,
+    depth: u32,
+    place: u32,
+    entries: &[&Atom],
+    told: bool,
+) -> Result<(), AllocError>
+    requires { place < length index.now.packages }
+    ensures { OnOk result (out.new.items ≡ out.old.items ++ package_line index.now depth place (map (λ entry. atom_view entry.now) entries.now) told) }
+{
+    push_lead(out, depth)?;
+    push_package(out, index.package(place))?;
+    push_provides(out, entries)?;
+    push_above(out, told)?;
+    out.extend_from_slice(b"\n")?;
+    Ok(())
+}
+
+/// A walk through a core, and the packages that come in it.
+#[derive(Drop)]
+struct Walk<'i> {
+    alloc: Global,
+    index: &'i Index,
+    core: &'i OwnTable<'i>,
+    coming: &'i PlaceSet,
+}
+
+impl<'i> Walk<'i> {
+    /// Adds the mark of a constraint whose packages all are told already.
+    fn push_told(
+        &self,
+        out: &mut Vec<u8>,
+        told: &PlaceSet,
+        constraint: Constraint,
+    ) -> Result<(), AllocError>
+        requires { IsOfIndex self.now.index.now constraint }
+        ensures { OnOk result (out.new.items ≡ out.old.items ++ above_text (are_told told.now (brought self.now.index.now constraint))) }
+    {
+        let mut found = Vec::new(self.alloc);
+        let places = brought(self.index, constraint, &mut found)?;
+        push_above(out, are_told(told, places))
+    }
+
+    /// Adds how a need ends.
+    #[tactic(auto, unfolding(crate::specs::Walk::need_ending))]
+    fn push_need_ending(
+        &self,
+        out: &mut Vec<u8>,
+        told: &PlaceSet,
+        place: u32,
+        number: u32,
+    ) -> Result<(), AllocError>
+        requires { IsOfIndex self.now.index.now (Constraint.Need place number) }
+        ensures { OnOk result (out.new.items ≡ out.old.items ++ need_ending self.now.index.now told.now (Constraint.Need place number)
+            (need_at self.now.index.now place number)) }
+    {
+        let need = Constraint::Need(place, number);
+        if is_missing(self.alloc, self.index, place, number)? {
+            let misses = near_misses(self.alloc, self.index, slice::from_ref(&need))?;
+            push_missing(out, misses.as_slice())?;
+        } else {
+            self.push_told(out, told, need)?;
+        }
+        Ok(())
+    }
+
+    /// Adds an essential name.
+    #[tactic(auto, unfolding(crate::specs::Walk::constraint_text))]
+    fn push_essential(
+        &self,
+        out: &mut Vec<u8>,
+        told: &PlaceSet,
+        name: u32,
+    ) -> Result<(), AllocError>
+        requires { IsOfIndex self.now.index.now (Constraint.Essential name) }
+        ensures { OnOk result (out.new.items ≡
+            out.old.items ++ constraint_text self.now.index.now (members_of self.now.coming.now) told.now (Constraint.Essential name)) }
+    {
+        out.extend_from_slice(b"essential: ")?;
+        out.extend_from_slice(self.index.name_text(name))?;
+        self.push_told(out, told, Constraint::Essential(name))?;
+        Ok(())
+    }
+
+    /// Adds a need.
+    #[tactic(auto, unfolding(crate::specs::Walk::constraint_text))]
+    fn push_need(
+        &self,
+        out: &mut Vec<u8>,
+        told: &PlaceSet,
+        place: u32,
+        number: u32,
+    ) -> Result<(), AllocError>
+        requires { IsOfIndex self.now.index.now (Constraint.Need place number) }
+        ensures { OnOk result (out.new.items ≡
+            out.old.items ++ constraint_text self.now.index.now (members_of self.now.coming.now) told.now (Constraint.Need place number)) }
+    {
+        let deb = self.index.package(place);
+        push_asked(
+            out,
+            deb,
+            group_field(deb, number),
+            self.index.need(place, number),
+        )?;
+        self.push_need_ending(out, told, place, number)?;
+        Ok(())
+    }
+
+    /// Adds an entry.
+    #[tactic(auto, unfolding(crate::specs::Walk::constraint_text))]
+    fn push_entry(
+        &self,
+        out: &mut Vec<u8>,
+        told: &PlaceSet,
+        place: u32,
+        number: u32,
+    ) -> Result<(), AllocError>
+        requires { IsOfIndex self.now.index.now (Constraint.Apart place number) }
+        ensures { OnOk result (out.new.items ≡
+            out.old.items ++ constraint_text self.now.index.now (members_of self.now.coming.now) told.now (Constraint.Apart place number)) }
+    {
+        let deb = self.index.package(place);
+        let entry = self.index.apart(place, number);
+        let hits = hits_in(self.alloc, self.index, self.coming, place, number)?;
+        push_asked(out, deb, entry_field(deb, number), slice::from_ref(entry))?;
+        push_hits(out, self.index, told, hits.as_slice())?;
+        Ok(())
+    }
+
+    /// Adds the versions of a name.
+    #[tactic(auto, unfolding(crate::specs::Walk::constraint_text))]
+    fn push_versions(&self, out: &mut Vec<u8>, told: &PlaceSet, name: u32) -> Result<(), AllocError>
+        requires { IsOfIndex self.now.index.now (Constraint.Only name) }
+        ensures { OnOk result (out.new.items ≡
+            out.old.items ++ constraint_text self.now.index.now (members_of self.now.coming.now) told.now (Constraint.Only name)) }
+    {
+        let versions = versions_coming(self.alloc, self.index, self.coming, name)?;
+        out.extend_from_slice(b"versions: ")?;
+        push_seen(out, self.index, told, versions.as_slice())?;
+        Ok(())
+    }
+
+    /// Adds what the core says.
+    fn push_constraint(
+        &self,
+        out: &mut Vec<u8>,
+        told: &PlaceSet,
+        constraint: Constraint,
+    ) -> Result<(), AllocError>
+        requires { IsOfIndex self.now.index.now constraint }
+        ensures { OnOk result (out.new.items ≡ out.old.items ++ constraint_text self.now.index.now (members_of self.now.coming.now) told.now constraint) }
+    {
+        match constraint {
+            Constraint::Essential(name) => self.push_essential(out, told, name),
+            Constraint::Need(place, number) => self.push_need(out, told, place, number),
+            Constraint::Apart(place, number) => self.push_entry(out, told, place, number),
+            Constraint::Only(name) => self.push_versions(out, told, name),
+        }
+    }
+
+    /// Adds the line of a package, where it has one of its own, and gives what the core says of it.
+    #[tactic(auto, unfolding(crate::specs::Walk::package_text))]
+    fn enter(
+        &self,
+        out: &mut Vec<u8>,
+        depth: u32,
+        place: u32,
+        entries: &[&Atom],
+    ) -> Result<Vec<Step>, AllocError>
+        requires { place < length self.now.index.now.packages }
+        ensures text { OnOk result (out.new.items ≡
+            out.old.items ++ package_text self.now.index.now self.now.core.now depth place (map (λ entry. atom_view entry.now) entries.now)) }
+        ensures steps { IfOk result (λ steps. steps.items ≡ own_steps self.now.core.now depth place) }
+    {
+        let steps = own_steps(self.alloc, self.core, depth, place)?;
+        if steps.is_empty() || !entries.is_empty() {
+            push_package_line(out, self.index, depth, place, entries, false)?;
+        }
+        Ok(steps)
+    }
+
+    /// Begins with a package, where it isn't told yet.
+    #[tactic(auto, unfolding(crate::specs::Walk::step_text, crate::specs::Walk::steps_behind))]
+    fn begin(
+        &self,
+        out: &mut Vec<u8>,
+        told: &mut PlaceSet,
+        place: u32,
+    ) -> Result<Vec<Step>, AllocError>
+        requires { place < length self.now.index.now.packages }
+        ensures text { OnOk result (out.new.items ≡
+            out.old.items ++ step_text self.now.index.now self.now.core.now (members_of self.now.coming.now) told.old (Step.Begin place)) }
+        ensures told { OnOk result (told.new ≡ told_behind told.old (Step.Begin place)) }
+        ensures steps { IfOk result (λ steps. steps.items ≡ steps_behind self.now.index.now self.now.core.now told.old (Step.Begin place)) }
+    {
+        let again = told.contains(place);
+        told.insert(place)?;
+        if again {
+            return Ok(Vec::new(self.alloc));
+        }
+        self.enter(out, 0, place, &[])
+    }
+
+    /// Meets a package.
+    #[tactic(auto, unfolding(crate::specs::Walk::step_text, crate::specs::Walk::steps_behind))]
+    fn meet(
+        &self,
+        out: &mut Vec<u8>,
+        told: &mut PlaceSet,
+        depth: u32,
+        place: u32,
+        constraint: Constraint,
+    ) -> Result<Vec<Step>, AllocError>
+        requires place { place < length self.now.index.now.packages }
+        requires constraint { IsOfIndex self.now.index.now constraint }
+        ensures text { OnOk result (out.new.items ≡
+            out.old.items ++ step_text self.now.index.now self.now.core.now (members_of self.now.coming.now) told.old (Step.Meet depth place constraint)) }
+        ensures told { OnOk result (told.new ≡ told_behind told.old (Step.Meet depth place constraint)) }
+        ensures steps { IfOk result (λ steps. steps.items ≡ steps_behind self.now.index.now self.now.core.now told.old (Step.Meet depth place constraint)) }
+    {
+        let answer = answer_at(self.alloc, self.index, constraint, place)?;
+        let entries = answer.provides.as_slice();
+        let again = told.contains(place);
+        told.insert(place)?;
+        if again {
+            push_package_line(out, self.index, depth, place, entries, true)?;
+            return Ok(Vec::new(self.alloc));
+        }
+        self.enter(out, depth, place, entries)
+    }
+
+    /// Tells a constraint.
+    #[tactic(auto, unfolding(crate::specs::Walk::step_text, crate::specs::Walk::steps_behind))]
+    fn tell(
+        &self,
+        out: &mut Vec<u8>,
+        told: &PlaceSet,
+        depth: u32,
+        constraint: Constraint,
+    ) -> Result<Vec<Step>, AllocError>
+        requires { IsOfIndex self.now.index.now constraint }
+        ensures text { OnOk result (out.new.items ≡
+            out.old.items ++ step_text self.now.index.now self.now.core.now (members_of self.now.coming.now) told.now (Step.Tell depth constraint)) }
+        ensures steps { IfOk result (λ steps. steps.items ≡ steps_behind self.now.index.now self.now.core.now told.now (Step.Tell depth constraint)) }
+    {
+        push_lead(out, depth)?;
+        self.push_constraint(out, told, constraint)?;
+        out.extend_from_slice(b"\n")?;
+        met_steps(self.alloc, self.index, told, depth, constraint)
+    }
+
+    /// Goes a step, and gives the steps that follow from it.
+    fn go(
+        &self,
+        out: &mut Vec<u8>,
+        told: &mut PlaceSet,
+        step: Step,
+    ) -> Result<Vec<Step>, AllocError>
+        requires { IsStepOf self.now.index.now step }
+        ensures text { OnOk result (out.new.items ≡
+            out.old.items ++ step_text self.now.index.now self.now.core.now (members_of self.now.coming.now) told.old step) }
+        ensures told { OnOk result (told.new ≡ told_behind told.old step) }
+        ensures steps { IfOk result (λ steps. steps.items ≡ steps_behind self.now.index.now self.now.core.now told.old step) }
+    {
+        match step {
+            Step::Begin(place) => self.begin(out, told, place),
+            Step::Meet(depth, place, constraint) => self.meet(out, told, depth, place, constraint),
+            Step::Tell(depth, constraint) => self.tell(out, told, depth, constraint),
+        }
+    }
+
+    /// Goes these steps and all that follow from them, one after the other.
+    fn go_all(&self, out: &mut Vec<u8>, stack: &mut Vec<Step>) -> Result<(), AllocError>
+        requires core { All (IsOfIndex self.now.index.now) self.now.core.now }
+        requires steps { All (IsStepOf self.now.index.now) (reverse stack.old.items) }
+        ensures { OnOk result (out.new.items ≡
+            out.old.items ++ walk step_limit self.now.index.now self.now.core.now (members_of self.now.coming.now) [] (reverse stack.old.items)) }
+    {
+        let mut told = PlaceSet::new(self.alloc);
+        for _ in 0..u64::MAX {
+            let Some(step) = stack.pop() else {
+                return Ok(());
+            };
+            let behind = self.go(out, &mut told, step)?;
+            put_before(stack, behind)?;
+        }
+        Ok(())
+    }
+}
+
+/// Adds the lines of a core as it is walked from the package at a place.
+///
+/// The core and the place are of the index. `AllocError` where there is no memory for it.
+#[tactic(auto, unfolding(crate::specs::Walk::walk_lines))]
+pub(crate) fn push_walk(
+    alloc: Global,
+    out: &mut Vec<u8>,
+    index: &Index,
+    place: u32,
+    core: &[Constraint],
+) -> Result<(), AllocError>
+    requires place { place < length index.now.packages }
+    requires core { All (IsOfIndex index.now) core.now }
+    ensures { OnOk result (out.new.items ≡ out.old.items ++ walk_lines index.now place core.now) }
+{
+    let coming = comers(alloc, index, place, core)?;
+    let table = OwnTable::new(alloc, core)?;
+    let walk = Walk {
+        alloc,
+        index,
+        core: &table,
+        coming: &coming,
+    };
+    let mut stack = Vec::new(alloc);
+    put_before(&mut stack, first_steps(alloc, core, place)?)?;
+    push_line(out, "  why:", b"")?;
+    walk.go_all(out, &mut stack)
+}

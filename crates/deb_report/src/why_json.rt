@@ -1,0 +1,123 @@
+//! Where a walk goes on from a constraint, in JSON.
+
+ghost use Rattle.std.specs.Prelude.{◌≡◌, ◌<◌, ◌++◌, ◌∷◌, [], OnOk, codes, length, map};
+ghost use Rattle.deb_relation.specs.AtomView.{atom_view};
+ghost use Rattle.deb_relation.specs.Relationship.{printed};
+ghost use Rattle.deb_index.specs.declared.constraint.Constraint.{Constraint};
+ghost use Rattle.deb_index.specs.Constraints.{IsOfIndex};
+ghost use Rattle.deb_index.specs.Packages.{name_at, need_at, places_of};
+ghost use Rattle.deb_report.specs.Causes.{hits_of};
+ghost use Rattle.deb_report.specs.Json.{answers_to, array, member, near_json, place_json, quoted, why_json};
+ghost use Rattle.deb_report.specs.Near.{near_view};
+
+use crate::hits::hits_of;
+use crate::json_parts::Json;
+use crate::json_text::push_array;
+use crate::near::{NearMiss, answers_to};
+use crate::print::Print;
+use crate::reasons::is_missing;
+use deb_index::Constraint;
+use deb_relation::Atom;
+use std::alloc::AllocError;
+use std::slice;
+
+/// Atoms as texts of JSON.
+#[derive(Drop)]
+struct Quoted;
+
+impl Print<Atom> for Quoted {
+    ghost fits = { λ _ _. Unit {0} };
+
+    ghost text = { λ _ atom. quoted (printed (atom_view atom)) };
+
+    #[tactic(auto, unfolding(crate::specs::Json::quoted))]
+    fn print(&self, out: &mut Vec<u8>, atom: &Atom) -> Result<(), AllocError> {
+        out.extend_from_slice(b"\"")?;
+        atom.append_to(out)?;
+        out.extend_from_slice(b"\"")?;
+        Ok(())
+    }
+}
+
+/// Adds the member with the alternatives of a need.
+#[tactic(auto, using(crate::proofs::JoinLemmas::joined_map), unfolding(crate::specs::Json::array))]
+fn push_alternatives(out: &mut Vec<u8>, group: &[Atom]) -> Result<(), AllocError>
+    ensures { OnOk result (out.new.items ≡
+        out.old.items ++ codes "," ++ member (codes "alternatives") (array (λ atom. quoted (printed atom)) (map atom_view group.now))) }
+{
+    push_array(out, ",", "alternatives", &Quoted, group, "]")
+}
+
+/// Adds the member with the packages that answer a need.
+#[tactic(auto, using(crate::proofs::JoinLemmas::joined_map), unfolding(crate::specs::Json::array))]
+fn push_answers(
+    json: &Json<'_>,
+    out: &mut Vec<u8>,
+    answers: &[NearMiss<'_>],
+) -> Result<(), AllocError>
+    ensures { OnOk result (out.new.items ≡ out.old.items ++ codes "," ++ member (codes "met-by") (array near_json (map near_view answers.now))) }
+{
+    push_array(out, ",", "met-by", json, answers, "]")
+}
+
+/// Adds where a walk goes on from a need.
+#[tactic(auto, unfolding(crate::specs::Json::why_json))]
+fn push_need(json: &Json<'_>, out: &mut Vec<u8>, place: u32, number: u32) -> Result<(), AllocError>
+    requires { IsOfIndex json.now.index.now (Constraint.Need place number) }
+    ensures { OnOk result (out.new.items ≡ out.old.items ++ why_json json.now.index.now (Constraint.Need place number)) }
+{
+    if is_missing(json.alloc, json.index, place, number)? {
+        push_alternatives(out, json.index.need(place, number))?;
+    } else {
+        let answers = answers_to(json.alloc, json.index, Constraint::Need(place, number))?;
+        push_answers(json, out, answers.as_slice())?;
+    }
+    Ok(())
+}
+
+/// Adds the packages that an entry hits.
+#[tactic(auto, unfolding(crate::specs::Json::why_json, crate::specs::Json::array))]
+fn push_hits(json: &Json<'_>, out: &mut Vec<u8>, place: u32, number: u32) -> Result<(), AllocError>
+    requires { IsOfIndex json.now.index.now (Constraint.Apart place number) }
+    ensures { OnOk result (out.new.items ≡ out.old.items ++ why_json json.now.index.now (Constraint.Apart place number)) }
+{
+    let entry = Constraint::Apart(place, number);
+    let hits = hits_of(json.alloc, json.index, slice::from_ref(&entry))?;
+    push_array(out, ",", "hits", json, hits.as_slice(), "]")?;
+    Ok(())
+}
+
+/// Adds the versions of a name.
+#[tactic(auto, unfolding(crate::specs::Json::why_json, crate::specs::Json::array))]
+fn push_versions(json: &Json<'_>, out: &mut Vec<u8>, name: u32) -> Result<(), AllocError>
+    requires { IsOfIndex json.now.index.now (Constraint.Only name) }
+    ensures { OnOk result (out.new.items ≡ out.old.items ++ why_json json.now.index.now (Constraint.Only name)) }
+{
+    push_array(
+        out,
+        ",",
+        "versions",
+        json,
+        json.index.places_named(name),
+        "]",
+    )?;
+    Ok(())
+}
+
+/// Adds where a walk goes on from a constraint.
+#[tactic(auto, unfolding(crate::specs::Json::why_json))]
+pub(crate) fn push_why(
+    json: &Json<'_>,
+    out: &mut Vec<u8>,
+    constraint: Constraint,
+) -> Result<(), AllocError>
+    requires { IsOfIndex json.now.index.now constraint }
+    ensures { OnOk result (out.new.items ≡ out.old.items ++ why_json json.now.index.now constraint) }
+{
+    match constraint {
+        Constraint::Essential(_) => Ok(()),
+        Constraint::Need(place, number) => push_need(json, out, place, number),
+        Constraint::Apart(place, number) => push_hits(json, out, place, number),
+        Constraint::Only(name) => push_versions(json, out, name),
+    }
+}

@@ -1,0 +1,494 @@
+//! Cores as they are walked from the package.
+
+use crate::asking::{Asked, USUAL, expect_report};
+use deb_report::{Format, Show};
+use std::alloc::AllocGlobal;
+use std::process::Abort;
+use std::test::Fail;
+
+/// A package of an index, and the walk from it.
+pub struct Walked<'a> {
+    text: &'a str,
+    name: &'a str,
+    version: &'a str,
+    stanzas: &'a str,
+    lines: &'a str,
+}
+
+/// Compares the walk from a package with what is expected.
+pub fn expect_walk(rt: &(impl Abort + AllocGlobal), walked: &Walked<'_>) -> Result<(), Fail> {
+    let names = [walked.name.as_bytes()];
+    let asked = Asked {
+        only: Some(&names),
+        show: Show::Failures,
+        why: true,
+        ..USUAL
+    };
+    let wanted = [
+        "architecture: amd64\nreport:\n -\n  package: ",
+        walked.name,
+        "\n  version: ",
+        walked.version,
+        "\n  architecture: all\n  status: broken\n  why:\n",
+        walked.lines,
+        "stanzas: ",
+        walked.stanzas,
+        "\nskipped: 0\nduplicates: 0\nasked: 1\nbroken: 1\n",
+    ];
+    expect_report(rt, walked.text, &asked, &wanted)
+}
+
+/// Compares the reasons of a document on a package with what is expected.
+pub fn expect_reasons<'x>(
+    rt: &(impl Abort + AllocGlobal),
+    walked: &Walked<'x>,
+    reasons: &'x str,
+) -> Result<(), Fail> {
+    let names = [walked.name.as_bytes()];
+    let asked = Asked {
+        only: Some(&names),
+        why: true,
+        format: Format::Json,
+        ..USUAL
+    };
+    let wanted = [
+        r#"{"format":1,"options":["explain","checkonly","why"],"architecture":"amd64","report":["#,
+        "\n",
+        r#"{"package":""#,
+        walked.name,
+        r#"","version":""#,
+        walked.version,
+        r#"","architecture":"all","status":"broken","reasons":["#,
+        reasons,
+        "]}\n",
+        r#"],"stanzas":"#,
+        walked.stanzas,
+        r#","skipped":0,"duplicates":0,"asked":1,"broken":1}"#,
+        "\n",
+    ];
+    expect_report(rt, walked.text, &asked, &wanted)
+}
+
+pub const EDITOR: Walked<'static> = Walked {
+    text: "Package: dictionary
+Version: 1
+Architecture: all
+Conflicts: gui (<< 5)
+
+Package: editor
+Version: 2.1
+Architecture: all
+Depends: gui, speller (>= 3)
+
+Package: gui
+Version: 4.0
+Architecture: all
+
+Package: speller
+Version: 3.2
+Architecture: all
+Depends: word-list | dictionary
+",
+    name: "editor",
+    version: "2.1",
+    stanzas: "4",
+    lines: "   - editor 2.1 Depends: gui
+   - gui 4.0
+   - editor 2.1 Depends: speller (>= 3)
+   - speller 3.2 Depends: word-list | dictionary
+   - dictionary 1 Conflicts: gui (<< 5) hits gui 4.0 (above)
+",
+};
+
+/// The example of the README.
+#[test]
+fn the_editor(rt: HostRuntime) -> Result<(), Fail> {
+    expect_walk(&rt, &EDITOR)
+}
+
+const TWO_WAYS: Walked<'static> = Walked {
+    text: "Package: a
+Version: 1
+Architecture: all
+Conflicts: c
+Provides: v
+
+Package: b
+Version: 1
+Architecture: all
+Depends: d
+Provides: v
+
+Package: c
+Version: 1
+Architecture: all
+
+Package: d
+Version: 1
+Architecture: all
+Conflicts: c
+
+Package: p
+Version: 1
+Architecture: all
+Depends: v, c
+",
+    name: "p",
+    version: "1",
+    stanzas: "5",
+    lines: "   - p 1 Depends: v
+     - a 1 (provides v)
+     - a 1 Conflicts: c hits c 1
+     - b 1 (provides v)
+     - b 1 Depends: d
+     - d 1 Conflicts: c hits c 1
+   - p 1 Depends: c
+   - c 1
+",
+};
+
+/// Either package that provides the name keeps out another that is needed, which comes behind them.
+#[test]
+fn two_ways_to_one_conflict(rt: HostRuntime) -> Result<(), Fail> {
+    expect_walk(&rt, &TWO_WAYS)
+}
+
+const CHAIN: Walked<'static> = Walked {
+    text: "Package: n5
+Version: 1
+Architecture: all
+Depends: n6
+
+Package: n2
+Version: 1
+Architecture: all
+Depends: n3
+
+Package: n11
+Version: 1
+Architecture: all
+Depends: n12
+
+Package: n9
+Version: 1
+Architecture: all
+Depends: n10
+
+Package: n1
+Version: 1
+Architecture: all
+Depends: n2
+
+Package: n7
+Version: 1
+Architecture: all
+Depends: n8
+
+Package: n3
+Version: 1
+Architecture: all
+Depends: n4
+
+Package: n10
+Version: 1
+Architecture: all
+Depends: n11
+
+Package: n4
+Version: 1
+Architecture: all
+Depends: n5
+
+Package: n8
+Version: 1
+Architecture: all
+Depends: n9
+
+Package: n6
+Version: 1
+Architecture: all
+Depends: n7
+",
+    name: "n1",
+    version: "1",
+    stanzas: "11",
+    lines: "   - n1 1 Depends: n2
+   - n2 1 Depends: n3
+   - n3 1 Depends: n4
+   - n4 1 Depends: n5
+   - n5 1 Depends: n6
+   - n6 1 Depends: n7
+   - n7 1 Depends: n8
+   - n8 1 Depends: n9
+   - n9 1 Depends: n10
+   - n10 1 Depends: n11
+   - n11 1 Depends: n12 missing
+",
+};
+
+/// Eleven packages, each of which needs the next, and the last one that nobody has.
+#[test]
+fn a_chain_in_another_order(rt: HostRuntime) -> Result<(), Fail> {
+    expect_walk(&rt, &CHAIN)
+}
+
+const PROVIDED: Walked<'static> = Walked {
+    text: "Package: app
+Version: 1
+Architecture: all
+Depends: v (= 1)
+
+Package: lib
+Version: 2
+Architecture: all
+Depends: gone
+Provides: u, v (= 1)
+",
+    name: "app",
+    version: "1",
+    stanzas: "2",
+    lines: "   - app 1 Depends: v (= 1)
+   - lib 2 (provides v (= 1))
+   - lib 2 Depends: gone missing
+",
+};
+
+/// A package that is met by Provides has a line of its own, though the core speaks of it.
+#[test]
+fn met_by_provides_with_a_version(rt: HostRuntime) -> Result<(), Fail> {
+    expect_walk(&rt, &PROVIDED)
+}
+
+const VERSIONS: Walked<'static> = Walked {
+    text: "Package: p
+Version: 1
+Architecture: all
+Depends: q (= 1), r
+
+Package: r
+Version: 1
+Architecture: all
+Depends: q (= 2)
+
+Package: q
+Version: 1
+Architecture: all
+
+Package: q
+Version: 2
+Architecture: all
+
+Package: q
+Version: 3
+Architecture: all
+",
+    name: "p",
+    version: "1",
+    stanzas: "5",
+    lines: "   - p 1 Depends: q (= 1)
+   - q 1
+   - p 1 Depends: r
+   - r 1 Depends: q (= 2)
+   - q 2
+   - versions: q 1 (above), q 2 (above)
+",
+};
+
+/// The third version is none of the walk.
+#[test]
+fn two_versions_of_a_name(rt: HostRuntime) -> Result<(), Fail> {
+    expect_walk(&rt, &VERSIONS)
+}
+
+const ESSENTIAL: Walked<'static> = Walked {
+    text: "Package: e
+Version: 1
+Architecture: all
+Essential: yes
+
+Package: x
+Version: 1
+Architecture: all
+Conflicts: e
+",
+    name: "x",
+    version: "1",
+    stanzas: "2",
+    lines: "   - x 1 Conflicts: e hits e 1
+   - essential: e
+   - e 1
+",
+};
+
+/// What is essential is told behind the package.
+#[test]
+fn an_essential_name(rt: HostRuntime) -> Result<(), Fail> {
+    expect_walk(&rt, &ESSENTIAL)
+}
+
+const MISSING: Walked<'static> = Walked {
+    text: "Package: a
+Version: 1
+Architecture: all
+Pre-Depends: b
+
+Package: b
+Version: 1
+Architecture: all
+Depends: c (>= 2) | d (>= 4)
+
+Package: c
+Version: 1
+Architecture: all
+
+Package: e
+Version: 1
+Architecture: all
+Provides: c, d (= 3), f
+",
+    name: "a",
+    version: "1",
+    stanzas: "4",
+    lines: "   - a 1 Pre-Depends: b
+   - b 1 Depends: c (>= 2) | d (>= 4) missing; present: c 1, e 1 (provides c, d (= 3))
+",
+};
+
+/// What comes near stands in the same line.
+#[test]
+fn missing_with_what_is_present(rt: HostRuntime) -> Result<(), Fail> {
+    expect_walk(&rt, &MISSING)
+}
+
+const TWICE: Walked<'static> = Walked {
+    text: "Package: p
+Version: 1
+Architecture: all
+Depends: a | b
+
+Package: a
+Version: 1
+Architecture: all
+Depends: s
+
+Package: b
+Version: 1
+Architecture: all
+Depends: s
+
+Package: s
+Version: 1
+Architecture: all
+Depends: gone
+",
+    name: "p",
+    version: "1",
+    stanzas: "4",
+    lines: "   - p 1 Depends: a | b
+     - a 1 Depends: s
+     - s 1 Depends: gone missing
+     - b 1 Depends: s (above)
+",
+};
+
+/// What was told is told once.
+#[test]
+fn met_twice(rt: HostRuntime) -> Result<(), Fail> {
+    expect_walk(&rt, &TWICE)
+}
+
+const NESTED: Walked<'static> = Walked {
+    text: "Package: p
+Version: 1
+Architecture: all
+Depends: a | b
+
+Package: a
+Version: 1
+Architecture: all
+Depends: b | c
+
+Package: b
+Version: 1
+Architecture: all
+Depends: gone
+
+Package: c
+Version: 1
+Architecture: all
+Conflicts: p
+",
+    name: "p",
+    version: "1",
+    stanzas: "4",
+    lines: "   - p 1 Depends: a | b
+     - a 1 Depends: b | c
+       - b 1 Depends: gone missing
+       - c 1 Conflicts: p hits p 1 (above)
+     - b 1 (above)
+",
+};
+
+/// Further in where it forks again; one of the packages was told there.
+#[test]
+fn a_fork_in_a_fork(rt: HostRuntime) -> Result<(), Fail> {
+    expect_walk(&rt, &NESTED)
+}
+
+pub const EDITOR_REASONS: &str =
+    "{\"kind\":\"conflict\",\"package\":\"dictionary\",\"version\":\"1\",\"field\":\"Conflicts\",\"relation\":\"gui (<< 5)\",\"hits\":[{\"package\":\"gui\",\"version\":\"4.0\"}]},\
+{\"kind\":\"depends\",\"package\":\"editor\",\"version\":\"2.1\",\"field\":\"Depends\",\"relation\":\"gui\",\"met-by\":[{\"package\":\"gui\",\"version\":\"4.0\"}]},\
+{\"kind\":\"depends\",\"package\":\"editor\",\"version\":\"2.1\",\"field\":\"Depends\",\"relation\":\"speller (>= 3)\",\"met-by\":[{\"package\":\"speller\",\"version\":\"3.2\"}]},\
+{\"kind\":\"depends\",\"package\":\"speller\",\"version\":\"3.2\",\"field\":\"Depends\",\"relation\":\"word-list | dictionary\",\"met-by\":[{\"package\":\"dictionary\",\"version\":\"1\"}]}";
+
+/// An answer to each need, and what the entry hits.
+#[test]
+fn the_editor_in_a_document(rt: HostRuntime) -> Result<(), Fail> {
+    expect_reasons(&rt, &EDITOR, EDITOR_REASONS)
+}
+
+/// What provides a need is told with its entry.
+#[test]
+fn answers_by_provides_in_a_document(rt: HostRuntime) -> Result<(), Fail> {
+    expect_reasons(
+        &rt,
+        &PROVIDED,
+        "{\"kind\":\"depends\",\"package\":\"app\",\"version\":\"1\",\"field\":\"Depends\",\"relation\":\"v (= 1)\",\"met-by\":[{\"package\":\"lib\",\"version\":\"2\",\"provides\":[\"v (= 1)\"]}]},\
+{\"kind\":\"missing\",\"package\":\"lib\",\"version\":\"2\",\"field\":\"Depends\",\"relation\":\"gone\",\"alternatives\":[\"gone\"]}",
+    )
+}
+
+/// All versions of the name.
+#[test]
+fn versions_in_a_document(rt: HostRuntime) -> Result<(), Fail> {
+    expect_reasons(
+        &rt,
+        &VERSIONS,
+        "{\"kind\":\"depends\",\"package\":\"p\",\"version\":\"1\",\"field\":\"Depends\",\"relation\":\"q (= 1)\",\"met-by\":[{\"package\":\"q\",\"version\":\"1\"}]},\
+{\"kind\":\"depends\",\"package\":\"p\",\"version\":\"1\",\"field\":\"Depends\",\"relation\":\"r\",\"met-by\":[{\"package\":\"r\",\"version\":\"1\"}]},\
+{\"kind\":\"depends\",\"package\":\"r\",\"version\":\"1\",\"field\":\"Depends\",\"relation\":\"q (= 2)\",\"met-by\":[{\"package\":\"q\",\"version\":\"2\"}]},\
+{\"kind\":\"versions\",\"name\":\"q\",\"versions\":[{\"package\":\"q\",\"version\":\"1\"},{\"package\":\"q\",\"version\":\"2\"},{\"package\":\"q\",\"version\":\"3\"}]}",
+    )
+}
+
+/// Each alternative of a need that nothing meets.
+#[test]
+fn alternatives_in_a_document(rt: HostRuntime) -> Result<(), Fail> {
+    expect_reasons(
+        &rt,
+        &MISSING,
+        "{\"kind\":\"depends\",\"package\":\"a\",\"version\":\"1\",\"field\":\"Pre-Depends\",\"relation\":\"b\",\"met-by\":[{\"package\":\"b\",\"version\":\"1\"}]},\
+{\"kind\":\"missing\",\"package\":\"b\",\"version\":\"1\",\"field\":\"Depends\",\"relation\":\"c (>= 2) | d (>= 4)\",\"alternatives\":[\"c (>= 2)\",\"d (>= 4)\"]}",
+    )
+}
+
+/// An essential name has no member more.
+#[test]
+fn an_essential_name_in_a_document(rt: HostRuntime) -> Result<(), Fail> {
+    expect_reasons(
+        &rt,
+        &ESSENTIAL,
+        "{\"kind\":\"essential\",\"name\":\"e\"},\
+{\"kind\":\"conflict\",\"package\":\"x\",\"version\":\"1\",\"field\":\"Conflicts\",\"relation\":\"e\",\"hits\":[{\"package\":\"e\",\"version\":\"1\"}]}",
+    )
+}
