@@ -40,12 +40,13 @@ _debcheck() {
         ;;
     --workers | --chunk) return ;;
     esac
-    # Each option is given once at most, and --since and --successes not together.
+    # Each option is given once at most, --since and --successes not together, and what tells of broken packages alone not where none is shown.
     given=" ${COMP_WORDS[*]:0:COMP_CWORD} ${COMP_WORDS[*]:COMP_CWORD + 1} "
+    [[ $given != *' --successes '* || $given == *' --failures '* ]] || given+='--all-reasons --why '
     [[ $given != *" --since"[\ =]* ]] || given+='--successes '
     [[ $given != *' --successes '* ]] || given+='--since '
     for option in --arch --bg --since --checkonly --format --workers --chunk --explain --failures --successes --causes \
-        --ignore-essential --strict --quiet --help --version; do
+        --all-reasons --why --ignore-essential --strict --quiet --help --version; do
         if [[ $option == "$word"* && $given != *" $option "* && $given != *" $option="* ]]; then
             COMPREPLY+=("$option")
         fi

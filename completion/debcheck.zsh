@@ -19,6 +19,8 @@ _arguments \
     '--failures[show only the broken packages]' \
     '(--since)--successes[show only the ok packages]' \
     '--causes[end the report with the causes of what is broken]' \
+    '--all-reasons[show the reasons of all causes of a broken package]' \
+    '--why[show the reasons of a broken package as they are walked from it]' \
     '--ignore-essential[let no name be essential]' \
     '--strict[end with a fault where nothing is asked]' \
     '--quiet[show no progress and no hints]' \

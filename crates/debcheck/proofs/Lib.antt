@@ -3,6 +3,7 @@ mod DeviceLemmas
 mod EarlierLemmas
 mod FaultLemmas
 mod IndexLemmas
+mod LaterLemmas
 mod LineFacts
 mod LineLemmas
 mod MergeLemmas

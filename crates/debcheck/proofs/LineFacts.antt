@@ -14,7 +14,7 @@ use Rattle.deb_report.specs.declared.config.Config.{Config}
 use Rattle.debcheck.specs.declared.line.LineFault.{LineFault}
 use Rattle.debcheck.specs.declared.line.LineFault.TheVariants.{Refused, Help, Memory}
 use Rattle.deb_report.specs.Settings.{is_architecture, settings_of}
-use Rattle.debcheck.specs.Line.{Accepts, IsFaultOf, RefusesLine, RefusesUnless, Request, asked_by, file_in, format_of, has_good_file, has_good_names, has_good_since, has_good_values, is_count, is_good_list, is_help, is_version, line_app, line_faults, line_rows, listed_in, names_in, request_of, value_of}
+use Rattle.debcheck.specs.Line.{Accepts, IsFaultOf, RefusesLine, RefusesUnless, Request, asked_by, file_in, format_of, has_good_file, has_good_names, has_good_reasons, has_good_since, has_good_values, is_count, is_good_list, is_help, is_version, line_app, line_faults, line_rows, listed_in, names_in, request_of, value_of}
 use Rattle.debcheck.proofs.LineLemmas.{count-least}
 
 -- ---- the program's command
@@ -103,21 +103,22 @@ both : (a b : Bool) → (a && b) ≡ true → (a ≡ true) × (b ≡ true)
 both true b e = (refl, e)
 both false b e = absurd (true≢false (sym e))
 
--- the first four of seven that hold
-first-four : (a b c d e f g : Bool) → (a && b && c && d && e && f && g) ≡ true → (a ≡ true) × (b ≡ true) × (c ≡ true) × (d ≡ true)
-first-four true true true true e f g is = (refl, refl, refl, refl)
-first-four true true true false e f g is = absurd (true≢false (sym is))
-first-four true true false d e f g is = absurd (true≢false (sym is))
-first-four true false c d e f g is = absurd (true≢false (sym is))
-first-four false b c d e f g is = absurd (true≢false (sym is))
+-- the first three and the fifth of eight that hold
+four-of : (a b c d e f g h : Bool) → (a && b && c && d && e && f && g && h) ≡ true → (a ≡ true) × (b ≡ true) × (c ≡ true) × (e ≡ true)
+four-of true true true true true f g h is = (refl, refl, refl, refl)
+four-of true true true true false f g h is = absurd (true≢false (sym is))
+four-of true true true false e f g h is = absurd (true≢false (sym is))
+four-of true true false d e f g h is = absurd (true≢false (sym is))
+four-of true false c d e f g h is = absurd (true≢false (sym is))
+four-of false b c d e f g h is = absurd (true≢false (sym is))
 
 abbrev HasGoodParts : List Row → Type 0
 HasGoodParts rows = (is_architecture (value_of (codes "arch") rows) ≡ true) × (is_count 64 (value_of (codes "workers") rows) ≡ true)
     × (is_count 1000000 (value_of (codes "chunk") rows) ≡ true) × (has_good_names rows ≡ true)
 
 good-parts : (rows : List Row) → has_good_values rows ≡ true → HasGoodParts rows
-good-parts rows good = first-four (is_architecture (value_of (codes "arch") rows)) (is_count 64 (value_of (codes "workers") rows))
-    (is_count 1000000 (value_of (codes "chunk") rows)) (has_good_names rows)
+good-parts rows good = four-of (is_architecture (value_of (codes "arch") rows)) (is_count 64 (value_of (codes "workers") rows))
+    (is_count 1000000 (value_of (codes "chunk") rows)) (has_good_reasons rows) (has_good_names rows)
     (has_good_file (codes "bg") rows) (has_good_since rows) (is_some (format_of (value_of (codes "format") rows))) good
 
 accepted-parts : (words : List Text) (word : Text) (config : Config) → Accepts (word ∷ words) config → HasGoodParts (line_rows (word ∷ words))

@@ -2,6 +2,7 @@
 use Rattle.std.proofs.Common.{◌≡◌, ◌∙◌, ◌&&◌, ◌||◌, if◌then◌else◌, ℕ, Bool, true, false, List, [], Option, Some, None, Ok, IfSome, ap, inl, inr, map, refl, subst, sym}
 use Rattle.std.specs.Io.KnownBytes.{Appends}
 use Rattle.std.proofs.lemmas.Bool.{false≢true}
+use Rattle.deb_index.specs.declared.constraint.Constraint.{Constraint}
 use Rattle.deb_index.specs.Packages.{IndexView}
 use Rattle.deb_index.specs.Reading.{byte_limit, index_of_both}
 use Rattle.deb_health.specs.Verdicts.{Blocked, Found, IsVerdict, VerdictView}
@@ -21,6 +22,7 @@ use Rattle.debcheck.specs.declared.fault.RunFault.TheVariants.{Read, TooLong, Ba
 use Rattle.debcheck.specs.Devices.{AppendsPart}
 use Rattle.debcheck.specs.Run.{Fails, FailsToAccept, FailsToIndex, FailsToRead, FailsToReport, HasAsked, HasIndex, IfIndexed, IfTold, Input, IsAsked, IsReadAs, ReadsAs, WritesBy, WritesFrontBy, behind, input}
 use Rattle.debcheck.specs.Since.{FailsEarlier, FailsSince, IsReportAfter, IsReportSince, LeavesSince, TellsReportSince, WereBroken, WritesFrontSince, WritesReportSince, earlier_fault, is_unread_behind, wanted_since}
+use Rattle.debcheck.specs.Standing.{AreFound}
 use Rattle.debcheck.proofs.PhaseLemmas.{as-indexed, fails-unwritten, front-added, kept-itself, report-added, told_index, told_weaker}
 
 -- ---- what is told of verdicts
@@ -43,23 +45,25 @@ were-broken change status settings index asked held told verdicts before are sam
     }
 
 -- and one that leaves what a report since an earlier index tells leaves that report
-pub reported-after : (change : VerdictView → VerdictView) (settings : Settings) → LeavesTold settings.explain Failures settings.causes change
-    → (index : IndexView) (asked : List ℕ) (told verdicts : List VerdictView) (before : List BrokenView) (output : List ℕ) (summary : Summary)
-    → IsAsked settings index asked → AnswersEach (IsVerdict index) asked verdicts → map change told ≡ map change verdicts → output ≡ written_since settings index asked told before
+pub reported-after : (wanted : Wanted) (settings : Settings) → LeavesTold settings.explain Failures settings.causes (as_told wanted)
+    → (index : IndexView) (asked : List ℕ) (told : List VerdictView) (later : List (List (List Constraint))) (before : List BrokenView) (output : List ℕ) (summary : Summary)
+    → IsAsked settings index asked → AreFound settings wanted index asked told later → output ≡ written_since settings index asked told later before
     → summary ≡ summary_since index asked told before → IsReportAfter before settings index output summary
-reported-after change settings leaves index asked told verdicts before output summary is each alike written counted = record {
+reported-after wanted settings leaves index asked told later before output summary is found written counted = record {
   asked = asked;
-  verdicts = verdicts;
+  verdicts = found.verdicts;
+  later = later;
   is_asked = is;
-  are_verdicts = each;
+  are_verdicts = found.are_verdicts;
+  are_later = found.are_later;
   is_output = written
-      ∙ sym (since_unchanged settings change leaves index asked told before)
-      ∙ ap (λ (list : List VerdictView). written_since settings index asked list before) alike
-      ∙ since_unchanged settings change leaves index asked verdicts before;
+      ∙ sym (since_unchanged settings (as_told wanted) leaves index asked told later before)
+      ∙ ap (λ (list : List VerdictView). written_since settings index asked list later before) found.same
+      ∙ since_unchanged settings (as_told wanted) leaves index asked found.verdicts later before;
   is_summary = counted
-      ∙ sym (summary_since_unchanged settings change leaves index asked told before)
-      ∙ ap (λ (list : List VerdictView). summary_since index asked list before) alike
-      ∙ summary_since_unchanged settings change leaves index asked verdicts before;
+      ∙ sym (summary_since_unchanged settings (as_told wanted) leaves index asked told before)
+      ∙ ap (λ (list : List VerdictView). summary_since index asked list before) found.same
+      ∙ summary_since_unchanged settings (as_told wanted) leaves index asked found.verdicts before;
 }
 
 -- to leave out what isn't wanted is such a change

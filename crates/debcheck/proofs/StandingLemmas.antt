@@ -8,8 +8,9 @@ use Rattle.std.proofs.lemmas.Option.{slice_get-get_or}
 use Rattle.deb_index.specs.declared.constraint.Constraint.{Constraint}
 use Rattle.deb_index.specs.Packages.{IndexView}
 use Rattle.number_sets.specs.Sets.{MarksOnly}
+use Rattle.deb_health.specs.Causes.{AreCores}
 use Rattle.deb_health.specs.Health.{IsInstallable}
-use Rattle.deb_health.specs.Verdicts.{Blocked, Found, SpeaksOf, VerdictView}
+use Rattle.deb_health.specs.Verdicts.{Blocked, Found, IsVerdict, SpeaksOf, VerdictView}
 use Rattle.deb_verdict.specs.Told.{IsToldVerdict, as_told}
 use Rattle.deb_verdict.specs.declared.wanted.Wanted.{Wanted}
 use Rattle.deb_verdict.proofs.FirstExists.{verdict_behind}
@@ -18,12 +19,13 @@ use Rattle.work_draw.specs.Checks.{AnswersEach}
 use Rattle.deb_report.specs.declared.config.Show.{Show}
 use Rattle.deb_report.specs.declared.config.Show.TheVariants as show
 use Rattle.deb_report.specs.declared.summary.Summary.{Summary}
-use Rattle.deb_report.specs.Report.{is_broken, is_shown, summary_of}
-use Rattle.deb_report.specs.Settings.{Settings, shows_installable, shows_sets}
-use Rattle.deb_report.specs.Written.{written_report}
+use Rattle.deb_report.specs.Report.{is_broken, is_shown, later_at, summary_of}
+use Rattle.deb_report.specs.Settings.{Settings, shows_installable, shows_sets, tells_all_causes}
+use Rattle.deb_report.specs.Written.{written_told}
 use Rattle.deb_report.proofs.Unshown.{LeavesTold, report_unchanged, summary_unchanged}
+use Rattle.debcheck.specs.Later.{AreAllLater, AreLaterCores, AreLaterIf}
 use Rattle.debcheck.specs.Run.{IsAsked, IsReportOn}
-use Rattle.debcheck.specs.Standing.{Merges, StandFor, is_unmarked, wanted_by}
+use Rattle.debcheck.specs.Standing.{AreFound, HaveAllCores, Merges, is_unmarked, wanted_by, wanting}
 
 -- ---- what is left
 
@@ -96,6 +98,12 @@ told_by_marks wanted unshown index marks shown_marks asked held left found told 
     let each_left = subst (λ (others : List ℕ). AnswersEach (IsToldVerdict wanted index) others found) (same ∙ are) each in
     told_each wanted unshown index shown_marks asked found told (ap length shown ∙ count) only_shown places each_left speaks merges
 
+-- they are the verdicts of the asked places, but for what isn't wanted
+pub record StandFor (wanted : Wanted) (index : IndexView) (asked : List ℕ) (told : List VerdictView) : Type 0 where
+  pub verdicts : List VerdictView
+  pub are_verdicts : AnswersEach (IsVerdict index) asked verdicts
+  pub same : map (as_told wanted) told ≡ map (as_told wanted) verdicts
+
 -- what tells as much of each verdict as is wanted stands for them
 pub stands-told : (wanted : Wanted) (index : IndexView) (asked : List ℕ) (told : List VerdictView) → All (λ place. place < length index.packages) asked
     → AnswersEach (IsToldVerdict wanted index) asked told → StandFor wanted index asked told
@@ -110,6 +118,75 @@ stands-told wanted index (place ∷ asked) (first ∷ told) within each =
       are_verdicts = (behind.1, rest.are_verdicts);
       same = ap₂ (λ one others. one ∷ others) behind.2 rest.same;
     }
+
+-- ---- later cores
+
+module _ (wanted : Wanted) where
+  -- what is wanted of verdicts with cores
+  twice_one : (verdict : VerdictView) → as_told wanted (as_told (wanting wanted.sets true) verdict) ≡ as_told wanted verdict
+  twice_one (Found places) = by wanted.sets
+    where
+      by : (sets : Bool) → Found (if sets then (if sets then places else []) else []) ≡ Found (if sets then places else [])
+      by true = refl
+      by false = refl
+  twice_one (Blocked core) = refl
+
+  twice : (verdicts : List VerdictView) → map (as_told wanted) (map (as_told (wanting wanted.sets true)) verdicts) ≡ map (as_told wanted) verdicts
+  twice [] = refl
+  twice (verdict ∷ verdicts) = ap₂ (λ one others. one ∷ others) (twice_one verdict) (twice verdicts)
+
+  -- later cores of what is told with cores are those of the verdicts
+  later_same : (index : IndexView) (place : ℕ) (told verdict : VerdictView) (later : List (List Constraint)) → as_told (wanting wanted.sets true) told ≡ as_told (wanting wanted.sets true) verdict
+      → AreLaterCores index place told later → AreLaterCores index place verdict later
+  later_same index place (Found a) (Found b) later same are = are
+  later_same index place (Found a) (Blocked b) later same are = absurd cc
+  later_same index place (Blocked a) (Found b) later same are = absurd cc
+  later_same index place (Blocked a) (Blocked b) later same are =
+      let equal : a ≡ b = cc in
+      subst (λ (core : List Constraint). AreCores index place (core ∷ later)) equal are
+
+  later_each : (index : IndexView) (later : List (List (List Constraint))) (asked : List ℕ) (told verdicts : List VerdictView)
+      → map (as_told (wanting wanted.sets true)) told ≡ map (as_told (wanting wanted.sets true)) verdicts
+      → AnswersEach (λ place verdict. AreLaterCores index place verdict (later_at later place)) asked told
+      → AnswersEach (λ place verdict. AreLaterCores index place verdict (later_at later place)) asked verdicts
+  later_each index later [] [] [] same are = tt
+  later_each index later [] [] (v ∷ verdicts) same are = absurd cc
+  later_each index later [] (t ∷ told) verdicts same are = absurd are
+  later_each index later (p ∷ asked) [] verdicts same are = absurd are
+  later_each index later (p ∷ asked) (t ∷ told) [] same are = absurd cc
+  later_each index later (p ∷ asked) (t ∷ told) (v ∷ verdicts) same are =
+      let first : as_told (wanting wanted.sets true) t ≡ as_told (wanting wanted.sets true) v = cc in
+      let others : map (as_told (wanting wanted.sets true)) told ≡ map (as_told (wanting wanted.sets true)) verdicts = cc in
+      (later_same index p t v (later_at later p) first are.0, later_each index later asked told verdicts others are.1)
+
+module _ (settings : Settings) (wanted : Wanted) (index : IndexView) (asked : List ℕ) (told : List VerdictView) (later : List (List (List Constraint)))
+    (places : All (λ place. place < length index.packages) asked) where
+  -- where all causes are told
+  pub found-all : tells_all_causes settings ≡ true → HaveAllCores wanted.sets index asked told later → AreFound settings wanted index asked told later
+  found-all tells have =
+      let stand = stands-told (wanting wanted.sets true) index asked told places have.each in
+      let are : AreAllLater index asked stand.verdicts later = record {
+        count = have.are_later.count;
+        of_asked = later_each wanted index later asked told stand.verdicts stand.same have.are_later.of_asked;
+        of_others = have.are_later.of_others;
+      } in
+      record {
+        verdicts = stand.verdicts;
+        are_verdicts = stand.are_verdicts;
+        same = sym (twice wanted told) ∙ ap (map (as_told wanted)) stand.same ∙ twice wanted stand.verdicts;
+        are_later = subst (λ (tells_all : Bool). AreLaterIf tells_all index asked stand.verdicts later) (sym tells) are;
+      }
+
+  -- and where they are not
+  pub found-first : tells_all_causes settings ≡ false → AnswersEach (IsToldVerdict wanted index) asked told → later ≡ [] → AreFound settings wanted index asked told later
+  found-first tells each none =
+      let stand = stands-told wanted index asked told places each in
+      record {
+        verdicts = stand.verdicts;
+        are_verdicts = stand.are_verdicts;
+        same = stand.same;
+        are_later = subst (λ (tells_all : Bool). AreLaterIf tells_all index asked stand.verdicts later) (sym tells) none;
+      }
 
 -- ---- what a report tells
 
@@ -148,26 +225,29 @@ module _ (settings : Settings) where
 
 -- ---- the report on it
 
-module _ (settings : Settings) (index : IndexView) (asked : List ℕ) (told : List VerdictView) (stand : StandFor (wanted_by settings) index asked told) where
-  same_report : written_report settings index asked told ≡ written_report settings index asked stand.verdicts
+module _ (settings : Settings) (index : IndexView) (asked : List ℕ) (told : List VerdictView) (later : List (List (List Constraint)))
+    (found : AreFound settings (wanted_by settings) index asked told later) where
+  same_report : written_told settings index asked told later ≡ written_told settings index asked found.verdicts later
   same_report =
-      sym (report_unchanged settings (as_told (wanted_by settings)) (leaves_told settings) index asked told)
-      ∙ ap (λ verdicts. written_report settings index asked verdicts) stand.same
-      ∙ report_unchanged settings (as_told (wanted_by settings)) (leaves_told settings) index asked stand.verdicts
+      sym (report_unchanged settings (as_told (wanted_by settings)) (leaves_told settings) index asked told later)
+      ∙ ap (λ verdicts. written_told settings index asked verdicts later) found.same
+      ∙ report_unchanged settings (as_told (wanted_by settings)) (leaves_told settings) index asked found.verdicts later
 
-  same_summary : summary_of index asked told ≡ summary_of index asked stand.verdicts
+  same_summary : summary_of index asked told ≡ summary_of index asked found.verdicts
   same_summary =
       sym (summary_unchanged settings (as_told (wanted_by settings)) (leaves_told settings) index asked told)
-      ∙ ap (λ verdicts. summary_of index asked verdicts) stand.same
-      ∙ summary_unchanged settings (as_told (wanted_by settings)) (leaves_told settings) index asked stand.verdicts
+      ∙ ap (λ verdicts. summary_of index asked verdicts) found.same
+      ∙ summary_unchanged settings (as_told (wanted_by settings)) (leaves_told settings) index asked found.verdicts
 
-  pub reported-told : (output : List ℕ) (summary : Summary) → IsAsked settings index asked → output ≡ written_report settings index asked told
+  pub reported-told : (output : List ℕ) (summary : Summary) → IsAsked settings index asked → output ≡ written_told settings index asked told later
       → summary ≡ summary_of index asked told → IsReportOn settings index output summary
   reported-told output summary is written counted = record {
     asked = asked;
-    verdicts = stand.verdicts;
+    verdicts = found.verdicts;
+    later = later;
     is_asked = is;
-    are_verdicts = stand.are_verdicts;
+    are_verdicts = found.are_verdicts;
+    are_later = found.are_later;
     is_output = written ∙ same_report;
     is_summary = counted ∙ same_summary;
   }

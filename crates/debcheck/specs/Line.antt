@@ -76,8 +76,8 @@ value_rules = record (value_rule (codes "arch")) { required = true }
     ∷ record (value_rule (codes "chunk")) { defaults = codes "64" ∷ [] } ∷ []
 
 abbrev pub other_rules : List Rule
-other_rules = flag_rule (codes "explain") ∷ flag_rule (codes "failures") ∷ flag_rule (codes "successes") ∷ flag_rule (codes "causes") ∷ flag_rule (codes "ignore-essential")
-    ∷ flag_rule (codes "strict") ∷ flag_rule (codes "quiet") ∷ help_rule ∷ version_rule ∷ []
+other_rules = flag_rule (codes "explain") ∷ flag_rule (codes "failures") ∷ flag_rule (codes "successes") ∷ flag_rule (codes "causes") ∷ flag_rule (codes "all-reasons")
+    ∷ flag_rule (codes "why") ∷ flag_rule (codes "ignore-essential") ∷ flag_rule (codes "strict") ∷ flag_rule (codes "quiet") ∷ help_rule ∷ version_rule ∷ []
 
 -- the program's command with these options, whose words come without the program's name
 abbrev pub app_with : List Rule → App
@@ -140,6 +140,13 @@ has_good_file option rows = option_map_or (λ file. not (length file == 0)) (fir
 abbrev pub has_good_since : List Row → Bool
 has_good_since rows = has_good_file (codes "since") rows && not (is_some (first_of (codes "since") rows) && is_set (codes "successes") rows)
 
+-- what is told of reasons beside the first ones, is told of packages that cannot be installed, so those that can be are not asked for alone beside it
+abbrev pub tells_more_reasons : List Row → Bool
+tells_more_reasons rows = is_set (codes "all-reasons") rows || is_set (codes "why") rows
+
+abbrev pub has_good_reasons : List Row → Bool
+has_good_reasons rows = not (tells_more_reasons rows && is_set (codes "successes") rows && not (is_set (codes "failures") rows))
+
 -- the form of the report that a word names
 abbrev pub format_of : List ℕ → Option Format
 format_of text = if bytes_eq text (codes "text") then Some form.Text else (if bytes_eq text (codes "json") then Some form.Json else None)
@@ -149,6 +156,7 @@ abbrev pub has_good_values : List Row → Bool
 has_good_values rows = is_architecture (value_of (codes "arch") rows)
     && is_count 64 (value_of (codes "workers") rows)
     && is_count 1000000 (value_of (codes "chunk") rows)
+    && has_good_reasons rows
     && has_good_names rows
     && has_good_file (codes "bg") rows
     && has_good_since rows
@@ -165,13 +173,15 @@ abbrev pub asked_by : List Row → Request
 asked_by rows = record {
   settings = record {
     arch = value_of (codes "arch") rows;
-    explain = is_set (codes "explain") rows;
+    explain = is_set (codes "explain") rows || tells_more_reasons rows;
     show = show_of (is_set (codes "failures") rows) (is_set (codes "successes") rows);
     essential = not (is_set (codes "ignore-essential") rows);
     only = listed_in (first_of (codes "checkonly") rows);
     background = is_some (first_of (codes "bg") rows);
     strict = is_set (codes "strict") rows || is_some (first_of (codes "since") rows);
     causes = is_set (codes "causes") rows;
+    all_reasons = is_set (codes "all-reasons") rows;
+    why = is_set (codes "why") rows;
     format = unwrap_or (format_of (value_of (codes "format") rows)) form.Text;
   };
   only_file = file_named (first_of (codes "checkonly") rows);

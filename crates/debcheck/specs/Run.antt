@@ -1,6 +1,7 @@
 -- What a run answers and writes.
 use Rattle.std.specs.Prelude.{◌≡◌, ◌≢◌, ℕ, ◌+◌, ◌<◌, ◌≤◌, Bool, false, true, List, [], Option, Some, None, Ok, Err, IfSome, if◌then◌else◌, length}
 use Rattle.std.specs.Io.KnownBytes.{Appends, Consumes, Keeps}
+use Rattle.deb_index.specs.declared.constraint.Constraint.{Constraint}
 use Rattle.deb_index.specs.Packages.{IndexView}
 use Rattle.deb_index.specs.Reading.{byte_limit, index_of, index_of_both}
 use Rattle.deb_health.specs.Verdicts.{IsVerdict, VerdictView}
@@ -14,7 +15,8 @@ use Rattle.deb_report.specs.Asked.{asked_places}
 use Rattle.debcheck.specs.Devices.{AppendsPart}
 use Rattle.deb_report.specs.Report.{summary_of}
 use Rattle.deb_report.specs.Settings.{Settings}
-use Rattle.deb_report.specs.Written.{written_report}
+use Rattle.deb_report.specs.Written.{written_told}
+use Rattle.debcheck.specs.Later.{AreLater}
 use Rattle.debcheck.specs.Strict.{slip_of}
 
 -- these places are asked of an index, and a strict run finds no fault in that
@@ -22,19 +24,25 @@ pub record IsAsked (settings : Settings) (index : IndexView) (asked : List ℕ) 
   pub are_asked : asked_places index settings.only ≡ Ok asked
   pub no_slip : slip_of settings index asked ≡ None
 
--- a report on an index, with its numbers, where these are what is written of asked places and their verdicts, and what is counted
-pub record IsReportBy (written : IndexView → List ℕ → List VerdictView → List ℕ) (counted : IndexView → List ℕ → List VerdictView → Summary)
+-- what is written of the asked places of an index, their verdicts and the later cores
+abbrev pub Writing : Type 0
+Writing = IndexView → List ℕ → List VerdictView → List (List (List Constraint)) → List ℕ
+
+-- a report on an index, with its numbers, where these are what is written of asked places, their verdicts and their later cores, and what is counted
+pub record IsReportBy (written : Writing) (counted : IndexView → List ℕ → List VerdictView → Summary)
     (settings : Settings) (index : IndexView) (output : List ℕ) (summary : Summary) : Type 0 where
   pub asked : List ℕ
   pub verdicts : List VerdictView
+  pub later : List (List (List Constraint))
   pub is_asked : IsAsked settings index asked
   pub are_verdicts : AnswersEach (IsVerdict index) asked verdicts
-  pub is_output : output ≡ written index asked verdicts
+  pub are_later : AreLater settings index asked verdicts later
+  pub is_output : output ≡ written index asked verdicts later
   pub is_summary : summary ≡ counted index asked verdicts
 
 -- the report on an index, with its numbers
 abbrev pub IsReportOn : Settings → IndexView → List ℕ → Summary → Type 0
-IsReportOn settings index output summary = IsReportBy (written_report settings) summary_of settings index output summary
+IsReportOn settings index output summary = IsReportBy (written_told settings) summary_of settings index output summary
 
 -- a text and the background behind it are within the limit, and have an index, with this property; a background that is not asked for has no bytes
 pub record HasIndex (settings : Settings) (text background : List ℕ) (P : IndexView → Type 0) : Type 0 where

@@ -28,7 +28,7 @@ pub record WereBroken (settings : Settings) (before : List BrokenView) (index : 
 
 -- the report on an index since these packages were broken, with its numbers
 abbrev pub IsReportAfter : List BrokenView → Settings → IndexView → List ℕ → Summary → Type 0
-IsReportAfter before settings index output summary = IsReportBy (λ index asked verdicts. written_since settings index asked verdicts before)
+IsReportAfter before settings index output summary = IsReportBy (λ index asked verdicts later. written_since settings index asked verdicts later before)
     (λ index asked verdicts. summary_since index asked verdicts before) settings index output summary
 
 -- the report on a text since an earlier one, with its numbers; the background stands behind each of the two

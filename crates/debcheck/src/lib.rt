@@ -7,7 +7,8 @@
 //! - `device`: what a run reads from and writes to; `std_device`: such devices over std's; `recording`: a source that keeps its beginning. `input` reads to
 //!   the end, `output` writes whole texts.
 //! - `phases`: a run, from bytes to bytes; `since`: one that tells what became of an earlier index, which `earlier` reads piece by piece; `asked`: the places
-//!   that are asked in it; `strict`: what a strict run takes for a fault of that; `verdicts`: what is found of them for the report.
+//!   that are asked in it; `strict`: what a strict run takes for a fault of that; `verdicts`: what is found of them for the report, with all cores by
+//!   `later`.
 //! - `fault`: why a run fails, and the line and the status of that.
 //! - `program`: a program, from its words to its exit status, on the `words` of a process, the files that an `opener` opens, one of which
 //!   may have the `names` that are asked, and with its `progress` and `hints` on a screen.
@@ -20,6 +21,7 @@ mod earlier;
 mod fault;
 mod hints;
 mod input;
+mod later;
 pub mod laws;
 mod line;
 mod names;

@@ -6,7 +6,7 @@ ghost use Rattle.std.specs.Str.Parse.{digits_value};
 ghost use Rattle.clap.specs.Words.{first_of, kind_of};
 ghost use Rattle.deb_relation.specs.Relationship.{is_name};
 ghost use Rattle.deb_report.specs.Settings.{is_architecture, settings_of};
-ghost use Rattle.debcheck.specs.Line.{Accepts, IsFaultOf, IsRefusal, KeepsOther, RefusesLine, RefusesUnless, TellsFront, TellsLine, asked_by, file_named, format_of, has_good_file, has_good_names, has_good_since, has_good_values, is_count, is_set, line_status_of, listed_in, mark_of, names_in, request_of, rows_in, show_of, value_of};
+ghost use Rattle.debcheck.specs.Line.{Accepts, IsFaultOf, IsRefusal, KeepsOther, RefusesLine, RefusesUnless, TellsFront, TellsLine, asked_by, file_named, format_of, has_good_file, has_good_names, has_good_reasons, has_good_since, has_good_values, is_count, is_set, line_status_of, listed_in, mark_of, names_in, request_of, rows_in, show_of, tells_more_reasons, value_of};
 ghost use Rattle.debcheck.specs.declared.line.LineFault.TheVariants.{Memory};
 
 use crate::device::{DeviceFault, Sink};
@@ -239,13 +239,40 @@ fn report_format(alloc: Global, matches: &ArgMatches<'_>) -> Result<Format, Line
     }
 }
 
-fn show(matches: &ArgMatches<'_>) -> Show
-    ensures { result ≡ show_of (is_set (codes "failures") (rows_in matches.now)) (is_set (codes "successes") (rows_in matches.now)) }
+// Whether reasons are told beside the first ones, or as they are walked; both mean that blocks explain.
+fn tells_more_reasons(matches: &ArgMatches<'_>) -> bool
+    ensures { result ≡ tells_more_reasons (rows_in matches.now) }
+{
+    is_set(matches, "all-reasons") || is_set(matches, "why")
+}
+
+// The refusal of an option that tells of packages that cannot be installed alone, where those that can be are asked for alone.
+fn untold(alloc: Global, matches: &ArgMatches<'_>) -> Result<LineFault, AllocError>
+    ensures { IfOk result IsRefusal }
+{
+    let option = if is_set(matches, "why") {
+        "--why"
+    } else {
+        "--all-reasons"
+    };
+    let text = format!(in alloc;
+        "error: the argument '{option}' cannot be used with '--successes' unless '--failures' is there, too\n\nFor more information, try '--help'.\n"
+    )?;
+    Ok(LineFault::Refused { text })
+}
+
+// Which packages are shown.
+fn show(alloc: Global, matches: &ArgMatches<'_>) -> Result<Show, LineFault>
+    ensures value { IfOk result (λ shown.
+        shown ≡ show_of (is_set (codes "failures") (rows_in matches.now)) (is_set (codes "successes") (rows_in matches.now))) }
+    ensures good { OnOk result (has_good_reasons (rows_in matches.now) ≡ true) }
+    ensures refused { IfErr result (RefusesUnless (has_good_reasons (rows_in matches.now))) }
 {
     match (is_set(matches, "failures"), is_set(matches, "successes")) {
-        (true, false) => Show::Failures,
-        (false, true) => Show::Successes,
-        _ => Show::All,
+        (true, false) => Ok(Show::Failures),
+        (false, true) if tells_more_reasons(matches) => Err(untold(alloc, matches)?),
+        (false, true) => Ok(Show::Successes),
+        _ => Ok(Show::All),
     }
 }
 
@@ -259,8 +286,8 @@ fn config_of(alloc: Global, matches: &ArgMatches<'_>) -> Result<Config, LineFaul
         arch: architecture(alloc, matches)?,
         workers: workers(alloc, matches)?,
         chunk: chunk(alloc, matches)?,
-        explain: is_set(matches, "explain"),
-        show: show(matches),
+        explain: is_set(matches, "explain") || tells_more_reasons(matches),
+        show: show(alloc, matches)?,
         essential: !is_set(matches, "ignore-essential"),
         only: only(alloc, matches)?,
         only_file: only_file(alloc, matches)?,
@@ -268,6 +295,8 @@ fn config_of(alloc: Global, matches: &ArgMatches<'_>) -> Result<Config, LineFaul
         since: earlier(alloc, matches)?,
         strict: is_set(matches, "strict"),
         causes: is_set(matches, "causes"),
+        all_reasons: is_set(matches, "all-reasons"),
+        why: is_set(matches, "why"),
         format: report_format(alloc, matches)?,
         quiet: is_set(matches, "quiet"),
     })
@@ -296,10 +325,12 @@ fn read_words(alloc: Global, words: &[String]) -> Result<Config, LineFault>
 /// `--arch A` has to be said: one or more letters, digits and `-`, neither `all` nor `any`. `--workers N` (1 to 64, 4 where it isn't said)
 /// and `--chunk K` (1 to 1,000,000, 64) take decimal digits alone. `--explain` tells sets and reasons, `--failures` and `--successes` say which
 /// packages are shown (all for both or neither), `--ignore-essential` asks for no essential packages, and `--checkonly N1,N2,..` takes
-/// package names with commas between them, or the name of a file behind `@`, which has the names. `--bg FILE` names the file of a background, and `--since FILE` that of an earlier index, neither of
-/// which is empty; beside `--since` there is no `--successes`. `--strict` makes a fault of an index of which nothing is asked, as `--since` does.
-/// `--causes` asks for causes, `--format` takes `text` (where it isn't said) or `json`, and `--quiet` asks for no progress and no hints. A value comes as the next word or after `=`; one that begins with `-` comes after `=`.
-/// No option comes twice.
+/// package names with commas between them, or the name of a file behind `@`, which has the names. `--bg FILE` names the file of a background,
+/// and `--since FILE` that of an earlier index, neither of which is empty; beside `--since` there is no `--successes`. `--strict` makes a
+/// fault of an index of which nothing is asked, as `--since` does. `--causes` asks for causes, `--all-reasons` for the reasons of all causes of a
+/// package, and `--why` for reasons as they are walked from it; these two mean `--explain`, too, and beside them there is no `--successes`
+/// without `--failures`. `--format` takes `text` (where it isn't said) or `json`, and `--quiet` asks for no progress and no hints. A value comes
+/// as the next word or after `=`; one that begins with `-` comes after `=`. No option comes twice.
 ///
 /// `Help` is the answer to `--help` or `-h`, and to `--version` or `-V` with `VERSION_LINE`, whichever comes first; `Refused` is the answer to
 /// words or values of another form, with a text that says what is wrong, of a list which part of it is, and of a word that a program like this one

@@ -95,6 +95,8 @@ pub(crate) fn command<'a>(alloc: Global) -> Result<Command<'a>, AllocError>
     let failures = "Shows the packages that cannot be installed";
     let successes = "Shows the packages that can be installed";
     let causes = "Tells what is wrong in the end, each cause with the packages that it breaks";
+    let all = "Tells the reasons of all causes of a package, and not of the first alone";
+    let why = "Tells reasons as they are walked from the package";
     let essential = "Asks for no essential packages in a set";
     let strict = "Ends with a fault where nothing is asked, and so does --since by itself";
     let quiet = "Shows no progress and no hints on a terminal";
@@ -103,6 +105,8 @@ pub(crate) fn command<'a>(alloc: Global) -> Result<Command<'a>, AllocError>
         .arg(flag(alloc, "failures", failures))?
         .arg(flag(alloc, "successes", successes))?
         .arg(flag(alloc, "causes", causes))?
+        .arg(flag(alloc, "all-reasons", all))?
+        .arg(flag(alloc, "why", why))?
         .arg(flag(alloc, "ignore-essential", essential))?
         .arg(flag(alloc, "strict", strict))?
         .arg(flag(alloc, "quiet", quiet))?

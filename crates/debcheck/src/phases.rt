@@ -11,9 +11,9 @@ use crate::device::{Sink, Source};
 use crate::fault::RunFault;
 use crate::input::read_all;
 use crate::output::write_all;
-use crate::verdicts::{find_verdicts, wanted_of};
+use crate::verdicts::{find_told, wanted_of};
 use deb_index::{BothError, Index, PART_SIZE, TEXT_LIMIT};
-use deb_report::{Config, Summary, report, summary_of};
+use deb_report::{Config, Summary, report_told, summary_of};
 use std::alloc::Global;
 use std::thread::Threads;
 use work_draw::Gate;
@@ -132,9 +132,11 @@ fn check_and_report<G: Gate + Sync, R: Threads + Sync>(
 {
     let asked = asked_places(alloc, index, config)?;
     let asked = asked.as_slice();
-    let verdicts = find_verdicts(rt, alloc, config, wanted_of(config), index, asked, gate)?;
-    let output = report(alloc, index, asked, verdicts.as_slice(), config)?;
-    Ok((output, summary_of(index, asked, verdicts.as_slice())))
+    let found = find_told(rt, alloc, config, wanted_of(config), index, asked, gate)?;
+    let verdicts = found.verdicts.as_slice();
+    let later = found.later.as_slice();
+    let output = report_told(alloc, index, asked, verdicts, later, config)?;
+    Ok((output, summary_of(index, asked, verdicts)))
 }
 
 // Reads the index and what stands behind it, and makes the report. All of it is dropped at the end.

@@ -278,11 +278,11 @@ fn config_of(alloc: Global, words: Result<Vec<String>, LineFault>) -> Result<Con
 
 /// The program that checks the index in the reader under the words of a command line.
 ///
-/// The file of names that they name is opened and read before anything else. The background is opened before the index is read, and then the earlier
-/// index; where one can't be opened, that is told as a failed read of it. After a report the output has got it, flushed, and the errors have got nothing. Under a fault its line, or that of want of memory,
-/// goes to the errors, and the output has got nothing, but for a front of the report where it failed. Help and the version go to the output, and
-/// where it fails, that is told as of a report; a refusal goes to the errors. The status is that of `status` or of `line_status`: a line that the
-/// errors don't take changes none.
+/// The file of names that they name is opened and read before anything else. The background is opened before the index is read, and then the
+/// earlier index; where one can't be opened, that is told as a failed read of it. After a report the output has got it, flushed, and the errors have
+/// got nothing. Under a fault its line, or that of want of memory, goes to the errors, and the output has got nothing, but for a front of the report
+/// where it failed. Help and the version go to the output, and where it fails, that is told as of a report; a refusal goes to the errors. The status
+/// is that of `status` or of `line_status`: a line that the errors don't take changes none.
 ///
 /// The screen may be where the errors go: the line of progress is taken away before anything else is written. Where something looks like a slip, a
 /// line that begins with `hint: ` is written to it behind all else, if it is a terminal and quiet isn't asked for.

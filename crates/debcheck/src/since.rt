@@ -16,7 +16,7 @@ use crate::earlier::read_earlier;
 use crate::fault::RunFault;
 use crate::output::write_all;
 use crate::phases::{index_from, read_texts};
-use crate::verdicts::find_verdicts;
+use crate::verdicts::{find_told, find_verdicts};
 use deb_index::Index;
 use deb_report::{BrokenPackage, Config, Summary, broken_packages, earlier_places, report_since};
 use deb_verdict::Wanted;
@@ -114,8 +114,10 @@ fn report_after<G: Gate + Sync, R: Threads + Sync>(
     ensures { IfOk result (λ r. IsReportAfter (map broken_view before.now) (settings_of config.now) index.now r.0.items r.1) }
 {
     let wanted = wanted_since(config);
-    let verdicts = find_verdicts(rt, alloc, config, wanted, index, asked, gate)?;
-    report_since(alloc, index, asked, verdicts.as_slice(), before, config)
+    let found = find_told(rt, alloc, config, wanted, index, asked, gate)?;
+    let verdicts = found.verdicts.as_slice();
+    let later = found.later.as_slice();
+    report_since(alloc, index, asked, verdicts, later, before, config)
 }
 
 // Reads the index, what stands behind it, and the earlier index, and makes the report. All of it is dropped at the end; the earlier index is, before

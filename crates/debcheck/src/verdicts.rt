@@ -1,16 +1,21 @@
-//! The verdicts that a report is made of: where it tells no set, none is looked for, and where it tells no core, none either.
+//! The verdicts that a report is made of: where it tells no set, none is looked for, and where it tells no core, none either. Where it tells all causes,
+//! all cores are looked for, each once.
 
 ghost use Rattle.std.specs.Prelude.{◌≡◌, ◌^◌, ◌<◌, ◌≤◌, All, IfOk, filter, length, map};
 ghost use Rattle.deb_report.specs.Settings.{settings_of};
 ghost use Rattle.deb_health.specs.Verdicts.{SpeaksOf, verdict_view};
-ghost use Rattle.debcheck.specs.Standing.{Merges, StandFor, is_unmarked, wanted_by};
+ghost use Rattle.deb_report.specs.Told.{AreLaterOf, later_view};
+ghost use Rattle.deb_verdict.specs.Told.{IsToldVerdict};
+ghost use Rattle.work_draw.specs.Checks.{AnswersEach};
+ghost use Rattle.debcheck.specs.Standing.{AreFound, HaveAllCores, Merges, is_unmarked, wanted_by};
 
+use crate::later::{Findings, broken_places, no_cores, place_cores, split_firsts, with_cores};
 use deb_index::Index;
 use deb_report::{Config, Show};
 use deb_verdict::{Groundwork, Verdict, Wanted, find_installable_on};
 use std::alloc::{AllocError, Global};
 use std::thread::Threads;
-use work_draw::{Gate, check_told};
+use work_draw::{Gate, check_told, find_cores};
 
 // The places without a mark, in their order.
 fn unmarked(alloc: Global, places: &[u32], marks: &[bool]) -> Result<Vec<u32>, AllocError>
@@ -77,7 +82,7 @@ fn find_on<G: Gate + Sync, R: Threads + Sync>(
     requires chunk { 0 < config.now.chunk }
     ensures same { IfOk result (λ v. length v.items ≡ length asked.now) }
     ensures within { IfOk result (λ v. All (SpeaksOf groundwork.now.index.now) (map verdict_view v.items)) }
-    ensures stand { IfOk result (λ v. StandFor wanted groundwork.now.index.now asked.now (map verdict_view v.items)) }
+    ensures each { IfOk result (λ v. AnswersEach (IsToldVerdict wanted groundwork.now.index.now) asked.now (map verdict_view v.items)) }
 {
     let (workers, chunk) = (config.workers, config.chunk);
     let all = asked.len() as u32;
@@ -112,8 +117,66 @@ pub(crate) fn find_verdicts<G: Gate + Sync, R: Threads + Sync>(
     requires chunk { 0 < config.now.chunk }
     ensures same { IfOk result (λ v. length v.items ≡ length asked.now) }
     ensures within { IfOk result (λ v. All (SpeaksOf index.now) (map verdict_view v.items)) }
-    ensures stand { IfOk result (λ v. StandFor wanted index.now asked.now (map verdict_view v.items)) }
+    ensures each { IfOk result (λ v. AnswersEach (IsToldVerdict wanted index.now) asked.now (map verdict_view v.items)) }
 {
     let groundwork = Groundwork::new(alloc, index)?;
     find_on(rt, alloc, config, wanted, &groundwork, asked, gate)
+}
+
+// The verdicts of the asked places with their first cores, and with sets where these are wanted, beside all later cores. No core is looked for twice.
+fn find_all_cores<G: Gate + Sync, R: Threads + Sync>(
+    rt: &R,
+    alloc: Global,
+    config: &Config,
+    sets: bool,
+    index: &Index,
+    asked: &[u32],
+    gate: &G,
+) -> Result<Findings, AllocError>
+    requires places { All (λ place. place < length index.now.packages) asked.now }
+    requires few { length asked.now < 2 ^ 32 }
+    requires workers { (0 < config.now.workers) × (config.now.workers ≤ 64) }
+    requires chunk { 0 < config.now.chunk }
+    ensures { IfOk result (λ found. HaveAllCores sets index.now asked.now (map verdict_view found.verdicts.items) (later_view found.later.items)) }
+{
+    let groundwork = Groundwork::new(alloc, index)?;
+    let wanted = Wanted { sets, cores: false };
+    let found = find_on(rt, alloc, config, wanted, &groundwork, asked, gate)?;
+    let broken = broken_places(alloc, asked, found.as_slice())?;
+    let places = broken.as_slice();
+    let cores = find_cores(rt, alloc, &groundwork, places, config.workers)?;
+    let mut later = no_cores(alloc, index.len() as usize)?;
+    let split = split_firsts(alloc, cores)?;
+    let (firsts, behind) = split;
+    place_cores(&mut later, places, behind);
+    let verdicts = with_cores(alloc, found, firsts)?;
+    Ok(Findings { verdicts, later })
+}
+
+// As much as is wanted of the verdicts of the asked places, in their order, and their later cores where all causes are told.
+pub(crate) fn find_told<G: Gate + Sync, R: Threads + Sync>(
+    rt: &R,
+    alloc: Global,
+    config: &Config,
+    wanted: Wanted,
+    index: &Index,
+    asked: &[u32],
+    gate: &G,
+) -> Result<Findings, AllocError>
+    requires places { All (λ place. place < length index.now.packages) asked.now }
+    requires few { length asked.now < 2 ^ 32 }
+    requires workers { (0 < config.now.workers) × (config.now.workers ≤ 64) }
+    requires chunk { 0 < config.now.chunk }
+    ensures same { IfOk result (λ found. length found.verdicts.items ≡ length asked.now) }
+    ensures within { IfOk result (λ found. All (SpeaksOf index.now) (map verdict_view found.verdicts.items)) }
+    ensures of_index { IfOk result (λ found. AreLaterOf index.now (later_view found.later.items)) }
+    ensures found { IfOk result (λ found. AreFound (settings_of config.now) wanted index.now asked.now
+        (map verdict_view found.verdicts.items) (later_view found.later.items)) }
+{
+    if config.tells_all_causes() {
+        return find_all_cores(rt, alloc, config, wanted.sets, index, asked, gate);
+    }
+    let verdicts = find_verdicts(rt, alloc, config, wanted, index, asked, gate)?;
+    let later = Vec::new(alloc);
+    Ok(Findings { verdicts, later })
 }

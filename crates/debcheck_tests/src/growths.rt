@@ -154,6 +154,26 @@ fn expect_run(
     }
 }
 
+/// The usual settings, where all reasons are told.
+fn with_all_reasons(alloc: Global) -> Result<Config, AllocError>
+    ensures workers { IfOk result (λ config. config.workers ≡ 2) }
+    ensures chunk { IfOk result (λ config. config.chunk ≡ 1) }
+{
+    let mut config = config_with(alloc, 2)?;
+    config.all_reasons = true;
+    Ok(config)
+}
+
+/// Two packages are broken, each by one cause.
+#[test]
+fn of_run_with_all_reasons(rt: HostRuntime) -> Result<(), Fail> {
+    let config = with_all_reasons(rt.alloc())?;
+    let mut output = sink_with_room(rt.alloc(), 50, 0)?;
+    let mut chain = source_of(CHAIN, 11);
+    let outcome = run_alone(&rt, &config, &mut chain, &mut output);
+    expect_report(&rt, &output, &outcome, CHAIN_REPORT, 1)
+}
+
 /// An index, a background and an earlier index, each with a package.
 #[test]
 fn of_run_since(rt: HostRuntime) -> Result<(), Fail> {

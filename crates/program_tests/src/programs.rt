@@ -59,11 +59,11 @@ const CAUSES_IN_JSON: Case = Case {
     words: "|--arch|amd64|--format|json|--causes|--bg=others",
     index: INDEX,
     status: 1,
-    output: b"{\"architecture\":\"amd64\",\"report\":[
+    output: b"{\"format\":1,\"options\":[\"bg\",\"causes\"],\"architecture\":\"amd64\",\"report\":[
 {\"package\":\"a\",\"version\":\"1\",\"architecture\":\"all\",\"status\":\"ok\"},
 {\"package\":\"c\",\"version\":\"1\",\"architecture\":\"all\",\"status\":\"broken\"}
 ],\"stanzas\":4,\"skipped\":0,\"duplicates\":0,\"background\":2,\"asked\":2,\"broken\":1,\"causes\":[
-{\"packages\":1,\"reasons\":[{\"kind\":\"missing\",\"package\":\"c\",\"version\":\"1\",\"field\":\"Depends\",\"relation\":\"d\"}],\"present\":[],\"broken\":[{\"package\":\"c\",\"version\":\"1\"}]}
+{\"packages\":1,\"frees\":1,\"reasons\":[{\"kind\":\"missing\",\"relation\":\"d\"}],\"needed-by\":[{\"package\":\"c\",\"version\":\"1\",\"field\":\"Depends\",\"relation\":\"d\"}],\"hits\":[],\"versions\":[],\"present\":[],\"similar\":[],\"broken\":[{\"package\":\"c\",\"version\":\"1\"}]}
 ]}
 ",
     errors: b"",
@@ -240,7 +240,8 @@ pub fn run_on(
     })
 }
 
-fn expect_case(
+/// The program comes to what the case says.
+pub fn expect_case(
     rt: &(impl Abort + Clock + Threads + Sync + AllocGlobal),
     case: &Case,
 ) -> Result<(), Fail> {
@@ -309,6 +310,8 @@ fn help_goes_to_the_output(rt: HostRuntime) -> Result<(), Fail> {
         "--bg <FILE>",
         "--checkonly",
         "--causes",
+        "--all-reasons",
+        "--why",
         "--quiet",
         "--help",
     ] {

@@ -240,11 +240,14 @@ mended:
  - a 1
 gone:
  - b 2
-causes:
+causes: 1
  -
   packages: 2
+  frees: 2
   reasons:
-   - missing: d 1 Depends: y
+   - missing: y
+  needed-by:
+   - d 1 Depends: y
   broken:
    - d 1
    - e 1
@@ -271,6 +274,69 @@ fn news_are_told_alone(rt: HostRuntime) -> Result<(), Fail> {
     expect_report(&rt, line, 1, EXPLAINED)
 }
 
+/// `a` and `b` are gone, `c` is broken as before, and `d` newly broken, each by two needs.
+const TWO_NEEDS: &[u8] = b"Package: c
+Version: 2
+Architecture: all
+Depends: z, v
+
+Package: d
+Version: 1
+Architecture: all
+Depends: w, y
+";
+
+const ALL_OF_NEWS: &str = "architecture: amd64
+report:
+ -
+  package: d
+  version: 1
+  architecture: all
+  status: broken
+  reasons:
+   - missing: d 1 Depends: y
+  also:
+   - missing: d 1 Depends: w
+stanzas: 2
+skipped: 0
+duplicates: 0
+asked: 2
+broken: 2
+newly-broken: 1
+mended:
+gone:
+ - a 1
+ - b 2
+causes: 2
+ -
+  packages: 1
+  frees: 0
+  reasons:
+   - missing: y
+  needed-by:
+   - d 1 Depends: y
+  broken:
+   - d 1
+ -
+  packages: 1
+  frees: 0
+  reasons:
+   - missing: w
+  needed-by:
+   - d 1 Depends: w
+  broken:
+   - d 1
+";
+
+/// All cores of what is newly broken, and its causes alone.
+#[test]
+fn all_causes_of_news_are_told(rt: HostRuntime) -> Result<(), Fail> {
+    let line = "|--arch|amd64|--causes|--all-reasons|--since|old";
+    let left = run_on(&rt, line, TWO_NEEDS, OpenFault::Unopened)?;
+    expect_left(&rt, line, &left, 1, ALL_OF_NEWS);
+    Ok(())
+}
+
 /// With the background behind each index `b` was not broken, and `d` isn't.
 const BEHIND: &str = "architecture: amd64
 report:
@@ -284,7 +350,7 @@ newly-broken: 0
 mended:
  - a 1
 gone:
-causes:
+causes: 0
 ";
 
 const OF_E: &str = "architecture: amd64

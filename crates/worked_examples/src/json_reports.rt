@@ -150,11 +150,11 @@ Version: 1
 Architecture: all
 
 ----
-{"architecture":"amd64","report":[
+{"format":1,"options":["failures","causes"],"architecture":"amd64","report":[
 {"package":"a","version":"1","architecture":"all","status":"broken"},
 {"package":"b","version":"1","architecture":"all","status":"broken"}
 ],"stanzas":3,"skipped":0,"duplicates":0,"asked":3,"broken":2,"causes":[
-{"packages":2,"reasons":[{"kind":"missing","package":"b","version":"1","field":"Depends","relation":"c (>= 2)"}],"present":[{"package":"c","version":"1"}],"broken":[{"package":"a","version":"1"},{"package":"b","version":"1"}]}
+{"packages":2,"frees":2,"reasons":[{"kind":"missing","relation":"c (>= 2)"}],"needed-by":[{"package":"b","version":"1","field":"Depends","relation":"c (>= 2)"}],"hits":[],"versions":[],"present":[{"package":"c","version":"1"}],"similar":[],"broken":[{"package":"a","version":"1"},{"package":"b","version":"1"}]}
 ]}
 
 ====
@@ -195,12 +195,12 @@ Architecture: all
 Depends: n (= 2)
 
 ----
-{"architecture":"amd64","report":[
+{"format":1,"options":["successes","checkonly","causes"],"architecture":"amd64","report":[
 {"package":"r","version":"1:1.0~b-1","architecture":"all","status":"ok"}
 ],"stanzas":7,"skipped":0,"duplicates":0,"asked":4,"broken":3,"causes":[
-{"packages":1,"reasons":[{"kind":"essential","name":"e"},{"kind":"conflict","package":"x","version":"1","field":"Conflicts","relation":"e"}],"present":[],"broken":[{"package":"x","version":"1"}]},
-{"packages":1,"reasons":[{"kind":"missing","package":"m","version":"1","field":"Depends","relation":"gone (>= 2) | gone-too"}],"present":[],"broken":[{"package":"m","version":"1"}]},
-{"packages":1,"reasons":[{"kind":"versions","name":"n"}],"present":[],"broken":[{"package":"q","version":"1"}]}
+{"packages":1,"frees":1,"reasons":[{"kind":"essential","name":"e"},{"kind":"conflict","package":"x","version":"1","field":"Conflicts","relation":"e"}],"needed-by":[],"hits":[{"package":"e","version":"1"}],"versions":[],"present":[],"similar":[],"broken":[{"package":"x","version":"1"}]},
+{"packages":1,"frees":1,"reasons":[{"kind":"missing","relation":"gone (>= 2) | gone-too"}],"needed-by":[{"package":"m","version":"1","field":"Depends","relation":"gone (>= 2) | gone-too"}],"hits":[],"versions":[],"present":[],"similar":[],"broken":[{"package":"m","version":"1"}]},
+{"packages":1,"frees":1,"reasons":[{"kind":"versions","name":"n"}],"needed-by":[],"hits":[],"versions":[{"package":"n","version":"1"},{"package":"n","version":"2"}],"present":[],"similar":[],"broken":[{"package":"q","version":"1"}]}
 ]}
 
 ====
@@ -222,10 +222,10 @@ Architecture: all
 Provides: v (= 2)
 
 ----
-{"architecture":"amd64","report":[
+{"format":1,"options":["failures","causes"],"architecture":"amd64","report":[
 {"package":"a","version":"1","architecture":"all","status":"broken"}
 ],"stanzas":3,"skipped":0,"duplicates":0,"asked":3,"broken":1,"causes":[
-{"packages":1,"reasons":[{"kind":"missing","package":"a","version":"1","field":"Depends","relation":"v (>= 3)"}],"present":[{"package":"p","version":"1","provides":["v (= 1)","v"]},{"package":"v","version":"1"}],"broken":[{"package":"a","version":"1"}]}
+{"packages":1,"frees":1,"reasons":[{"kind":"missing","relation":"v (>= 3)"}],"needed-by":[{"package":"a","version":"1","field":"Depends","relation":"v (>= 3)"}],"hits":[],"versions":[],"present":[{"package":"p","version":"1","provides":["v (= 1)","v"]},{"package":"v","version":"1"}],"similar":[],"broken":[{"package":"a","version":"1"}]}
 ]}
 
 ====
@@ -233,7 +233,7 @@ no_causes_in_an_empty_index gives 0 under --arch amd64 --format json --causes
 ----
 
 ----
-{"architecture":"amd64","report":[
+{"format":1,"options":["causes"],"architecture":"amd64","report":[
 ],"stanzas":0,"skipped":0,"duplicates":0,"asked":0,"broken":0,"causes":[
 ]}
 
@@ -244,7 +244,7 @@ Package: a
 Version: 1
 Architecture: amd64
 ----
-{"architecture":"amd64","report":[
+{"format":1,"options":["successes","causes"],"architecture":"amd64","report":[
 {"package":"a","version":"1","architecture":"amd64","status":"ok"}
 ],"stanzas":1,"skipped":0,"duplicates":0,"asked":1,"broken":0,"causes":[
 ]}

@@ -106,6 +106,8 @@ pub fn is_plain(config: &Config) -> bool {
         && config.since.is_none()
         && !config.strict
         && !config.causes
+        && !config.all_reasons
+        && !config.why
         && config.format == Format::Text
         && !config.quiet
 }

@@ -20,7 +20,7 @@ fn no_words_ask_for_explanations(rt: HostRuntime) -> Result<(), Fail> {
 }
 
 const ALL_OPTIONS: &str =
-    "|--checkonly|b,a+1.x_y,b|--ignore-essential|--explain|--failures|--chunk|1000000|--workers=64|--arch|i386|--quiet|--format|json|--bg|main/Packages|--causes|--strict";
+    "|--checkonly|b,a+1.x_y,b|--ignore-essential|--explain|--failures|--chunk|1000000|--workers=64|--arch|i386|--quiet|--format|json|--bg|main/Packages|--why|--causes|--all-reasons|--strict";
 
 #[test]
 fn a_line_of_all_options(rt: HostRuntime) -> Result<(), Fail> {
@@ -34,6 +34,8 @@ fn expect_all_options(rt: &impl Abort, config: &Config) {
     assert!(rt; config.arch.as_str() == "i386");
     assert!(rt; config.quiet);
     assert!(rt; config.causes);
+    assert!(rt; config.all_reasons);
+    assert!(rt; config.why);
     assert!(rt; config.strict);
     assert!(rt; config.format == Format::Json);
     assert!(rt; background_of(config) == "main/Packages");
@@ -83,13 +85,19 @@ fn has_numbers_and_names(config: &Config, option: &str) -> bool {
 
 /// What is on or off, and the kinds of packages and of reports, are as usual but for the option.
 fn has_choices(config: &Config, option: &str) -> bool {
-    config.explain == (option == "--explain")
+    config.explain == means_explain(option)
         && config.essential == (option != "--ignore-essential")
         && config.causes == (option == "--causes")
+        && config.all_reasons == (option == "--all-reasons")
+        && config.why == (option == "--why")
         && config.strict == (option == "--strict")
         && config.quiet == (option == "--quiet")
         && config.show == shown_by(option)
         && (config.format == Format::Json) == (option == "--format")
+}
+
+fn means_explain(option: &str) -> bool {
+    option == "--explain" || option == "--all-reasons" || option == "--why"
 }
 
 fn shown_by(option: &str) -> Show {
@@ -110,6 +118,10 @@ const ONE_OPTION: &str = "|--arch|amd64|--explain => --explain
 |--successes|--arch|amd64|--failures => none
 |--arch|amd64|--checkonly|zz => --checkonly
 |--arch|amd64|--causes => --causes
+|--arch|amd64|--all-reasons => --all-reasons
+|--arch|amd64|--explain|--all-reasons => --all-reasons
+|--arch|amd64|--why => --why
+|--why|--arch|amd64|--successes|--failures => --why
 |--arch|amd64|--strict => --strict
 |--arch|amd64|--quiet => --quiet
 |--arch|amd64|--bg|f => --bg
@@ -185,6 +197,10 @@ const NO_VALUES: &str = "|--arch|amd64|--explain|--explain => |--explain
 |--arch|amd64|--successes=yes => |--successes
 |--arch|amd64|--causes|--causes => |--causes
 |--arch|amd64|--causes=yes => |--causes
+|--arch|amd64|--all-reasons|--all-reasons => |--all-reasons
+|--arch|amd64|--all-reasons=yes => |--all-reasons
+|--arch|amd64|--why|--why => |--why
+|--arch|amd64|--why=yes => |--why
 |--arch|amd64|--ignore-essential|--ignore-essential => |--ignore-essential
 |--arch|amd64|--ignore-essential=yes => |--ignore-essential
 |--arch|amd64|--strict|--strict => |--strict
@@ -195,6 +211,18 @@ const NO_VALUES: &str = "|--arch|amd64|--explain|--explain => |--explain
 #[test]
 fn an_option_without_a_value_comes_once(rt: HostRuntime) -> Result<(), Fail> {
     refuses_each(&rt, NO_VALUES)
+}
+
+/// Lines that ask for more reasons, and for the packages alone that have none.
+const NO_REASONS: &str =
+    "|--arch|amd64|--successes|--all-reasons => |--all-reasons|--successes|--failures|--help
+|--arch|amd64|--why|--successes => |--why|--successes|--failures|--help
+|--arch|amd64|--why|--successes|--all-reasons|--explain => |--why|--successes|--failures|--help
+|--since|f|--arch|amd64|--why|--successes => |--why|--successes";
+
+#[test]
+fn more_reasons_are_of_failures(rt: HostRuntime) -> Result<(), Fail> {
+    refuses_each(&rt, NO_REASONS)
 }
 
 /// Lines with a wrong word.

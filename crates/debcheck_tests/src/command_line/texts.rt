@@ -8,7 +8,7 @@ use std::test::Fail;
 use test_devices::sink_of;
 
 const OPTIONS: &str =
-    "|--arch|--workers|--chunk|--explain|--failures|--successes|--ignore-essential|--checkonly|--bg|--since|--causes|--format|--strict|--quiet|-h, --help|-V, --version";
+    "|--arch|--workers|--chunk|--explain|--failures|--successes|--ignore-essential|--checkonly|--bg|--since|--causes|--all-reasons|--why|--format|--strict|--quiet|-h, --help|-V, --version";
 
 /// The text of help or of the version; nothing for another fault.
 fn help_of(fault: &LineFault) -> &str {

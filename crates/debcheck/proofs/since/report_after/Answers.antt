@@ -1,11 +1,9 @@
-use Rattle.std.proofs.Common.{◌∙◌, Err, IfOk, List, Ok, Result, ap, map}
-use Rattle.deb_health.specs.declared.answer.Verdict.{Verdict}
+use Rattle.std.proofs.Common.{◌≡◌, ◌∙◌, Err, IfOk, List, Ok, Result, ap, map}
 use Rattle.deb_health.specs.Verdicts.{verdict_view}
-use Rattle.deb_verdict.specs.Told.{as_told}
-use Rattle.debcheck.specs.Since.{wanted_since}
 use Rattle.deb_report.specs.Settings.{settings_of}
-use Rattle.deb_report.specs.Since.{broken_view, summary_since}
-use Rattle.deb_report.specs.Written.{written_since}
+use Rattle.deb_report.specs.Since.{broken_view}
+use Rattle.deb_report.specs.Told.{later_view}
+use Rattle.debcheck.specs.Since.{wanted_since}
 use Rattle.debcheck.proofs.SinceLemmas.{leaves_news, reported-after}
 use Rattle.debcheck.proofs.since.report_after.Goals as goal
 
@@ -18,12 +16,11 @@ returns g c =
     let settings = settings_of c.args.config.now in
     let index = c.args.index.now in
     let asked = c.args.asked.now in
-    let told = map verdict_view c.in_ok-verdicts.verdicts.items in
     let before = map broken_view c.args.before.now in
-    let written = ap (λ (verdicts : List Verdict). written_since settings index asked (map verdict_view verdicts) before) c.as_slice.ensures.value in
-    let counted = ap (λ (verdicts : List Verdict). summary_since index asked (map verdict_view verdicts) before) c.as_slice.ensures.value in
-    let stand = rw c.wanted_since-wanted.ensures at c.in_ok-verdicts.ensures.stand in
+    let told = map verdict_view c.in_ok-found.found.verdicts.items in
+    let later = later_view c.in_ok-found.found.later.items in
+    let found = rw c.wanted_since-wanted.ensures at c.in_ok-found.ensures.found in
     both-ok c.report_since.result _ _ _
-    (λ r text numbers. reported-after (as_told (wanted_since settings)) settings (leaves_news settings) index asked told stand.verdicts before r.0.items r.1 record { are_asked = c.requires.asked; no_slip = c.requires.no_slip } stand.are_verdicts stand.same
-    (text ∙ written) (numbers ∙ counted))
+    (λ r text numbers. reported-after (wanted_since settings) settings (leaves_news settings) index asked told later before r.0.items r.1 record { are_asked = c.requires.asked; no_slip = c.requires.no_slip } found
+    (rw (c.as_slice-verdicts.ensures.value, c.as_slice-later.ensures.value) at text) (rw c.as_slice-verdicts.ensures.value at numbers))
     c.report_since.ensures.text c.report_since.ensures.summary

@@ -1,12 +1,8 @@
 use Rattle.std.proofs.Common.{◌∙◌, ◌≤◌, arith, length, map, sym}
 use Rattle.std.proofs.lemmas.List.{length-map}
 use Rattle.deb_health.specs.Verdicts.{verdict_view}
-use Rattle.debcheck.proofs.StandingLemmas.{Told, left-few, left-within, stands-told, told_by_marks}
+use Rattle.debcheck.proofs.StandingLemmas.{Told, left-few, left-within, told_by_marks}
 use Rattle.debcheck.proofs.verdicts.find_on.Goals as goal
-
-pub returns-then-wanted-clause-stand : goal.returns-then-wanted-clause-stand
-returns-then-wanted-clause-stand g c =
-    stands-told c.args.wanted c.args.groundwork.now.index.now c.args.asked.now (map verdict_view c.in_ok-verdicts.verdicts.items) c.requires.places c.in_ok-verdicts.ensures.each
 
 pub check_told-requires-2-clause-places : goal.check_told-requires-2-clause-places
 check_told-requires-2-clause-places g c κs within =
@@ -42,5 +38,5 @@ returns g c =
     record {
       same = sym (length-map c.in_ok-told.told.items verdict_view) ∙ tells.count;
       within = tells.within;
-      stand = stands-told c.args.wanted c.args.groundwork.now.index.now c.args.asked.now told c.requires.places tells.each;
+      each = tells.each;
     }

@@ -3,7 +3,8 @@ use Rattle.std.proofs.lemmas.Result.{IfOk-weaker}
 use Rattle.deb_index.specs.Packages.{IndexView}
 use Rattle.deb_health.specs.Verdicts.{SpeaksOf, verdict_view}
 use Rattle.deb_health.specs.declared.answer.Verdict.{Verdict}
-use Rattle.debcheck.specs.Standing.{StandFor}
+use Rattle.deb_verdict.specs.Told.{IsToldVerdict}
+use Rattle.work_draw.specs.Checks.{AnswersEach}
 use Rattle.debcheck.proofs.verdicts.find_verdicts.Goals as goal
 
 pub find_on-requires-clause-places : goal.find_on-requires-clause-places
@@ -16,8 +17,8 @@ returns-clause-within g c =
     (λ (all : Vec Verdict Global) within. subst (λ (index : IndexView). All (SpeaksOf index) (map verdict_view all.items)) c.in_ok-groundwork.ensures within)
     c.find_on.ensures.within
 
-pub returns-clause-stand : goal.returns-clause-stand
-returns-clause-stand g c =
+pub returns-clause-each : goal.returns-clause-each
+returns-clause-each g c =
     IfOk-weaker c.find_on.result _ _
-    (λ (all : Vec Verdict Global) stand. subst (λ (index : IndexView). StandFor c.args.wanted index c.args.asked.now (map verdict_view all.items)) c.in_ok-groundwork.ensures stand)
-    c.find_on.ensures.stand
+    (λ (all : Vec Verdict Global) each. subst (λ (index : IndexView). AnswersEach (IsToldVerdict c.args.wanted index) c.args.asked.now (map verdict_view all.items)) c.in_ok-groundwork.ensures each)
+    c.find_on.ensures.each
