@@ -42,7 +42,7 @@ def check(program, words, arch, index, folder, limit):
         raise Failed("debcheck %s: %s\n%s" % (" ".join(words), run.ending(limit), tail(err)))
     show = "failures" if "--failures" in words else "all"
     try:
-        report = debcheck_report.read(out, arch, show, "--explain" in words)
+        report = debcheck_report.read(out, arch, show, "--explain" in words or "--all-reasons" in words)
     except debcheck_report.BadReport as fault:
         raise Failed("debcheck %s: %s" % (" ".join(words), fault))
     if run.number != (1 if report.told else 0):

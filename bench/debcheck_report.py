@@ -10,7 +10,12 @@ NEED = re.compile(r"   - (?:missing|depends): %s %s (?:Pre-Depends|Depends): %s(
 APART = re.compile(r"   - conflict: %s %s (?:Conflicts|Breaks): %s" % (NAME, VERSION, ATOM))
 ONLY = re.compile(r"   - versions: %s" % NAME)
 REASONS = [ESSENTIAL, re.compile("%s|%s" % (NEED.pattern, APART.pattern)), ONLY]
+GROUP = r"%s(?: \| %s)*" % (ATOM, ATOM)
+MISSING = re.compile(r"   - missing: %s" % GROUP)
+NEEDED = re.compile(r"   - %s %s (?:Pre-Depends|Depends): %s" % (NAME, VERSION, GROUP))
+CAUSE = [ESSENTIAL, re.compile("%s|%s" % (MISSING.pattern, APART.pattern)), ONLY]
 NEAR = re.compile(r"%s(?: \(provides %s(?:, %s)*\))?" % (MEMBER.pattern, ATOM, ATOM))
+SIMILAR = re.compile(r"   - (%s)" % NAME)
 CHANGED = re.compile(r" - (%s) (%s)" % (NAME, VERSION))
 COUNTS = ("stanzas", "skipped", "duplicates", "asked", "broken")
 
@@ -20,7 +25,8 @@ class BadReport(Exception):
 
 
 class Report:
-    """`shown` is a list of (name, version, is it ok), `causes` one of how many packages each cause has, None without the block of causes;
+    """`shown` is a list of (name, version, is it ok), `causes` one of how many packages each cause has, and of how many of them have no other,
+    None without the blocks of causes;
     the counts are attributes of their names; `newly_broken` is None without an earlier index, and `told` counts what the status tells of."""
 
     def __init__(self, path, arch, explain):
@@ -73,6 +79,8 @@ class Report:
             self.take("  installation-set:" if ok else "  reasons:")
             if not self.all_of([MEMBER] if ok else REASONS):
                 self.fail("a line of the set or of the reasons")
+            while not ok and self.line == "  also:":
+                self.some_of("  also:", REASONS)
         return name, version, ok
 
     def some_of(self, title, forms):
@@ -82,12 +90,14 @@ class Report:
     def cause(self):
         self.take(" -")
         count = int(self.value("  packages: ", "[1-9][0-9]*"))
-        self.some_of("  reasons:", REASONS)
-        if self.line == "  present:":
-            self.some_of("  present:", [NEAR])
+        frees = int(self.value("  frees: ", "0|[1-9][0-9]*"))
+        self.some_of("  reasons:", CAUSE)
+        for title, form in (("needed-by", NEEDED), ("hits", MEMBER), ("versions", MEMBER), ("present", NEAR), ("similar", SIMILAR)):
+            if self.line == "  %s:" % title:
+                self.some_of("  %s:" % title, [form])
         if self.some_of("  broken:", [MEMBER]) != count:
             self.fail("%d packages" % count)
-        return count
+        return count, frees
 
     def read(self, arch, explain):
         self.take("architecture: " + arch)
@@ -105,11 +115,9 @@ class Report:
                 self.all_of([CHANGED])
         self.told = self.broken if self.newly_broken is None else self.newly_broken
         self.causes = None
-        if self.line == "causes:":
-            self.step()
-            self.causes = []
-            while self.line is not None:
-                self.causes.append(self.cause())
+        if self.line is not None and self.line.startswith("causes: "):
+            count = int(self.value("causes: ", "0|[1-9][0-9]*"))
+            self.causes = [self.cause() for _ in range(count)]
         if self.line is not None:
             self.fail("the end")
 
@@ -124,8 +132,10 @@ def read(path, arch, show, explain):
     broken = sum(not ok for _, _, ok in report.shown)
     if broken != report.told:
         raise BadReport("the report counts %d broken packages and shows %d" % (report.told, broken))
-    if report.causes is not None and sum(report.causes) != report.told:
-        raise BadReport("the report counts %d broken packages and %d under causes" % (report.told, sum(report.causes)))
+    if report.causes is not None:
+        packages, freed = (sum(column) for column in zip((0, 0), *report.causes))
+        if not freed <= report.told <= packages or any(frees > count for count, frees in report.causes):
+            raise BadReport("the report counts %d broken packages, and %d under causes, %d of them under one alone" % (report.told, packages, freed))
     if len(report.shown) != (report.asked if show == "all" and report.newly_broken is None else report.told):
         raise BadReport("the report shows %d packages of %d, %d of them broken" % (len(report.shown), report.asked, report.told))
     return report

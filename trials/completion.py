@@ -16,7 +16,7 @@ HERE = os.path.dirname(os.path.realpath(__file__))
 TOP = os.path.dirname(HERE)
 OPTIONS = [
     "--arch", "--bg", "--since", "--checkonly", "--format", "--workers", "--chunk", "--explain", "--failures", "--successes",
-    "--causes", "--ignore-essential", "--strict", "--quiet", "--help", "--version",
+    "--causes", "--all-reasons", "--why", "--ignore-essential", "--strict", "--quiet", "--help", "--version",
 ]
 CASES = [
     ("--fo\tj\t", ["--format", "json"]),
@@ -30,6 +30,7 @@ CASES = [
     ("--fai\t--expl\t--cau\t", ["--failures", "--explain", "--causes"]),
     ("--ign\t--succ\t--qui\t", ["--ignore-essential", "--successes", "--quiet"]),
     ("--work\t4 --chu\t8 --check\ta,b", ["--workers", "4", "--chunk", "8", "--checkonly", "a,b"]),
+    ("--all\t--wh\t", ["--all-reasons", "--why"]),
     ("--str\t", ["--strict"]),
     ("--vers\t", ["--version"]),
     ("--he\t", ["--help"]),
@@ -38,7 +39,7 @@ ALL_AT_ONCE = [
     ("--\033*", sorted(OPTIONS)),
     ("--causes --format=json --\033*", ["--causes", "--format=json", *sorted({*OPTIONS} - {"--causes", "--format"})]),
     ("--format \033*", ["--format", "json", "text"]),
-    ("--su\033* --\033*", ["--successes", *sorted({*OPTIONS} - {"--since", "--successes"})]),
+    ("--su\033* --\033*", ["--successes", *sorted({*OPTIONS} - {"--since", "--successes", "--all-reasons", "--why"})]),
 ]
 
 

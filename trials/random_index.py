@@ -1,7 +1,21 @@
 """Small random indexes and their texts."""
+from typing import NamedTuple
+
 from brute_force import APARTS, ARCH, MARKING, NEEDS, OPERATORS, SPELLINGS, VERSIONS, Atom, Package
 
-NAMES, VIRTUAL, MISSING = ["a", "b", "c", "d", "e"], ["v", "w"], ["zz"]
+
+class Naming(NamedTuple):
+    """Names of packages, names that are only provided, names that nobody has, and how many entries of Provides a package has at most."""
+    names: list
+    virtual: list
+    missing: list
+    provides: int
+
+
+PLAIN = Naming(["a", "b", "c", "d", "e"], ["v", "w"], ["zz", "y"], 2)
+# Names that differ in numbers, some of them in sums of five bytes.
+NUMBERED = Naming(["l1", "l-2", "l1.2", "l", "m-a1b2c"], ["l3", "m-0zzzz", "w"], ["l4", "l-3", "m-x9xxx", "m-zzzzz", "m-abcdefg1"], 2)
+MANY = Naming(["l1", "l2", "l3", "l4", "l5"], ["l%d" % number for number in range(6, 20)], ["l0", "zz"], 5)
 QUALIFIERS = ["any"] * 6 + [ARCH, ARCH, "i386", "all", "Any"]
 # Values of Multi-Arch. The last one is folded, which takes nothing from it.
 OTHERS, FOLDED = ["same", "foreign", "no", "Allowed", "ALLOWED", "allowed same", "allowed,", "any", ""], "\n allowed"
@@ -12,8 +26,9 @@ class Maker:
 
     def __init__(self, chance):
         self.chance = chance
-        self.names = NAMES[:chance.randint(2, len(NAMES))]
-        self.bounded, self.missing = chance.random(), chance.choice([0, 0.05, 0.2])
+        self.naming = chance.choice([PLAIN] * 4 + [NUMBERED] * 2 + [MANY])
+        self.names = self.naming.names[:chance.randint(2, len(self.naming.names))]
+        self.bounded, self.missing = chance.choice([0, 0.3, 0.6, chance.random()]), chance.choice([0, 0.05, 0.2, 0.4])
         self.qualified, self.marked = chance.choice([0, 0.1, 0.3, 0.6]), chance.choice([0, 0.3, 0.6])
         self.repeated = chance.choice([0.05, 0.05, 0.2])
 
@@ -22,12 +37,12 @@ class Maker:
 
     def atom(self, names, operators):
         operator = self.chance.choice(operators) if self.chance.random() < self.bounded else ""
-        name = self.chance.choice(MISSING if self.chance.random() < self.missing else names)
+        name = self.chance.choice(self.naming.missing if self.chance.random() < self.missing else names)
         qualifier = self.chance.choice(QUALIFIERS) if self.chance.random() < self.qualified else ""
         return Atom(name, qualifier, operator, self.chance.choice(list(VERSIONS)))
 
     def wanted(self):
-        return self.atom(self.names + VIRTUAL, list(OPERATORS) + list(SPELLINGS))
+        return self.atom(self.names + self.naming.virtual, list(OPERATORS) + list(SPELLINGS))
 
     def group(self):
         return [self.wanted() for _ in range(self.chance.choice([1, 1, 2, 3]))]
@@ -42,9 +57,9 @@ class Maker:
         return Package(
             chance.choice(self.names), chance.choice(list(VERSIONS)[:chance.randint(1, len(VERSIONS))]),
             chance.choice(["all"] * 5 + [ARCH] * 5 + ["i386"]), chance.random() < 0.1, self.multi_arch(),
-            {field: self.some(most, self.group) for field, most in zip(NEEDS, (1, 2))},
+            {field: self.some(most, self.group) for field, most in zip(NEEDS, (1, 3))},
             {field: self.some(2, self.wanted) if chance.random() < 0.5 else [] for field in APARTS},
-            self.some(2, lambda: self.atom(VIRTUAL + self.names, ["="])))
+            self.some(self.naming.provides, lambda: self.atom(self.naming.virtual + self.names, ["="])))
 
     def packages(self):
         made = []
