@@ -2,6 +2,7 @@
 //!
 //! Each goes on to its end or gives the error that was had, which has to be want of memory.
 
+use crate::groups::{are_kept, is_refused};
 use crate::relations::{are_read, are_refused, is_list, is_no_list};
 use crate::versions::{are_no_versions, are_ordered, is_kept};
 use deb_relation::{Atom, RelationError, VersionError, parse_list};
@@ -80,6 +81,15 @@ fn of_parse_groups(rt: HostRuntime) -> Result<(), Fail> {
     assert!(rt; are_read(rt.alloc(), b"", b"")?);
     assert!(rt; are_read(rt.alloc(), b" , ,", b"")?);
     assert!(rt; are_no_groups(rt.alloc())?);
+    Ok(())
+}
+
+#[test]
+fn of_groups(rt: HostRuntime) -> Result<(), Fail> {
+    let text = b"a | b:any (>= 1:2-3), , c(<2)".as_slice();
+    assert!(rt; are_kept(rt.alloc(), text, b"a|b:any (>= 1:2-3)|,c (<= 2)|,")?);
+    assert!(rt; are_kept(rt.alloc(), b"a:any, b (= 1)", b"a:any|,b (= 1)|,")?);
+    assert!(rt; is_refused(rt.alloc(), b"a | b c", &RelationError::Trailing)?);
     Ok(())
 }
 
