@@ -2,7 +2,7 @@
 use Rattle.std.specs.Prelude.{ℕ, Bool, false, ◌&&◌, ◌==◌, List, [], ◌∷◌, ◌++◌, map, filter, not, None, slice_index_or}
 use Rattle.std.specs.List.{list_any, enumerate_from}
 use Rattle.std.specs.Str.{bytes_eq}
-use Rattle.deb_relation.specs.AtomView.{atom_view, atoms_view}
+use Rattle.deb_relation.specs.AtomView.{atom_view}
 use Rattle.deb_relation.specs.Relationship.{AtomText}
 use Rattle.deb_index.specs.declared.package.Package.{Package}
 
@@ -26,8 +26,8 @@ package_view p = record {
   architecture = p.architecture;
   essential = p.essential;
   multi_arch_allowed = p.multi_arch_allowed;
-  pre_depends = map atoms_view p.pre_depends.items;
-  depends = map atoms_view p.depends.items;
+  pre_depends = p.pre_depends;
+  depends = p.depends;
   conflicts = map atom_view p.conflicts.items;
   breaks = map atom_view p.breaks.items;
   provides = map atom_view p.provides.items;

@@ -2,7 +2,7 @@
 ghost use Rattle.std.specs.Prelude.{◌≡◌, ◌≢◌, ◌+◌, ◌<◌, ◌≤◌, ◌^◌, [], IfErr, IfNone, IfOk, IfSome, map, codes};
 ghost use Rattle.std.specs.List.{list_all};
 ghost use Rattle.deb_control.specs.Fields.{field_value};
-ghost use Rattle.deb_relation.specs.AtomView.{atom_view, atoms_view};
+ghost use Rattle.deb_relation.specs.AtomView.{atom_view};
 ghost use Rattle.deb_index.specs.Packages.{package_view};
 ghost use Rattle.deb_index.specs.Reading.{Gives, head_of, head_view, groups_in, atoms_in, is_allowed, is_for, is_marked, is_provided};
 ghost use Rattle.deb_index.specs.Reading.{provides_in, package_of, reading_of, reading_view, readings, relation_text, good_version, stanza_limit, Steps};
@@ -12,7 +12,7 @@ use crate::error::{IndexError, RelField};
 use crate::limits::STANZA_LIMIT;
 use deb_control::{ControlError, Reader, Stanza};
 use deb_relation::{
-    Atom, Op, RelationError, SmallText, Version, VersionError, is_name, parse_groups, parse_list,
+    Atom, Groups, Op, RelationError, SmallText, Version, VersionError, is_name, parse_list,
 };
 use std::alloc::Global;
 
@@ -29,8 +29,8 @@ pub struct Package {
     /// any other value counts as none.
     pub multi_arch_allowed: bool,
     /// Groups of alternatives, one of each of which has to be met.
-    pub pre_depends: Vec<Vec<Atom>>,
-    pub depends: Vec<Vec<Atom>>,
+    pub pre_depends: Groups,
+    pub depends: Groups,
     pub conflicts: Vec<Atom>,
     pub breaks: Vec<Atom>,
     /// Names that the package stands for, each with no bound or with an exact version (Debian Policy 7.5).
@@ -116,10 +116,10 @@ fn read_groups(
     number: u64,
     stanza: &Stanza,
     field: RelField,
-) -> Result<Vec<Vec<Atom>>, IndexError>
-    ensures { Gives (λ v. map atoms_view v.items) result (groups_in number stanza.now field) }
+) -> Result<Groups, IndexError>
+    ensures { Gives (λ g. g) result (groups_in number stanza.now field) }
 {
-    match parse_groups(alloc, relation_text(stanza, field)) {
+    match Groups::parse(alloc, relation_text(stanza, field)) {
         Ok(groups) => Ok(groups),
         Err(error) => Err(fault_in(error, number, field)),
     }

@@ -74,10 +74,13 @@ fn group(index: &Index, p: u32, number: usize) -> &[Atom] {
         return &[];
     }
     let item = index.package(p);
-    let mut groups = item.pre_depends.iter().chain(item.depends.iter());
-    match groups.nth(number) {
-        Some(group) => group,
-        None => &[],
+    let before = item.pre_depends.len();
+    if number < before {
+        item.pre_depends.get(number)
+    } else if number - before < item.depends.len() {
+        item.depends.get(number - before)
+    } else {
+        &[]
     }
 }
 
@@ -200,9 +203,8 @@ fn is_asked_by(index: &Index, p: u32, q: u32) -> bool
     requires asker { p < length index.now.packages }
     requires answer { q < length index.now.packages }
 {
-    let item = index.package(p);
-    for group in item.pre_depends.iter().chain(item.depends.iter()) {
-        if answers_some(index, q, group) {
+    for number in 0..index.need_count(p) {
+        if answers_some(index, q, index.need(p, number)) {
             return true;
         }
     }
@@ -266,9 +268,8 @@ fn count_refused_of(index: &Index, group: &[Atom]) -> u32 {
 pub fn count_refused(index: &Index) -> u32 {
     let mut count = 0u32;
     for p in 0..index.len() {
-        let item = index.package(p);
-        for group in item.pre_depends.iter().chain(item.depends.iter()) {
-            count = count.saturating_add(count_refused_of(index, group));
+        for number in 0..index.need_count(p) {
+            count = count.saturating_add(count_refused_of(index, index.need(p, number)));
         }
     }
     count
