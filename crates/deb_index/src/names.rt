@@ -6,7 +6,7 @@ ghost use Rattle.deb_index.specs.Packages.{PackageView, is_named, package_view, 
 ghost use Rattle.deb_index.specs.Reading.{stanza_limit};
 ghost use Rattle.deb_index.specs.Tables.{IsSmall, items_of, number_in};
 
-use crate::name::Name;
+use crate::name::{Key, Name};
 use crate::package::Package;
 use deb_relation::Atom;
 use indexmap::IndexSet;
@@ -57,7 +57,7 @@ impl Names {
         ensures number { result ≡ number_in name.now (name_texts self.now) }
         ensures within { IfSome result (λ i. i < length (name_texts self.now)) }
     {
-        self.texts.get_index_of(name)
+        self.texts.get_index_of(Key(name))
     }
 
     /// The name with a number.
