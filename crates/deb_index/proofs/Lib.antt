@@ -27,6 +27,7 @@ pub mod ProvidedLemmas
 pub mod BuiltLemmas
 pub mod EssentialLemmas
 pub mod EndLemmas
+pub mod ShareLemmas
 pub mod RowLemmas
 pub mod PartLemmas
 pub mod LinkLemmas

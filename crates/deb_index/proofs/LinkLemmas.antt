@@ -1,7 +1,7 @@
 -- What an index looks up by place: how it grows by a package, and what stands at a place.
-use Rattle.std.proofs.Common.{◌≡◌, ◌<◌, ◌≤◌, ◌+◌, ℕ, List, [], ◌∷◌, ◌++◌, map, length, take, get_or, sum_by, Option, None, Result, Ok, Err, OnOk, sym, ap, ◌∙◌, append_assoc, arith}
+use Rattle.std.proofs.Common.{◌≡◌, ◌<◌, ◌≤◌, ◌+◌, ℕ, List, [], ◌∷◌, ◌++◌, map, length, take, get_or, sum_by, Option, None, Result, Ok, Err, OnOk, refl, sym, ap, ◌∙◌, append_assoc, arith}
 use Rattle.std.specs.List.{flat_map}
-use Rattle.std.proofs.lemmas.List.{get_or-map, length-map, map-append, take_more}
+use Rattle.std.proofs.lemmas.List.{get_or-map, length-append, length-map, map-append, take_more}
 use Rattle.std.proofs.lemmas.List.Concat.{length-flat_map}
 use Rattle.deb_index.specs.declared.links.Links.{Links}
 use Rattle.deb_index.specs.declared.links.Start.{Start}
@@ -20,6 +20,9 @@ pub rows-more : {A B : Type 0} (f : A → B) (front : List B) (xs : List A) (n :
 rows-more f front xs n d less =
     append_assoc front (map f (take n xs)) (f (get_or xs n d) ∷ [])
     ∙ ap (λ l. front ++ l) (sym (ap (map f) (take_more xs n d less) ∙ map-append f (take n xs) (get_or xs n d ∷ [])))
+
+pub rows-fit : {A B : Type 0} (f : A → B) (old new : List B) (xs : List A) {limit : ℕ} → new ≡ old ++ map f xs → length old + length xs ≤ limit → length new ≤ limit
+rows-fit f old new xs are fit = omega (arith, fit, ap length are, length-append old (map f xs), length-map xs f)
 
 -- ---- the rows of one kind, each package's behind those of the one before
 
@@ -99,12 +102,17 @@ module _ (index : IndexView) where
       entries = rows-push apart_count entry_rows entries-count packages p old.entries new.entries o.entries e;
     }
 
-    -- there are no more rows than packages ask for
-    pub groups-few : length new.groups ≤ sum_by asked_count (packages ++ p ∷ [])
-    groups-few = rows-few need_count group_rows groups-count packages p old.groups new.groups o.groups g asked_count (λ q. omega arith)
+  -- there are no more rows than packages ask for, also with those of one more
+  module _ (packages : List PackageView) (p : PackageView) (l : Links) (k : IsLinked index packages l) where
+    pub groups-room : length l.groups + need_count p ≤ sum_by asked_count (packages ++ p ∷ [])
+    groups-room =
+        let few = rows-few need_count group_rows groups-count packages p l.groups (l.groups ++ group_rows p) k.groups refl asked_count (λ q. omega arith) in
+        omega (arith, few, length-append l.groups (group_rows p), groups-count p)
 
-    pub entries-few : length new.entries ≤ sum_by asked_count (packages ++ p ∷ [])
-    entries-few = rows-few apart_count entry_rows entries-count packages p old.entries new.entries o.entries e asked_count (λ q. omega arith)
+    pub entries-room : length l.entries + apart_count p ≤ sum_by asked_count (packages ++ p ∷ [])
+    entries-room =
+        let few = rows-few apart_count entry_rows entries-count packages p l.entries (l.entries ++ entry_rows p) k.entries refl asked_count (λ q. omega arith) in
+        omega (arith, few, length-append l.entries (entry_rows p), entries-count p)
 
 module _ (index : IndexView) (l : Links) (k : IsLinked index index.packages l) where
   pub starts-long : length l.starts.items ≡ length index.packages + 1

@@ -1,5 +1,5 @@
 -- Rows of places: those that meet a group or an entry, where few packages come into question.
-use Rattle.std.specs.Prelude.{◌≡◌, ◌≤◌, ◌+◌, ◌-◌, ℕ, Bool, nat_le, List, [], ◌∷◌, length, sum_by, take, drop, Option, Some, None, if◌then◌else◌}
+use Rattle.std.specs.Prelude.{◌≡◌, ◌≤◌, ◌+◌, ◌-◌, ℕ, Bool, nat_le, List, [], ◌∷◌, length, map, slice_index_or, sum_by, take, drop, Option, Some, None, if◌then◌else◌}
 use Rattle.deb_relation.specs.Relationship.{AtomText}
 use Rattle.deb_index.specs.Packages.{IndexView, places_of}
 use Rattle.deb_index.specs.Meets.{group_satisfiers, provided_at, satisfiers}
@@ -36,3 +36,7 @@ rows_from start places (end ∷ ends) (k ∷ kept) = (if k then Some (take (end 
 abbrev pub AreEnds : ℕ → ℕ → List ℕ → Type 0
 AreEnds start count [] = start ≡ count
 AreEnds start count (end ∷ ends) = (start ≤ end) × AreEnds end count ends
+
+-- rows of a store by their numbers in it
+abbrev pub rows_by : List (Option (List ℕ)) → List ℕ → List (Option (List ℕ))
+rows_by store numbers = map (λ n. slice_index_or store n None) numbers

@@ -6,7 +6,8 @@
 //! - `package`: one stanza, read as a package; `meets`: what it asks for, and which atoms it meets.
 //! - `names`: the names that packages have or provide, with where each is found; `name`: how one lies in the table.
 //! - `lookup`: all places that meet an atom, found by the names.
-//! - `rows`: lists of places, one behind the other; `memo`: rows that come many times; `links`: the row of each group and of each entry, made once.
+//! - `rows`: lists of places, one behind the other, of which one serves all who ask for the same; `memo`: which row an atom got; `role_rows`: the
+//!   rows of one role while they are made; `links`: the row of each group and of each entry, made once.
 //! - `index`: the index of a text, or of a text and a background: its packages and their names.
 //! - `answering`: which packages meet what is asked for; `constraint`: its constraints, and where each stands.
 //! - `parts`: a text in parts, which several workers read side by side.
@@ -31,6 +32,7 @@ mod package;
 mod parts;
 mod pieces;
 mod read;
+mod role_rows;
 mod rows;
 
 pub use constraint::Constraint;

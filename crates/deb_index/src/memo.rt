@@ -1,53 +1,34 @@
-//! Rows of one place, remembered by their atoms: most atoms come many times, and most are met by one package alone.
-ghost use Rattle.std.specs.Prelude.{◌≡◌, ◌<◌, ◌∷◌, [], Some, IfOk, IfSome, IsTrue};
+//! Which row an atom got, remembered: most atoms come many times.
+ghost use Rattle.std.specs.Prelude.{◌≡◌, ◌<◌, ℕ, List, Option, IfOk, IfSome, IsTrue, vec_len};
 ghost use Rattle.std.specs.Option.{option_map};
 ghost use Rattle.deb_relation.specs.AtomView.{atom_view};
-ghost use Rattle.deb_index.specs.Memo.{slot_count};
-ghost use Rattle.deb_index.specs.Roles.{row_as};
+ghost use Rattle.deb_index.specs.Packages.{IndexView};
 
-use crate::lookup::Lookup;
-use crate::meets::Role;
 use deb_relation::{Atom, Op, SmallText, Version};
 use std::alloc::{AllocError, Global};
-use std::marker::Model;
 
-// How many atoms are remembered at most.
-const SLOT_COUNT: usize = 8192;
+// How many atoms are remembered: a power of two near the number of packages, within these bounds.
+const LEAST_SLOTS: usize = 8192;
 
-// Atoms of one slot have so many marks.
-const MARK_COUNT: usize = 65536;
+const MOST_SLOTS: usize = 131_072;
 
 // Multiplied with it, each bit of a word changes about half of those above it (2^64 by the golden ratio).
 const SPREAD: usize = 0x9e37_79b9_7f4a_7c15;
 
-/// An atom in its role, and the place of the one package that meets it.
+/// An atom, and the number of the row that it got.
 #[derive(Clone, Copy)]
 pub(crate) struct Met<'t> {
     atom: &'t Atom,
-    place: u32,
+    row: u32,
     // That of the atom: most others are told apart by it, without a look at the atom, which lies anywhere.
     mark: u16,
-    role: Role,
 }
 
-/// What was found of some atoms, each in the slot that it is given by its bytes. Contracts see the index that it was found in.
+/// Some atoms with the rows that they got, each in the slot that it is given by its bytes.
 #[derive(Drop)]
 pub(crate) struct Memo<'t> {
-    lookup: &'t Lookup<'t>,
     slots: Vec<Option<Met<'t>>>,
-}
-
-impl<'t> Model for Memo<'t> {
-    ghost use Rattle.std.specs.Prelude.{◌≡◌, length};
-    ghost use Rattle.std.specs.List.{AllByRecursion};
-    ghost use Rattle.deb_index.specs.Packages.{IndexView};
-    ghost use Rattle.deb_index.specs.Memo.{IsMet, slot_count};
-
-    ghost Value = { IndexView };
-
-    ghost view = { λ m. m.lookup.now };
-
-    ghost invariant = { λ m. (length m.slots.items ≡ slot_count) × AllByRecursion (IsMet m.lookup.now) m.slots.items };
+    ghost some: { 0 < vec_len slots },
 }
 
 // Whether both are qualifiers of one text, or neither is there.
@@ -83,10 +64,10 @@ fn is_same_atom(atom: &Atom, other: &Atom) -> bool
         && is_same_qualifier(&atom.qualifier, &other.qualifier)
 }
 
-// What a number becomes by a word.
-fn mix_word(sum: usize, word: [u8; 8]) -> usize {
-    let spread = (sum ^ usize::from_le_bytes(word)).wrapping_mul(SPREAD);
-    spread ^ (spread >> 32)
+// A number whose bits each hang on all lower bits of another.
+fn spread(sum: usize) -> usize {
+    let product = sum.wrapping_mul(SPREAD);
+    product ^ (product >> 32)
 }
 
 // A number that tells most texts apart, made from eight bytes at a time, and in the end from the last eight.
@@ -94,73 +75,84 @@ fn mix(text: &[u8]) -> usize {
     let mut sum = text.len();
     let mut rest = text;
     'words: while let [a, b, c, d, e, f, g, h, others @ ..] = rest {
-        sum = mix_word(sum, [*a, *b, *c, *d, *e, *f, *g, *h]);
+        sum = spread(sum ^ usize::from_le_bytes([*a, *b, *c, *d, *e, *f, *g, *h]));
         rest = others;
     }
     if let [.., a, b, c, d, e, f, g, h] = text {
-        return mix_word(sum, [*a, *b, *c, *d, *e, *f, *g, *h]);
+        return spread(sum ^ usize::from_le_bytes([*a, *b, *c, *d, *e, *f, *g, *h]));
     }
     for byte in rest {
         sum = sum.wrapping_mul(31).wrapping_add(usize::from(*byte));
     }
-    sum
+    spread(sum)
 }
 
-// The slot of an atom, and a mark that tells it from most others of that slot.
-fn slot_of(atom: &Atom) -> (usize, u16)
-    ensures { result.0 < slot_count }
-{
+/// A number that tells most atoms apart.
+pub(crate) fn digest_of(atom: &Atom) -> usize {
     let name = mix(atom.name.as_slice());
     let version = match &atom.bound {
         Some((_, version)) => mix(version.text()),
         None => 0,
     };
-    let sum = name.wrapping_add(version.wrapping_mul(17));
-    (sum % SLOT_COUNT, (sum / SLOT_COUNT % MARK_COUNT) as u16)
+    name.wrapping_add(version.wrapping_mul(17))
+}
+
+// What tells an atom from most others of its slot, which the low bits give.
+fn mark_of(digest: usize) -> u16 {
+    (digest >> 48) as u16
+}
+
+// How many atoms are remembered beside so many packages.
+fn slot_count(packages: u32) -> usize
+    ensures { 0 < result }
+{
+    (packages as usize)
+        .clamp(LEAST_SLOTS, MOST_SLOTS)
+        .next_power_of_two()
 }
 
 impl<'t> Memo<'t> {
-    pub(crate) fn new(alloc: Global, lookup: &'t Lookup<'t>) -> Result<Memo<'t>, AllocError>
-        ensures { IfOk result (λ m. m ≡ lookup.now) }
+    ghost use Rattle.deb_index.specs.declared.meets.Role.{Role};
+    ghost use Rattle.deb_index.specs.Memo.{AreMet, HasRow};
+
+    pub(crate) fn new(alloc: Global, packages: u32) -> Result<Memo<'t>, AllocError>
+        ensures { IfOk result (λ m. (index : IndexView) (role : Role) (rows : List (Option (List ℕ))) → AreMet index role rows m) }
     {
-        let mut slots = Vec::with_capacity(alloc, SLOT_COUNT)?;
-        for _ in 0..SLOT_COUNT {
+        let count = slot_count(packages);
+        let mut slots = Vec::with_capacity(alloc, count)?;
+        for _ in 0..count {
             slots.push(None)?;
         }
-        Ok(Memo { lookup, slots })
+        Ok(Memo { slots })
     }
 
-    /// What it was looked up in.
-    pub(crate) fn lookup(&self) -> &'t Lookup<'t>
-        ensures { result.now ≡ self.now }
+    // There is a power of two of them.
+    fn slot_of(&self, digest: usize) -> usize
+        ensures { result < vec_len self.now.slots }
     {
-        self.lookup
+        digest & (self.slots.len() - 1)
     }
 
-    /// The place of the one package that meets an atom in its role, if that is remembered.
-    pub(crate) fn get(&self, role: Role, atom: &Atom) -> Option<u32>
-        ensures { IfSome result (λ place. row_as role self.now (atom_view atom.now) ≡ Some (place ∷ [])) }
+    /// The number of the row that an atom got, if that is remembered.
+    pub(crate) fn get(&self, digest: usize, atom: &Atom) -> Option<u32>
+        ensures { (index : IndexView) (role : Role) (rows : List (Option (List ℕ))) → AreMet index role rows self.now
+            → IfSome result (λ row. HasRow index role rows row (atom_view atom.now)) }
     {
-        let (slot, mark) = slot_of(atom);
-        let met = self.slots[slot]?;
-        if met.mark == mark && met.role == role && is_same_atom(met.atom, atom) {
-            Some(met.place)
+        let met = self.slots[self.slot_of(digest)]?;
+        if met.mark == mark_of(digest) && is_same_atom(met.atom, atom) {
+            Some(met.row)
         } else {
             None
         }
     }
 
-    /// Remembers the place of the one package that meets an atom in its role.
-    pub(crate) fn put(&mut self, role: Role, atom: &'t Atom, place: u32)
-        requires { row_as role self.old (atom_view atom.now) ≡ Some (place ∷ []) }
-        ensures { self.new ≡ self.old }
+    /// Remembers the number of the row that an atom got.
+    pub(crate) fn put(&mut self, digest: usize, atom: &'t Atom, row: u32)
+        ensures { (index : IndexView) (role : Role) (rows : List (Option (List ℕ))) → AreMet index role rows self.old
+            → HasRow index role rows row (atom_view atom.now) → AreMet index role rows self.new }
     {
-        let (slot, mark) = slot_of(atom);
-        self.slots[slot] = Some(Met {
-            atom,
-            place,
-            mark,
-            role,
-        });
+        let slot = self.slot_of(digest);
+        let mark = mark_of(digest);
+        self.slots[slot] = Some(Met { atom, row, mark });
     }
 }

@@ -1,13 +1,13 @@
-//! Rows of places, one behind the other.
-ghost use Rattle.std.specs.Prelude.{◌≡◌, ◌<◌, ◌++◌, ◌∷◌, ℕ, List, [], Option, Some, None, OnOk, length, slice_index_or};
+//! Rows of places, one behind the other, of which one serves all who ask for the same.
+ghost use Rattle.std.specs.Prelude.{◌≡◌, ◌<◌, ◌^◌, ◌++◌, ◌∷◌, ℕ, List, [], Option, Some, None, OnErr, OnOk, length, slice_index_or};
 ghost use Rattle.std.specs.Option.{option_map};
 
 use std::alloc::{AllocError, Global};
 use std::marker::Model;
 
-/// Rows of places by number. Some are left out.
+// Rows of places, each of which was put down once. Some are left out.
 #[derive(Drop)]
-pub(crate) struct Rows {
+struct RowStore {
     // Where each row ends among the places; it begins where the one before it ends.
     ends: Vec<usize>,
     // Whether each row is kept. Nothing lies in one that is left out.
@@ -15,7 +15,7 @@ pub(crate) struct Rows {
     places: Vec<u32>,
 }
 
-impl Model for Rows {
+impl Model for RowStore {
     ghost use Rattle.std.specs.Prelude.{◌≡◌, ℕ, List, Option, length};
     ghost use Rattle.deb_index.specs.Rows.{AreEnds, rows_from};
 
@@ -26,20 +26,21 @@ impl Model for Rows {
     ghost invariant = { λ r. AreEnds 0 (length r.places.items) r.ends.items × (length r.ends.items ≡ length r.kept.items) };
 }
 
-impl Rows {
-    pub(crate) fn new(alloc: Global) -> Rows
+impl RowStore {
+    fn new(alloc: Global) -> RowStore
         ensures { result ≡ [] }
     {
-        Rows {
+        RowStore {
             ends: Vec::new(alloc),
             kept: Vec::new(alloc),
             places: Vec::new(alloc),
         }
     }
 
-    /// Puts a row down, last.
-    pub(crate) fn push(&mut self, row: &[u32]) -> Result<(), AllocError>
-        ensures { OnOk result (self.new ≡ self.old ++ Some row.now ∷ []) }
+    // Puts a row down, last.
+    fn push(&mut self, row: &[u32]) -> Result<(), AllocError>
+        ensures ok { OnOk result (self.new ≡ self.old ++ Some row.now ∷ []) }
+        ensures err { OnErr result (self.new ≡ self.old) }
     {
         // The places come last of what may be refused: none of them lies behind the last end.
         self.ends.reserve(1)?;
@@ -50,9 +51,10 @@ impl Rows {
         Ok(())
     }
 
-    /// Puts down that the next row is left out.
-    pub(crate) fn leave_out(&mut self) -> Result<(), AllocError>
-        ensures { OnOk result (self.new ≡ self.old ++ None ∷ []) }
+    // Puts down that the next row is left out.
+    fn leave_out(&mut self) -> Result<(), AllocError>
+        ensures ok { OnOk result (self.new ≡ self.old ++ None ∷ []) }
+        ensures err { OnErr result (self.new ≡ self.old) }
     {
         self.ends.reserve(1)?;
         self.kept.reserve(1)?;
@@ -61,15 +63,15 @@ impl Rows {
         Ok(())
     }
 
-    /// How many rows were put down or left out.
-    pub(crate) fn len(&self) -> usize
+    // How many rows were put down or left out.
+    fn len(&self) -> usize
         ensures { result ≡ length self.now }
     {
         self.ends.len()
     }
 
-    /// The row with a number, unless it is left out.
-    pub(crate) fn get(&self, number: usize) -> Option<&[u32]>
+    // The row with a number, unless it is left out.
+    fn get(&self, number: usize) -> Option<&[u32]>
         requires { number < length self.now }
         ensures { option_map (λ r. r.now) result ≡ slice_index_or self.now number None }
     {
@@ -88,4 +90,87 @@ fn start_of(ends: &[usize], number: usize) -> usize
     ensures { result ≡ slice_index_or (0 ∷ ends.now) number 0 }
 {
     if number == 0 { 0 } else { ends[number - 1] }
+}
+
+/// Rows of places by number. Some are left out. A row that comes again lies there once.
+#[derive(Drop)]
+pub(crate) struct Rows {
+    // The number of each in the store.
+    numbers: Vec<u32>,
+    store: RowStore,
+}
+
+impl Model for Rows {
+    ghost use Rattle.std.specs.Prelude.{◌<◌, ◌≤◌, ℕ, List, Option, length};
+    ghost use Rattle.std.specs.List.{All};
+    ghost use Rattle.deb_index.specs.Rows.{rows_by};
+
+    ghost Value = { List (Option (List ℕ)) };
+
+    ghost view = { λ r. rows_by r.store r.numbers.items };
+
+    ghost invariant = { λ r. All (λ n. n < length r.store) r.numbers.items × (length r.store ≤ length r.numbers.items) };
+}
+
+impl Rows {
+    pub(crate) fn new(alloc: Global) -> Rows
+        ensures { result ≡ [] }
+    {
+        Rows {
+            numbers: Vec::new(alloc),
+            store: RowStore::new(alloc),
+        }
+    }
+
+    /// Puts a row down, last.
+    pub(crate) fn push(&mut self, row: &[u32]) -> Result<(), AllocError>
+        requires { length self.old < 2 ^ 32 }
+        ensures ok { OnOk result (self.new ≡ self.old ++ Some row.now ∷ []) }
+        ensures err { OnErr result (self.new ≡ self.old) }
+    {
+        self.numbers.reserve(1)?;
+        let number = self.store.len() as u32;
+        self.store.push(row)?;
+        self.numbers.push_reserved(number);
+        Ok(())
+    }
+
+    /// Puts down that the next row is left out.
+    pub(crate) fn leave_out(&mut self) -> Result<(), AllocError>
+        requires { length self.old < 2 ^ 32 }
+        ensures ok { OnOk result (self.new ≡ self.old ++ None ∷ []) }
+        ensures err { OnErr result (self.new ≡ self.old) }
+    {
+        self.numbers.reserve(1)?;
+        let number = self.store.len() as u32;
+        self.store.leave_out()?;
+        self.numbers.push_reserved(number);
+        Ok(())
+    }
+
+    /// Puts the row with a number down once more, last.
+    pub(crate) fn push_again(&mut self, number: u32) -> Result<(), AllocError>
+        requires { number < length self.old }
+        ensures ok { OnOk result (self.new ≡ self.old ++ slice_index_or self.old number None ∷ []) }
+        ensures err { OnErr result (self.new ≡ self.old) }
+    {
+        let number = self.numbers[number as usize];
+        self.numbers.push(number)?;
+        Ok(())
+    }
+
+    /// How many rows were put down or left out.
+    pub(crate) fn len(&self) -> usize
+        ensures { result ≡ length self.now }
+    {
+        self.numbers.len()
+    }
+
+    /// The row with a number, unless it is left out.
+    pub(crate) fn get(&self, number: usize) -> Option<&[u32]>
+        requires { number < length self.now }
+        ensures { option_map (λ r. r.now) result ≡ slice_index_or self.now number None }
+    {
+        self.store.get(self.numbers[number] as usize)
+    }
 }

@@ -198,3 +198,93 @@ answers 0 4: 1 from Some(0)
 ",
     )
 }
+
+// Each atom is asked for by two packages, most of them in both roles.
+const ASKED_TWICE: &[u8] = b"Package: first
+Version: 1
+Architecture: all
+Depends: v (>= 2), w:any, v, none
+Conflicts: w:any, v (>= 2), v (<< 3)
+
+Package: v
+Version: 2
+Architecture: all
+
+Package: v
+Version: 3
+Architecture: all
+
+Package: w
+Version: 1
+Architecture: all
+Multi-Arch: allowed
+Provides: v (= 2)
+
+Package: w
+Version: 2
+Architecture: all
+Provides: none (= 1), v
+
+Package: second
+Version: 1
+Architecture: all
+Pre-Depends: v
+Depends: v (<< 3), v (>= 2), w:any, none | w (= 2)
+Breaks: v (>= 2), v (= 3), w:any
+";
+
+/// A row that comes again has the same places, and an atom that stands in both roles a row in each.
+#[test]
+fn rows_asked_for_twice(rt: HostRuntime) -> Result<(), Fail> {
+    expect_shown(
+        &rt,
+        ASKED_TWICE,
+        &[Part::AnswerRows, Part::HitRows],
+        "need 0 0: [1, 2, 3]
+need 0 1: [3]
+need 0 2: [1, 2, 3, 4]
+need 0 3: [4]
+need 5 0: [1, 2, 3, 4]
+need 5 1: [1, 3]
+need 5 2: [1, 2, 3]
+need 5 3: [3]
+need 5 4: [4]
+apart 0 0: [3, 4]
+apart 0 1: [1, 2, 3]
+apart 0 2: [1, 3]
+apart 5 0: [1, 2, 3]
+apart 5 1: [2]
+apart 5 2: [3, 4]
+",
+    )
+}
+
+/// What has too many candidates for a row has none for whoever asks, also behind rows that come again.
+#[test]
+fn no_rows_asked_for_twice(rt: HostRuntime) -> Result<(), Fail> {
+    let asked = b"Depends: v, asks, w (= 3), asks\nConflicts: v, asks\nBreaks: v\n";
+    let mut text = providers(rt.alloc(), asked, 65)?;
+    text.extend_from_slice(b"\nPackage: again\nVersion: 1\nArchitecture: all\n")?;
+    text.extend_from_slice(asked)?;
+    expect_shown(
+        &rt,
+        &text,
+        &[Part::Counts, Part::AnswerRowEnds, Part::HitRowEnds],
+        "packages 67, stanzas 67, skipped 0, duplicates 0
+need 0 0: none
+need 0 1: 1 from Some(0)
+need 0 2: none
+need 0 3: 1 from Some(0)
+need 66 0: none
+need 66 1: 1 from Some(0)
+need 66 2: none
+need 66 3: 1 from Some(0)
+apart 0 0: none
+apart 0 1: 1 from Some(0)
+apart 0 2: none
+apart 66 0: none
+apart 66 1: 1 from Some(0)
+apart 66 2: none
+",
+    )
+}

@@ -1,7 +1,8 @@
-use Rattle.std.proofs.Common.{◌≡◌, length}
-use Rattle.std.specs.List.{AllByRecursion}
+use Rattle.std.proofs.Common.{◌≡◌, ℕ, List, Option, length, All}
+use Rattle.deb_index.specs.declared.meets.Role.{Role}
 use Rattle.deb_index.specs.Memo.{IsMet}
+use Rattle.deb_index.specs.Packages.{IndexView}
 use Rattle.deb_index.proofs.memo.Memo.new.Given as goal
 
 abbrev pub invariant-loop : goal.invariant-loop
-invariant-loop l = (length l.slots.items ≡ l.counter) × AllByRecursion (IsMet l.lookup) l.slots.items
+invariant-loop l = (length l.slots.items ≡ l.counter) × ((index : IndexView) (role : Role) (rows : List (Option (List ℕ))) → All (IsMet index role rows) l.slots.items)

@@ -1,0 +1,151 @@
+//! The rows of one role while they are made: an atom is looked up once for all who ask for it, while it is remembered.
+ghost use Rattle.std.specs.Prelude.{◌≡◌, ◌<◌, ◌≤◌, ◌+◌, ◌++◌, ◌∷◌, [], IfOk, OnErr, OnOk, length, map};
+ghost use Rattle.deb_relation.specs.AtomView.{atom_view};
+ghost use Rattle.deb_index.specs.Packages.{aparts, needs, package_view};
+ghost use Rattle.deb_index.specs.Tables.{asked_count, asked_limit};
+
+use crate::lookup::{Lookup, ROW_LIMIT};
+use crate::meets::Role;
+use crate::memo::{Memo, digest_of};
+use crate::package::Package;
+use crate::rows::Rows;
+use deb_relation::Atom;
+use std::alloc::{AllocError, Global};
+use std::marker::Model;
+
+/// The rows that were asked for in one role so far. Contracts see them with the role, and with the index that they are looked up in.
+#[derive(Drop)]
+pub(crate) struct RoleRows<'t> {
+    lookup: &'t Lookup<'t>,
+    role: Role,
+    rows: Rows,
+    memo: Memo<'t>,
+    // Each row is found in it, and put down from it.
+    found: Vec<u32>,
+}
+
+impl<'t> Model for RoleRows<'t> {
+    ghost use Rattle.deb_index.specs.Memo.{AreMet, MadeRows};
+
+    ghost Value = { MadeRows };
+
+    ghost view = { λ r. record { index = r.lookup.now; role = r.role; rows = r.rows } };
+
+    ghost invariant = { λ r. AreMet r.lookup.now r.role r.rows r.memo };
+}
+
+impl<'t> RoleRows<'t> {
+    ghost use Rattle.deb_index.specs.declared.meets.Role.TheVariants.{Alternative, Entry};
+    ghost use Rattle.deb_index.specs.Roles.{row_as};
+    ghost use Rattle.deb_index.specs.Rows.{answer_row, hit_row};
+
+    pub(crate) fn new(
+        alloc: Global,
+        lookup: &'t Lookup<'t>,
+        role: Role,
+    ) -> Result<RoleRows<'t>, AllocError>
+        ensures { IfOk result (λ r. r ≡ record { index = lookup.now; role = role; rows = [] }) }
+    {
+        Ok(RoleRows {
+            lookup,
+            role,
+            rows: Rows::new(alloc),
+            memo: Memo::new(alloc, lookup.len())?,
+            found: Vec::new(alloc),
+        })
+    }
+
+    /// Adds the rows of a package's groups.
+    pub(crate) fn add_groups(&mut self, asking: &'t Package) -> Result<(), AllocError>
+        requires few_asked { asked_count (package_view asking.now) ≤ asked_limit }
+        requires few { length self.old.rows + length (needs (package_view asking.now)) ≤ asked_limit }
+        requires alternatives { self.old.role ≡ Alternative }
+        ensures index { self.new.index ≡ self.old.index }
+        ensures role { self.new.role ≡ self.old.role }
+        ensures rows { OnOk result (self.new.rows ≡ self.old.rows ++ map (answer_row self.old.index) (needs (package_view asking.now))) }
+    {
+        for number in 0..asking.need_count() {
+            self.add_group(asking.need(number))?;
+        }
+        Ok(())
+    }
+
+    /// Adds the rows of a package's entries.
+    pub(crate) fn add_entries(&mut self, asking: &'t Package) -> Result<(), AllocError>
+        requires few_asked { asked_count (package_view asking.now) ≤ asked_limit }
+        requires few { length self.old.rows + length (aparts (package_view asking.now)) ≤ asked_limit }
+        requires entries { self.old.role ≡ Entry }
+        ensures index { self.new.index ≡ self.old.index }
+        ensures role { self.new.role ≡ self.old.role }
+        ensures rows { OnOk result (self.new.rows ≡ self.old.rows ++ map (hit_row self.old.index) (aparts (package_view asking.now))) }
+    {
+        for number in 0..asking.apart_count() {
+            self.add_atom(asking.apart(number))?;
+        }
+        Ok(())
+    }
+
+    fn add_group(&mut self, group: &'t [Atom]) -> Result<(), AllocError>
+        requires few { length self.old.rows < asked_limit }
+        requires alternatives { self.old.role ≡ Alternative }
+        ensures index { self.new.index ≡ self.old.index }
+        ensures role { self.new.role ≡ self.old.role }
+        ensures row { OnOk result (self.new.rows ≡ self.old.rows ++ answer_row self.old.index (map atom_view group.now) ∷ []) }
+    {
+        if let [atom] = group {
+            return self.add_atom(atom);
+        }
+        if self.lookup.has_many(group) {
+            return self.rows.leave_out();
+        }
+        self.lookup.find_group(group, &mut self.found)?;
+        self.rows.push(&self.found)
+    }
+
+    // Adds the row of an atom that stands alone.
+    fn add_atom(&mut self, atom: &'t Atom) -> Result<(), AllocError>
+        requires few { length self.old.rows < asked_limit }
+        ensures index { self.new.index ≡ self.old.index }
+        ensures role { self.new.role ≡ self.old.role }
+        ensures row { OnOk result (self.new.rows ≡ self.old.rows ++ row_as self.old.role self.old.index (atom_view atom.now) ∷ []) }
+    {
+        let digest = digest_of(atom);
+        if let Some(number) = self.memo.get(digest, atom) {
+            return self.rows.push_again(number);
+        }
+        let number = self.rows.len() as u32;
+        self.find_atom(atom)?;
+        self.memo.put(digest, atom, number);
+        Ok(())
+    }
+
+    // The same for an atom that is not remembered.
+    fn find_atom(&mut self, atom: &Atom) -> Result<(), AllocError>
+        requires few { length self.old.rows < asked_limit }
+        ensures index { self.new.index ≡ self.old.index }
+        ensures role { self.new.role ≡ self.old.role }
+        ensures row { OnOk result (self.new.rows ≡ self.old.rows ++ row_as self.old.role self.old.index (atom_view atom.now) ∷ []) }
+    {
+        let candidates = self.lookup.candidates(atom.name.as_slice());
+        if candidates.named.len() + candidates.provided.len() > ROW_LIMIT {
+            return self.rows.leave_out();
+        }
+        self.lookup
+            .find(self.role, atom, candidates, &mut self.found)?;
+        self.rows.push(&self.found)
+    }
+
+    /// How many rows there are.
+    pub(crate) fn len(&self) -> usize
+        ensures { result ≡ length self.now.rows }
+    {
+        self.rows.len()
+    }
+
+    /// The rows alone, once all are made.
+    pub(crate) fn into_rows(self) -> Rows
+        ensures { result ≡ self.entry.rows }
+    {
+        self.rows
+    }
+}
