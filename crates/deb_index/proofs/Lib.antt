@@ -10,6 +10,7 @@ pub mod Examples
 pub mod MemberLemmas
 pub mod RisingLemmas
 pub mod FoundLemmas
+pub mod ProviderLemmas
 pub mod ConstraintLemmas
 pub mod CountLemmas
 pub mod HoldsLemmas

@@ -1,18 +1,20 @@
 //! What the packages that meet an atom are looked up in.
-ghost use Rattle.std.specs.Prelude.{◌≡◌, ◌<◌, ◌≤◌, ◌&&◌, ◌||◌, ◌==◌, ℕ, OnOk, Some, false, length, map, nat_le, not, sum_by};
+ghost use Rattle.std.specs.Prelude.{◌≡◌, ◌<◌, ◌≤◌, ◌&&◌, ◌||◌, ◌==◌, ℕ, OnOk, length, map, nat_le, not, sum_by};
+ghost use Rattle.std.specs.List.{list_any};
 ghost use Rattle.std.specs.List.Sorted.{IsStrictlyIncreasing};
 ghost use Rattle.deb_relation.specs.AtomView.{atom_view};
 ghost use Rattle.deb_index.specs.Packages.{is_in, package_at, package_view, places_of};
 ghost use Rattle.deb_index.specs.Reading.{stanza_limit};
-ghost use Rattle.deb_index.specs.Meets.{group_satisfiers, provided_at};
-ghost use Rattle.deb_index.specs.Roles.{meets_as_at, satisfiers_as};
+ghost use Rattle.deb_index.specs.Meets.{group_satisfiers, meets_bound, provided_at, provided_version};
+ghost use Rattle.deb_index.specs.Roles.{meets_as_at, provides_as_at, satisfiers_as};
+ghost use Rattle.deb_index.specs.Roles as spec;
 ghost use Rattle.deb_index.specs.Rows.{group_candidates, row_limit};
 ghost use Rattle.deb_index.specs.Tables.{asked_count, asked_limit};
 
 use crate::meets::Role;
 use crate::names::{Candidates, Names};
 use crate::package::Package;
-use deb_relation::Atom;
+use deb_relation::{Atom, bound_holds};
 use std::alloc::AllocError;
 use std::marker::Model;
 
@@ -105,6 +107,21 @@ impl<'a> Lookup<'a> {
         }
     }
 
+    // Whether there is such an entry, and its package meets an atom of its name by it, in the atom's role.
+    fn provides_as(&self, role: Role, entry: (u32, u32), atom: &Atom) -> bool
+        ensures { result ≡ provides_as_at role self.now entry (atom_view atom.now) }
+    {
+        let Some(provider) = self.packages.get(entry.0 as usize) else {
+            return false;
+        };
+        match provider.provides.get(entry.1 as usize) {
+            Some(provided) => {
+                usable_as(role, self.arch, provider, atom) && provided_meets(provided, atom)
+            }
+            None => false,
+        }
+    }
+
     /// Finds the places that meet an alternative of a group, rising, each once; they take the place of what the list held.
     // Sorted once, in the end: to put each alternative's places among those before would be quadratic in a long group.
     pub(crate) fn find_group(&self, group: &[Atom], found: &mut Vec<u32>) -> Result<(), AllocError>
@@ -170,7 +187,7 @@ impl<'a> Lookup<'a> {
         Ok(())
     }
 
-    // The same for the places of entries. Those of one package stand side by side: it is asked once.
+    // Adds those of some entries by which their packages meet an atom of their name. No other entry of a package is looked at.
     fn add_providers(
         &self,
         role: Role,
@@ -179,14 +196,27 @@ impl<'a> Lookup<'a> {
         found: &mut Vec<u32>,
     ) -> Result<(), AllocError>
         ensures { OnOk result ((q : ℕ)
-            → is_in found.new.items q ≡ (is_in found.old.items q || (is_in (map (λ e. e.0) entries.now) q && meets_as_at role self.now q (atom_view atom.now)))) }
+            → is_in found.new.items q ≡ (is_in found.old.items q || list_any (λ e. e.0 == q && provides_as_at role self.now e (atom_view atom.now)) entries.now)) }
     {
-        let mut last = None;
         for entry in entries {
-            if is_new(last, entry.0) {
-                self.add_place(role, atom, entry.0, found)?;
-            }
-            last = Some(entry.0);
+            self.add_provider(role, atom, *entry, found)?;
+        }
+        Ok(())
+    }
+
+    // Adds the place of an entry if its package meets an atom of its name by it.
+    fn add_provider(
+        &self,
+        role: Role,
+        atom: &Atom,
+        entry: (u32, u32),
+        found: &mut Vec<u32>,
+    ) -> Result<(), AllocError>
+        ensures { OnOk result ((q : ℕ)
+            → is_in found.new.items q ≡ (is_in found.old.items q || (entry.0 == q && provides_as_at role self.now entry (atom_view atom.now)))) }
+    {
+        if self.provides_as(role, entry, atom) {
+            found.push(entry.0)?;
         }
         Ok(())
     }
@@ -209,10 +239,27 @@ impl<'a> Lookup<'a> {
     }
 }
 
-fn is_new(last: Option<u32>, place: u32) -> bool
-    ensures { result ≡ false → last ≡ Some place }
+// Whether a package may stand for an atom in its role, for an architecture, where it meets its name and bound.
+fn usable_as(role: Role, arch: &[u8], provider: &Package, atom: &Atom) -> bool
+    ensures { result ≡ spec.usable_as role arch.now (package_view provider.now) (atom_view atom.now) }
 {
-    last != Some(place)
+    match role {
+        Role::Alternative => {
+            atom.usable(arch) && (!atom.has_any() || provider.multi_arch_allowed)
+        }
+        Role::Entry => atom.usable(arch),
+    }
+}
+
+// Whether what an entry provides is within the bound of an atom of its name.
+fn provided_meets(entry: &Atom, atom: &Atom) -> bool
+    ensures { result ≡ meets_bound (provided_version (atom_view entry.now)) (atom_view atom.now).bound }
+{
+    match (&entry.bound, &atom.bound) {
+        (_, None) => true,
+        (None, Some(_)) => false,
+        (Some((_, version)), Some((op, than))) => bound_holds(version, *op, than),
+    }
 }
 
 // Sorts places, and leaves out those that come again.

@@ -141,3 +141,89 @@ mail-agent (= 1): []
 ",
     )
 }
+
+// One package provides each of these names, some twice, some without a version, and some for another architecture.
+const MANY_NAMES: &[u8] = b"Package: p
+Version: 5
+Architecture: all
+Provides: n1 (= 1), n2, n3 (= 3), n1 (= 2), n4:i386 (= 4), n2 (= 2), n5:any, p (= 9)
+Depends: n1 (= 1), n1 (= 2), n1 (= 3), n2, n2 (= 2), n2 (= 3), n3 (>> 2), n3 (<< 3), n4, n5, n5 (= 5), p (= 9), p (= 5), p (= 1), n1:any
+Conflicts: n1:any, n3:i386
+
+Package: n1
+Version: 3
+Architecture: all
+Provides: n3
+";
+
+const NAMES: &[&str] = &[
+    "n1 (= 1)",
+    "n1 (= 2)",
+    "n1 (= 3)",
+    "n1 (= 4)",
+    "n1",
+    "n2",
+    "n2 (= 2)",
+    "n2 (= 3)",
+    "n3 (>> 2)",
+    "n3 (<< 3)",
+    "n3",
+    "n4",
+    "n5",
+    "p (= 9)",
+    "p (= 5)",
+    "p (= 1)",
+    "n1:any",
+    "n3:i386",
+];
+
+#[test]
+fn many_names_of_one_package(rt: HostRuntime) -> Result<(), Fail> {
+    expect_shown(
+        &rt,
+        MANY_NAMES,
+        &[
+            Part::Name("n1"),
+            Part::Satisfiers(NAMES),
+            Part::AnswerRows,
+            Part::HitRows,
+        ],
+        "n1: number Some(1), places [1], provided [(0, 0), (0, 3)]
+n1 (= 1): [0]
+n1 (= 2): [0]
+n1 (= 3): [1]
+n1 (= 4): []
+n1: [0, 1]
+n2: [0]
+n2 (= 2): [0]
+n2 (= 3): []
+n3 (>> 2): [0]
+n3 (<< 3): []
+n3: [0, 1]
+n4: []
+n5: [0]
+p (= 9): [0]
+p (= 5): [0]
+p (= 1): []
+n1:any: [0, 1]
+n3:i386: []
+need 0 0: [0]
+need 0 1: [0]
+need 0 2: [1]
+need 0 3: [0]
+need 0 4: [0]
+need 0 5: []
+need 0 6: [0]
+need 0 7: []
+need 0 8: []
+need 0 9: [0]
+need 0 10: []
+need 0 11: [0]
+need 0 12: [0]
+need 0 13: []
+need 0 14: []
+apart 0 0: [0, 1]
+apart 0 1: []
+",
+    )
+}

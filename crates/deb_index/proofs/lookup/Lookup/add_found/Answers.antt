@@ -1,6 +1,6 @@
 use Rattle.deb_relation.specs.AtomView.{atom_view}
 use Rattle.deb_index.specs.Packages.{is_in}
-use Rattle.deb_index.proofs.FoundLemmas.{all-asked}
+use Rattle.deb_index.proofs.ProviderLemmas.{all-asked}
 use Rattle.deb_index.proofs.LinkLemmas.{on-ok}
 use Rattle.deb_index.proofs.lookup.Lookup.add_found.Goals as goal
 
