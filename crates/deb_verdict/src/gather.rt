@@ -1,6 +1,6 @@
 //! The places that healthy sets with a package may have beside the forced ones, and the needs that these leave open.
 
-ghost use Rattle.std.specs.Prelude.{◌≡◌, ◌⊎◌, ℕ, ◌<◌, true, All, OnOk, length};
+ghost use Rattle.std.specs.Prelude.{◌≡◌, ◌⊎◌, ℕ, ◌<◌, [], true, All, OnOk, length};
 ghost use Rattle.std.specs.List.{list_any};
 ghost use Rattle.deb_index.specs.Packages.{needs_at};
 ghost use Rattle.number_sets.specs.Sets.{members_of, IsWithin};
@@ -32,7 +32,10 @@ impl Candidates {
     ghost use Rattle.deb_verdict.specs.Gathering.{Gathers, HasNames, IsGathered};
 
     /// No candidates, and no room yet.
-    pub(crate) fn new(alloc: Global) -> Candidates {
+    pub(crate) fn new(alloc: Global) -> Candidates
+        ensures places { result.places ≡ [] }
+        ensures unmet { result.unmet.items ≡ [] }
+    {
         Candidates {
             places: SparseSet::new(alloc),
             unmet: Vec::new(alloc),

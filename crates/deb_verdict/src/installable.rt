@@ -138,8 +138,14 @@ fn mark_installable(
     Ok(())
 }
 
-/// What `find_installable` gives for the index of a groundwork, of which `asked` has places.
-pub fn find_installable_on(
+/// Marks, by place, packages of the groundwork's index that some healthy set is seen to have, of those that are asked and of what they need; others
+/// may be installable, too. It finds a few large sets, each without a search, and looks up that they are healthy (Debian Policy 7.2 to 7.5;
+/// dose-debcheck(1) calls such a package installable). How many are marked is no promise.
+///
+/// `asked` has places of the index, counted from 0 and below its `len()`, in any order.
+///
+/// The one error is want of memory.
+pub fn find_installable(
     alloc: Global,
     groundwork: &Groundwork<'_>,
     asked: &[u32],
@@ -151,26 +157,6 @@ pub fn find_installable_on(
     let mut marks = no_marks(alloc, groundwork.index)?;
     mark_installable(alloc, groundwork, asked, &mut marks)?;
     Ok(marks)
-}
-
-/// Marks, by place, packages that some healthy set is seen to have, of those that are asked and of what they need; others may be installable, too.
-/// It finds a few large sets, each without a search, and looks up that they are healthy (Debian Policy 7.2 to 7.5; dose-debcheck(1) calls such a
-/// package installable). How many are marked is no promise.
-///
-/// `asked` has places of the index, counted from 0 and below `index.len()`, in any order.
-///
-/// The one error is want of memory.
-pub fn find_installable(
-    alloc: Global,
-    index: &Index,
-    asked: &[u32],
-) -> Result<Vec<bool>, AllocError>
-    requires { All (λ place. place < length index.now.packages) asked.now }
-    ensures marks { IfOk result (λ marks. MarksOnly (IsInstallable index.now) marks.items) }
-    ensures count { IfOk result (λ marks. length marks.items ≡ length index.now.packages) }
-{
-    let groundwork = Groundwork::new(alloc, index)?;
-    find_installable_on(alloc, &groundwork, asked)
 }
 
 /// Whether a set that is grown for the package at a place, with essential ones, is seen to be healthy.

@@ -52,6 +52,6 @@ pub use all_causes::{cause_in, cores_in};
 pub use deb_health::Verdict;
 pub use decision::{closure, is_installable_in, told_verdict_in, verdict, verdict_in};
 pub use groundwork::Groundwork;
-pub use installable::{find_installable, find_installable_on};
+pub use installable::find_installable;
 pub use wanted::Wanted;
 pub use workspace::Workspace;

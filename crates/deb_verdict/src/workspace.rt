@@ -1,5 +1,8 @@
 //! The buffers of a verdict.
 
+ghost use Rattle.std.specs.Prelude.{IfOk};
+ghost use Rattle.deb_verdict.specs.Workspaces.{IsFresh};
+
 use crate::gather::Candidates;
 use crate::installation::Installation;
 use crate::propagation::Propagation;
@@ -40,8 +43,10 @@ pub struct Workspace {
 }
 
 impl Workspace {
-    /// Buffers with no room yet. The error is want of memory.
-    pub fn new(alloc: Global) -> Result<Workspace, AllocError> {
+    /// Buffers with nothing in them and no room yet. The error is want of memory.
+    pub fn new(alloc: Global) -> Result<Workspace, AllocError>
+        ensures { IfOk result IsFresh }
+    {
         Ok(Workspace {
             forced: SparseSet::new(alloc),
             candidates: Candidates::new(alloc),

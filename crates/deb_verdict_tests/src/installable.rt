@@ -4,7 +4,7 @@ ghost use Rattle.std.specs.Prelude.{◌<◌, All, IfOk, length};
 
 use crate::lent::on_index;
 use deb_index::Index;
-use deb_verdict::find_installable;
+use deb_verdict::{Groundwork, find_installable};
 use std::alloc::{AllocGlobal, Global};
 use std::process::Abort;
 use std::test::Fail;
@@ -29,7 +29,8 @@ fn expect_marks_of(
     wanted: &[bool],
 ) -> Result<(), Fail> {
     let places = places(rt, alloc, index, asked)?;
-    let marks = find_installable(alloc, index, &places)?;
+    let groundwork = Groundwork::new(alloc, index)?;
+    let marks = find_installable(alloc, &groundwork, &places)?;
     assert_eq!(rt; marks.as_slice(), wanted);
     Ok(())
 }

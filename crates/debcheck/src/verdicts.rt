@@ -12,7 +12,7 @@ ghost use Rattle.debcheck.specs.Standing.{AreFound, HaveAllCores, Merges, is_unm
 use crate::later::{Findings, broken_places, no_cores, place_cores, split_firsts, with_cores};
 use deb_index::Index;
 use deb_report::{Config, Show};
-use deb_verdict::{Groundwork, Verdict, Wanted, find_installable_on};
+use deb_verdict::{Groundwork, Verdict, Wanted, find_installable};
 use std::alloc::{AllocError, Global};
 use std::thread::Threads;
 use work_draw::{Gate, check_told, find_cores};
@@ -65,7 +65,7 @@ pub(crate) fn wanted_of(config: &Config) -> Wanted
 }
 
 // As much of the verdicts of the asked places of a groundwork's index as is wanted, in their order. Where no set is, it is enough to know that a package
-// can be installed: what `find_installable_on` marks has a verdict with an empty set, and only the other places are checked by workers. The chunks that
+// can be installed: what `find_installable` marks has a verdict with an empty set, and only the other places are checked by workers. The chunks that
 // the gate is told of are those of these places.
 fn find_on<G: Gate + Sync, R: Threads + Sync>(
     rt: &R,
@@ -91,7 +91,7 @@ fn find_on<G: Gate + Sync, R: Threads + Sync>(
         let verdicts = check_told(rt, alloc, groundwork, wanted, asked, workers, chunk, gate)?;
         return Ok(verdicts);
     }
-    let installable = find_installable_on(alloc, groundwork, asked)?;
+    let installable = find_installable(alloc, groundwork, asked)?;
     let marks = installable.as_slice();
     let left = unmarked(alloc, asked, marks)?;
     let left = left.as_slice();
