@@ -1,4 +1,5 @@
 """Edits of the bodies of different functions, tried by one check: each function is proved from its own body, its contract and those of what it calls."""
+import glob
 import importlib.machinery
 import importlib.util
 import itertools
@@ -14,7 +15,7 @@ JOBS = ["--jobs", "1"]
 HEAD = re.compile(r"( *)(?:pub(?:\([^)]*\))? )?(?:const |unsafe )*fn (\w+)")
 STATE = re.compile(r"(?:fn|struct|enum|trait|impl) (\S+): (.*)")
 WAITS = re.compile(r"it calls (.*), which (?:is|are) not proved")
-CYCLE = re.compile(r"no proof: in `([^`]*)`, of this cycle of calls: ")
+CYCLE = re.compile(r"in `([^`]*)`, of this cycle of calls: ")
 PLACE = re.compile(r"(?:note: )?(?:\./)?(\S+?):(\d+):\d+:")
 LACKS = re.compile(r"(?:note: )?(?:\./)?proofs/.*(has no field|is not in scope|has no `|was not admitted)")
 WEAK, ANEW = "weak", "anew"  # beside the kinds of rt: refused for a name alone; and nothing is known yet
@@ -37,8 +38,9 @@ class Function:
 
     def __init__(self, file, name, own, lines):
         self.file, self.name, (self.begins, self.opens, self.ends) = file, name, lines
+        self.module, self.own = name[: -len(own)], own
         # a closure is called after its function
-        self.closures = "%sfn::%s::" % (name[:-len(own)], own)
+        self.closures = "%sfn::%s::" % (self.module, own)
 
     def owns(self, name):
         """Whether a name is the function's or one of its closures'."""
@@ -49,8 +51,17 @@ class Function:
         path, line = PLACE.match(message).groups()
         if path == self.file:
             return self.begins <= int(line) - 1 <= self.ends
-        proofs = ["proofs/" + "/".join(it.split("::")[1:]).rstrip("/") + "/" for it in (self.name, self.closures)]
-        return path.startswith(tuple(proofs))
+        return self.shares(path) or path.startswith((proofs_of(self.name + "::"), proofs_of(self.closures)))
+
+    def shares(self, path):
+        """Whether a place is in the proof of a cycle of calls that the function is in."""
+        folder = proofs_of(self.module) + "+"
+        return path.startswith(folder) and self.own.replace("::", "-") in path[len(folder):].split("/")[0].split("+")
+
+
+def proofs_of(name):
+    """Where the proofs lie of what has a name of that beginning."""
+    return "/".join(["proofs", *name.split("::")[1:]])
 
 
 def owner_of(line):
@@ -133,11 +144,11 @@ class Said:
 
     def fails_itself(self, name):
         """Whether more is amiss than that it calls what isn't proved, or goes round in a cycle of calls with it."""
-        return self.fails(name) and not self.states[name].startswith("no proof: it calls") and not CYCLE.match(self.states[name])
+        return self.fails(name) and not self.states[name].startswith("no proof: it calls") and not CYCLE.search(self.states[name])
 
     def waits(self, name):
         """The functions whose proof this one lacks."""
-        found, cycle = WAITS.search(self.states[name]), CYCLE.match(self.states[name])
+        found, cycle = WAITS.search(self.states[name]), CYCLE.search(self.states[name])
         return set(re.findall(r"`([^`]*)`", found[1] if found else "")) | set(cycle.groups() if cycle else ())
 
     def waits_below(self, name):
@@ -155,6 +166,7 @@ class Tries:
 
     def __init__(self, rt, crate, folder):
         self.rt, self.crate, self.folder, self.apart = rt, crate, folder, set()
+        self.cycles = [os.path.relpath(it, crate.folder) for it in glob.glob(os.path.join(crate.folder, "proofs", "**", "+*"), recursive=True)]
 
     def checked(self, try_over):
         with tempfile.TemporaryDirectory(dir=self.folder) as room:
@@ -185,7 +197,7 @@ class Tries:
         texts = self.texts_of(edits)
         ran = self.checked(lambda over: self.rt.checked(self.crate, texts, JOBS, over))
         said = Said(self.rt, ran.stdout)
-        unread = [it[0] for it in said.messages if self.rt.unread(it[0], texts) or re.search(r"\berror\[[\w-]+\]", it[0])]
+        unread = [it[0] for it in said.messages if self.rt.unread(it[0], texts) or not said.states and re.search(r"\berror\[[\w-]+\]", it[0])]
         if not said.states or unread:
             return self.without_verdict(edits, unread)
         beyond = [it for it in said.states if said.fails_itself(it) and not any(edit.function.owns(it) for edit in edits)]
@@ -214,13 +226,16 @@ class Tries:
         self.apart.update(frozenset((edit.function.name, it)) for it in others)
         return (ANEW, "") if others else None
 
+    def bars(self, one, other):
+        """Whether edits of two functions can't be tried by one check."""
+        return one.name == other.name or frozenset((one.name, other.name)) in self.apart or any(one.shares(it) and other.shares(it) for it in self.cycles)
+
     def rounds(self, edits):
         """The edits in few rounds: in none is a function twice, or beside one whose proof it lacked before."""
         count = lambda edit: -sum(it.function.name == edit.function.name for it in edits)
-        bars = lambda one, other: one.function.name == other.function.name or frozenset((one.function.name, other.function.name)) in self.apart
         found = []
         for edit in sorted(edits, key=count):
-            free = [it for it in found if not any(bars(edit, other) for other in it)]
+            free = [it for it in found if not any(self.bars(edit.function, other.function) for other in it)]
             if free:
                 min(free, key=len).append(edit)
             else:
