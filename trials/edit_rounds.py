@@ -17,7 +17,8 @@ STATE = re.compile(r"(?:fn|struct|enum|trait|impl) (\S+): (.*)")
 WAITS = re.compile(r"it calls (.*), which (?:is|are) not proved")
 CYCLE = re.compile(r"in `([^`]*)`, of this cycle of calls: ")
 PLACE = re.compile(r"(?:note: )?(?:\./)?(\S+?):(\d+):\d+:")
-LACKS = re.compile(r"(?:note: )?(?:\./)?proofs/.*(has no field|is not in scope|has no `|was not admitted)")
+LACKS = re.compile(r"(?:note: )?(?:\./)?proofs/.*\s(has no field|is not in scope|has no `|was not admitted)", re.S)
+NAMED = "only because a proof file names what the edit took away"
 WEAK, ANEW = "weak", "anew"  # beside the kinds of rt: refused for a name alone; and nothing is known yet
 
 
@@ -126,8 +127,7 @@ class Said:
     """What a check said: how each function fared, and each message with the lines that belong to it."""
 
     def __init__(self, rt, text):
-        self.states = {}
-        self.messages = []
+        self.states, self.messages, self.limits = {}, [], rt.LIMITS
         for line in text.rstrip("\n").split("\n"):
             state = STATE.fullmatch(line)
             if state:
@@ -136,8 +136,16 @@ class Said:
                 self.messages.append([line])
             elif line[:1].isspace() and self.messages:
                 self.messages[-1].append(line)
-        told = [it for it in self.messages if ": error" in it[0] or it[0].startswith("note: ")]
-        self.told = [(it[0], bool(rt.LIMITS.search("\n".join(it)))) for it in told or self.messages]
+        self.told = [it for it in self.messages if ": error" in it[0] or it[0].startswith("note: ")] or self.messages
+
+    def told_of(self, function):
+        """The messages about a function: those that show something, those of names that its proofs lack, and those of the prover's limits."""
+        shows, lacks, limits = [], [], []
+        for it in filter(lambda it: function.holds(it[0]), self.told):
+            # (a long first line goes on in the second)
+            kind = limits if self.limits.search("\n".join(it)) else lacks if LACKS.match("\n".join(it[:2])) else shows
+            kind.append(it[0][:160])
+        return shows, lacks, limits
 
     def fails(self, name):
         return not self.states[name].startswith(("proved", "assumed"))
@@ -180,7 +188,7 @@ class Tries:
         if kind not in self.rt.SETTLED:
             kind, text = self.rt.must_fail(self.crate, edit.path, JOBS)
         text = text.partition(": ")[2]
-        return WEAK if kind == self.rt.REFUSED and "only because a proof file names" in text else kind, text
+        return WEAK if kind == self.rt.REFUSED and NAMED in text else kind, text
 
     def texts_of(self, edits):
         texts = {}
@@ -217,14 +225,15 @@ class Tries:
         """What a check of several edits says of this one."""
         own = [it for it in said.states if edit.function.owns(it) and said.fails(it)]
         refused = [it for it in own if said.fails_itself(it) and said.states[it].startswith(("not proved", "no proof"))]
-        told = [(line, is_limit) for line, is_limit in said.told if edit.function.holds(line)]
-        shows = next((line for line, is_limit in told if not is_limit and not LACKS.match(line)), None)
+        shows, lacks, limits = said.told_of(edit.function)
         waits = set().union(*(said.waits_below(it) for it in own)) - set(own)
-        if refused and (shows or not told and not waits):
-            return self.rt.REFUSED, "refused, as it must be: " + (shows or said.states[refused[0]])[:160]
+        if refused and (shows or not lacks and not limits and not waits):
+            return self.rt.REFUSED, "refused, as it must be: " + (shows or [said.states[refused[0]]])[0]
         others = [it.function.name for it in edits if it is not edit and any(map(it.function.owns, waits))]
         self.apart.update(frozenset((edit.function.name, it)) for it in others)
-        return (ANEW, "") if others else None
+        if others:
+            return ANEW, ""
+        return (WEAK, "refused, as it must be (%s): %s" % (NAMED, lacks[0])) if refused and lacks and not limits else None
 
     def bars(self, one, other):
         """Whether edits of two functions can't be tried by one check."""
