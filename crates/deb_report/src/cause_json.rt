@@ -12,7 +12,7 @@ ghost use Rattle.deb_report.specs.Stems.{AreSought};
 
 use crate::gathered::Cause;
 use crate::hits::hits_of;
-use crate::json_parts::{Json, push_package, push_relation};
+use crate::json_parts::{IndexJson, push_package, push_relation};
 use crate::json_text::{push_array, push_number, push_quoted, push_text};
 use crate::near::{NearMiss, near_misses};
 use crate::print::Print;
@@ -25,7 +25,7 @@ use std::alloc::AllocError;
 /// What is wrong, in JSON.
 #[derive(Drop)]
 struct WrongJson<'p, 'i> {
-    json: &'p Json<'i>,
+    json: &'p IndexJson<'i>,
 }
 
 impl<'p, 'i> Print<Constraint> for WrongJson<'p, 'i> {
@@ -52,7 +52,7 @@ impl<'p, 'i> Print<Constraint> for WrongJson<'p, 'i> {
 /// Who needs it, in JSON.
 #[derive(Drop)]
 struct NeededJson<'p, 'i> {
-    json: &'p Json<'i>,
+    json: &'p IndexJson<'i>,
 }
 
 impl<'p, 'i> Print<Constraint> for NeededJson<'p, 'i> {
@@ -81,7 +81,7 @@ impl<'p, 'i> Print<Constraint> for NeededJson<'p, 'i> {
 /// Causes of an index, in JSON.
 #[derive(Drop)]
 struct CauseJson<'p, 'i> {
-    json: &'p Json<'i>,
+    json: &'p IndexJson<'i>,
     similar: Similar,
 }
 
@@ -178,7 +178,7 @@ impl<'p, 'i> Print<Cause> for CauseJson<'p, 'i> {
 /// Adds the member with causes.
 #[tactic(auto, using(crate::proofs::JoinLemmas::joined_map), unfolding(crate::specs::Json::tall_array))]
 pub(crate) fn push_causes(
-    json: &Json<'_>,
+    json: &IndexJson<'_>,
     out: &mut Vec<u8>,
     causes: &[Cause],
 ) -> Result<(), AllocError>

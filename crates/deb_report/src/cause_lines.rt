@@ -1,11 +1,9 @@
 //! Causes in lines.
 
 ghost use Rattle.std.specs.Prelude.{◌≡◌, ◌++◌, All, OnOk, Some, codes, decimal, length, map};
-ghost use Rattle.std.specs.List.{flat_map, join_by};
-ghost use Rattle.deb_relation.specs.AtomView.{atom_view};
-ghost use Rattle.deb_relation.specs.Relationship.{printed};
+ghost use Rattle.std.specs.List.{flat_map};
 ghost use Rattle.deb_index.specs.Constraints.{IsOfIndex};
-ghost use Rattle.deb_report.specs.CauseLines.{cause_text, causes_text, name_line, near_line, needed_line, provides_text, titled_if, wrong_line};
+ghost use Rattle.deb_report.specs.CauseLines.{cause_text, causes_text, name_line, near_line, needed_line, titled_if, wrong_line};
 ghost use Rattle.deb_report.specs.Causes.{IsCauseOf, cause_view, hits_of};
 ghost use Rattle.deb_report.specs.Near.{near_misses, near_view, similar_names};
 ghost use Rattle.deb_report.specs.Report.{line, place_line, titled};
@@ -14,13 +12,14 @@ ghost use Rattle.deb_report.specs.Stems.{AreSought};
 
 use crate::gathered::Cause;
 use crate::hits::hits_of;
-use crate::lines::{Lines, push_count, push_line, push_package, push_titled};
+use crate::line_parts::{
+    IndexLines, push_count, push_line, push_package, push_provides, push_titled,
+};
 use crate::near::{NearMiss, near_misses};
-use crate::print::{Plainly, Print, push_all, push_joined};
+use crate::print::{Print, push_all};
 use crate::reasons::{group_field, push_group};
 use crate::similar::Similar;
 use deb_index::Constraint;
-use deb_relation::Atom;
 use std::alloc::AllocError;
 
 /// Adds the lines of elements under a title, where there are some.
@@ -43,7 +42,7 @@ fn push_titled_if<T, P: Print<T>>(
 /// What is wrong, in lines.
 #[derive(Drop)]
 struct WrongLines<'p, 'i> {
-    lines: &'p Lines<'i>,
+    lines: &'p IndexLines<'i>,
 }
 
 impl<'p, 'i> Print<Constraint> for WrongLines<'p, 'i> {
@@ -70,7 +69,7 @@ impl<'p, 'i> Print<Constraint> for WrongLines<'p, 'i> {
 /// Who needs it, in lines.
 #[derive(Drop)]
 struct NeededLines<'p, 'i> {
-    lines: &'p Lines<'i>,
+    lines: &'p IndexLines<'i>,
 }
 
 impl<'p, 'i> Print<Constraint> for NeededLines<'p, 'i> {
@@ -102,29 +101,8 @@ impl<'p, 'i> Print<Constraint> for NeededLines<'p, 'i> {
 /// Causes of an index, in lines.
 #[derive(Drop)]
 struct CauseLines<'p, 'i> {
-    lines: &'p Lines<'i>,
+    lines: &'p IndexLines<'i>,
     similar: Similar,
-}
-
-/// Adds entries of Provides.
-#[tactic(auto, using(crate::proofs::JoinLemmas::joined_map))]
-fn push_entries(out: &mut Vec<u8>, entries: &[&Atom]) -> Result<(), AllocError>
-    ensures { OnOk result (out.new.items ≡ out.old.items ++ join_by printed (codes ", ") (map (λ entry. atom_view entry.now) entries.now)) }
-{
-    push_joined(out, ", ", &Plainly, entries)
-}
-
-/// Adds what a package provides, where it comes near by that alone.
-#[tactic(auto, unfolding(crate::specs::CauseLines::provides_text))]
-pub(crate) fn push_provides(out: &mut Vec<u8>, provides: &[&Atom]) -> Result<(), AllocError>
-    ensures { OnOk result (out.new.items ≡ out.old.items ++ provides_text (map (λ entry. atom_view entry.now) provides.now)) }
-{
-    if !provides.is_empty() {
-        out.extend_from_slice(b" (provides ")?;
-        push_entries(out, provides)?;
-        out.extend_from_slice(b")")?;
-    }
-    Ok(())
 }
 
 impl<'p, 'i, 'm> Print<NearMiss<'m>> for CauseLines<'p, 'i> {
@@ -242,7 +220,7 @@ impl<'p, 'i> Print<Cause> for CauseLines<'p, 'i> {
 /// Adds causes behind their number.
 #[tactic(auto, using(crate::proofs::JoinLemmas::lines_map))]
 pub(crate) fn push_causes(
-    lines: &Lines<'_>,
+    lines: &IndexLines<'_>,
     out: &mut Vec<u8>,
     causes: &[Cause],
 ) -> Result<(), AllocError>

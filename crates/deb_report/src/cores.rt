@@ -46,7 +46,8 @@ fn push_needs(
     positions: &mut Vec<u32>,
 ) -> Result<(), AllocError>
     requires { All (IsOfIndex index.now) core.now }
-    ensures { OnOk result ((k : ℕ) → members_of positions.new.items k ≡ (members_of positions.old.items k || is_need_at index.now (cause_in index.now core.now) k)) }
+    ensures { OnOk result ((k : ℕ) → members_of positions.new.items k
+        ≡ (members_of positions.old.items k || is_need_at index.now (cause_in index.now core.now) k)) }
 {
     for constraint in core {
         if let Constraint::Need(place, number) = *constraint {

@@ -133,7 +133,8 @@ fn add_package<'v>(
 ) -> Result<(), AllocError>
     requires { All (λ core. core.number < length parts.old.items) one.now.cores.items }
     ensures size { OnOk result (length parts.new.items ≡ length parts.old.items) }
-    ensures parts { OnOk result ((packages : List (ℕ × List (ℕ × List Constraint))) (count : ℕ) → map part_view parts.old.items ≡ map (part_of packages) (below count)
+    ensures parts { OnOk result ((packages : List (ℕ × List (ℕ × List Constraint))) (count : ℕ)
+        → map part_view parts.old.items ≡ map (part_of packages) (below count)
         → map part_view parts.new.items ≡ map (part_of (packages ++ package_view one.now ∷ [])) (below count)) }
 {
     let cores = one.cores.as_slice();

@@ -1,18 +1,187 @@
 //! The report as one JSON document (RFC 8259).
 
-ghost use Rattle.std.specs.Prelude.{◌≡◌, ◌++◌, All, IfOk, OnOk, codes, map};
+ghost use Rattle.std.specs.Prelude.{◌≡◌, ◌++◌, ◌<◌, All, IfOk, OnOk, codes, length, map};
 ghost use Rattle.std.specs.List.{flat_map};
-ghost use Rattle.deb_report.specs.Json.{array, block_json, causes_json, closing, head_json, json_text, list_json, member, number_json, quoted, tall_array};
-ghost use Rattle.deb_report.specs.Told.{AreLaterOf, IsContentOf, content_view, later_view, telling_view};
+ghost use Rattle.deb_index.specs.Constraints.{IsOfIndex};
+ghost use Rattle.deb_index.specs.Packages.{package_view};
+ghost use Rattle.deb_health.specs.Verdicts.{SpeaksOf, verdict_view};
+ghost use Rattle.deb_report.specs.Json.{also_json, array, block_json, broken_json, causes_json, closing, core_json, explanation_json, head_json, json_text};
+ghost use Rattle.deb_report.specs.Json.{list_json, member, number_json, quoted, tall_array, told_json};
+ghost use Rattle.deb_report.specs.Since.{broken_view};
+ghost use Rattle.deb_report.specs.Told.{AreLaterOf, IsAskedOf, IsContentOf};
+ghost use Rattle.deb_report.specs.Told.{amends_view, content_view, later_view, number_view, shown_view, telling_view};
 
+use crate::amends::Amends;
+use crate::broken::BrokenPackage;
 use crate::cause_json::push_causes;
 use crate::content::Content;
-use crate::json_parts::Json;
-use crate::json_text::{push_any_text, push_array};
-use crate::print::push_all;
+use crate::json_parts::{IndexJson, push_architecture, push_front, push_label, push_package};
+use crate::json_text::{push_any_text, push_array, push_list, push_number, push_quoted, push_text};
+use crate::print::{Print, push_all};
+use crate::reasons::reason_of;
+use crate::shown::{Shown, status_text};
+use crate::summary::Number;
 use crate::telling::Telling;
-use deb_index::Index;
+use crate::why_json::push_why;
+use deb_health::Verdict;
+use deb_index::{Constraint, Index};
 use std::alloc::{AllocError, Global};
+
+/// What is told of an index, in JSON.
+#[derive(Drop)]
+pub(crate) struct Json<'i> {
+    pub(crate) parts: IndexJson<'i>,
+    pub(crate) telling: Telling<'i>,
+}
+
+impl<'i> Print<Constraint> for Json<'i> {
+    ghost fits = { λ json constraint. IsOfIndex json.parts.index.now constraint };
+
+    ghost text = { λ json constraint. told_json json.parts.index.now (telling_view json.telling) constraint };
+
+    #[tactic(auto, unfolding(crate::specs::Json::told_json))]
+    fn print(&self, out: &mut Vec<u8>, constraint: &Constraint) -> Result<(), AllocError> {
+        let reason = reason_of(self.parts.alloc, self.parts.index, *constraint)?;
+        push_front(out, &reason)?;
+        if self.telling.config.why {
+            push_why(&self.parts, out, *constraint)?;
+        }
+        out.extend_from_slice(b"}")?;
+        Ok(())
+    }
+}
+
+impl<'i> Print<Vec<Constraint>> for Json<'i> {
+    ghost fits = { λ json core. All (IsOfIndex json.parts.index.now) core.items };
+
+    ghost text = { λ json core. core_json json.parts.index.now (telling_view json.telling) core.items };
+
+    fn print(&self, out: &mut Vec<u8>, core: &Vec<Constraint>) -> Result<(), AllocError> {
+        push_list(out, self, core.as_slice())
+    }
+}
+
+impl<'i> Print<&'static str> for Json<'i> {
+    ghost fits = { λ _ _. Unit {0} };
+
+    ghost text = { λ _ word. quoted word.now };
+
+    fn print(&self, out: &mut Vec<u8>, word: &&'static str) -> Result<(), AllocError> {
+        push_quoted(out, word.as_bytes())
+    }
+}
+
+impl<'i> Json<'i> {
+    /// Adds the member with cores behind the first.
+    #[tactic(auto, using(crate::proofs::JoinLemmas::joined_map), unfolding(crate::specs::Json::array))]
+    fn push_also(&self, out: &mut Vec<u8>, cores: &[Vec<Constraint>]) -> Result<(), AllocError>
+        requires { All (λ core. All (IsOfIndex self.now.parts.index.now) core.items) cores.now }
+        ensures { OnOk result (out.new.items ≡
+            out.old.items ++ codes ","
+            ++ member (codes "also") (array (core_json self.now.parts.index.now (telling_view self.now.telling)) (map (λ core. core.items) cores.now))) }
+    {
+        push_array(out, ",", "also", self, cores, "]")
+    }
+
+    /// Adds the cores behind the first of the package at a place, where they are told.
+    fn push_later(&self, out: &mut Vec<u8>, place: u32) -> Result<(), AllocError>
+        requires { AreLaterOf self.now.parts.index.now (later_view self.now.telling.later.now) }
+        ensures { OnOk result (out.new.items ≡ out.old.items ++ flat_map (λ part. codes "," ++ part)
+            (also_json self.now.parts.index.now (telling_view self.now.telling) place)) }
+    {
+        if self.telling.config.all_reasons {
+            self.push_also(out, self.telling.also_at(place))?;
+        }
+        Ok(())
+    }
+
+    /// Adds what explains a verdict.
+    #[tactic(auto, unfolding(crate::specs::Json::explanation_json, crate::specs::Json::array))]
+    fn push_explanation(&self, out: &mut Vec<u8>, shown: &Shown<'_>) -> Result<(), AllocError>
+        requires asked { IsAskedOf self.now.parts.index.now (shown_view shown.now) }
+        requires later { AreLaterOf self.now.parts.index.now (later_view self.now.telling.later.now) }
+        ensures { OnOk result (out.new.items ≡
+            out.old.items
+            ++ flat_map (λ part. codes "," ++ part) (explanation_json self.now.parts.index.now (telling_view self.now.telling) (shown_view shown.now))) }
+    {
+        match shown.verdict {
+            Verdict::Ok(places) => {
+                push_array(
+                    out,
+                    ",",
+                    "installation-set",
+                    &self.parts,
+                    places.as_slice(),
+                    "]",
+                )
+            }
+            Verdict::Broken(core) => {
+                push_array(out, ",", "reasons", self, core.as_slice(), "]")?;
+                self.push_later(out, shown.place)
+            }
+        }
+    }
+}
+
+impl<'i, 'v> Print<Shown<'v>> for Json<'i> {
+    ghost fits = { λ json shown. IsAskedOf json.parts.index.now (shown_view shown) × AreLaterOf json.parts.index.now (later_view json.telling.later.now) };
+
+    ghost text = { λ json shown. block_json json.parts.index.now (telling_view json.telling) (shown_view shown) };
+
+    #[tactic(auto, unfolding(crate::specs::Json::block_json))]
+    fn print(&self, out: &mut Vec<u8>, shown: &Shown<'v>) -> Result<(), AllocError> {
+        let deb = self.parts.index.package(shown.place);
+        push_package(out, "\n{", deb)?;
+        push_architecture(out, deb)?;
+        push_text(out, ",", "status", status_text(shown.verdict))?;
+        if self.telling.config.explain {
+            self.push_explanation(out, shown)?;
+        }
+        out.extend_from_slice(b"}")?;
+        Ok(())
+    }
+}
+
+impl<'i> Print<Number> for Json<'i> {
+    ghost fits = { λ _ _. Unit {0} };
+
+    ghost text = { λ _ number. codes "," ++ number_json (number_view number) };
+
+    fn print(&self, out: &mut Vec<u8>, number: &Number) -> Result<(), AllocError> {
+        push_number(self.parts.alloc, out, ",", number.title, number.number)
+    }
+}
+
+impl<'i, 'b> Print<&'b BrokenPackage> for Json<'i> {
+    ghost fits = { λ _ _. Unit {0} };
+
+    ghost text = { λ _ deb. broken_json (broken_view deb.now) };
+
+    #[tactic(auto, unfolding(crate::specs::Json::broken_json))]
+    fn print(&self, out: &mut Vec<u8>, deb: &&'b BrokenPackage) -> Result<(), AllocError> {
+        push_label(out, "{", deb.name.as_slice(), deb.version.as_slice())?;
+        out.extend_from_slice(b"}")?;
+        Ok(())
+    }
+}
+
+impl<'i, 'b> Print<Amends<'b>> for Json<'i> {
+    ghost fits = { λ _ _. Unit {0} };
+
+    ghost text = { λ _ amends. codes "," ++ list_json (amends_view amends) };
+
+    #[tactic(auto, using(crate::proofs::JoinLemmas::joined_map), unfolding(crate::specs::Json::array))]
+    fn print(&self, out: &mut Vec<u8>, amends: &Amends<'b>) -> Result<(), AllocError> {
+        push_array(
+            out,
+            ",",
+            amends.title,
+            self,
+            amends.packages.as_slice(),
+            "]",
+        )
+    }
+}
 
 impl<'i> Json<'i> {
     /// Adds the words that the document is made under.
@@ -42,10 +211,10 @@ impl<'i> Json<'i> {
     /// Adds the member with the blocks.
     #[tactic(auto, using(crate::proofs::JoinLemmas::joined_map), unfolding(crate::specs::Json::tall_array))]
     fn push_blocks(&self, out: &mut Vec<u8>, content: &Content<'_>) -> Result<(), AllocError>
-        requires content { IsContentOf self.now.index.now content.now }
-        requires later { AreLaterOf self.now.index.now (later_view self.now.telling.later.now) }
+        requires content { IsContentOf self.now.parts.index.now content.now }
+        requires later { AreLaterOf self.now.parts.index.now (later_view self.now.telling.later.now) }
         ensures { OnOk result (out.new.items ≡ out.old.items ++ codes "," ++ member (codes "report")
-            (tall_array (block_json self.now.index.now (telling_view self.now.telling)) (content_view content.now).blocks)) }
+            (tall_array (block_json self.now.parts.index.now (telling_view self.now.telling)) (content_view content.now).blocks)) }
     {
         push_array(out, ",", "report", self, content.blocks.as_slice(), "\n]")
     }
@@ -68,11 +237,11 @@ impl<'i> Json<'i> {
 
     /// Adds the causes, where they are told, and the end of the object.
     fn push_end(&self, out: &mut Vec<u8>, content: &Content<'_>) -> Result<(), AllocError>
-        requires { IsContentOf self.now.index.now content.now }
-        ensures { OnOk result (out.new.items ≡ out.old.items ++ closing (causes_json self.now.index.now (content_view content.now).causes)) }
+        requires { IsContentOf self.now.parts.index.now content.now }
+        ensures { OnOk result (out.new.items ≡ out.old.items ++ closing (causes_json self.now.parts.index.now (content_view content.now).causes)) }
     {
         if let Some(causes) = &content.causes {
-            push_causes(self, out, causes.as_slice())?;
+            push_causes(&self.parts, out, causes.as_slice())?;
         }
         out.extend_from_slice(b"}")?;
         Ok(())
@@ -96,11 +265,8 @@ pub(crate) fn json_report(
     requires later { AreLaterOf index.now (later_view telling.later.now) }
     ensures { IfOk result (λ text. text.items ≡ json_text index.now (telling_view telling.entry) (content_view content.now)) }
 {
-    let json = Json {
-        alloc,
-        index,
-        telling,
-    };
+    let parts = IndexJson { alloc, index };
+    let json = Json { parts, telling };
     let options = telling.options(alloc)?;
     let mut out = Vec::new(alloc);
     json.push_head(&mut out, options.as_slice())?;

@@ -18,8 +18,10 @@ ghost use Rattle.deb_report.specs.Since.{amends_of, broken_of, news_of};
 /// What a report in JSON takes of an index stands in its strings as it is: names, versions and relations have no byte that needs an escape,
 /// whatever texts were read. Architectures are escaped, and one that a command line may name is left as it is.
 pub fn plain_texts()
-    ensures packages { (text background arch : List ℕ) (essential : Bool) (index : IndexView) → index_of_both text background arch essential ≡ Ok index → list_all has_plain_texts index.packages ≡ true }
-    ensures names { (text background arch : List ℕ) (essential : Bool) (index : IndexView) → index_of_both text background arch essential ≡ Ok index → list_all is_plain (names index) ≡ true }
+    ensures packages { (text background arch : List ℕ) (essential : Bool) (index : IndexView)
+        → index_of_both text background arch essential ≡ Ok index → list_all has_plain_texts index.packages ≡ true }
+    ensures names { (text background arch : List ℕ) (essential : Bool) (index : IndexView)
+        → index_of_both text background arch essential ≡ Ok index → list_all is_plain (names index) ≡ true }
     ensures unescaped { (text : List ℕ) → is_plain text ≡ true → escaped text ≡ text }
     ensures architectures { (arch : List ℕ) → is_architecture arch ≡ true → escaped arch ≡ arch }
 {}

@@ -3,8 +3,8 @@
 //! The modules, in reading order:
 //!
 //! - `config`: what is asked of a run; a report depends on a part of it. `asked`: the places that are asked.
-//! - `layout`: the report in its form, by `lines` or by `json`, whose parts are in `json_parts`. `telling`: what of verdicts it tells;
-//!   `options`: the words that it is made under.
+//! - `layout`: the report in its form, by `lines` or by `json`; what lines are made of is in `line_parts`, and what a document is in `json_parts`.
+//!   `telling`: what of verdicts it tells; `options`: the words that it is made under.
 //! - `content`: what both tell. `summary`, the numbers of a report; `shown`, the places that are shown; `reasons`, what stands against a package.
 //! - `causes`: what is wrong in the end, and what it breaks. `numbering` gives each text a number, `wrongs` one to each cause, `numbered` to each
 //!   core that of its cause; `gathered` gathers by these numbers, `cores` says what the cores of a cause tell.
@@ -33,6 +33,7 @@ mod json_parts;
 mod json_text;
 pub mod laws;
 mod layout;
+mod line_parts;
 mod lines;
 mod marks;
 mod near;

@@ -1,22 +1,23 @@
 //! The report in lines.
 
-ghost use Rattle.std.specs.Prelude.{◌≡◌, ◌++◌, ◌<◌, All, IfOk, OnOk, codes, decimal, length, map};
+ghost use Rattle.std.specs.Prelude.{◌≡◌, ◌++◌, ◌<◌, All, IfOk, OnOk, codes, length};
 ghost use Rattle.std.specs.List.{flat_map};
 ghost use Rattle.deb_index.specs.Constraints.{IsOfIndex};
 ghost use Rattle.deb_index.specs.Packages.{package_view};
 ghost use Rattle.deb_health.specs.Verdicts.{SpeaksOf, verdict_view};
 ghost use Rattle.deb_report.specs.CauseLines.{causes_text};
 ghost use Rattle.deb_report.specs.Lines.{block_of, broken_line, explanation, first_core, lines_text, list_lines};
-ghost use Rattle.deb_report.specs.Report.{also_at, constraint_line, core_lines, heading, label_of, label_text, line, number_line, place_line, reason_line, titled};
+ghost use Rattle.deb_report.specs.Report.{also_at, core_lines, heading, line, number_line, titled};
 ghost use Rattle.deb_report.specs.Since.{broken_view};
-ghost use Rattle.deb_report.specs.Told.{AreLaterOf, IsAskedOf, IsContentOf, amends_view, content_view, later_view, number_view, reason_view, shown_view, telling_view};
+ghost use Rattle.deb_report.specs.Told.{AreLaterOf, IsAskedOf, IsContentOf};
+ghost use Rattle.deb_report.specs.Told.{amends_view, content_view, later_view, number_view, shown_view, telling_view};
 
 use crate::amends::Amends;
 use crate::broken::BrokenPackage;
 use crate::cause_lines::push_causes;
 use crate::content::Content;
+use crate::line_parts::{IndexLines, push_label, push_line, push_titled};
 use crate::print::{Print, push_all};
-use crate::reasons::{Reason, push_group, reason_of};
 use crate::shown::{Shown, status_text};
 use crate::summary::Number;
 use crate::telling::Telling;
@@ -28,124 +29,8 @@ use std::alloc::{AllocError, Global};
 /// What is told of an index, in lines.
 #[derive(Drop)]
 pub(crate) struct Lines<'i> {
-    pub(crate) alloc: Global,
-    pub(crate) index: &'i Index,
+    pub(crate) parts: IndexLines<'i>,
     pub(crate) telling: Telling<'i>,
-}
-
-/// Adds a line of a title and a text.
-#[tactic(auto, unfolding(crate::specs::Report::line))]
-pub(crate) fn push_line(out: &mut Vec<u8>, title: &str, text: &[u8]) -> Result<(), AllocError>
-    ensures { OnOk result (out.new.items ≡ out.old.items ++ line title.now text.now) }
-{
-    out.extend_from_slice(title.as_bytes())?;
-    out.extend_from_slice(text)?;
-    out.extend_from_slice(b"\n")?;
-    Ok(())
-}
-
-/// Adds a line of a title and a number.
-pub(crate) fn push_count(
-    alloc: Global,
-    out: &mut Vec<u8>,
-    title: &str,
-    count: usize,
-) -> Result<(), AllocError>
-    ensures { OnOk result (out.new.items ≡ out.old.items ++ line title.now (decimal count)) }
-{
-    push_line(out, title, count.to_string(alloc)?.as_str().as_bytes())?;
-    Ok(())
-}
-
-/// Adds the lines of elements under a title.
-pub(crate) fn push_titled<T, P: Print<T>>(
-    out: &mut Vec<u8>,
-    title: &str,
-    printer: &P,
-    elements: &[T],
-) -> Result<(), AllocError>
-    requires { All (P.fits printer.now) elements.now }
-    ensures { OnOk result (out.new.items ≡ out.old.items ++ titled title.now (flat_map (P.text printer.now) elements.now)) }
-{
-    push_line(out, title, b"")?;
-    push_all(out, printer, elements)?;
-    Ok(())
-}
-
-/// Adds a name and a version.
-#[tactic(auto, unfolding(crate::specs::Report::label_text))]
-fn push_label(out: &mut Vec<u8>, name: &[u8], version: &[u8]) -> Result<(), AllocError>
-    ensures { OnOk result (out.new.items ≡ out.old.items ++ label_text name.now version.now) }
-{
-    out.extend_from_slice(name)?;
-    out.extend_from_slice(b" ")?;
-    out.extend_from_slice(version)?;
-    Ok(())
-}
-
-/// Adds a package's name and version.
-pub(crate) fn push_package(out: &mut Vec<u8>, deb: &Package) -> Result<(), AllocError>
-    ensures { OnOk result (out.new.items ≡ out.old.items ++ label_of (package_view deb.now)) }
-{
-    push_label(out, deb.name.as_slice(), deb.version.text())
-}
-
-impl<'i> Print<u32> for Lines<'i> {
-    ghost fits = { λ lines place. place < length lines.index.now.packages };
-
-    ghost text = { λ lines place. place_line lines.index.now place };
-
-    #[tactic(auto, unfolding(crate::specs::Report::line, crate::specs::Report::place_line))]
-    fn print(&self, out: &mut Vec<u8>, place: &u32) -> Result<(), AllocError> {
-        out.extend_from_slice(b"   - ")?;
-        push_package(out, self.index.package(*place))?;
-        out.extend_from_slice(b"\n")?;
-        Ok(())
-    }
-}
-
-/// Adds the line of a reason.
-#[tactic(auto, unfolding(crate::specs::Report::reason_line))]
-fn push_reason(out: &mut Vec<u8>, reason: &Reason<'_>) -> Result<(), AllocError>
-    ensures { OnOk result (out.new.items ≡ out.old.items ++ reason_line (reason_view reason.now)) }
-{
-    match reason {
-        Reason::Name { kind, name } => {
-            out.extend_from_slice(b"   - ")?;
-            out.extend_from_slice(kind)?;
-            out.extend_from_slice(b": ")?;
-            out.extend_from_slice(name)?;
-            out.extend_from_slice(b"\n")?;
-        }
-        Reason::Relation {
-            kind,
-            deb,
-            field,
-            relation,
-        } => {
-            out.extend_from_slice(b"   - ")?;
-            out.extend_from_slice(kind)?;
-            out.extend_from_slice(b": ")?;
-            push_package(out, deb)?;
-            out.extend_from_slice(b" ")?;
-            out.extend_from_slice(field)?;
-            out.extend_from_slice(b": ")?;
-            push_group(out, relation)?;
-            out.extend_from_slice(b"\n")?;
-        }
-    }
-    Ok(())
-}
-
-impl<'i> Print<Constraint> for Lines<'i> {
-    ghost fits = { λ lines constraint. IsOfIndex lines.index.now constraint };
-
-    ghost text = { λ lines constraint. constraint_line lines.index.now constraint };
-
-    fn print(&self, out: &mut Vec<u8>, constraint: &Constraint) -> Result<(), AllocError> {
-        let reason = reason_of(self.alloc, self.index, *constraint)?;
-        push_reason(out, &reason)
-    }
 }
 
 impl<'i> Lines<'i> {
@@ -157,17 +42,17 @@ impl<'i> Lines<'i> {
         title: &str,
         core: &[Constraint],
     ) -> Result<(), AllocError>
-        requires { All (IsOfIndex self.now.index.now) core.now }
-        ensures { OnOk result (out.new.items ≡ out.old.items ++ core_lines self.now.index.now title.now core.now) }
+        requires { All (IsOfIndex self.now.parts.index.now) core.now }
+        ensures { OnOk result (out.new.items ≡ out.old.items ++ core_lines self.now.parts.index.now title.now core.now) }
     {
-        push_titled(out, title, self, core)
+        push_titled(out, title, &self.parts, core)
     }
 }
 
 impl<'i> Print<Vec<Constraint>> for Lines<'i> {
-    ghost fits = { λ lines core. All (IsOfIndex lines.index.now) core.items };
+    ghost fits = { λ lines core. All (IsOfIndex lines.parts.index.now) core.items };
 
-    ghost text = { λ lines core. core_lines lines.index.now (codes "  also:") core.items };
+    ghost text = { λ lines core. core_lines lines.parts.index.now (codes "  also:") core.items };
 
     fn print(&self, out: &mut Vec<u8>, core: &Vec<Constraint>) -> Result<(), AllocError> {
         self.push_core(out, "  also:", core.as_slice())
@@ -177,9 +62,9 @@ impl<'i> Print<Vec<Constraint>> for Lines<'i> {
 impl<'i> Lines<'i> {
     /// Adds the cores behind the first of the package at a place, where they are told.
     fn push_later(&self, out: &mut Vec<u8>, place: u32) -> Result<(), AllocError>
-        requires { AreLaterOf self.now.index.now (later_view self.now.telling.later.now) }
+        requires { AreLaterOf self.now.parts.index.now (later_view self.now.telling.later.now) }
         ensures { OnOk result (out.new.items ≡
-            out.old.items ++ flat_map (core_lines self.now.index.now (codes "  also:")) (also_at (telling_view self.now.telling) place)) }
+            out.old.items ++ flat_map (core_lines self.now.parts.index.now (codes "  also:")) (also_at (telling_view self.now.telling) place)) }
     {
         push_all(out, self, self.telling.also_at(place))?;
         Ok(())
@@ -192,12 +77,12 @@ impl<'i> Lines<'i> {
         place: u32,
         core: &[Constraint],
     ) -> Result<(), AllocError>
-        requires place { place < length self.now.index.now.packages }
-        requires core { All (IsOfIndex self.now.index.now) core.now }
-        ensures { OnOk result (out.new.items ≡ out.old.items ++ first_core self.now.index.now (telling_view self.now.telling) place core.now) }
+        requires place { place < length self.now.parts.index.now.packages }
+        requires core { All (IsOfIndex self.now.parts.index.now) core.now }
+        ensures { OnOk result (out.new.items ≡ out.old.items ++ first_core self.now.parts.index.now (telling_view self.now.telling) place core.now) }
     {
         if self.telling.config.why {
-            push_walk(self.alloc, out, self.index, place, core)
+            push_walk(self.parts.alloc, out, self.parts.index, place, core)
         } else {
             self.push_core(out, "  reasons:", core)
         }
@@ -206,13 +91,13 @@ impl<'i> Lines<'i> {
     /// Adds what explains a verdict.
     #[tactic(auto, unfolding(crate::specs::Lines::explanation))]
     fn push_explanation(&self, out: &mut Vec<u8>, shown: &Shown<'_>) -> Result<(), AllocError>
-        requires asked { IsAskedOf self.now.index.now (shown_view shown.now) }
-        requires later { AreLaterOf self.now.index.now (later_view self.now.telling.later.now) }
-        ensures { OnOk result (out.new.items ≡ out.old.items ++ explanation self.now.index.now (telling_view self.now.telling) (shown_view shown.now)) }
+        requires asked { IsAskedOf self.now.parts.index.now (shown_view shown.now) }
+        requires later { AreLaterOf self.now.parts.index.now (later_view self.now.telling.later.now) }
+        ensures { OnOk result (out.new.items ≡ out.old.items ++ explanation self.now.parts.index.now (telling_view self.now.telling) (shown_view shown.now)) }
     {
         match shown.verdict {
             Verdict::Ok(places) => {
-                push_titled(out, "  installation-set:", self, places.as_slice())
+                push_titled(out, "  installation-set:", &self.parts, places.as_slice())
             }
             Verdict::Broken(core) => {
                 self.push_first(out, shown.place, core.as_slice())?;
@@ -235,13 +120,13 @@ fn push_heading(out: &mut Vec<u8>, deb: &Package) -> Result<(), AllocError>
 }
 
 impl<'i, 'v> Print<Shown<'v>> for Lines<'i> {
-    ghost fits = { λ lines shown. IsAskedOf lines.index.now (shown_view shown) × AreLaterOf lines.index.now (later_view lines.telling.later.now) };
+    ghost fits = { λ lines shown. IsAskedOf lines.parts.index.now (shown_view shown) × AreLaterOf lines.parts.index.now (later_view lines.telling.later.now) };
 
-    ghost text = { λ lines shown. block_of lines.index.now (telling_view lines.telling) (shown_view shown) };
+    ghost text = { λ lines shown. block_of lines.parts.index.now (telling_view lines.telling) (shown_view shown) };
 
     #[tactic(auto, unfolding(crate::specs::Lines::block_of))]
     fn print(&self, out: &mut Vec<u8>, shown: &Shown<'v>) -> Result<(), AllocError> {
-        push_heading(out, self.index.package(shown.place))?;
+        push_heading(out, self.parts.index.package(shown.place))?;
         push_line(out, "  status: ", status_text(shown.verdict))?;
         if self.telling.config.explain {
             self.push_explanation(out, shown)?;
@@ -257,7 +142,7 @@ impl<'i> Print<Number> for Lines<'i> {
 
     #[tactic(auto, unfolding(crate::specs::Report::number_line))]
     fn print(&self, out: &mut Vec<u8>, number: &Number) -> Result<(), AllocError> {
-        let digits = number.number.to_string(self.alloc)?;
+        let digits = number.number.to_string(self.parts.alloc)?;
         out.extend_from_slice(number.title.as_bytes())?;
         out.extend_from_slice(b": ")?;
         out.extend_from_slice(digits.as_str().as_bytes())?;
@@ -297,10 +182,10 @@ impl<'i> Lines<'i> {
     /// Adds the blocks.
     #[tactic(auto, using(crate::proofs::JoinLemmas::lines_map))]
     fn push_blocks(&self, out: &mut Vec<u8>, content: &Content<'_>) -> Result<(), AllocError>
-        requires content { IsContentOf self.now.index.now content.now }
-        requires later { AreLaterOf self.now.index.now (later_view self.now.telling.later.now) }
+        requires content { IsContentOf self.now.parts.index.now content.now }
+        requires later { AreLaterOf self.now.parts.index.now (later_view self.now.telling.later.now) }
         ensures { OnOk result (out.new.items ≡ out.old.items ++ titled (codes "report:")
-            (flat_map (block_of self.now.index.now (telling_view self.now.telling)) (content_view content.now).blocks)) }
+            (flat_map (block_of self.now.parts.index.now (telling_view self.now.telling)) (content_view content.now).blocks)) }
     {
         push_titled(out, "report:", self, content.blocks.as_slice())
     }
@@ -323,11 +208,11 @@ impl<'i> Lines<'i> {
 
     /// Adds the causes, where they are told.
     fn push_causes(&self, out: &mut Vec<u8>, content: &Content<'_>) -> Result<(), AllocError>
-        requires { IsContentOf self.now.index.now content.now }
-        ensures { OnOk result (out.new.items ≡ out.old.items ++ causes_text self.now.index.now (content_view content.now).causes) }
+        requires { IsContentOf self.now.parts.index.now content.now }
+        ensures { OnOk result (out.new.items ≡ out.old.items ++ causes_text self.now.parts.index.now (content_view content.now).causes) }
     {
         if let Some(causes) = &content.causes {
-            push_causes(self, out, causes.as_slice())?;
+            push_causes(&self.parts, out, causes.as_slice())?;
         }
         Ok(())
     }
@@ -345,11 +230,8 @@ pub(crate) fn lines_report(
     requires later { AreLaterOf index.now (later_view telling.later.now) }
     ensures { IfOk result (λ text. text.items ≡ lines_text index.now (telling_view telling.entry) (content_view content.now)) }
 {
-    let lines = Lines {
-        alloc,
-        index,
-        telling,
-    };
+    let parts = IndexLines { alloc, index };
+    let lines = Lines { parts, telling };
     let mut out = Vec::new(alloc);
     push_line(&mut out, "architecture: ", index.arch())?;
     lines.push_blocks(&mut out, content)?;

@@ -6,7 +6,8 @@ ghost use Rattle.deb_index.specs.Packages.{apart_at, names};
 ghost use Rattle.deb_index.specs.declared.constraint.Constraint.{Constraint};
 ghost use Rattle.number_sets.specs.Sets.{members_of};
 ghost use Rattle.deb_report.specs.declared.walk.Step.{Step};
-ghost use Rattle.deb_report.specs.Walk.{are_told, begin_step, brought, comers, depth_of, essential_step, first_steps, hits_in, is_hit, kept, met_steps, only_step, own_steps, versions_coming};
+ghost use Rattle.deb_report.specs.Walk.{are_told, begin_step, brought, comers, depth_of, essential_step, first_steps, hits_in, is_hit, kept};
+ghost use Rattle.deb_report.specs.Walk.{met_steps, only_step, own_steps, versions_coming};
 
 use crate::own::OwnTable;
 use crate::place_set::PlaceSet;

@@ -9,10 +9,11 @@ ghost use Rattle.deb_index.specs.Packages.{need_at, package_view};
 ghost use Rattle.number_sets.specs.Sets.{members_of};
 ghost use Rattle.deb_report.specs.declared.walk.Step.{Step};
 ghost use Rattle.deb_report.specs.Near.{near_view};
-ghost use Rattle.deb_report.specs.Walk.{IsStepOf, above_text, are_told, asked_text, brought, constraint_text, hits_text, lead, missing_text, near_text, need_ending, own_steps, package_line, package_text, present_text, seen_text, seen_texts, step_limit, step_text, steps_behind, told_behind, walk, walk_lines};
+ghost use Rattle.deb_report.specs.Walk.{IsStepOf, are_told, brought, own_steps, step_limit, steps_behind, told_behind, walk};
+ghost use Rattle.deb_report.specs.Walk.{above_text, asked_text, constraint_text, hits_text, lead, missing_text, near_text, need_ending, present_text};
+ghost use Rattle.deb_report.specs.Walk.{package_line, package_text, seen_text, seen_texts, step_text, walk_lines};
 
-use crate::cause_lines::push_provides;
-use crate::lines::{push_line, push_package};
+use crate::line_parts::{push_line, push_package, push_provides};
 use crate::near::{NearMiss, answer_at, near_misses};
 use crate::own::OwnTable;
 use crate::place_set::PlaceSet;

@@ -11,7 +11,7 @@ ghost use Rattle.deb_report.specs.Json.{answers_to, array, member, near_json, pl
 ghost use Rattle.deb_report.specs.Near.{near_view};
 
 use crate::hits::hits_of;
-use crate::json_parts::Json;
+use crate::json_parts::IndexJson;
 use crate::json_text::push_array;
 use crate::near::{NearMiss, answers_to};
 use crate::print::Print;
@@ -51,7 +51,7 @@ fn push_alternatives(out: &mut Vec<u8>, group: &[Atom]) -> Result<(), AllocError
 /// Adds the member with the packages that answer a need.
 #[tactic(auto, using(crate::proofs::JoinLemmas::joined_map), unfolding(crate::specs::Json::array))]
 fn push_answers(
-    json: &Json<'_>,
+    json: &IndexJson<'_>,
     out: &mut Vec<u8>,
     answers: &[NearMiss<'_>],
 ) -> Result<(), AllocError>
@@ -62,7 +62,12 @@ fn push_answers(
 
 /// Adds where a walk goes on from a need.
 #[tactic(auto, unfolding(crate::specs::Json::why_json))]
-fn push_need(json: &Json<'_>, out: &mut Vec<u8>, place: u32, number: u32) -> Result<(), AllocError>
+fn push_need(
+    json: &IndexJson<'_>,
+    out: &mut Vec<u8>,
+    place: u32,
+    number: u32,
+) -> Result<(), AllocError>
     requires { IsOfIndex json.now.index.now (Constraint.Need place number) }
     ensures { OnOk result (out.new.items ≡ out.old.items ++ why_json json.now.index.now (Constraint.Need place number)) }
 {
@@ -77,7 +82,12 @@ fn push_need(json: &Json<'_>, out: &mut Vec<u8>, place: u32, number: u32) -> Res
 
 /// Adds the packages that an entry hits.
 #[tactic(auto, unfolding(crate::specs::Json::why_json, crate::specs::Json::array))]
-fn push_hits(json: &Json<'_>, out: &mut Vec<u8>, place: u32, number: u32) -> Result<(), AllocError>
+fn push_hits(
+    json: &IndexJson<'_>,
+    out: &mut Vec<u8>,
+    place: u32,
+    number: u32,
+) -> Result<(), AllocError>
     requires { IsOfIndex json.now.index.now (Constraint.Apart place number) }
     ensures { OnOk result (out.new.items ≡ out.old.items ++ why_json json.now.index.now (Constraint.Apart place number)) }
 {
@@ -89,7 +99,7 @@ fn push_hits(json: &Json<'_>, out: &mut Vec<u8>, place: u32, number: u32) -> Res
 
 /// Adds the versions of a name.
 #[tactic(auto, unfolding(crate::specs::Json::why_json, crate::specs::Json::array))]
-fn push_versions(json: &Json<'_>, out: &mut Vec<u8>, name: u32) -> Result<(), AllocError>
+fn push_versions(json: &IndexJson<'_>, out: &mut Vec<u8>, name: u32) -> Result<(), AllocError>
     requires { IsOfIndex json.now.index.now (Constraint.Only name) }
     ensures { OnOk result (out.new.items ≡ out.old.items ++ why_json json.now.index.now (Constraint.Only name)) }
 {
@@ -107,7 +117,7 @@ fn push_versions(json: &Json<'_>, out: &mut Vec<u8>, name: u32) -> Result<(), Al
 /// Adds where a walk goes on from a constraint.
 #[tactic(auto, unfolding(crate::specs::Json::why_json))]
 pub(crate) fn push_why(
-    json: &Json<'_>,
+    json: &IndexJson<'_>,
     out: &mut Vec<u8>,
     constraint: Constraint,
 ) -> Result<(), AllocError>

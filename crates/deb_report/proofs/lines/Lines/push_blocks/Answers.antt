@@ -5,7 +5,7 @@ use Rattle.deb_report.proofs.lines.Lines.push_blocks.Goals as goal
 
 pub push_titled-requires : goal.push_titled-requires
 push_titled-requires c =
-    let index = c.args.self.now.index.now in
+    let index = c.args.self.now.parts.index.now in
     rw c.as_slice.ensures.value
     (All-weaker (λ (one : Shown). IsAskedOf index (shown_view one)) (λ (one : Shown). IsAskedOf index (shown_view one) × AreLaterOf index (later_view c.args.self.now.telling.later.now))
     (λ one asked. (asked, c.requires.later)) c.args.content.now.blocks.items c.requires.content.blocks)

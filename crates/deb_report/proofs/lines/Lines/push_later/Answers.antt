@@ -7,10 +7,10 @@ use Rattle.deb_report.proofs.ReportLemmas.{also-within}
 use Rattle.deb_report.proofs.lines.Lines.push_later.Goals as goal
 
 pub push_all-requires : goal.push_all-requires
-push_all-requires c = also-within c.args.self.now.index.now (telling_view c.args.self.now.telling) c.also_at.result.now c.args.place c.requires c.also_at.ensures
+push_all-requires c = also-within c.args.self.now.parts.index.now (telling_view c.args.self.now.telling) c.also_at.result.now c.args.place c.requires c.also_at.ensures
 
 pub returns : goal.returns
 returns c =
-    let text = core_lines c.args.self.now.index.now (codes "  also:") in
+    let text = core_lines c.args.self.now.parts.index.now (codes "  also:") in
     rw (c.in_ok-push_all.ensures, ← c.also_at.ensures)
     (ap (λ (lines : List ℕ). c.args.out.now.items ++ lines) (sym (lines_map text (λ (core : Vec Constraint Global). core.items) c.also_at.result.now)))

@@ -3,7 +3,7 @@ use Rattle.deb_report.specs.declared.broken.BrokenPackage.{BrokenPackage}
 use Rattle.deb_report.specs.Json.{array, broken_json}
 use Rattle.deb_report.specs.Since.{broken_view}
 use Rattle.deb_report.proofs.JoinLemmas.{joined_map}
-use Rattle.deb_report.proofs.json_parts.JsonPrintAmends.print.Goals as goal
+use Rattle.deb_report.proofs.json.JsonPrintAmends.print.Goals as goal
 
 pub returns : goal.returns
 unfolding array

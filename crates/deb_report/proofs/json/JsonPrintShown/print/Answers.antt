@@ -5,8 +5,8 @@ use Rattle.deb_report.specs.Json.{architecture_json, block_json, explanation_jso
 use Rattle.deb_report.specs.Report.{status_of}
 use Rattle.deb_report.specs.Told.{shown_view, telling_view}
 use Rattle.deb_report.proofs.JoinLemmas.{object-of, object-with}
-use Rattle.deb_report.proofs.json_parts.JsonPrintShown.print.Goals as goal
-use Rattle.deb_report.proofs.json_parts.JsonPrintShown.print.Goals.{then-self+in_ok-push_explanation, else-self}
+use Rattle.deb_report.proofs.json.JsonPrintShown.print.Goals as goal
+use Rattle.deb_report.proofs.json.JsonPrintShown.print.Goals.{then-self+in_ok-push_explanation, else-self}
 
 explained : (explain : Bool) (parts : List (List ℕ)) → explain ≡ true → parts ≡ (if explain then parts else [])
 explained explain parts told = rw told refl
@@ -22,7 +22,7 @@ returns c =
     let status = member (codes "status") (quoted (status_of (verdict_view c.args.shown.now.verdict.now))) in
     elim c.if-self.branch [
       | then-self+in_ok-push_explanation w ↦
-          let parts = explanation_json c.args.self.now.index.now telling (shown_view c.args.shown.now) in
+          let parts = explanation_json c.args.self.now.parts.index.now telling (shown_view c.args.shown.now) in
           rw (c.in_ok-extend_from_slice.ensures.items, w.out-is, w.in_ok-push_explanation.ensures, c.in_ok-push_text.ensures, c.in_ok-push_architecture.ensures, c.in_ok-push_package.ensures, c.status_text.ensures, ← c.package-deb.ensures)
           (object-with out (codes "\n") label (architecture ∷ status ∷ []) parts
           ∙ ap (λ (told : List (List ℕ)). out ++ (codes "\n" ++ object (label ∷ architecture ∷ status ∷ told))) (explained telling.explain parts w.if-self.true))

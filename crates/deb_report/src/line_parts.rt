@@ -1,0 +1,160 @@
+//! What lines are made of: titles, packages, and the constraints of an index.
+
+ghost use Rattle.std.specs.Prelude.{◌≡◌, ◌++◌, ◌<◌, All, OnOk, codes, decimal, length, map};
+ghost use Rattle.std.specs.List.{flat_map, join_by};
+ghost use Rattle.deb_relation.specs.AtomView.{atom_view};
+ghost use Rattle.deb_relation.specs.Relationship.{printed};
+ghost use Rattle.deb_index.specs.Constraints.{IsOfIndex};
+ghost use Rattle.deb_index.specs.Packages.{package_view};
+ghost use Rattle.deb_report.specs.CauseLines.{provides_text};
+ghost use Rattle.deb_report.specs.Report.{constraint_line, label_of, label_text, line, place_line, reason_line, titled};
+ghost use Rattle.deb_report.specs.Told.{reason_view};
+
+use crate::print::{Plainly, Print, push_all, push_joined};
+use crate::reasons::{Reason, push_group, reason_of};
+use deb_index::{Constraint, Index, Package};
+use deb_relation::Atom;
+use std::alloc::{AllocError, Global};
+
+/// Adds a line of a title and a text.
+#[tactic(auto, unfolding(crate::specs::Report::line))]
+pub(crate) fn push_line(out: &mut Vec<u8>, title: &str, text: &[u8]) -> Result<(), AllocError>
+    ensures { OnOk result (out.new.items ≡ out.old.items ++ line title.now text.now) }
+{
+    out.extend_from_slice(title.as_bytes())?;
+    out.extend_from_slice(text)?;
+    out.extend_from_slice(b"\n")?;
+    Ok(())
+}
+
+/// Adds a line of a title and a number.
+pub(crate) fn push_count(
+    alloc: Global,
+    out: &mut Vec<u8>,
+    title: &str,
+    count: usize,
+) -> Result<(), AllocError>
+    ensures { OnOk result (out.new.items ≡ out.old.items ++ line title.now (decimal count)) }
+{
+    push_line(out, title, count.to_string(alloc)?.as_str().as_bytes())?;
+    Ok(())
+}
+
+/// Adds the lines of elements under a title.
+pub(crate) fn push_titled<T, P: Print<T>>(
+    out: &mut Vec<u8>,
+    title: &str,
+    printer: &P,
+    elements: &[T],
+) -> Result<(), AllocError>
+    requires { All (P.fits printer.now) elements.now }
+    ensures { OnOk result (out.new.items ≡ out.old.items ++ titled title.now (flat_map (P.text printer.now) elements.now)) }
+{
+    push_line(out, title, b"")?;
+    push_all(out, printer, elements)?;
+    Ok(())
+}
+
+/// Adds a name and a version.
+#[tactic(auto, unfolding(crate::specs::Report::label_text))]
+pub(crate) fn push_label(out: &mut Vec<u8>, name: &[u8], version: &[u8]) -> Result<(), AllocError>
+    ensures { OnOk result (out.new.items ≡ out.old.items ++ label_text name.now version.now) }
+{
+    out.extend_from_slice(name)?;
+    out.extend_from_slice(b" ")?;
+    out.extend_from_slice(version)?;
+    Ok(())
+}
+
+/// Adds a package's name and version.
+pub(crate) fn push_package(out: &mut Vec<u8>, deb: &Package) -> Result<(), AllocError>
+    ensures { OnOk result (out.new.items ≡ out.old.items ++ label_of (package_view deb.now)) }
+{
+    push_label(out, deb.name.as_slice(), deb.version.text())
+}
+
+/// Adds entries of Provides.
+#[tactic(auto, using(crate::proofs::JoinLemmas::joined_map))]
+fn push_entries(out: &mut Vec<u8>, entries: &[&Atom]) -> Result<(), AllocError>
+    ensures { OnOk result (out.new.items ≡ out.old.items ++ join_by printed (codes ", ") (map (λ entry. atom_view entry.now) entries.now)) }
+{
+    push_joined(out, ", ", &Plainly, entries)
+}
+
+/// Adds what a package provides, where it comes near by that alone.
+#[tactic(auto, unfolding(crate::specs::CauseLines::provides_text))]
+pub(crate) fn push_provides(out: &mut Vec<u8>, provides: &[&Atom]) -> Result<(), AllocError>
+    ensures { OnOk result (out.new.items ≡ out.old.items ++ provides_text (map (λ entry. atom_view entry.now) provides.now)) }
+{
+    if !provides.is_empty() {
+        out.extend_from_slice(b" (provides ")?;
+        push_entries(out, provides)?;
+        out.extend_from_slice(b")")?;
+    }
+    Ok(())
+}
+
+/// An index, whose packages and constraints are told in lines.
+#[derive(Drop)]
+pub(crate) struct IndexLines<'i> {
+    pub(crate) alloc: Global,
+    pub(crate) index: &'i Index,
+}
+
+impl<'i> Print<u32> for IndexLines<'i> {
+    ghost fits = { λ lines place. place < length lines.index.now.packages };
+
+    ghost text = { λ lines place. place_line lines.index.now place };
+
+    #[tactic(auto, unfolding(crate::specs::Report::line, crate::specs::Report::place_line))]
+    fn print(&self, out: &mut Vec<u8>, place: &u32) -> Result<(), AllocError> {
+        out.extend_from_slice(b"   - ")?;
+        push_package(out, self.index.package(*place))?;
+        out.extend_from_slice(b"\n")?;
+        Ok(())
+    }
+}
+
+/// Adds the line of a reason.
+#[tactic(auto, unfolding(crate::specs::Report::reason_line))]
+fn push_reason(out: &mut Vec<u8>, reason: &Reason<'_>) -> Result<(), AllocError>
+    ensures { OnOk result (out.new.items ≡ out.old.items ++ reason_line (reason_view reason.now)) }
+{
+    match reason {
+        Reason::Name { kind, name } => {
+            out.extend_from_slice(b"   - ")?;
+            out.extend_from_slice(kind)?;
+            out.extend_from_slice(b": ")?;
+            out.extend_from_slice(name)?;
+            out.extend_from_slice(b"\n")?;
+        }
+        Reason::Relation {
+            kind,
+            deb,
+            field,
+            relation,
+        } => {
+            out.extend_from_slice(b"   - ")?;
+            out.extend_from_slice(kind)?;
+            out.extend_from_slice(b": ")?;
+            push_package(out, deb)?;
+            out.extend_from_slice(b" ")?;
+            out.extend_from_slice(field)?;
+            out.extend_from_slice(b": ")?;
+            push_group(out, relation)?;
+            out.extend_from_slice(b"\n")?;
+        }
+    }
+    Ok(())
+}
+
+impl<'i> Print<Constraint> for IndexLines<'i> {
+    ghost fits = { λ lines constraint. IsOfIndex lines.index.now constraint };
+
+    ghost text = { λ lines constraint. constraint_line lines.index.now constraint };
+
+    fn print(&self, out: &mut Vec<u8>, constraint: &Constraint) -> Result<(), AllocError> {
+        let reason = reason_of(self.alloc, self.index, *constraint)?;
+        push_reason(out, &reason)
+    }
+}
