@@ -1,5 +1,5 @@
 """A core as it is walked from its package: docs/formats.md, written anew."""
-from brute_causes import near_misses
+from brute_causes import near_misses, similar_names
 from brute_force import NEED_KINDS
 
 DEEPEST = 20
@@ -68,7 +68,7 @@ class Walk:
         asked = "%s %s: %s" % (one.package.line(), one.field, one.relation)
         if one.kind == "missing":
             near = [miss.line() for miss in near_misses(self.index, one.wanted)]
-            return asked + " missing" + ("; present: " + ", ".join(near) if near else "")
+            return asked + " missing" + listed("; present: ", near) + listed("; similar: ", similar_names(self.index, one.wanted))
         hits = bits(one.row & self.coming) if one.kind == "conflict" else []
         return asked + (" hits " + self.seen(hits) if hits else seen if one.kind in NEED_KINDS else "")
 
@@ -89,6 +89,10 @@ def met_by(package, one):
 
 def provided(entries):
     return " (provides %s)" % ", ".join(entries) if entries else ""
+
+
+def listed(title, texts):
+    return title + ", ".join(texts) if texts else ""
 
 
 def above(is_told):

@@ -24,6 +24,7 @@ mod PlaceSetLemmas
 mod ReportLemmas
 mod SimilarLemmas
 mod SinceLemmas
+mod SoughtLemmas
 mod WalkLemmas
 mod StemLemmas
 pub mod Unshown

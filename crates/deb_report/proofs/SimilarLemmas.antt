@@ -156,6 +156,14 @@ module _ (seen : List (List ℕ)) (stems : List (List ℕ)) where
   abbrev pub AreListed : List (List (List ℕ)) → Type 0
   AreListed lists = (one : List ℕ) (number : ℕ) → number_in one stems ≡ Some number → get_or lists number [] ≡ first_with_stem seen one
 
+-- where no stem is sought
+pub none-found : (seen stems : List (List ℕ)) (lists : List (List (List ℕ))) → length stems ≡ 0 → AreListed seen stems lists
+none-found seen [] lists none one number at = absurd (clash number at)
+  where
+    clash : (number : ℕ) → None ≡ Some number → ⊥
+    clash number e = cc
+none-found seen (stem ∷ stems) lists none one number at = absurd (omega arith)
+
 -- none so far
 pub none-listed : {V N : Type 0} (names : V → List N) (text : N → List ℕ) (stems : List (List ℕ)) (vs : List V) → All (λ v. names v ≡ []) vs → AreListed [] stems (map (λ v. map text (names v)) vs)
 unfolding first_of_each

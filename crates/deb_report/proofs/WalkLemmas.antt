@@ -43,8 +43,8 @@ coming_row index core i place d c old new row q inside is row_is before grown =
     grown ∙ ap (λ b. b || members_of row q) before ∙ ap (λ ps. members_of (comers index (take i core) place) q || members_of ps q) row_is
     ∙ sym (comers_more index core i place d c q inside is)
 
--- what holds of each number holds of those that are kept
-pub filter_all : (P : ℕ → Type 0) (test : ℕ → Bool) (xs : List ℕ) → All P xs → All P (filter test xs)
+-- what holds of each element holds of those that are kept
+pub filter_all : {A : Type 0} (P : A → Type 0) (test : A → Bool) (xs : List A) → All P xs → All P (filter test xs)
 filter_all P test [] all = All-nil P
 filter_all P test (x ∷ xs) all =
     let later : All P (filter test xs) = filter_all P test xs (All-tail P x xs all) in
@@ -113,7 +113,8 @@ run_out index core coming told limit counter out total steps over before =
 
 -- ---- steps of the index
 
-flat_all : {A B : Type 0} (P : A → Type 0) (Q : B → Type 0) (f : A → List B) (xs : List A) → ((x : A) → P x → All Q (f x)) → All P xs → All Q (flat_map f xs)
+-- what holds of all that each element gives
+pub flat_all : {A B : Type 0} (P : A → Type 0) (Q : B → Type 0) (f : A → List B) (xs : List A) → ((x : A) → P x → All Q (f x)) → All P xs → All Q (flat_map f xs)
 flat_all P Q f [] gives all = All-nil Q
 flat_all P Q f (x ∷ xs) gives all = All-append Q (f x) (flat_map f xs) (gives x (All-head P x xs all)) (flat_all P Q f xs gives (All-tail P x xs all))
 
@@ -121,72 +122,75 @@ map_all : {A B : Type 0} (P : A → Type 0) (Q : B → Type 0) (f : A → B) (xs
 map_all P Q f [] gives all = All-nil Q
 map_all P Q f (x ∷ xs) gives all = All-cons Q (f x) (map f xs) (gives x (All-head P x xs all)) (map_all P Q f xs gives (All-tail P x xs all))
 
-own-within : (index : IndexView) (core : List Constraint) (depth place : ℕ) → All (IsOfIndex index) core → All (IsStepOf index) (own_steps core depth place)
-unfolding own_steps
-own-within index core depth place all = flat_all (IsOfIndex index) (IsStepOf index) (own_step depth place) core one all
-  where
-    one : (c : Constraint) → IsOfIndex index c → All (IsStepOf index) (own_step depth place c)
-    one c within = elim (cases_Bool (is_own place c)) [
-      | inl passes ↦ rw passes (All-cons (IsStepOf index) (Tell depth c) [] within (All-nil (IsStepOf index)))
-      | inr fails ↦ rw fails (All-nil (IsStepOf index))
-    ]
+module _ (index : IndexView) (P : Constraint → Type 0) where
+  abbrev Fits : Step → Type 0
+  Fits = IsStepOf index P
 
-met-within : (index : IndexView) (told : List ℕ) (depth : ℕ) (c : Constraint) → IsOfIndex index c → All (IsStepOf index) (met_steps index told depth c)
-unfolding met_steps
-met-within index told depth c within = elim (cases_Bool (are_told told (brought index c))) [
-  | inl passes ↦ rw passes (All-nil (IsStepOf index))
-  | inr fails ↦ rw fails (map_all (λ place. place < length index.packages) (IsStepOf index) (λ place. Meet (depth_of depth (brought index c)) place c) (brought index c)
-      (λ place inside. (inside, within)) (brought-within index c))
-]
+  own-within : (core : List Constraint) (depth place : ℕ) → All P core → All Fits (own_steps core depth place)
+  unfolding own_steps
+  own-within core depth place all = flat_all P Fits (own_step depth place) core one all
+    where
+      one : (c : Constraint) → P c → All Fits (own_step depth place c)
+      one c fits = elim (cases_Bool (is_own place c)) [
+        | inl passes ↦ rw passes (All-cons Fits (Tell depth c) [] fits (All-nil Fits))
+        | inr fails ↦ rw fails (All-nil Fits)
+      ]
 
--- what follows from a step of the index is of the index
-pub behind-within : (index : IndexView) (core : List Constraint) (told : List ℕ) (step : Step) → All (IsOfIndex index) core → IsStepOf index step → All (IsStepOf index) (steps_behind index core told step)
-unfolding steps_behind
-behind-within index core told (Begin place) all within = elim (cases_Bool (members_of told place)) [
-  | inl passes ↦ rw passes (All-nil (IsStepOf index))
-  | inr fails ↦ rw fails (own-within index core 0 place all)
-]
-behind-within index core told (Meet depth place c) all within = elim (cases_Bool (members_of told place)) [
-  | inl passes ↦ rw passes (All-nil (IsStepOf index))
-  | inr fails ↦ rw fails (own-within index core depth place all)
-]
-behind-within index core told (Tell depth c) all within = met-within index told depth c within
+  met-within : (told : List ℕ) (depth : ℕ) (c : Constraint) → P c → All Fits (met_steps index told depth c)
+  unfolding met_steps
+  met-within told depth c fits = elim (cases_Bool (are_told told (brought index c))) [
+    | inl passes ↦ rw passes (All-nil Fits)
+    | inr fails ↦ rw fails (map_all (λ place. place < length index.packages) Fits (λ place. Meet (depth_of depth (brought index c)) place c) (brought index c)
+        (λ place inside. (inside, fits)) (brought-within index c))
+  ]
 
--- the next step, and those behind it
-pub next-within : (index : IndexView) (stack popped : List Step) (step : Step) → stack ≡ popped ++ step ∷ [] → All (IsStepOf index) (reverse stack) → IsStepOf index step
-next-within index stack popped step top all =
-    All-head (IsStepOf index) step (reverse popped) (rw (next_is stack popped step top) at all)
+  -- what follows from a step of the index is of the index
+  pub behind-within : (core : List Constraint) (told : List ℕ) (step : Step) → All P core → Fits step → All Fits (steps_behind index core told step)
+  unfolding steps_behind
+  behind-within core told (Begin place) all fits = elim (cases_Bool (members_of told place)) [
+    | inl passes ↦ rw passes (All-nil Fits)
+    | inr fails ↦ rw fails (own-within core 0 place all)
+  ]
+  behind-within core told (Meet depth place c) all fits = elim (cases_Bool (members_of told place)) [
+    | inl passes ↦ rw passes (All-nil Fits)
+    | inr fails ↦ rw fails (own-within core depth place all)
+  ]
+  behind-within core told (Tell depth c) all fits = met-within told depth c fits
 
-pub left-within : (index : IndexView) (core : List Constraint) (told : List ℕ) (stack popped next steps : List Step) (step : Step) → stack ≡ popped ++ step ∷ [] → reverse next ≡ steps ++ reverse popped
-    → steps ≡ steps_behind index core told step → All (IsOfIndex index) core → All (IsStepOf index) (reverse stack) → All (IsStepOf index) (reverse next)
-left-within index core told stack popped next steps step top put follow core_within all =
-    let those : All (IsStepOf index) (step ∷ reverse popped) = rw (next_is stack popped step top) at all in
-    rw (put, follow) (All-append (IsStepOf index) (steps_behind index core told step) (reverse popped)
-    (behind-within index core told step core_within (All-head (IsStepOf index) step (reverse popped) those)) (All-tail (IsStepOf index) step (reverse popped) those))
+  -- the next step, and those behind it
+  pub next-within : (stack popped : List Step) (step : Step) → stack ≡ popped ++ step ∷ [] → All Fits (reverse stack) → Fits step
+  next-within stack popped step top all =
+      All-head Fits step (reverse popped) (rw (next_is stack popped step top) at all)
 
--- the first steps are of the index
-pub first-within : (index : IndexView) (core : List Constraint) (place : ℕ) → place < length index.packages → All (IsOfIndex index) core → All (IsStepOf index) (first_steps core place)
-unfolding first_steps
-first-within index core place inside all =
-    let P : Step → Type 0 = IsStepOf index in
-    All-cons P (Begin place) _ inside (All-append P (flat_map essential_step core ++ flat_map only_step core) (flat_map begin_step core)
-    (All-append P (flat_map essential_step core) (flat_map only_step core) (flat_all (IsOfIndex index) P essential_step core essential all) (flat_all (IsOfIndex index) P only_step core only all))
-    (flat_all (IsOfIndex index) P begin_step core begin all))
-  where
-    essential : (c : Constraint) → IsOfIndex index c → All (IsStepOf index) (essential_step c)
-    essential (Essential name) within = All-cons (IsStepOf index) (Tell 0 (Essential name)) [] within (All-nil (IsStepOf index))
-    essential (Need p j) within = All-nil (IsStepOf index)
-    essential (Apart p j) within = All-nil (IsStepOf index)
-    essential (Only name) within = All-nil (IsStepOf index)
+  pub left-within : (core : List Constraint) (told : List ℕ) (stack popped next steps : List Step) (step : Step) → stack ≡ popped ++ step ∷ [] → reverse next ≡ steps ++ reverse popped
+      → steps ≡ steps_behind index core told step → All P core → All Fits (reverse stack) → All Fits (reverse next)
+  left-within core told stack popped next steps step top put follow all these =
+      let those : All Fits (step ∷ reverse popped) = rw (next_is stack popped step top) at these in
+      rw (put, follow) (All-append Fits (steps_behind index core told step) (reverse popped)
+      (behind-within core told step all (All-head Fits step (reverse popped) those)) (All-tail Fits step (reverse popped) those))
 
-    only : (c : Constraint) → IsOfIndex index c → All (IsStepOf index) (only_step c)
-    only (Essential name) within = All-nil (IsStepOf index)
-    only (Need p j) within = All-nil (IsStepOf index)
-    only (Apart p j) within = All-nil (IsStepOf index)
-    only (Only name) within = All-cons (IsStepOf index) (Tell 0 (Only name)) [] within (All-nil (IsStepOf index))
+  -- the first steps are of the index
+  pub first-within : (core : List Constraint) (place : ℕ) → place < length index.packages → ((c : Constraint) → P c → IsOfIndex index c) → All P core → All Fits (first_steps core place)
+  unfolding first_steps
+  first-within core place inside of all =
+      All-cons Fits (Begin place) _ inside (All-append Fits (flat_map essential_step core ++ flat_map only_step core) (flat_map begin_step core)
+      (All-append Fits (flat_map essential_step core) (flat_map only_step core) (flat_all P Fits essential_step core essential all) (flat_all P Fits only_step core only all))
+      (flat_all P Fits begin_step core (λ c fits. begin c (of c fits)) all))
+    where
+      essential : (c : Constraint) → P c → All Fits (essential_step c)
+      essential (Essential name) fits = All-cons Fits (Tell 0 (Essential name)) [] fits (All-nil Fits)
+      essential (Need p j) fits = All-nil Fits
+      essential (Apart p j) fits = All-nil Fits
+      essential (Only name) fits = All-nil Fits
 
-    begin : (c : Constraint) → IsOfIndex index c → All (IsStepOf index) (begin_step c)
-    begin (Essential name) within = All-nil (IsStepOf index)
-    begin (Need p j) within = All-cons (IsStepOf index) (Begin p) [] within.0 (All-nil (IsStepOf index))
-    begin (Apart p j) within = All-cons (IsStepOf index) (Begin p) [] within.0 (All-nil (IsStepOf index))
-    begin (Only name) within = All-nil (IsStepOf index)
+      only : (c : Constraint) → P c → All Fits (only_step c)
+      only (Essential name) fits = All-nil Fits
+      only (Need p j) fits = All-nil Fits
+      only (Apart p j) fits = All-nil Fits
+      only (Only name) fits = All-cons Fits (Tell 0 (Only name)) [] fits (All-nil Fits)
+
+      begin : (c : Constraint) → IsOfIndex index c → All Fits (begin_step c)
+      begin (Essential name) within = All-nil Fits
+      begin (Need p j) within = All-cons Fits (Begin p) [] within.0 (All-nil Fits)
+      begin (Apart p j) within = All-cons Fits (Begin p) [] within.0 (All-nil Fits)
+      begin (Only name) within = All-nil Fits

@@ -18,6 +18,7 @@ pub mod Settings
 pub mod Asked
 pub mod Since
 pub mod Content
+pub mod Sought
 pub mod Lines
 pub mod Json
 pub mod Plain

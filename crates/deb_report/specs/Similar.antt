@@ -1,9 +1,12 @@
 -- The names of an index that are found for the stems of missing names.
-use Rattle.std.specs.Prelude.{◌≡◌, ℕ, ◌||◌, List, [], Some, filter, map, not, slice_index_or}
+use Rattle.std.specs.Prelude.{◌≡◌, ℕ, ◌||◌, true, List, [], ◌∷◌, Some, filter, map, not, slice_index_or}
 use Rattle.std.specs.List.{flat_map}
 use Rattle.deb_relation.specs.Relationship.{AtomText}
+use Rattle.deb_index.specs.declared.constraint.Constraint.{Constraint}
+use Rattle.deb_index.specs.Constraints.{IsOfIndex}
 use Rattle.deb_index.specs.Packages.{IndexView}
 use Rattle.deb_index.specs.Tables.{number_in}
+use Rattle.deb_health.specs.Causes.{is_final}
 use Rattle.deb_report.specs.declared.gathered.Cause.{Cause}
 use Rattle.deb_report.specs.declared.similar.Similar.{Similar}
 use Rattle.deb_report.specs.declared.similar.Told.{Told}
@@ -31,6 +34,12 @@ pub record FitsCause (index : IndexView) (similar : Similar) (cause : Cause) : T
   pub of_index : IsCauseOf index (cause_view cause)
   pub found : IsSimilarOf index similar
   pub sought : AreSought index (stems_in similar) cause.constraints.items
+
+-- a constraint of the index; where it is a need that no package meets, its stems were looked for in the index
+pub record FitsWalk (index : IndexView) (similar : Similar) (constraint : Constraint) : Type 0 where
+  pub of_index : IsOfIndex index constraint
+  pub found : IsSimilarOf index similar
+  pub sought : is_final index constraint ≡ true → AreSought index (stems_in similar) (constraint ∷ [])
 
 -- the first of some names that aren't those of some atoms, and the set of all these
 pub record IsTold (own : List AtomText) (seen : List (List ℕ)) (told : Told) : Type 0 where

@@ -7,13 +7,12 @@ use Rattle.number_sets.specs.SparseSets.{with_number}
 use Rattle.deb_relation.specs.Relationship.{AtomText}
 use Rattle.deb_index.specs.declared.constraint.Constraint.{Constraint}
 use Rattle.deb_index.specs.declared.constraint.Constraint.TheVariants.{Essential, Need, Apart, Only}
-use Rattle.deb_index.specs.Constraints.{IsOfIndex}
 use Rattle.deb_index.specs.Meets.{group_satisfiers, satisfiers}
 use Rattle.deb_index.specs.Packages.{IndexView, PackageView, apart_at, name_at, need_at, package_at, places_of}
 use Rattle.deb_report.specs.declared.walk.Step.{Step}
 use Rattle.deb_report.specs.declared.walk.Step.TheVariants.{Begin, Meet, Tell}
 use Rattle.deb_report.specs.CauseLines.{provides_text}
-use Rattle.deb_report.specs.Near.{NearMissView, alternatives, near_miss_at, near_misses}
+use Rattle.deb_report.specs.Near.{NearMissView, alternatives, near_miss_at, near_misses, similar_names}
 use Rattle.deb_report.specs.Report.{entry_field, group_field, group_text, is_missing, label_of, titled}
 
 -- ---- packages of a walk
@@ -143,9 +142,13 @@ near_text miss = label_of miss.deb ++ provides_text miss.provides
 unfoldable pub present_text : List NearMissView → List ℕ
 present_text misses = if length misses == 0 then [] else codes "; present: " ++ join_by near_text (codes ", ") misses
 
--- a need that nothing meets, with what comes near
-unfoldable pub missing_text : List NearMissView → List ℕ
-missing_text misses = codes " missing" ++ present_text misses
+-- names that are similar to those of a need
+unfoldable pub similar_text : List (List ℕ) → List ℕ
+similar_text names = if length names == 0 then [] else codes "; similar: " ++ join_by (λ name. name) (codes ", ") names
+
+-- a need that nothing meets, with what comes near, and the names that are similar
+unfoldable pub missing_text : List NearMissView → List (List ℕ) → List ℕ
+missing_text misses names = codes " missing" ++ present_text misses ++ similar_text names
 
 -- what an entry hits
 unfoldable pub hits_text : IndexView → List ℕ → List ℕ → List ℕ
@@ -157,7 +160,9 @@ asked_text deb field relation = label_of deb ++ codes " " ++ field ++ codes ": "
 
 -- how a need ends
 unfoldable pub need_ending : IndexView → List ℕ → Constraint → List AtomText → List ℕ
-need_ending index told constraint group = if is_missing index group then missing_text (near_misses index (constraint ∷ [])) else above_text (are_told told (brought index constraint))
+need_ending index told constraint group = if is_missing index group
+    then missing_text (near_misses index (constraint ∷ [])) (similar_names index (constraint ∷ []))
+    else above_text (are_told told (brought index constraint))
 
 -- what the core says
 unfoldable pub constraint_text : IndexView → NumberSet → List ℕ → Constraint → List ℕ
@@ -208,8 +213,8 @@ walk_lines index place core =
 
 -- ---- what is of the index
 
--- a step speaks of what the index has
-abbrev pub IsStepOf : IndexView → Step → Type 0
-IsStepOf index (Begin place) = place < length index.packages
-IsStepOf index (Meet depth place constraint) = (place < length index.packages) × IsOfIndex index constraint
-IsStepOf index (Tell depth constraint) = IsOfIndex index constraint
+-- a step speaks of packages of the index, and of constraints of some kind
+abbrev pub IsStepOf : IndexView → (Constraint → Type 0) → Step → Type 0
+IsStepOf index P (Begin place) = place < length index.packages
+IsStepOf index P (Meet depth place constraint) = (place < length index.packages) × P constraint
+IsStepOf index P (Tell depth constraint) = P constraint

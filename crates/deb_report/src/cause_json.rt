@@ -18,6 +18,7 @@ use crate::near::{NearMiss, near_misses};
 use crate::print::Print;
 use crate::reasons::group_field;
 use crate::similar::Similar;
+use crate::sought::similar_to_causes;
 use deb_index::Constraint;
 use deb_relation::Atom;
 use std::alloc::AllocError;
@@ -186,7 +187,7 @@ pub(crate) fn push_causes(
     ensures { OnOk result (out.new.items ≡
         out.old.items ++ codes "," ++ member (codes "causes") (tall_array (cause_json json.now.index.now) (map cause_view causes.now))) }
 {
-    let similar = Similar::find(json.alloc, json.index, causes)?;
+    let similar = similar_to_causes(json.alloc, json.index, causes)?;
     let printer = CauseJson { json, similar };
     push_array(out, ",", "causes", &printer, causes, "\n]")
 }

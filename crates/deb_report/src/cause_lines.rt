@@ -19,6 +19,7 @@ use crate::near::{NearMiss, near_misses};
 use crate::print::{Print, push_all};
 use crate::reasons::{group_field, push_group};
 use crate::similar::Similar;
+use crate::sought::similar_to_causes;
 use deb_index::Constraint;
 use std::alloc::AllocError;
 
@@ -228,7 +229,7 @@ pub(crate) fn push_causes(
     ensures { OnOk result (out.new.items ≡ out.old.items
         ++ causes_text lines.now.index.now (Some (map cause_view causes.now))) }
 {
-    let similar = Similar::find(lines.alloc, lines.index, causes)?;
+    let similar = similar_to_causes(lines.alloc, lines.index, causes)?;
     let printer = CauseLines { lines, similar };
     push_count(lines.alloc, out, "causes: ", causes.len())?;
     push_all(out, &printer, causes)?;

@@ -1,6 +1,6 @@
 //! The report in lines.
 
-ghost use Rattle.std.specs.Prelude.{◌≡◌, ◌++◌, ◌<◌, All, IfOk, OnOk, codes, length};
+ghost use Rattle.std.specs.Prelude.{◌≡◌, ◌++◌, ◌<◌, All, IfOk, OnOk, codes, length, true};
 ghost use Rattle.std.specs.List.{flat_map};
 ghost use Rattle.deb_index.specs.Constraints.{IsOfIndex};
 ghost use Rattle.deb_index.specs.Packages.{package_view};
@@ -8,7 +8,9 @@ ghost use Rattle.deb_health.specs.Verdicts.{SpeaksOf, verdict_view};
 ghost use Rattle.deb_report.specs.CauseLines.{causes_text};
 ghost use Rattle.deb_report.specs.Lines.{block_of, broken_line, explanation, first_core, lines_text, list_lines};
 ghost use Rattle.deb_report.specs.Report.{also_at, core_lines, heading, line, number_line, titled};
+ghost use Rattle.deb_report.specs.Similar.{FitsWalk};
 ghost use Rattle.deb_report.specs.Since.{broken_view};
+ghost use Rattle.deb_report.specs.Sought.{FitsBlock, IsWalked, core_in};
 ghost use Rattle.deb_report.specs.Told.{AreLaterOf, IsAskedOf, IsContentOf};
 ghost use Rattle.deb_report.specs.Told.{amends_view, content_view, later_view, number_view, shown_view, telling_view};
 
@@ -19,6 +21,8 @@ use crate::content::Content;
 use crate::line_parts::{IndexLines, push_label, push_line, push_titled};
 use crate::print::{Print, push_all};
 use crate::shown::{Shown, status_text};
+use crate::similar::Similar;
+use crate::sought::similar_to_walks;
 use crate::summary::Number;
 use crate::telling::Telling;
 use crate::walk_lines::push_walk;
@@ -31,6 +35,8 @@ use std::alloc::{AllocError, Global};
 pub(crate) struct Lines<'i> {
     pub(crate) parts: IndexLines<'i>,
     pub(crate) telling: Telling<'i>,
+    /// The names that walks tell as similar.
+    pub(crate) similar: &'i Similar,
 }
 
 impl<'i> Lines<'i> {
@@ -79,10 +85,12 @@ impl<'i> Lines<'i> {
     ) -> Result<(), AllocError>
         requires place { place < length self.now.parts.index.now.packages }
         requires core { All (IsOfIndex self.now.parts.index.now) core.now }
+        requires walked { self.now.telling.config.now.why ≡ true → All (FitsWalk self.now.parts.index.now self.now.similar.now) core.now }
         ensures { OnOk result (out.new.items ≡ out.old.items ++ first_core self.now.parts.index.now (telling_view self.now.telling) place core.now) }
     {
         if self.telling.config.why {
-            push_walk(self.parts.alloc, out, self.parts.index, place, core)
+            let parts = &self.parts;
+            push_walk(parts.alloc, out, parts.index, self.similar, place, core)
         } else {
             self.push_core(out, "  reasons:", core)
         }
@@ -93,6 +101,8 @@ impl<'i> Lines<'i> {
     fn push_explanation(&self, out: &mut Vec<u8>, shown: &Shown<'_>) -> Result<(), AllocError>
         requires asked { IsAskedOf self.now.parts.index.now (shown_view shown.now) }
         requires later { AreLaterOf self.now.parts.index.now (later_view self.now.telling.later.now) }
+        requires walked { self.now.telling.config.now.why ≡ true
+            → All (FitsWalk self.now.parts.index.now self.now.similar.now) (core_in (shown_view shown.now)) }
         ensures { OnOk result (out.new.items ≡ out.old.items ++ explanation self.now.parts.index.now (telling_view self.now.telling) (shown_view shown.now)) }
     {
         match shown.verdict {
@@ -120,7 +130,7 @@ fn push_heading(out: &mut Vec<u8>, deb: &Package) -> Result<(), AllocError>
 }
 
 impl<'i, 'v> Print<Shown<'v>> for Lines<'i> {
-    ghost fits = { λ lines shown. IsAskedOf lines.parts.index.now (shown_view shown) × AreLaterOf lines.parts.index.now (later_view lines.telling.later.now) };
+    ghost fits = { λ lines shown. FitsBlock lines.parts.index.now lines.telling lines.similar.now shown };
 
     ghost text = { λ lines shown. block_of lines.parts.index.now (telling_view lines.telling) (shown_view shown) };
 
@@ -184,6 +194,7 @@ impl<'i> Lines<'i> {
     fn push_blocks(&self, out: &mut Vec<u8>, content: &Content<'_>) -> Result<(), AllocError>
         requires content { IsContentOf self.now.parts.index.now content.now }
         requires later { AreLaterOf self.now.parts.index.now (later_view self.now.telling.later.now) }
+        requires walked { All (IsWalked self.now.parts.index.now self.now.telling self.now.similar.now) content.now.blocks.items }
         ensures { OnOk result (out.new.items ≡ out.old.items ++ titled (codes "report:")
             (flat_map (block_of self.now.parts.index.now (telling_view self.now.telling)) (content_view content.now).blocks)) }
     {
@@ -216,10 +227,27 @@ impl<'i> Lines<'i> {
         }
         Ok(())
     }
+
+    /// The whole report.
+    #[tactic(auto, unfolding(crate::specs::Lines::lines_text))]
+    fn text(&self, content: &Content<'_>) -> Result<Vec<u8>, AllocError>
+        requires content { IsContentOf self.now.parts.index.now content.now }
+        requires later { AreLaterOf self.now.parts.index.now (later_view self.now.telling.later.now) }
+        requires walked { All (IsWalked self.now.parts.index.now self.now.telling self.now.similar.now) content.now.blocks.items }
+        ensures { IfOk result (λ text. text.items ≡
+            lines_text self.now.parts.index.now (telling_view self.now.telling) (content_view content.now)) }
+    {
+        let mut out = Vec::new(self.parts.alloc);
+        push_line(&mut out, "architecture: ", self.parts.index.arch())?;
+        self.push_blocks(&mut out, content)?;
+        self.push_numbers(&mut out, content)?;
+        self.push_lists(&mut out, content)?;
+        self.push_causes(&mut out, content)?;
+        Ok(out)
+    }
 }
 
 /// The report in lines.
-#[tactic(auto, unfolding(crate::specs::Lines::lines_text))]
 pub(crate) fn lines_report(
     alloc: Global,
     index: &Index,
@@ -230,13 +258,11 @@ pub(crate) fn lines_report(
     requires later { AreLaterOf index.now (later_view telling.later.now) }
     ensures { IfOk result (λ text. text.items ≡ lines_text index.now (telling_view telling.entry) (content_view content.now)) }
 {
-    let parts = IndexLines { alloc, index };
-    let lines = Lines { parts, telling };
-    let mut out = Vec::new(alloc);
-    push_line(&mut out, "architecture: ", index.arch())?;
-    lines.push_blocks(&mut out, content)?;
-    lines.push_numbers(&mut out, content)?;
-    lines.push_lists(&mut out, content)?;
-    lines.push_causes(&mut out, content)?;
-    Ok(out)
+    let similar = similar_to_walks(alloc, index, telling, content.blocks.as_slice())?;
+    let lines = Lines {
+        parts: IndexLines { alloc, index },
+        telling,
+        similar: &similar,
+    };
+    lines.text(content)
 }

@@ -5,11 +5,9 @@ ghost use Rattle.deb_relation.specs.AtomView.{atom_view};
 ghost use Rattle.deb_relation.specs.Relationship.{AtomText};
 ghost use Rattle.deb_index.specs.Constraints.{IsOfIndex};
 ghost use Rattle.deb_index.specs.Packages.{package_view};
-ghost use Rattle.deb_report.specs.Causes.{IsCauseOf, cause_view};
 ghost use Rattle.deb_report.specs.Near.{first_with_stem, is_one_of, names_of, similar_names};
 ghost use Rattle.deb_report.specs.Stems.{first_told, has_text};
 
-use crate::gathered::Cause;
 use crate::near::alternatives_of;
 use crate::stems::{insert_once, put_stem, stems_of};
 use deb_index::{Constraint, Index, Package};
@@ -154,22 +152,36 @@ impl Similar {
         Ok(())
     }
 
-    /// The names of an index with the stems of the alternatives of all needs that are causes: one pass over the index for all of these.
+    /// Adds the names of all packages of an index.
+    fn add_all(&mut self, alloc: Global, index: &Index) -> Result<(), AllocError>
+        requires { IsFoundIn [] self.old }
+        ensures found { OnOk result (IsSimilarOf index.now self.new) }
+        ensures stems { OnOk result (self.new.stems ≡ self.old.stems) }
+    {
+        let mut buffer = Vec::new(alloc);
+        for place in 0..index.len() {
+            self.add_package(alloc, index.arch(), index.package(place), &mut buffer)?;
+        }
+        Ok(())
+    }
+
+    /// The names of an index with the stems of the alternatives of all needs among the constraints: one pass over the index for all of these, and none
+    /// where there is no such need.
     pub(crate) fn find(
         alloc: Global,
         index: &Index,
-        causes: &[Cause],
+        constraints: &[Constraint],
     ) -> Result<Similar, AllocError>
-        requires { All (λ cause. IsCauseOf index.now (cause_view cause)) causes.now }
+        requires { All (IsOfIndex index.now) constraints.now }
         ensures found { IfOk result (IsSimilarOf index.now) }
-        ensures sought { IfOk result (λ similar. All (λ cause. AreSought index.now (stems_in similar) cause.constraints.items) causes.now) }
+        ensures sought { IfOk result (λ similar. AreSought index.now (stems_in similar) constraints.now) }
     {
-        let stems = stems_of(alloc, index, causes)?;
+        let stems = stems_of(alloc, index, constraints)?;
         let mut similar = Similar::new(alloc, stems)?;
-        let mut buffer = Vec::new(alloc);
-        for place in 0..index.len() {
-            similar.add_package(alloc, index.arch(), index.package(place), &mut buffer)?;
+        if similar.stems.is_empty() {
+            return Ok(similar);
         }
+        similar.add_all(alloc, index)?;
         Ok(similar)
     }
 

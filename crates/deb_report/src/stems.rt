@@ -1,15 +1,13 @@
 //! What is left of names without their numbers.
 
-ghost use Rattle.std.specs.Prelude.{◌≡◌, ◌==◌, ◌<◌, ◌++◌, ◌∷◌, ◌||◌, true, ℕ, List, All, IfNone, IfOk, IfSome, OnOk, length, map, not};
+ghost use Rattle.std.specs.Prelude.{◌≡◌, ◌==◌, ◌<◌, ◌++◌, ◌∷◌, ◌||◌, ℕ, List, All, IfNone, IfOk, IfSome, OnOk, length, map, not};
 ghost use Rattle.std.specs.Char.{is_ascii_digit};
 ghost use Rattle.std.specs.List.{list_any, position};
 ghost use Rattle.std.specs.Str.{bytes_eq};
 ghost use Rattle.deb_index.specs.Constraints.{IsOfIndex};
-ghost use Rattle.deb_report.specs.Causes.{IsCauseOf, cause_view};
 ghost use Rattle.deb_report.specs.Near.{is_numeric, is_sum, stem, stem_of_word};
 ghost use Rattle.deb_report.specs.Stems.{AreSought, has_text};
 
-use crate::gathered::Cause;
 use crate::near::alternatives_of;
 use deb_index::{Constraint, Index};
 use indexmap::IndexSet;
@@ -103,45 +101,20 @@ pub(crate) fn insert_once(
     Ok(true)
 }
 
-/// Adds the stems of the alternatives of all needs among the constraints.
-fn add_stems(
-    alloc: Global,
-    index: &Index,
-    constraints: &[Constraint],
-    buffer: &mut Vec<u8>,
-    stems: &mut IndexSet<Vec<u8>>,
-) -> Result<(), AllocError>
-    requires { All (IsOfIndex index.now) constraints.now }
-    ensures sought { OnOk result (AreSought index.now (map (λ one. one.items) stems.new.keys) constraints.now) }
-    ensures stays { OnOk result ((one : List ℕ) → has_text (map (λ one. one.items) stems.old.keys) one ≡ true
-        → has_text (map (λ one. one.items) stems.new.keys) one ≡ true) }
-{
-    for atom in alternatives_of(alloc, index, constraints)?.as_slice() {
-        put_stem(buffer, atom.name.as_slice())?;
-        insert_once(alloc, buffer.as_slice(), stems)?;
-    }
-    Ok(())
-}
-
-/// The stems of the alternatives of all needs that are causes.
+/// The stems of the alternatives of all needs among the constraints.
 pub(crate) fn stems_of(
     alloc: Global,
     index: &Index,
-    causes: &[Cause],
+    constraints: &[Constraint],
 ) -> Result<IndexSet<Vec<u8>>, AllocError>
-    requires { All (λ cause. IsCauseOf index.now (cause_view cause)) causes.now }
-    ensures { IfOk result (λ stems. All (λ cause. AreSought index.now (map (λ one. one.items) stems.keys) cause.constraints.items) causes.now) }
+    requires { All (IsOfIndex index.now) constraints.now }
+    ensures { IfOk result (λ stems. AreSought index.now (map (λ one. one.items) stems.keys) constraints.now) }
 {
     let mut stems = IndexSet::new(alloc);
     let mut buffer = Vec::new(alloc);
-    for cause in causes {
-        add_stems(
-            alloc,
-            index,
-            cause.constraints.as_slice(),
-            &mut buffer,
-            &mut stems,
-        )?;
+    for atom in alternatives_of(alloc, index, constraints)?.as_slice() {
+        put_stem(&mut buffer, atom.name.as_slice())?;
+        insert_once(alloc, buffer.as_slice(), &mut stems)?;
     }
     Ok(stems)
 }

@@ -1,6 +1,6 @@
 //! A core as it is walked from the package, in lines.
 
-ghost use Rattle.std.specs.Prelude.{◌≡◌, ◌<◌, ◌++◌, [], All, IfOk, OnOk, codes, length, map, reverse};
+ghost use Rattle.std.specs.Prelude.{◌≡◌, ◌<◌, ◌++◌, ◌∷◌, [], All, IfOk, OnOk, codes, length, map, reverse};
 ghost use Rattle.std.specs.List.{join_by};
 ghost use Rattle.deb_relation.specs.AtomView.{atom_view};
 ghost use Rattle.deb_index.specs.declared.constraint.Constraint.{Constraint};
@@ -8,10 +8,12 @@ ghost use Rattle.deb_index.specs.Constraints.{IsOfIndex};
 ghost use Rattle.deb_index.specs.Packages.{need_at, package_view};
 ghost use Rattle.number_sets.specs.Sets.{members_of};
 ghost use Rattle.deb_report.specs.declared.walk.Step.{Step};
-ghost use Rattle.deb_report.specs.Near.{near_view};
+ghost use Rattle.deb_report.specs.Near.{near_misses, near_view, similar_names};
+ghost use Rattle.deb_report.specs.Similar.{FitsWalk, IsSimilarOf, stems_in};
+ghost use Rattle.deb_report.specs.Stems.{AreSought};
 ghost use Rattle.deb_report.specs.Walk.{IsStepOf, are_told, brought, own_steps, step_limit, steps_behind, told_behind, walk};
 ghost use Rattle.deb_report.specs.Walk.{above_text, asked_text, constraint_text, hits_text, lead, missing_text, near_text, need_ending, present_text};
-ghost use Rattle.deb_report.specs.Walk.{package_line, package_text, seen_text, seen_texts, step_text, walk_lines};
+ghost use Rattle.deb_report.specs.Walk.{package_line, package_text, seen_text, seen_texts, similar_text, step_text, walk_lines};
 
 use crate::line_parts::{push_line, push_package, push_provides};
 use crate::near::{NearMiss, answer_at, near_misses};
@@ -19,6 +21,7 @@ use crate::own::OwnTable;
 use crate::place_set::PlaceSet;
 use crate::print::{Print, push_joined};
 use crate::reasons::{entry_field, group_field, is_missing, push_group};
+use crate::similar::Similar;
 use crate::walk::{
     Step, are_told, brought, comers, first_steps, hits_in, met_steps, own_steps, put_before,
     versions_coming,
@@ -71,7 +74,7 @@ impl<'t> Print<u32> for Seen<'t> {
     }
 }
 
-/// Near misses in one line.
+/// Near misses and names in one line.
 #[derive(Drop)]
 struct InLine;
 
@@ -108,13 +111,34 @@ fn push_present(out: &mut Vec<u8>, misses: &[NearMiss<'_>]) -> Result<(), AllocE
     Ok(())
 }
 
-/// Adds that nothing meets a need, and what comes near.
-#[tactic(auto, unfolding(crate::specs::Walk::missing_text))]
-fn push_missing(out: &mut Vec<u8>, misses: &[NearMiss<'_>]) -> Result<(), AllocError>
-    ensures { OnOk result (out.new.items ≡ out.old.items ++ missing_text (map near_view misses.now)) }
+impl<'n> Print<&'n [u8]> for InLine {
+    ghost fits = { λ _ _. Unit {0} };
+
+    ghost text = { λ _ name. name.now };
+
+    fn print(&self, out: &mut Vec<u8>, name: &&'n [u8]) -> Result<(), AllocError> {
+        out.extend_from_slice(name)?;
+        Ok(())
+    }
+}
+
+/// Adds names, with a comma between two.
+#[tactic(auto, using(crate::proofs::JoinLemmas::joined_map))]
+fn push_names(out: &mut Vec<u8>, names: &[&[u8]]) -> Result<(), AllocError>
+    ensures { OnOk result (out.new.items ≡ out.old.items ++ join_by (λ name. name) (codes ", ") (map (λ name. name.now) names.now)) }
 {
-    out.extend_from_slice(b" missing")?;
-    push_present(out, misses)?;
+    push_joined(out, ", ", &InLine, names)
+}
+
+/// Adds the names that are similar, where there are some.
+#[tactic(auto, unfolding(crate::specs::Walk::similar_text))]
+fn push_similar(out: &mut Vec<u8>, names: &[&[u8]]) -> Result<(), AllocError>
+    ensures { OnOk result (out.new.items ≡ out.old.items ++ similar_text (map (λ name. name.now) names.now)) }
+{
+    if !names.is_empty() {
+        out.extend_from_slice(b"; similar: ")?;
+        push_names(out, names)?;
+    }
     Ok(())
 }
 
@@ -195,6 +219,7 @@ struct Walk<'i> {
     index: &'i Index,
     core: &'i OwnTable<'i>,
     coming: &'i PlaceSet,
+    similar: &'i Similar,
 }
 
 impl<'i> Walk<'i> {
@@ -213,6 +238,43 @@ impl<'i> Walk<'i> {
         push_above(out, are_told(told, places))
     }
 
+    /// Adds what comes near to a need.
+    fn push_near_to(&self, out: &mut Vec<u8>, need: Constraint) -> Result<(), AllocError>
+        requires { IsOfIndex self.now.index.now need }
+        ensures { OnOk result (out.new.items ≡ out.old.items ++ present_text (near_misses self.now.index.now (need ∷ []))) }
+    {
+        let misses = near_misses(self.alloc, self.index, slice::from_ref(&need))?;
+        push_present(out, misses.as_slice())
+    }
+
+    /// Adds the names that are similar to those of a need.
+    fn push_similar_to(&self, out: &mut Vec<u8>, need: Constraint) -> Result<(), AllocError>
+        requires within { IsOfIndex self.now.index.now need }
+        requires found { IsSimilarOf self.now.index.now self.now.similar.now }
+        requires sought { AreSought self.now.index.now (stems_in self.now.similar.now) (need ∷ []) }
+        ensures { OnOk result (out.new.items ≡ out.old.items ++ similar_text (similar_names self.now.index.now (need ∷ []))) }
+    {
+        let names = self
+            .similar
+            .names(self.alloc, self.index, slice::from_ref(&need))?;
+        push_similar(out, names.as_slice())
+    }
+
+    /// Adds that nothing meets a need, with what comes near and what is similar.
+    #[tactic(auto, unfolding(crate::specs::Walk::missing_text))]
+    fn push_missing(&self, out: &mut Vec<u8>, need: Constraint) -> Result<(), AllocError>
+        requires within { IsOfIndex self.now.index.now need }
+        requires found { IsSimilarOf self.now.index.now self.now.similar.now }
+        requires sought { AreSought self.now.index.now (stems_in self.now.similar.now) (need ∷ []) }
+        ensures { OnOk result (out.new.items ≡
+            out.old.items ++ missing_text (near_misses self.now.index.now (need ∷ [])) (similar_names self.now.index.now (need ∷ []))) }
+    {
+        out.extend_from_slice(b" missing")?;
+        self.push_near_to(out, need)?;
+        self.push_similar_to(out, need)?;
+        Ok(())
+    }
+
     /// Adds how a need ends.
     #[tactic(auto, unfolding(crate::specs::Walk::need_ending))]
     fn push_need_ending(
@@ -222,14 +284,13 @@ impl<'i> Walk<'i> {
         place: u32,
         number: u32,
     ) -> Result<(), AllocError>
-        requires { IsOfIndex self.now.index.now (Constraint.Need place number) }
+        requires { FitsWalk self.now.index.now self.now.similar.now (Constraint.Need place number) }
         ensures { OnOk result (out.new.items ≡ out.old.items ++ need_ending self.now.index.now told.now (Constraint.Need place number)
             (need_at self.now.index.now place number)) }
     {
         let need = Constraint::Need(place, number);
         if is_missing(self.alloc, self.index, place, number)? {
-            let misses = near_misses(self.alloc, self.index, slice::from_ref(&need))?;
-            push_missing(out, misses.as_slice())?;
+            self.push_missing(out, need)?;
         } else {
             self.push_told(out, told, need)?;
         }
@@ -263,7 +324,7 @@ impl<'i> Walk<'i> {
         place: u32,
         number: u32,
     ) -> Result<(), AllocError>
-        requires { IsOfIndex self.now.index.now (Constraint.Need place number) }
+        requires { FitsWalk self.now.index.now self.now.similar.now (Constraint.Need place number) }
         ensures { OnOk result (out.new.items ≡
             out.old.items ++ constraint_text self.now.index.now (members_of self.now.coming.now) told.now (Constraint.Need place number)) }
     {
@@ -319,7 +380,7 @@ impl<'i> Walk<'i> {
         told: &PlaceSet,
         constraint: Constraint,
     ) -> Result<(), AllocError>
-        requires { IsOfIndex self.now.index.now constraint }
+        requires { FitsWalk self.now.index.now self.now.similar.now constraint }
         ensures { OnOk result (out.new.items ≡ out.old.items ++ constraint_text self.now.index.now (members_of self.now.coming.now) told.now constraint) }
     {
         match constraint {
@@ -384,7 +445,7 @@ impl<'i> Walk<'i> {
         constraint: Constraint,
     ) -> Result<Vec<Step>, AllocError>
         requires place { place < length self.now.index.now.packages }
-        requires constraint { IsOfIndex self.now.index.now constraint }
+        requires constraint { FitsWalk self.now.index.now self.now.similar.now constraint }
         ensures text { OnOk result (out.new.items ≡
             out.old.items ++ step_text self.now.index.now self.now.core.now (members_of self.now.coming.now) told.old (Step.Meet depth place constraint)) }
         ensures told { OnOk result (told.new ≡ told_behind told.old (Step.Meet depth place constraint)) }
@@ -410,7 +471,7 @@ impl<'i> Walk<'i> {
         depth: u32,
         constraint: Constraint,
     ) -> Result<Vec<Step>, AllocError>
-        requires { IsOfIndex self.now.index.now constraint }
+        requires { FitsWalk self.now.index.now self.now.similar.now constraint }
         ensures text { OnOk result (out.new.items ≡
             out.old.items ++ step_text self.now.index.now self.now.core.now (members_of self.now.coming.now) told.now (Step.Tell depth constraint)) }
         ensures steps { IfOk result (λ steps. steps.items ≡ steps_behind self.now.index.now self.now.core.now told.now (Step.Tell depth constraint)) }
@@ -428,7 +489,7 @@ impl<'i> Walk<'i> {
         told: &mut PlaceSet,
         step: Step,
     ) -> Result<Vec<Step>, AllocError>
-        requires { IsStepOf self.now.index.now step }
+        requires { IsStepOf self.now.index.now (FitsWalk self.now.index.now self.now.similar.now) step }
         ensures text { OnOk result (out.new.items ≡
             out.old.items ++ step_text self.now.index.now self.now.core.now (members_of self.now.coming.now) told.old step) }
         ensures told { OnOk result (told.new ≡ told_behind told.old step) }
@@ -443,8 +504,8 @@ impl<'i> Walk<'i> {
 
     /// Goes these steps and all that follow from them, one after the other.
     fn go_all(&self, out: &mut Vec<u8>, stack: &mut Vec<Step>) -> Result<(), AllocError>
-        requires core { All (IsOfIndex self.now.index.now) self.now.core.now }
-        requires steps { All (IsStepOf self.now.index.now) (reverse stack.old.items) }
+        requires core { All (FitsWalk self.now.index.now self.now.similar.now) self.now.core.now }
+        requires steps { All (IsStepOf self.now.index.now (FitsWalk self.now.index.now self.now.similar.now)) (reverse stack.old.items) }
         ensures { OnOk result (out.new.items ≡
             out.old.items ++ walk step_limit self.now.index.now self.now.core.now (members_of self.now.coming.now) [] (reverse stack.old.items)) }
     {
@@ -462,17 +523,19 @@ impl<'i> Walk<'i> {
 
 /// Adds the lines of a core as it is walked from the package at a place.
 ///
-/// The core and the place are of the index. `AllocError` where there is no memory for it.
+/// The core and the place are of the index, and the names that are similar to those of the core's missing needs were looked for. `AllocError` where
+/// there is no memory for it.
 #[tactic(auto, unfolding(crate::specs::Walk::walk_lines))]
 pub(crate) fn push_walk(
     alloc: Global,
     out: &mut Vec<u8>,
     index: &Index,
+    similar: &Similar,
     place: u32,
     core: &[Constraint],
 ) -> Result<(), AllocError>
     requires place { place < length index.now.packages }
-    requires core { All (IsOfIndex index.now) core.now }
+    requires core { All (FitsWalk index.now similar.now) core.now }
     ensures { OnOk result (out.new.items ≡ out.old.items ++ walk_lines index.now place core.now) }
 {
     let coming = comers(alloc, index, place, core)?;
@@ -482,6 +545,7 @@ pub(crate) fn push_walk(
         index,
         core: &table,
         coming: &coming,
+        similar,
     };
     let mut stack = Vec::new(alloc);
     put_before(&mut stack, first_steps(alloc, core, place)?)?;

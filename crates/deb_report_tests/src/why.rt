@@ -222,11 +222,11 @@ Depends: n7
    - n8 1 Depends: n9
    - n9 1 Depends: n10
    - n10 1 Depends: n11
-   - n11 1 Depends: n12 missing
+   - n11 1 Depends: n12 missing; similar: n5, n2, n11, n9, n1, n7, n3, n10, n4, n8
 ",
 };
 
-/// Eleven packages, each of which needs the next, and the last one that nobody has.
+/// Eleven packages, each of which needs the next, and the last one that nobody has; of the names that differ in the number the first ten.
 #[test]
 fn a_chain_in_another_order(rt: HostRuntime) -> Result<(), Fail> {
     expect_walk(&rt, &CHAIN)
@@ -358,6 +358,76 @@ Provides: c, d (= 3), f
 #[test]
 fn missing_with_what_is_present(rt: HostRuntime) -> Result<(), Fail> {
     expect_walk(&rt, &MISSING)
+}
+
+const NEWER: Walked<'static> = Walked {
+    text: "Package: player
+Version: 1
+Architecture: all
+Depends: libbluray2 (>= 2)
+
+Package: libbluray2
+Version: 1.4
+Architecture: all
+
+Package: libbluray3
+Version: 1.3
+Architecture: all
+Provides: libbluray4
+",
+    name: "player",
+    version: "1",
+    stanzas: "3",
+    lines: "   - player 1 Depends: libbluray2 (>= 2) missing; present: libbluray2 1.4; similar: libbluray3, libbluray4
+",
+};
+
+/// What comes near, and behind it the names that are similar.
+#[test]
+fn missing_with_what_is_present_and_similar(rt: HostRuntime) -> Result<(), Fail> {
+    expect_walk(&rt, &NEWER)
+}
+
+const EITHER: Walked<'static> = Walked {
+    text: "Package: p
+Version: 1
+Architecture: all
+Depends: a | b | c
+
+Package: a
+Version: 1
+Architecture: all
+Depends: one1
+
+Package: b
+Version: 1
+Architecture: all
+Depends: two1
+
+Package: c
+Version: 1
+Architecture: all
+Depends: three1
+
+Package: one2
+Version: 1
+Architecture: all
+Provides: two2
+",
+    name: "p",
+    version: "1",
+    stanzas: "5",
+    lines: "   - p 1 Depends: a | b | c
+     - a 1 Depends: one1 missing; similar: one2
+     - b 1 Depends: two1 missing; similar: two2
+     - c 1 Depends: three1 missing
+",
+};
+
+/// Each need has similar names of its own.
+#[test]
+fn similar_names_of_each_need(rt: HostRuntime) -> Result<(), Fail> {
+    expect_walk(&rt, &EITHER)
 }
 
 const TWICE: Walked<'static> = Walked {

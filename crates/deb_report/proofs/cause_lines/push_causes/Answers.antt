@@ -9,8 +9,7 @@ use Rattle.deb_report.proofs.JoinLemmas.{lines_map}
 use Rattle.deb_report.proofs.cause_lines.push_causes.Goals as goal
 
 pub push_all-requires : goal.push_all-requires
-push_all-requires c =
-    λ k d below. record { of_index = c.requires k d below; found = c.in_ok-similar.ensures.found; sought = c.in_ok-similar.ensures.sought k d below }
+push_all-requires c = c.in_ok-similar.ensures
 
 pub returns : goal.returns
 returns c =

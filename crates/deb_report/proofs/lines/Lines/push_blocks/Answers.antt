@@ -1,11 +1,6 @@
-use Rattle.std.proofs.lemmas.List.Elements.{All-weaker}
-use Rattle.deb_report.specs.declared.shown.Shown.{Shown}
-use Rattle.deb_report.specs.Told.{AreLaterOf, IsAskedOf, later_view, shown_view}
 use Rattle.deb_report.proofs.lines.Lines.push_blocks.Goals as goal
 
 pub push_titled-requires : goal.push_titled-requires
 push_titled-requires c =
-    let index = c.args.self.now.parts.index.now in
     rw c.as_slice.ensures.value
-    (All-weaker (λ (one : Shown). IsAskedOf index (shown_view one)) (λ (one : Shown). IsAskedOf index (shown_view one) × AreLaterOf index (later_view c.args.self.now.telling.later.now))
-    (λ one asked. (asked, c.requires.later)) c.args.content.now.blocks.items c.requires.content.blocks)
+    (λ k d below. record { asked = c.requires.content.blocks k d below; later = c.requires.later; walked = c.requires.walked k d below })

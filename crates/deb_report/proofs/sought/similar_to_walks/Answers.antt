@@ -1,0 +1,18 @@
+use Rattle.std.proofs.Common.{◌≡◌, ◌∙◌, All, subst, sym}
+use Rattle.deb_index.specs.Constraints.{IsOfIndex}
+use Rattle.deb_report.specs.Similar.{stems_in}
+use Rattle.deb_report.specs.Stems.{AreSought}
+use Rattle.deb_report.proofs.SoughtLemmas.{blocks-walked, final-within}
+use Rattle.deb_report.proofs.sought.similar_to_walks.Goals as goal
+
+pub find-requires : goal.find-requires
+find-requires c =
+    let index = c.args.index.now in
+    subst (All (IsOfIndex index)) (sym (c.as_slice.ensures.value ∙ c.in_ok-constraints.ensures)) (final-within index c.args.blocks.now c.requires)
+
+pub returns-then-telling-2 : goal.returns-then-telling-2
+returns-then-telling-2 c =
+    let index = c.args.index.now in
+    let similar = c.in_ok-similar.similar in
+    let sought = subst (AreSought index (stems_in similar)) (c.as_slice.ensures.value ∙ c.in_ok-constraints.ensures) c.in_ok-similar.ensures.sought in
+    λ k d below _ _. blocks-walked index similar c.args.blocks.now c.requires c.in_ok-similar.ensures.found sought k d below

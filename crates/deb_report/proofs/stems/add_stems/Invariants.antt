@@ -1,9 +1,0 @@
-use Rattle.std.proofs.Common.{◌≡◌, ℕ, true, All, List, map, take}
-use Rattle.deb_relation.specs.AtomView.{atom_view}
-use Rattle.deb_report.specs.Near.{stem}
-use Rattle.deb_report.specs.Stems.{has_text}
-use Rattle.deb_report.proofs.stems.add_stems.Given as goal
-
-abbrev pub invariant-loop-atom : goal.invariant-loop-atom
-invariant-loop-atom l = All (λ atom. has_text (map (λ one. one.items) l.stems.keys) (stem atom.name) ≡ true) (map (λ atom. atom_view atom.now) (take l.atom-index l.atom-items))
-    × ((one : List ℕ) → has_text (map (λ text. text.items) l.initial.stems.keys) one ≡ true → has_text (map (λ text. text.items) l.stems.keys) one ≡ true)
