@@ -1,8 +1,8 @@
 //! The packages that were broken in an earlier index and are mended, and those that are gone.
 
-ghost use Rattle.std.specs.Prelude.{◌≡◌, ◌<◌, ◌&&◌, All, IfOk, filter, length, map, not};
+ghost use Rattle.std.specs.Prelude.{◌≡◌, ◌<◌, ◌&&◌, ◌∷◌, [], All, IfOk, codes, filter, length, map, not};
 ghost use Rattle.deb_index.specs.Packages.{names};
-ghost use Rattle.deb_report.specs.Since.{amends_of, broken_view, is_gone, is_mended, mark_of};
+ghost use Rattle.deb_report.specs.Since.{AreMarks, amends_of, broken_view, has_named, is_gone, is_mended, mark_of};
 ghost use Rattle.deb_report.specs.Told.{IsAskedOf, amends_view, shown_view};
 
 use crate::asked::is_unknown;
@@ -30,6 +30,16 @@ fn places_of(alloc: Global, shown: &[Shown<'_>]) -> Result<Vec<u32>, AllocError>
     Ok(places)
 }
 
+/// Marks on the names of asked packages.
+fn marks_shown(alloc: Global, index: &Index, shown: &[Shown<'_>]) -> Result<Vec<bool>, AllocError>
+    requires { All (λ one. IsAskedOf index.now (shown_view one)) shown.now }
+    ensures { IfOk result (λ marks. AreMarks index.now (has_named index.now (map (λ one. one.0) (map shown_view shown.now))) marks.items) }
+{
+    let places = places_of(alloc, shown)?;
+    let marks = marks_at(alloc, index, places.as_slice())?;
+    Ok(marks)
+}
+
 /// Whether a package of this one's name is asked, and none that is broken, as marks of their names tell.
 fn is_mended(index: &Index, asked: &[bool], broken: &[bool], deb: &BrokenPackage) -> bool
     requires asked { length asked.now ≡ length (names index.now) }
@@ -55,9 +65,8 @@ fn mended_of<'b>(
     ensures { IfOk result (λ mended. map (λ deb. broken_view deb.now) mended.items ≡
         filter (is_mended index.now asked.now (map shown_view broken.now)) (map broken_view before.now)) }
 {
-    let broken_places = places_of(alloc, broken)?;
     let asked_marks = marks_at(alloc, index, asked)?;
-    let broken_marks = marks_at(alloc, index, broken_places.as_slice())?;
+    let broken_marks = marks_shown(alloc, index, broken)?;
     let asked_names = asked_marks.as_slice();
     let broken_names = broken_marks.as_slice();
     let mut mended = Vec::new(alloc);
@@ -86,6 +95,26 @@ fn gone_of<'b>(
     Ok(gone)
 }
 
+/// Both lists, each under its title.
+fn both<'b>(
+    alloc: Global,
+    mended: Vec<&'b BrokenPackage>,
+    gone: Vec<&'b BrokenPackage>,
+) -> Result<Vec<Amends<'b>>, AllocError>
+    ensures { IfOk result (λ lists. map amends_view lists.items ≡ (codes "mended", map (λ deb. broken_view deb.now) mended.entry.items)
+        ∷ (codes "gone", map (λ deb. broken_view deb.now) gone.entry.items) ∷ []) }
+{
+    let mended = Amends {
+        title: "mended",
+        packages: mended,
+    };
+    let gone = Amends {
+        title: "gone",
+        packages: gone,
+    };
+    Ok(vec![in alloc; mended, gone]?)
+}
+
 /// What became of the packages that were broken in an earlier index, in its order.
 #[tactic(auto, unfolding(crate::specs::Since::amends_of))]
 pub(crate) fn amends_of<'b>(
@@ -99,14 +128,7 @@ pub(crate) fn amends_of<'b>(
     requires broken { All (λ one. IsAskedOf index.now (shown_view one)) broken.now }
     ensures { IfOk result (λ lists. map amends_view lists.items ≡ amends_of index.now asked.now (map shown_view broken.now) (map broken_view before.now)) }
 {
-    let mut lists = Vec::new(alloc);
-    lists.push(Amends {
-        title: "mended",
-        packages: mended_of(alloc, index, asked, broken, before)?,
-    })?;
-    lists.push(Amends {
-        title: "gone",
-        packages: gone_of(alloc, index, before)?,
-    })?;
-    Ok(lists)
+    let mended = mended_of(alloc, index, asked, broken, before)?;
+    let gone = gone_of(alloc, index, before)?;
+    both(alloc, mended, gone)
 }

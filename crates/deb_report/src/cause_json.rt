@@ -79,14 +79,11 @@ impl<'p, 'i> Print<Constraint> for NeededJson<'p, 'i> {
     }
 }
 
-/// Causes of an index, in JSON.
+/// Names as texts of JSON.
 #[derive(Drop)]
-struct CauseJson<'p, 'i> {
-    json: &'p IndexJson<'i>,
-    similar: Similar,
-}
+struct QuotedNames;
 
-impl<'p, 'i, 'n> Print<&'n [u8]> for CauseJson<'p, 'i> {
+impl<'n> Print<&'n [u8]> for QuotedNames {
     ghost fits = { λ _ _. Unit {0} };
 
     ghost text = { λ _ name. quoted name.now };
@@ -94,6 +91,21 @@ impl<'p, 'i, 'n> Print<&'n [u8]> for CauseJson<'p, 'i> {
     fn print(&self, out: &mut Vec<u8>, name: &&'n [u8]) -> Result<(), AllocError> {
         push_quoted(out, name)
     }
+}
+
+/// Adds the member with the similar names.
+#[tactic(auto, using(crate::proofs::JoinLemmas::joined_map), unfolding(crate::specs::Json::array))]
+fn push_names(out: &mut Vec<u8>, names: &[&[u8]]) -> Result<(), AllocError>
+    ensures { OnOk result (out.new.items ≡ out.old.items ++ codes "," ++ member (codes "similar") (array quoted (map (λ name. name.now) names.now))) }
+{
+    push_array(out, ",", "similar", &QuotedNames, names, "]")
+}
+
+/// Causes of an index, in JSON.
+#[derive(Drop)]
+struct CauseJson<'p, 'i> {
+    json: &'p IndexJson<'i>,
+    similar: Similar,
 }
 
 impl<'p, 'i> CauseJson<'p, 'i> {
@@ -140,7 +152,6 @@ impl<'p, 'i> CauseJson<'p, 'i> {
     }
 
     /// Adds the member with the similar names.
-    #[tactic(auto, using(crate::proofs::JoinLemmas::joined_map), unfolding(crate::specs::Json::array))]
     fn push_similar(&self, out: &mut Vec<u8>, constraints: &[Constraint]) -> Result<(), AllocError>
         requires within { All (IsOfIndex self.now.json.now.index.now) constraints.now }
         requires found { IsSimilarOf self.now.json.now.index.now self.now.similar }
@@ -148,10 +159,9 @@ impl<'p, 'i> CauseJson<'p, 'i> {
         ensures { OnOk result (out.new.items ≡ out.old.items ++ codes ","
             ++ member (codes "similar") (array quoted (similar_names self.now.json.now.index.now constraints.now))) }
     {
-        let names = self
-            .similar
-            .names(self.json.alloc, self.json.index, constraints)?;
-        push_array(out, ",", "similar", self, names.as_slice(), "]")
+        let json = self.json;
+        let names = self.similar.names(json.alloc, json.index, constraints)?;
+        push_names(out, names.as_slice())
     }
 }
 

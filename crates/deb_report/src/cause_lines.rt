@@ -99,14 +99,11 @@ impl<'p, 'i> Print<Constraint> for NeededLines<'p, 'i> {
     }
 }
 
-/// Causes of an index, in lines.
+/// Near misses and similar names, in lines.
 #[derive(Drop)]
-struct CauseLines<'p, 'i> {
-    lines: &'p IndexLines<'i>,
-    similar: Similar,
-}
+struct NearLines;
 
-impl<'p, 'i, 'm> Print<NearMiss<'m>> for CauseLines<'p, 'i> {
+impl<'m> Print<NearMiss<'m>> for NearLines {
     ghost fits = { λ _ _. Unit {0} };
 
     ghost text = { λ _ miss. near_line (near_view miss) };
@@ -121,7 +118,7 @@ impl<'p, 'i, 'm> Print<NearMiss<'m>> for CauseLines<'p, 'i> {
     }
 }
 
-impl<'p, 'i, 'n> Print<&'n [u8]> for CauseLines<'p, 'i> {
+impl<'n> Print<&'n [u8]> for NearLines {
     ghost fits = { λ _ _. Unit {0} };
 
     ghost text = { λ _ name. name_line name.now };
@@ -130,6 +127,29 @@ impl<'p, 'i, 'n> Print<&'n [u8]> for CauseLines<'p, 'i> {
     fn print(&self, out: &mut Vec<u8>, name: &&'n [u8]) -> Result<(), AllocError> {
         push_line(out, "   - ", name)
     }
+}
+
+/// Adds the near misses.
+#[tactic(auto, using(crate::proofs::JoinLemmas::titled_map))]
+fn push_misses(out: &mut Vec<u8>, misses: &[NearMiss<'_>]) -> Result<(), AllocError>
+    ensures { OnOk result (out.new.items ≡ out.old.items ++ titled_if (codes "  present:") near_line (map near_view misses.now)) }
+{
+    push_titled_if(out, "  present:", &NearLines, misses)
+}
+
+/// Adds the similar names.
+#[tactic(auto, using(crate::proofs::JoinLemmas::titled_map))]
+fn push_names(out: &mut Vec<u8>, names: &[&[u8]]) -> Result<(), AllocError>
+    ensures { OnOk result (out.new.items ≡ out.old.items ++ titled_if (codes "  similar:") name_line (map (λ name. name.now) names.now)) }
+{
+    push_titled_if(out, "  similar:", &NearLines, names)
+}
+
+/// Causes of an index, in lines.
+#[derive(Drop)]
+struct CauseLines<'p, 'i> {
+    lines: &'p IndexLines<'i>,
+    similar: Similar,
 }
 
 impl<'p, 'i> CauseLines<'p, 'i> {
@@ -171,18 +191,16 @@ impl<'p, 'i> CauseLines<'p, 'i> {
     }
 
     /// Adds the near misses.
-    #[tactic(auto, using(crate::proofs::JoinLemmas::titled_map))]
     fn push_present(&self, out: &mut Vec<u8>, constraints: &[Constraint]) -> Result<(), AllocError>
         requires { All (IsOfIndex self.now.lines.now.index.now) constraints.now }
         ensures { OnOk result (out.new.items ≡ out.old.items
             ++ titled_if (codes "  present:") near_line (near_misses self.now.lines.now.index.now constraints.now)) }
     {
         let misses = near_misses(self.lines.alloc, self.lines.index, constraints)?;
-        push_titled_if(out, "  present:", self, misses.as_slice())
+        push_misses(out, misses.as_slice())
     }
 
     /// Adds the similar names.
-    #[tactic(auto, using(crate::proofs::JoinLemmas::titled_map))]
     fn push_similar(&self, out: &mut Vec<u8>, constraints: &[Constraint]) -> Result<(), AllocError>
         requires within { All (IsOfIndex self.now.lines.now.index.now) constraints.now }
         requires found { IsSimilarOf self.now.lines.now.index.now self.now.similar }
@@ -190,10 +208,9 @@ impl<'p, 'i> CauseLines<'p, 'i> {
         ensures { OnOk result (out.new.items ≡ out.old.items
             ++ titled_if (codes "  similar:") name_line (similar_names self.now.lines.now.index.now constraints.now)) }
     {
-        let names = self
-            .similar
-            .names(self.lines.alloc, self.lines.index, constraints)?;
-        push_titled_if(out, "  similar:", self, names.as_slice())
+        let lines = self.lines;
+        let names = self.similar.names(lines.alloc, lines.index, constraints)?;
+        push_names(out, names.as_slice())
     }
 }
 

@@ -2,7 +2,7 @@
 
 ghost use Rattle.std.specs.Prelude.{◌≡◌, ◌<◌, ◌≤◌, ℕ, All, IfOk, OnOk, count_by, length, map};
 ghost use Rattle.deb_index.specs.Constraints.{IsOfIndex};
-ghost use Rattle.deb_report.specs.Causes.{IsCauseOf, by_count, cause_view, causes_list};
+ghost use Rattle.deb_report.specs.Causes.{IsCauseOf, by_count, by_first, cause_view, causes_list, cores_of};
 ghost use Rattle.deb_report.specs.Gathered.{cause_from};
 ghost use Rattle.deb_report.specs.Gathering.{part_view, share_view};
 ghost use Rattle.deb_report.specs.Told.{AreLaterOf, IsAskedOf, later_view, shown_view};
@@ -78,6 +78,26 @@ fn sort_by_count(causes: &mut Vec<Cause>) -> Result<(), AllocError>
     Ok(())
 }
 
+/// What each cause of broken packages has, in the order of the first packages.
+fn parts_in<'v>(
+    alloc: Global,
+    index: &Index,
+    later: &'v [Vec<Vec<Constraint>>],
+    broken: &[Shown<'v>],
+) -> Result<Vec<Part<'v>>, AllocError>
+    requires broken { All (λ one. IsAskedOf index.now (shown_view one)) broken.now }
+    requires later { AreLaterOf index.now (later_view later.now) }
+    ensures causes { IfOk result (λ parts. map (cause_from index.now) (map part_view parts.items)
+        ≡ by_first index.now (map (cores_of (later_view later.now)) (map shown_view broken.now))) }
+    ensures some { IfOk result (λ parts. All (λ part. 0 < length part.cores.items) parts.items) }
+    ensures within { IfOk result (λ parts. All (λ part. All (λ core. All (IsOfIndex index.now) core.now) part.cores.items) parts.items) }
+{
+    let mut wrongs = Wrongs::new(alloc);
+    let packages = number_packages(alloc, index, later, broken, &mut wrongs)?;
+    let parts = parts_of(alloc, wrongs.count(), packages.as_slice())?;
+    Ok(parts)
+}
+
 /// The causes of broken packages, each with what is gathered of it: those of more packages first, among equals those whose first package is
 /// first in the list.
 ///
@@ -93,9 +113,7 @@ pub(crate) fn causes_of(
     ensures causes { IfOk result (λ causes. map cause_view causes.items ≡ causes_list index.now (later_view later.now) (map shown_view broken.now)) }
     ensures within { IfOk result (λ causes. All (λ cause. IsCauseOf index.now (cause_view cause)) causes.items) }
 {
-    let mut wrongs = Wrongs::new(alloc);
-    let packages = number_packages(alloc, index, later, broken, &mut wrongs)?;
-    let parts = parts_of(alloc, wrongs.count(), packages.as_slice())?;
+    let parts = parts_in(alloc, index, later, broken)?;
     let mut causes = list_causes(alloc, index, parts.as_slice())?;
     sort_by_count(&mut causes)?;
     Ok(causes)

@@ -7,7 +7,7 @@ ghost use Rattle.deb_relation.specs.Relationship.{printed};
 ghost use Rattle.deb_index.specs.Constraints.{IsOfIndex};
 ghost use Rattle.deb_index.specs.Packages.{package_view};
 ghost use Rattle.deb_report.specs.CauseLines.{provides_text};
-ghost use Rattle.deb_report.specs.Report.{constraint_line, label_of, label_text, line, place_line, reason_line, titled};
+ghost use Rattle.deb_report.specs.Report.{OfName, OfRelation, constraint_line, label_of, label_text, line, place_line, reason_line, titled};
 ghost use Rattle.deb_report.specs.Told.{reason_view};
 
 use crate::print::{Plainly, Print, push_all, push_joined};
@@ -115,37 +115,55 @@ impl<'i> Print<u32> for IndexLines<'i> {
     }
 }
 
-/// Adds the line of a reason.
+/// Adds the line of a name.
 #[tactic(auto, unfolding(crate::specs::Report::reason_line))]
+fn push_of_name(out: &mut Vec<u8>, kind: &[u8], name: &[u8]) -> Result<(), AllocError>
+    ensures { OnOk result (out.new.items ≡ out.old.items ++ reason_line (OfName kind.now name.now)) }
+{
+    out.extend_from_slice(b"   - ")?;
+    out.extend_from_slice(kind)?;
+    out.extend_from_slice(b": ")?;
+    out.extend_from_slice(name)?;
+    out.extend_from_slice(b"\n")?;
+    Ok(())
+}
+
+/// Adds the line of a relation of a package.
+#[tactic(auto, unfolding(crate::specs::Report::reason_line))]
+fn push_of_package(
+    out: &mut Vec<u8>,
+    kind: &[u8],
+    deb: &Package,
+    field: &[u8],
+    relation: &[Atom],
+) -> Result<(), AllocError>
+    ensures { OnOk result (out.new.items ≡ out.old.items ++ reason_line (OfRelation kind.now (package_view deb.now) field.now (map atom_view relation.now))) }
+{
+    out.extend_from_slice(b"   - ")?;
+    out.extend_from_slice(kind)?;
+    out.extend_from_slice(b": ")?;
+    push_package(out, deb)?;
+    out.extend_from_slice(b" ")?;
+    out.extend_from_slice(field)?;
+    out.extend_from_slice(b": ")?;
+    push_group(out, relation)?;
+    out.extend_from_slice(b"\n")?;
+    Ok(())
+}
+
+/// Adds the line of a reason.
 fn push_reason(out: &mut Vec<u8>, reason: &Reason<'_>) -> Result<(), AllocError>
     ensures { OnOk result (out.new.items ≡ out.old.items ++ reason_line (reason_view reason.now)) }
 {
     match reason {
-        Reason::Name { kind, name } => {
-            out.extend_from_slice(b"   - ")?;
-            out.extend_from_slice(kind)?;
-            out.extend_from_slice(b": ")?;
-            out.extend_from_slice(name)?;
-            out.extend_from_slice(b"\n")?;
-        }
+        Reason::Name { kind, name } => push_of_name(out, kind, name),
         Reason::Relation {
             kind,
             deb,
             field,
             relation,
-        } => {
-            out.extend_from_slice(b"   - ")?;
-            out.extend_from_slice(kind)?;
-            out.extend_from_slice(b": ")?;
-            push_package(out, deb)?;
-            out.extend_from_slice(b" ")?;
-            out.extend_from_slice(field)?;
-            out.extend_from_slice(b": ")?;
-            push_group(out, relation)?;
-            out.extend_from_slice(b"\n")?;
-        }
+        } => push_of_package(out, kind, deb, field, relation),
     }
-    Ok(())
 }
 
 impl<'i> Print<Constraint> for IndexLines<'i> {

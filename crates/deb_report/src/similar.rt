@@ -91,6 +91,18 @@ impl<'s> Told<'s> {
     }
 }
 
+/// As many lists, with no name in them.
+fn no_names(alloc: Global, count: usize) -> Result<Vec<Vec<Vec<u8>>>, AllocError>
+    ensures size { IfOk result (λ lists. length lists.items ≡ count) }
+    ensures none { IfOk result (λ lists. All (λ list. list.items ≡ []) lists.items) }
+{
+    let mut lists = Vec::new(alloc);
+    for _ in 0..count {
+        lists.push(Vec::new(alloc))?;
+    }
+    Ok(lists)
+}
+
 /// The names of an index with certain stems.
 #[derive(Drop)]
 pub(crate) struct Similar {
@@ -109,10 +121,7 @@ impl Similar {
         ensures found { IfOk result (IsFoundIn []) }
         ensures stems { IfOk result (λ similar. similar.stems ≡ stems) }
     {
-        let mut lists = Vec::new(alloc);
-        for _ in 0..stems.len() {
-            lists.push(Vec::new(alloc))?;
-        }
+        let lists = no_names(alloc, stems.len())?;
         Ok(Similar { stems, lists })
     }
 

@@ -60,6 +60,22 @@ fn push_answers(
     push_array(out, ",", "met-by", json, answers, "]")
 }
 
+/// Adds the member with the packages that answer the need with a number.
+fn push_met(
+    json: &IndexJson<'_>,
+    out: &mut Vec<u8>,
+    place: u32,
+    number: u32,
+) -> Result<(), AllocError>
+    requires { IsOfIndex json.now.index.now (Constraint.Need place number) }
+    ensures { OnOk result (out.new.items ≡ out.old.items ++ codes ","
+        ++ member (codes "met-by") (array near_json (answers_to json.now.index.now (Constraint.Need place number)))) }
+{
+    let answers = answers_to(json.alloc, json.index, Constraint::Need(place, number))?;
+    push_answers(json, out, answers.as_slice())?;
+    Ok(())
+}
+
 /// Adds where a walk goes on from a need.
 #[tactic(auto, unfolding(crate::specs::Json::why_json))]
 fn push_need(
@@ -74,8 +90,7 @@ fn push_need(
     if is_missing(json.alloc, json.index, place, number)? {
         push_alternatives(out, json.index.need(place, number))?;
     } else {
-        let answers = answers_to(json.alloc, json.index, Constraint::Need(place, number))?;
-        push_answers(json, out, answers.as_slice())?;
+        push_met(json, out, place, number)?;
     }
     Ok(())
 }

@@ -9,10 +9,6 @@ use Rattle.deb_report.proofs.ReportLemmas.{places-within}
 use Rattle.deb_report.proofs.amends.mended_of.Goals as goal
 use Rattle.deb_report.proofs.amends.mended_of.Goals.{then-is_mended+in_ok-push, else-is_mended}
 
-pub marks_at-requires-2 : goal.marks_at-requires-2
-marks_at-requires-2 c =
-    subst (All (λ place. place < length c.args.index.now.packages)) (sym (c.as_slice.ensures.value ∙ c.in_ok-broken_places.ensures)) (places-within c.args.index.now c.args.broken.now c.requires.broken)
-
 pub is_mended-requires-clause-asked : goal.is_mended-requires-clause-asked
 is_mended-requires-clause-asked c = rw c.as_slice-asked_names.ensures.value c.in_ok-asked_marks.ensures.0
 
@@ -27,10 +23,8 @@ loop-deb-preserved c =
     let test = is_mended index asked (map shown_view c.args.broken.now) in
     let deb = c.deb-item.result in
     let inside : c.loop-deb.deb-index < length c.args.before.now = omega arith in
-    let same : c.as_slice.result.now ≡ places = c.as_slice.ensures.value ∙ c.in_ok-broken_places.ensures in
     let of_asked : AreMarks index (has_named index asked) c.as_slice-asked_names.result.now = rw c.as_slice-asked_names.ensures.value c.in_ok-asked_marks.ensures in
-    let of_places : AreMarks index (has_named index c.as_slice.result.now) c.as_slice-broken_names.result.now = rw c.as_slice-broken_names.ensures.value c.in_ok-broken_marks.ensures in
-    let of_broken : AreMarks index (has_named index places) c.as_slice-broken_names.result.now = subst (λ (ps : List ℕ). AreMarks index (has_named index ps) c.as_slice-broken_names.result.now) same of_places in
+    let of_broken : AreMarks index (has_named index places) c.as_slice-broken_names.result.now = rw c.as_slice-broken_names.ensures.value c.in_ok-broken_marks.ensures in
     let tells : c.is_mended.result ≡ test (broken_view deb) =
     c.is_mended.ensures
     ∙ mended-tells index asked places c.as_slice-asked_names.result.now c.as_slice-broken_names.result.now deb.name.items of_asked of_broken c.requires.asked (places-within index c.args.broken.now c.requires.broken) in

@@ -16,50 +16,19 @@ use Rattle.deb_report.proofs.GatheredCauses.{causes-within, cores-own, few-place
 use Rattle.deb_report.proofs.ListLemmas.{all_seen}
 use Rattle.deb_report.proofs.causes.causes_of.Goals as goal
 
-pub parts_of-requires : goal.parts_of-requires
-parts_of-requires c =
-    let all = c.in_ok-packages.packages.items in
-    let within = numbers-below all (length (causes_of c.number_packages.new.wrongs))
-    (numbers-within c.args.index.now c.new-wrongs.result c.number_packages.new.wrongs (map package_view all) c.in_ok-packages.ensures.numbers c.new-wrongs.ensures.said c.new-wrongs.ensures.causes) in
-    let counted = subst (λ n. All (λ (one : NumberedPackage). All (λ (core : NumberedCore). core.number < n) one.cores.items) all) (sym c.count.ensures) within in
-    All-same (λ (one : NumberedPackage). All (λ (core : NumberedCore). core.number < c.count.result) one.cores.items) c.as_slice.result.now all c.as_slice.ensures.value counted
-
 pub list_causes-requires-clause-some : goal.list_causes-requires-clause-some
-list_causes-requires-clause-some c =
-    let packages = map package_view c.in_ok-packages.packages.items in
-    let views : map part_view c.as_slice-2.result.now ≡ map (part_of packages) (below (length (causes_of c.number_packages.new.wrongs))) =
-    ap (map part_view) c.as_slice-2.ensures.value ∙ c.in_ok-parts.ensures
-    ∙ ap (λ ps. map (part_of (map package_view ps)) (below c.count.result)) c.as_slice.ensures.value ∙ ap (λ n. map (part_of packages) (below n)) c.count.ensures in
-    some-cores c.as_slice-2.result.now _ views
-    (parts-some c.args.index.now c.new-wrongs.result c.number_packages.new.wrongs packages c.in_ok-packages.ensures.numbers c.new-wrongs.ensures.said c.new-wrongs.ensures.causes)
+list_causes-requires-clause-some c = rw c.as_slice.ensures.value c.in_ok-parts.ensures.some
 
 pub list_causes-requires-clause-within : goal.list_causes-requires-clause-within
-list_causes-requires-clause-within c =
-    let packages = map package_view c.in_ok-packages.packages.items in
-    let index = c.args.index.now in
-    let later = later_view c.args.later.now in
-    let told : List (ℕ × VerdictView) = map shown_view c.args.broken.now in
-    let views : map part_view c.as_slice-2.result.now ≡ map (part_of packages) (below c.count.result) =
-    ap (map part_view) c.as_slice-2.ensures.value ∙ c.in_ok-parts.ensures
-    ∙ ap (λ ps. map (part_of (map package_view ps)) (below c.count.result)) c.as_slice.ensures.value in
-    let within : All (All (IsOfIndex index)) (flat_map (λ one. one.1) (map (cores_of later) told)) =
-    told-within index later told c.requires.later (All-map (IsAskedOf index) shown_view c.args.broken.now c.requires.broken) in
-    cores-own index c.as_slice-2.result.now _ views
-    (parts-within index packages c.count.result (subst (λ broken. All (All (IsOfIndex index)) (flat_map (λ one. one.1) broken)) (sym c.in_ok-packages.ensures.cores) within))
+list_causes-requires-clause-within c = rw c.as_slice.ensures.value c.in_ok-parts.ensures.within
 
 pub returns-clause-causes : goal.returns-clause-causes
 returns-clause-causes c =
-    let packages = map package_view c.in_ok-packages.packages.items in
     let index = c.args.index.now in
     let later = later_view c.args.later.now in
     let told : List (ℕ × VerdictView) = map shown_view c.args.broken.now in
-    let views : map part_view c.as_slice-2.result.now ≡ map (part_of packages) (below (length (causes_of c.number_packages.new.wrongs))) =
-    ap (map part_view) c.as_slice-2.ensures.value ∙ c.in_ok-parts.ensures
-    ∙ ap (λ ps. map (part_of (map package_view ps)) (below c.count.result)) c.as_slice.ensures.value ∙ ap (λ n. map (part_of packages) (below n)) c.count.ensures in
     let firsts : map cause_view c.in_ok-causes.causes.items ≡ by_first index (map (cores_of later) told) =
-    c.in_ok-causes.ensures ∙ ap (map (cause_from index)) views
-    ∙ parts-causes index c.new-wrongs.result c.number_packages.new.wrongs packages c.in_ok-packages.ensures.numbers c.new-wrongs.ensures.said c.new-wrongs.ensures.causes
-    ∙ ap (by_first index) c.in_ok-packages.ensures.cores in
+    c.in_ok-causes.ensures ∙ ap (λ parts. map (cause_from index) (map part_view parts)) c.as_slice.ensures.value ∙ c.in_ok-parts.ensures.causes in
     c.in_ok-sort_by_count.ensures (length told) (few-places-of index later told c.in_ok-causes.causes.items firsts)
     ∙ listed index later told (map cause_view c.in_ok-causes.causes.items) firsts
 

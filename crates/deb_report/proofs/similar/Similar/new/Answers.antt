@@ -3,4 +3,5 @@ use Rattle.deb_report.proofs.SimilarLemmas.{none-listed}
 use Rattle.deb_report.proofs.similar.Similar.new.Goals as goal
 
 pub returns-clause-found : goal.returns-clause-found
-returns-clause-found c = none-listed (λ list. list.items) (λ name. name.items) (map (λ one. one.items) c.args.stems.keys) c.loop.lists.items c.loop.invariant.0
+returns-clause-found c =
+    none-listed (λ list. list.items) (λ name. name.items) (map (λ one. one.items) c.args.stems.keys) c.in_ok-lists.lists.items c.in_ok-lists.ensures.none
