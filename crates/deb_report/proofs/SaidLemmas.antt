@@ -1,16 +1,16 @@
 -- The keys of causes.
-use Rattle.std.proofs.Common.{◌≡◌, ℕ, suc, zero, ◌==◌, ◌||◌, ◌&&◌, Bool, true, false, not, List, [], ◌∷◌, ◌++◌, All, filter, length, map, slice_get, Option, Some, None, refl, sym, ap, ap₂, ◌∙◌, subst, arith, inl, inr}
+use Rattle.std.proofs.Common.{◌≡◌, ℕ, suc, zero, ◌==◌, ◌||◌, ◌&&◌, Bool, true, false, List, [], ◌∷◌, All, map, slice_get, Option, Some, None, refl, sym, ap, ap₂, ◌∙◌, subst, arith, inl, inr}
 use Rattle.std.specs.List.{list_all, list_any}
 use Rattle.std.specs.List.Sorted.{IsStrictlyIncreasing}
 use Rattle.std.specs.Option.{option_map_or}
 use Rattle.std.specs.Str.{bytes_eq}
-use Rattle.std.proofs.lemmas.Bool.{and_parts, cases_Bool, false≢true, or_cases, or_left, or_right}
+use Rattle.std.proofs.lemmas.Bool.{and_parts, false≢true, or_cases, or_left, or_right}
 use Rattle.std.proofs.lemmas.Bool.Decides.{nat_tests}
-use Rattle.std.proofs.lemmas.List.Elements.{All-cons, All-filter, All-head, All-nil, All-tail}
+use Rattle.std.proofs.lemmas.List.Elements.{All-cons, All-head, All-nil, All-tail}
 use Rattle.deb_index.specs.declared.constraint.Constraint.{Constraint}
-use Rattle.deb_index.specs.Packages.{IndexView, first_of_each, places_where}
+use Rattle.deb_index.specs.Packages.{IndexView, places_where}
 use Rattle.deb_index.specs.Tables.{number_in}
-use Rattle.deb_index.proofs.FirstLemmas.{name-itself, other-name, same-name, names-turned}
+use Rattle.deb_index.proofs.FirstLemmas.{name-itself, other-name, same-name}
 use Rattle.deb_index.proofs.MemberLemmas.{member-places_where, rising-places_where}
 use Rattle.deb_index.proofs.TableLemmas.{IsApart, first-apart, some-any}
 use Rattle.number_sets.specs.Sets.{members_of}

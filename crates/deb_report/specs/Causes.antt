@@ -1,5 +1,5 @@
 -- The causes of broken packages: what is wrong, whoever needs it, and the packages that it breaks.
-use Rattle.std.specs.Prelude.{ℕ, ◌==◌, ◌<◌, Bool, true, false, not, ◌&&◌, ◌||◌, All, List, [], ◌∷◌, ◌++◌, count_by, length, map, filter}
+use Rattle.std.specs.Prelude.{ℕ, ◌==◌, ◌<◌, Bool, true, false, not, ◌&&◌, All, List, [], ◌∷◌, ◌++◌, count_by, length, map, filter}
 use Prim.Native.Nat.{zero, suc}
 use Rattle.std.specs.List.{flat_map, list_all, list_any}
 use Rattle.std.specs.Str.{bytes_eq}

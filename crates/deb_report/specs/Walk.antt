@@ -1,5 +1,5 @@
 -- A core as it is walked from the package: depth first, what each package of it asks for, and under a need the packages that answer it.
-use Rattle.std.specs.Prelude.{◌≡◌, ℕ, ◌==◌, ◌+◌, ◌*◌, ◌<◌, nat_lt, Bool, true, false, not, ◌&&◌, ◌||◌, List, [], ◌∷◌, ◌++◌, codes, filter, if◌then◌else◌, length, map}
+use Rattle.std.specs.Prelude.{ℕ, ◌==◌, ◌+◌, ◌<◌, nat_lt, Bool, true, false, not, ◌&&◌, ◌||◌, List, [], ◌∷◌, ◌++◌, codes, filter, if◌then◌else◌, length, map}
 use Prim.Native.Nat.{zero, suc}
 use Rattle.std.specs.List.{flat_map, join_by, list_all}
 use Rattle.number_sets.specs.Sets.{NumberSet, members_of}

@@ -1,4 +1,4 @@
-use Rattle.std.proofs.Common.{◌≡◌, ◌<◌, ◌∙◌, Bor, ℕ, List, All, ap, arith, false, length, map, subst, sym, true}
+use Rattle.std.proofs.Common.{◌≡◌, ◌<◌, ◌∙◌, Bor, ℕ, List, ap, arith, false, length, map, sym, true}
 use Rattle.deb_health.specs.Verdicts.{VerdictView}
 use Rattle.deb_report.specs.declared.broken.BrokenPackage.{BrokenPackage}
 use Rattle.deb_report.specs.Since.{AreMarks, broken_view, has_named, is_mended}

@@ -1,18 +1,12 @@
-use Rattle.std.proofs.Common.{◌≡◌, ℕ, ◌<◌, List, All, ap, length, map, subst, sym, ◌∙◌}
-use Rattle.std.specs.List.{flat_map}
+use Rattle.std.proofs.Common.{◌≡◌, ℕ, List, ap, length, map, ◌∙◌}
 use Rattle.std.proofs.lemmas.List.Elements.{All-same}
-use Rattle.deb_index.specs.Constraints.{IsOfIndex, below}
 use Rattle.deb_health.specs.Verdicts.{VerdictView}
-use Rattle.deb_report.specs.declared.numbered.NumberedCore.{NumberedCore}
-use Rattle.deb_report.specs.declared.numbered.NumberedPackage.{NumberedPackage}
 use Rattle.deb_report.specs.Causes.{IsCauseOf, by_first, cause_view, causes_list, cores_of}
 use Rattle.deb_report.specs.Gathered.{cause_from}
-use Rattle.deb_report.specs.Gathering.{part_of, part_view}
-use Rattle.deb_report.specs.Numbered.{package_view}
+use Rattle.deb_report.specs.Gathering.{part_view}
 use Rattle.deb_report.specs.Told.{IsAskedOf, later_view, shown_view}
-use Rattle.deb_report.specs.Wrongs.{causes_of}
 use Rattle.std.proofs.lemmas.List.Elements.{All-map}
-use Rattle.deb_report.proofs.GatheredCauses.{causes-within, cores-own, few-places-of, listed, numbers-below, numbers-within, parts-causes, parts-some, parts-within, some-cores, told-within}
+use Rattle.deb_report.proofs.GatheredCauses.{causes-within, few-places-of, listed}
 use Rattle.deb_report.proofs.ListLemmas.{all_seen}
 use Rattle.deb_report.proofs.causes.causes_of.Goals as goal
 

@@ -5,15 +5,14 @@ use Rattle.deb_index.specs.Constraints.{IsOfIndex, below}
 use Rattle.deb_health.specs.Verdicts.{VerdictView}
 use Rattle.deb_report.specs.declared.numbered.NumberedCore.{NumberedCore}
 use Rattle.deb_report.specs.declared.numbered.NumberedPackage.{NumberedPackage}
-use Rattle.deb_report.specs.Causes.{IsCauseOf, by_first, cause_view, causes_list, cores_of}
+use Rattle.deb_report.specs.Causes.{by_first, cores_of}
 use Rattle.deb_report.specs.Gathered.{cause_from}
 use Rattle.deb_report.specs.Gathering.{part_of, part_view}
 use Rattle.deb_report.specs.Numbered.{package_view}
 use Rattle.deb_report.specs.Told.{IsAskedOf, later_view, shown_view}
 use Rattle.deb_report.specs.Wrongs.{causes_of}
 use Rattle.std.proofs.lemmas.List.Elements.{All-map}
-use Rattle.deb_report.proofs.GatheredCauses.{causes-within, cores-own, few-places-of, listed, numbers-below, numbers-within, parts-causes, parts-some, parts-within, some-cores, told-within}
-use Rattle.deb_report.proofs.ListLemmas.{all_seen}
+use Rattle.deb_report.proofs.GatheredCauses.{cores-own, numbers-below, numbers-within, parts-causes, parts-some, parts-within, some-cores, told-within}
 use Rattle.deb_report.proofs.causes.parts_in.Goals as goal
 
 pub parts_of-requires : goal.parts_of-requires

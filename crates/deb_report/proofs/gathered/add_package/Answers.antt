@@ -1,10 +1,10 @@
-use Rattle.std.proofs.Common.{◌≡◌, ◌∙◌, ◌<◌, ◌∷◌, [], ◌++◌, All, ℕ, Bool, List, ap, length, map, subst, sym}
+use Rattle.std.proofs.Common.{◌≡◌, ◌∙◌, ◌<◌, All, ℕ, List, ap, length, map, subst, sym}
 use Rattle.std.specs.List.{list_any}
 use Rattle.deb_index.specs.Constraints.{below}
 use Rattle.number_sets.specs.Sets.{members_of}
 use Rattle.number_sets.proofs.ListMembers.{below_members}
 use Rattle.deb_report.specs.declared.numbered.NumberedCore.{NumberedCore}
-use Rattle.deb_report.specs.Gathering.{has_number, is_alone, part_of, part_view, with_cores, with_share}
+use Rattle.deb_report.specs.Gathering.{has_number, is_alone, part_of, with_cores, with_share}
 use Rattle.deb_report.specs.Numbered.{core_view, package_view}
 use Rattle.deb_report.proofs.GatheringLemmas.{number-below, part-more}
 use Rattle.deb_report.proofs.gathered.add_package.Goals as goal

@@ -1,8 +1,8 @@
-use Rattle.std.proofs.Common.{◌≡◌, ◌∙◌, ◌<◌, ◌∷◌, [], ◌++◌, ℕ, Bool, List, ap, arith, get_or, length, map, refl, sym, take, ◌+◌}
+use Rattle.std.proofs.Common.{◌∙◌, ◌<◌, ℕ, Bool, List, ap, arith, get_or, length, map, refl, take, ◌+◌}
 use Rattle.std.proofs.lemmas.List.{length-set, map-append}
 use Rattle.number_sets.specs.Sets.{members_of}
 use Rattle.deb_report.specs.declared.gathered.Part.{Part}
-use Rattle.deb_report.specs.Gathering.{PartView, part_view, share_view, with_share}
+use Rattle.deb_report.specs.Gathering.{part_view, share_view, with_share}
 use Rattle.deb_report.proofs.GatheringLemmas.{put-at, share-none, share-other, share-own}
 use Rattle.deb_report.proofs.gathered.add_shares.Goals as goal
 

@@ -1,4 +1,4 @@
-use Rattle.std.proofs.Common.{◌≡◌, ◌==◌, ◌∙◌, ℕ, List, ap, arith, length, map, take}
+use Rattle.std.proofs.Common.{◌≡◌, ◌==◌, ◌∙◌, ℕ, List, ap, arith, map, take}
 use Rattle.std.proofs.lemmas.List.{take_all}
 use Rattle.deb_index.specs.declared.constraint.Constraint.{Constraint}
 use Rattle.deb_index.proofs.FirstLemmas.{any-map}

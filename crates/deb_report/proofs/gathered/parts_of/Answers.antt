@@ -1,4 +1,4 @@
-use Rattle.std.proofs.Common.{◌≡◌, ◌∙◌, ◌<◌, ◌∷◌, [], ◌++◌, All, ℕ, List, ap, arith, length, map, subst, sym, take, ◌+◌}
+use Rattle.std.proofs.Common.{◌≡◌, ◌∙◌, ◌<◌, ◌∷◌, [], ◌++◌, All, ℕ, ap, arith, length, map, subst, sym, take, ◌+◌}
 use Rattle.std.proofs.lemmas.List.{length-map}
 use Rattle.deb_index.specs.Constraints.{below}
 use Rattle.deb_report.specs.declared.numbered.NumberedCore.{NumberedCore}

@@ -1,4 +1,4 @@
-use Rattle.std.proofs.Common.{◌≡◌, length, map, take}
+use Rattle.std.proofs.Common.{◌≡◌, map, take}
 use Rattle.deb_index.specs.Constraints.{below}
 use Rattle.deb_report.specs.Gathering.{part_of, part_view}
 use Rattle.deb_report.specs.Numbered.{package_view}

@@ -1,4 +1,3 @@
-use Rattle.std.proofs.Common.{◌∙◌, ap, rules}
 use Rattle.deb_report.proofs.HitLemmas.{hit-added}
 use Rattle.deb_report.proofs.hits.push_hits.Goals as goal
 

@@ -1,4 +1,3 @@
-use Rattle.std.proofs.Common.{length}
 use Rattle.deb_report.proofs.WalkLemmas.{brought-within}
 use Rattle.deb_report.proofs.near.answers_to.Goals as goal
 

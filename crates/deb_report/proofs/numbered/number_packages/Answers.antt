@@ -6,7 +6,6 @@ use Rattle.std.proofs.lemmas.List.Elements.{All-same}
 use Rattle.deb_index.specs.declared.constraint.Constraint.{Constraint}
 use Rattle.deb_index.specs.Constraints.{IsOfIndex}
 use Rattle.deb_report.specs.declared.numbered.NumberedPackage.{NumberedPackage}
-use Rattle.deb_report.specs.declared.numbered.NumberedCore.{NumberedCore}
 use Rattle.deb_report.specs.declared.shown.Shown.{Shown}
 use Rattle.deb_report.specs.Causes.{cores_of}
 use Rattle.deb_report.specs.Numbered.{core_view, package_view, unnumbered}

@@ -1,6 +1,4 @@
-use Rattle.std.proofs.Common.{◌≡◌, ◌∙◌, All, subst, sym}
-use Rattle.std.specs.List.{flat_map}
-use Rattle.deb_index.specs.declared.constraint.Constraint.{Constraint}
+use Rattle.std.proofs.Common.{◌∙◌, All, subst, sym}
 use Rattle.deb_index.specs.Constraints.{IsOfIndex}
 use Rattle.deb_report.specs.declared.gathered.Cause.{Cause}
 use Rattle.deb_report.specs.Causes.{IsCauseOf, cause_view}

@@ -1,4 +1,4 @@
-use Rattle.std.proofs.Common.{◌≡◌, ◌∙◌, All, subst, sym}
+use Rattle.std.proofs.Common.{◌∙◌, All, subst, sym}
 use Rattle.deb_index.specs.Constraints.{IsOfIndex}
 use Rattle.deb_report.specs.Similar.{stems_in}
 use Rattle.deb_report.specs.Stems.{AreSought}

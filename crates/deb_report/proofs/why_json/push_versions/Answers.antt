@@ -1,4 +1,3 @@
-use Rattle.std.proofs.Common.{length}
 use Rattle.deb_index.specs.Packages.{is_named, name_at}
 use Rattle.deb_index.proofs.MemberLemmas.{below-places_where}
 use Rattle.deb_report.proofs.why_json.push_versions.Goals as goal

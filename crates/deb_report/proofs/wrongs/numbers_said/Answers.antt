@@ -1,11 +1,11 @@
-use Rattle.std.proofs.Common.{◌≡◌, ◌∙◌, ◌<◌, ◌++◌, ◌∷◌, [], ℕ, List, Some, arith, ap, ap₂, false, get_or, length, map, subst, sym, take, true, ◌+◌}
+use Rattle.std.proofs.Common.{◌≡◌, ◌∙◌, ◌<◌, ◌++◌, ◌∷◌, [], ℕ, List, Some, arith, ap, ap₂, get_or, length, map, subst, sym, take, ◌+◌}
 use Rattle.std.proofs.lemmas.List.{map-append, take_more}
 use Rattle.deb_index.specs.declared.constraint.Constraint.{Constraint}
 use Rattle.deb_index.specs.declared.constraint.Constraint.TheVariants.{Essential}
 use Rattle.deb_index.specs.Tables.{number_in}
 use Rattle.deb_health.specs.Causes.{cause_in, is_final}
 use Rattle.deb_report.specs.Causes.{says}
-use Rattle.deb_report.specs.Numbering.{Grows, IsFront, texts_of, with_text}
+use Rattle.deb_report.specs.Numbering.{Grows, texts_of, with_text}
 use Rattle.deb_report.specs.Said.{number_said}
 use Rattle.deb_report.proofs.ListLemmas.{filter_fails, filter_passes}
 use Rattle.deb_report.proofs.NumberingLemmas.{grows-more, grows-one, number-kept}

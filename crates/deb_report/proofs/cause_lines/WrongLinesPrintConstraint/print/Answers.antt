@@ -1,7 +1,5 @@
-use Rattle.std.proofs.Common.{append_assoc, codes}
-use Rattle.deb_index.specs.Packages.{need_at}
+use Rattle.std.proofs.Common.{append_assoc}
 use Rattle.deb_report.specs.CauseLines.{wrong_line}
-use Rattle.deb_report.specs.Report.{group_text}
 use Rattle.deb_report.proofs.cause_lines.WrongLinesPrintConstraint.print.Goals as goal
 
 pub returns-in_ok-extend_from_slice-in-Need-2 : goal.returns-in_ok-extend_from_slice-in-Need-2

@@ -1,6 +1,5 @@
-use Rattle.std.proofs.Common.{◌≡◌, ◌∙◌, [], map, subst, sym}
+use Rattle.std.proofs.Common.{◌∙◌, map, subst, sym}
 use Rattle.deb_report.specs.Stems.{AreSought}
-use Rattle.deb_report.proofs.SimilarLemmas.{none-found}
 use Rattle.deb_report.proofs.similar.Similar.find.Goals as goal
 
 pub returns-clause-sought : goal.returns-clause-sought

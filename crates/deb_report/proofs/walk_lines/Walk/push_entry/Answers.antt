@@ -1,6 +1,4 @@
-use Rattle.std.proofs.Common.{◌∙◌, length}
 use Rattle.number_sets.specs.Sets.{members_of}
-use Rattle.deb_relation.specs.AtomView.{atom_view}
 use Rattle.deb_report.proofs.WalkLemmas.{hits-within}
 use Rattle.deb_report.proofs.walk_lines.Walk.push_entry.Goals as goal
 

@@ -1,4 +1,4 @@
-use Rattle.std.proofs.Common.{◌≡◌, ◌∙◌, sym, true}
+use Rattle.std.proofs.Common.{◌∙◌, sym}
 use Rattle.deb_index.specs.Packages.{need_at}
 use Rattle.deb_report.proofs.MissingLemmas.{missing-where}
 use Rattle.deb_report.proofs.walk_lines.Walk.push_need_ending.Goals as goal

@@ -1,4 +1,3 @@
-use Rattle.std.proofs.Common.{◌∙◌, length}
 use Rattle.number_sets.specs.Sets.{members_of}
 use Rattle.deb_report.proofs.WalkLemmas.{versions-within}
 use Rattle.deb_report.proofs.walk_lines.Walk.push_versions.Goals as goal
