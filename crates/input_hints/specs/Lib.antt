@@ -1,3 +1,5 @@
 pub mod Beginnings
+pub mod Stanzas
 pub mod Texts
+pub mod Architectures
 pub mod Runs

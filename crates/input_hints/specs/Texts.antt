@@ -1,13 +1,14 @@
 -- What is said of an input.
-use Rattle.std.specs.Prelude.{ℕ, Bool, ◌==◌, ◌||◌, nat_lt, List, ◌++◌, Option, Some, None, codes, option_map, if◌then◌else◌}
+use Rattle.std.specs.Prelude.{ℕ, Bool, ◌==◌, ◌||◌, nat_lt, List, ◌++◌, Option, Some, None, codes, decimal, option_map, if◌then◌else◌}
 use Rattle.std.specs.List.{list_any}
 use Rattle.std.specs.Option.{option_map_or}
 use Rattle.input_hints.specs.declared.hint.Compression.TheVariants.{Gzip, Xz, Bzip2, Zstd, Lz4}
 use Rattle.input_hints.specs.declared.hint.Hint.{Hint}
 use Rattle.input_hints.specs.declared.hint.Hint.TheVariants.{Compressed, ByteOrderMark, Markup, Signed, CarriageReturns, ReleaseFile, SourcesFile}
 use Rattle.input_hints.specs.declared.line.Input.{Input}
-use Rattle.input_hints.specs.declared.line.Input.TheVariants.{Index, Background, Earlier}
+use Rattle.input_hints.specs.declared.line.Input.TheVariants.{Index, Background, Earlier, Names}
 use Rattle.input_hints.specs.declared.run.RunHint.{RunHint}
+use Rattle.input_hints.specs.Stanzas.{has_second_package, stanza_package}
 use Rattle.input_hints.specs.declared.run.RunHint.TheVariants.{NoStanza, OtherArchitectures, NothingAsked, MostElsewhere}
 
 -- what an input is called
@@ -15,6 +16,7 @@ unfoldable pub input_name : Input → List ℕ
 input_name Index = codes "the index"
 input_name Background = codes "the background"
 input_name Earlier = codes "the earlier index"
+input_name Names = codes "the file of names"
 
 -- what is wrong with an input
 unfoldable pub complaint : Hint → List ℕ
@@ -54,6 +56,7 @@ unfoldable pub around : Input → List ℕ × List ℕ
 around Index = (codes "", codes " | debcheck ..")
 around Background = (codes "--bg <(", codes ")")
 around Earlier = (codes "--since <(", codes ")")
+around Names = (codes "--checkonly @<(", codes ")")
 
 -- the program on what a command writes
 unfoldable pub by_command : Input → List ℕ → List ℕ
@@ -74,11 +77,37 @@ run_hint_line OtherArchitectures = codes "hint: no stanza is of this architectur
 run_hint_line NothingAsked = codes "hint: nothing was asked: the index has no package of this architecture or of all\n"
 run_hint_line MostElsewhere = codes "hint: most stanzas are of other architectures than this one: give another by --arch\n"
 
--- the option that names the file of an input, where one does
+-- what ends the line on a stanza
+unfoldable pub stanza_end : Bool → List ℕ
+stanza_end second = if second then codes ", and has a second Package: is there no empty line between two indexes?\n" else codes "\n"
+
+-- the line that tells the package of an input's stanza, and whether that has a second line of this field, with LF
+unfoldable pub package_line : Input → ℕ → List ℕ → Bool → List ℕ
+package_line input number name second =
+    codes "hint: stanza " ++ decimal number ++ codes " of " ++ input_name input ++ codes " is of the package " ++ name ++ stanza_end second
+
+-- the same by the text of the input, where the package can be told
+unfoldable pub stanza_hint_line : Input → ℕ → List ℕ → Option (List ℕ)
+stanza_hint_line input number text = option_map (λ name. package_line input number name (has_second_package number text)) (stanza_package number text)
+
+-- the line on an asked name that packages of the background alone have, with LF
+unfoldable pub background_name_line : List ℕ → List ℕ
+background_name_line name = codes "hint: " ++ name ++ codes " is a package of the background: names are asked of the index alone\n"
+
+-- the line on one that no package has, but some package provides, with LF
+unfoldable pub provided_name_line : List ℕ → List ℕ → List ℕ
+provided_name_line name provider = codes "hint: no package is called " ++ name ++ codes ", but " ++ provider ++ codes " provides it\n"
+
+-- the line on a text of which no stanza is of the architecture that is asked for, while most are of this one, with LF
+unfoldable pub elsewhere_line : List ℕ → List ℕ
+elsewhere_line name = codes "hint: no stanza is of this architecture or of all, and most are of " ++ name ++ codes ": give another by --arch\n"
+
+-- the option that names the file of an input, where one does, with what stands between it and the name
 unfoldable pub option_name : Input → Option (List ℕ)
 option_name Index = None
-option_name Background = Some (codes "--bg")
-option_name Earlier = Some (codes "--since")
+option_name Background = Some (codes "--bg ")
+option_name Earlier = Some (codes "--since ")
+option_name Names = Some (codes "--checkonly @")
 
 -- a control character of ASCII, or the first byte of those above it: 194 begins the UTF-8 of U+0080 to U+00BF
 abbrev pub is_control : ℕ → Bool
@@ -86,7 +115,7 @@ is_control b = nat_lt b 32 || b == 127 || b == 194
 
 -- the line that tells of a file that isn't opened, by its name and by the option that names it
 unfoldable pub unopened_line : List ℕ → List ℕ → List ℕ
-unopened_line name option = codes "hint: " ++ option ++ codes " " ++ name ++ codes ": no file that can be read stands there\n"
+unopened_line name option = codes "hint: " ++ option ++ name ++ codes ": no file that can be read stands there\n"
 
 -- the same of an input's file, where it has one; nothing is told of a name that may have control characters
 unfoldable pub file_hint_line : Input → List ℕ → Option (List ℕ)

@@ -8,15 +8,16 @@ ghost use Rattle.input_hints.specs.Texts.{file_hint_line, is_control, option_nam
 use crate::line::Input;
 use std::alloc::{AllocError, Global};
 
-// The option that names the file of an input, where one does.
+// The option that names the file of an input, with what stands between it and the name.
 #[tactic(auto, unfolding(crate::specs::Texts::option_name))]
 fn option_name(input: Input) -> Option<&'static [u8]>
     ensures { option_copied result ≡ option_name input }
 {
     match input {
         Input::Index => None,
-        Input::Background => Some(b"--bg"),
-        Input::Earlier => Some(b"--since"),
+        Input::Background => Some(b"--bg "),
+        Input::Earlier => Some(b"--since "),
+        Input::Names => Some(b"--checkonly @"),
     }
 }
 
@@ -33,7 +34,6 @@ fn unopened_line(alloc: Global, option: &[u8], name: &[u8]) -> Result<Vec<u8>, A
 {
     let mut line = Vec::from_slice(alloc, b"hint: ")?;
     line.extend_from_slice(option)?;
-    line.extend_from_slice(b" ")?;
     line.extend_from_slice(name)?;
     line.extend_from_slice(b": no file that can be read stands there\n")?;
     Ok(line)

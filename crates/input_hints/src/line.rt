@@ -16,16 +16,20 @@ pub enum Input {
     Background,
     /// What it reads from the file of `--since`.
     Earlier,
+    /// What it reads from the file of `--checkonly`.
+    Names,
 }
 
+/// What an input is called.
 #[tactic(auto, unfolding(crate::specs::Texts::input_name))]
-fn input_name(input: Input) -> &'static [u8]
+pub(crate) fn input_name(input: Input) -> &'static [u8]
     ensures { result.now ≡ input_name input }
 {
     match input {
         Input::Index => b"the index",
         Input::Background => b"the background",
         Input::Earlier => b"the earlier index",
+        Input::Names => b"the file of names",
     }
 }
 
@@ -86,6 +90,7 @@ fn around(input: Input) -> (&'static [u8], &'static [u8])
         Input::Index => (b"", b" | debcheck .."),
         Input::Background => (b"--bg <(", b")"),
         Input::Earlier => (b"--since <(", b")"),
+        Input::Names => (b"--checkonly @<(", b")"),
     }
 }
 

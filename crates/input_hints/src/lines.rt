@@ -8,7 +8,7 @@ ghost use Rattle.input_hints.specs.Beginnings.{has_field, is_blank, is_line_of, 
 use memchr::memchr;
 
 /// The first line of a text, and the text behind its line feed, where it has one.
-fn split_line(text: &[u8]) -> (&[u8], Option<&[u8]>)
+pub(crate) fn split_line(text: &[u8]) -> (&[u8], Option<&[u8]>)
     ensures lines { lines text.now ≡ result.0.now ∷ option_map_or (λ rest. lines rest.now) result.1 [] }
     ensures shorter { IfSome result.1 (λ rest. length rest.now < length text.now) }
 {
@@ -29,7 +29,7 @@ pub(crate) fn is_returned(text: &[u8]) -> bool
 }
 
 /// Whether a line has spaces and tabs alone.
-fn is_blank_line(line: &[u8]) -> bool
+pub(crate) fn is_blank_line(line: &[u8]) -> bool
     ensures { result ≡ is_blank line.now }
 {
     line.iter().all(|b| *b == b' ' || *b == b'\t')
@@ -43,7 +43,7 @@ fn is_same_text(a: &[u8], b: &[u8]) -> bool
 }
 
 /// Whether a line begins with a field's name, which has its colon.
-fn is_line_of(line: &[u8], name: &[u8]) -> bool
+pub(crate) fn is_line_of(line: &[u8], name: &[u8]) -> bool
     ensures { result ≡ is_line_of name.now line.now }
 {
     is_same_text(&line[..name.len().min(line.len())], name)

@@ -91,6 +91,11 @@ fn of_files_that_are_named(rt: HostRuntime) -> Result<(), Fail> {
             Hint::Signed,
             "the earlier index is a signed text, as InRelease: take a file Packages",
         ),
+        (
+            Input::Names,
+            Hint::CarriageReturns,
+            "the file of names has lines that end with CR LF: --checkonly @<(tr -d '\\r' < FILE)",
+        ),
     ];
     for (input, hint, line) in lines {
         let so = says(&rt, input, hint, line)?;
@@ -172,7 +177,13 @@ fn of_files_that_are_not_opened(rt: HostRuntime) -> Result<(), Fail> {
             "Änderung ~ 1",
             Some("hint: --since Änderung ~ 1: no file that can be read stands there\n"),
         ),
+        (
+            Input::Names,
+            "names of today",
+            Some("hint: --checkonly @names of today: no file that can be read stands there\n"),
+        ),
         (Input::Index, "Packages", None),
+        (Input::Names, "a\tb", None),
         (Input::Background, "a\nb", None),
         (Input::Background, "\x1b[2J", None),
         (Input::Earlier, "a\x7f", None),
