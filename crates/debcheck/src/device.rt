@@ -32,6 +32,11 @@ pub trait Source {
     fn front(&self) -> &[u8] {
         &[]
     }
+
+    /// Whether what is read is typed on a terminal, as far as it is known.
+    fn is_typed(&self) -> bool {
+        false
+    }
 }
 
 /// What a run writes to. A contract sees the bytes that it holds, where it tells them, a mark that some call failed, which stays,

@@ -245,6 +245,7 @@ fn run_asked<
     let progress = Progress::new(rt, screen, &config);
     let mut output = Wiping::new(&progress, output);
     let mut clue = None;
+    progress.tell_reading(reader.is_typed());
     let outcome = name_and_run(
         rt,
         &mut config,
@@ -331,7 +332,7 @@ pub fn run_process<R: Env + Files + Clock + Threads + Sync + AllocGlobal>(
         rt,
         words_of(rt),
         &Disk(rt),
-        &mut Recording::new(Std::new(input)),
+        &mut Recording::new(Std::of_stream(input)),
         Std::new(output),
         &mut Std::new(errors),
         errors,

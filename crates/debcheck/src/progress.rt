@@ -13,8 +13,13 @@ use work_draw::Gate;
 // How often in a second the line is written.
 const TURNS: u32 = 5;
 
+// What is told while the index is read, and where it is typed on a terminal.
+const READING: &[u8] = b"\rreading the index";
+
+const TYPED: &[u8] = b"\rreading the index from the terminal (debcheck .. < Packages)";
+
 // What takes the line away: as many blanks as its longest text has bytes.
-const BLANK: &[u8] = b"\r                                               \r";
+const BLANK: &[u8] = b"\r                                                            \r";
 
 // The turn at a time since the start; the first second has the turns below `TURNS`.
 fn turn_at(spent: Duration) -> u64 {
@@ -40,8 +45,8 @@ fn grouped(alloc: Global, number: u32) -> Result<String, AllocError> {
     Ok(text)
 }
 
-/// Tells on a screen how many packages are checked, and of how many, on one line that is written over, where that is a terminal and a second has
-/// passed. No call waits for another.
+/// Tells on a screen that the index is read, and then how many packages are checked, and of how many, on one line that is written over, where that
+/// is a terminal; of packages once a second has passed. No call waits for another.
 #[derive(Drop)]
 pub struct Progress<'a, R, T> {
     rt: &'a R,
@@ -118,6 +123,17 @@ impl<'a, R: Clock + AllocGlobal, T: IsTerminal + Write + Copy> Progress<'a, R, T
         {
             let _ = self.tell();
         }
+    }
+
+    /// Tells that the index is read, until another line comes or it is taken away; where it is typed on a terminal, also how to give it.
+    pub fn tell_reading(&self, is_typed: bool) {
+        if self.began.is_none() {
+            return;
+        }
+        let turns = u64::from(TURNS);
+        self.told.store(turns.saturating_add(1), Ordering::SeqCst);
+        let mut screen = self.screen;
+        let _ = screen.write(if is_typed { TYPED } else { READING });
     }
 
     /// Takes the line away, where it stands.

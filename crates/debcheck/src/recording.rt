@@ -64,4 +64,8 @@ impl<S: Source> Source for Recording<S> {
     {
         self.front.as_slice()
     }
+
+    fn is_typed(&self) -> bool {
+        self.inner.is_typed()
+    }
 }

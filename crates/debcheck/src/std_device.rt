@@ -3,12 +3,13 @@
 ghost use Rattle.std.specs.Prelude.{◌≡◌, false};
 
 use crate::device::{DeviceFault, Sink, Source};
-use std::io::{Read, Write};
+use std::io::{IsTerminal, Read, Write};
 
 /// A reader or a writer of std as a source or a sink, with its marks. An interrupted call counts as failed.
 #[derive(Drop)]
 pub struct Std<T> {
     inner: T,
+    is_typed: bool,
     failed: bool,
     flushed: bool,
 }
@@ -22,9 +23,24 @@ impl<T> Std<T> {
     {
         Std {
             inner,
+            is_typed: false,
             failed: false,
             flushed: false,
         }
+    }
+}
+
+impl<T: IsTerminal> Std<T> {
+    /// The same of a standard stream, which may be a terminal.
+    pub fn of_stream(inner: T) -> Std<T>
+        ensures inner { result.inner ≡ inner }
+        ensures failed { result.failed ≡ false }
+        ensures flushed { result.flushed ≡ false }
+    {
+        let is_typed = inner.is_terminal();
+        let mut device = Std::new(inner);
+        device.is_typed = is_typed;
+        device
     }
 }
 
@@ -42,6 +58,10 @@ impl<T: Read> Source for Std<T> {
                 Err(DeviceFault)
             }
         }
+    }
+
+    fn is_typed(&self) -> bool {
+        self.is_typed
     }
 }
 

@@ -203,12 +203,16 @@ fn expect_same(rt: &impl Abort, left: &Left, other: &Left) {
     assert!(rt; left.errors.as_slice() == other.errors.as_slice());
 }
 
-/// The hint alone is on the screen, behind all else; and where that is no terminal, or quiet is asked for, it isn't there, and all else is as it was.
+/// But for the line that the index is read, the hint alone is on the screen, behind all else; and where that is no terminal, or quiet is asked for, it
+/// isn't there, and all else is as it was.
 fn expect_case(rt: &(impl Abort + Threads + Sync + AllocGlobal), case: &Case) -> Result<(), Fail> {
     let told = left_by(rt, case, case.words, true)?;
     assert_eq!(rt;
         told.lines,
-        [u32::from(!case.hint.is_empty()), 0],
+        [
+            u32::from(!case.hint.is_empty()),
+            u32::from(told.status != 64)
+        ],
         "{}",
         case.words
     );

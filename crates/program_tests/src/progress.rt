@@ -2,7 +2,7 @@
 
 ghost use Rattle.std.specs.Prelude.{◌≡◌, false};
 
-use debcheck::{Config, Ended, OpenFault, Progress, run_program};
+use debcheck::{Config, Ended, OpenFault, Progress, Recording, run_program};
 use std::alloc::AllocError;
 use std::process::Abort;
 use std::test::Fail;
@@ -190,6 +190,82 @@ fn a_line_is_taken_away_once(rt: HostRuntime) -> Result<(), Fail> {
     Ok(())
 }
 
+/// What is told while the index is read, and where it is typed on a terminal.
+const READING: [(bool, &[u8]); 2] = [
+    (false, b"\rreading the index"),
+    (
+        true,
+        b"\rreading the index from the terminal (debcheck .. < Packages)",
+    ),
+];
+
+/// At once, and until the check begins; then it is gone.
+#[test]
+fn reading_is_told(rt: HostRuntime) -> Result<(), Fail> {
+    let config = Config::usual(rt.alloc())?;
+    for (is_typed, line) in READING {
+        let screen = Screen::new(true, line);
+        let clock = clock_of(&rt, 0);
+        let progress = Progress::new(&clock, &screen, &config);
+        progress.tell_reading(is_typed);
+        assert!(rt; screen.stands());
+        progress.start(0, 5);
+        assert!(rt; !screen.stands());
+        assert_eq!(rt;
+            [screen.lines(), screen.others(), screen.ends_left()],
+            [1, 0, 0]
+        );
+    }
+    Ok(())
+}
+
+#[test]
+fn reading_is_told_where_somebody_looks(rt: HostRuntime) -> Result<(), Fail> {
+    let mut config = Config::usual(rt.alloc())?;
+    let clock = clock_of(&rt, 0);
+    let file = Screen::new(false, b"");
+    Progress::new(&clock, &file, &config).tell_reading(true);
+    config.quiet = true;
+    let quiet = Screen::new(true, b"");
+    Progress::new(&clock, &quiet, &config).tell_reading(true);
+    assert_eq!(rt; [file.others(), quiet.others()], [0, 0]);
+    Ok(())
+}
+
+/// How often a program told that its index is read from a file, and from the terminal.
+fn told_of(
+    rt: &(impl Abort + Threads + Sync + AllocGlobal),
+    line: &[u8],
+    is_typed: bool,
+) -> Result<u32, Fail> {
+    let screen = Screen::new(true, line);
+    let mut reader = source_of(b"Package: a\n", 11);
+    reader.is_typed = is_typed;
+    let mut errors = Beside::new(&screen, sink_of(rt.alloc(), 50, 0, false));
+    let ended = run_program(
+        &clock_of(rt, 0),
+        Ok(words_in(rt.alloc(), "|--arch|amd64")?),
+        &Cabinet::new("earlier", None, OpenFault::Unopened),
+        &mut Recording::new(reader),
+        Beside::new(&screen, sink_of(rt.alloc(), 50, 0, false)),
+        &mut errors,
+        &screen,
+    );
+    assert_eq!(rt; ended.status, 65);
+    assert_eq!(rt; [ended.output.crowded, errors.crowded], [0, 0]);
+    Ok(screen.lines())
+}
+
+#[test]
+fn an_index_is_read_from_a_terminal(rt: HostRuntime) -> Result<(), Fail> {
+    for (is_typed, line) in READING {
+        let as_it_is = told_of(&rt, line, is_typed)?;
+        let as_the_other = told_of(&rt, line, !is_typed)?;
+        assert_eq!(rt; [as_it_is, as_the_other], [1, 0]);
+    }
+    Ok(())
+}
+
 /// Words of a program that checks packages one by one.
 pub const ONE_BY_ONE: &str = "|--arch|amd64|--explain|--workers|1|--chunk|1";
 
@@ -233,7 +309,7 @@ pub fn expect_uncrowded(
     assert!(rt; !screen.stands());
 }
 
-/// The line was written four times, and it is gone before anything is written to this output or to the errors.
+/// The line was written five times, once while the index was read, and it is gone before anything is written to this output or to the errors.
 fn expect_gone(
     rt: &(impl Abort + Threads + Sync + AllocGlobal),
     output: Held,
@@ -245,7 +321,7 @@ fn expect_gone(
     let screen = Screen::new(true, b"\r2 of 3 packages checked");
     let mut errors = Beside::new(&screen, sink_of(rt.alloc(), 50, 0, false));
     let ended = run_beside(rt, ONE_BY_ONE, &screen, output, &mut errors)?;
-    assert_eq!(rt; [screen.lines(), screen.others()], [1, 3]);
+    assert_eq!(rt; [screen.lines(), screen.others()], [1, 4]);
     expect_uncrowded(rt, &screen, &ended.output, &errors);
     assert_eq!(rt; ended.status, status);
     assert!(rt; ended.output.held.calls > 0);
@@ -270,6 +346,6 @@ fn the_packages_of_both_indexes_are_counted(rt: HostRuntime) -> Result<(), Fail>
     let line = "|--arch|amd64|--since|earlier|--workers|1|--chunk|1";
     let ended = run_beside(&rt, line, &screen, output, &mut errors)?;
     expect_uncrowded(&rt, &screen, &ended.output, &errors);
-    assert_eq!(rt; [screen.lines(), screen.others()], [2, 4]);
+    assert_eq!(rt; [screen.lines(), screen.others()], [2, 5]);
     Ok(())
 }

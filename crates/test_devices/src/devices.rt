@@ -13,6 +13,8 @@ pub struct Feed<'a> {
     pub fails: bool,
     pub failed: bool,
     pub reads: u32,
+    /// It says that it is a terminal.
+    pub is_typed: bool,
 }
 
 /// Reads a text, so many bytes a call, but at least one; no call has failed.
@@ -26,6 +28,7 @@ pub fn source_of(text: &[u8], step: usize) -> Feed<'_>
         fails: false,
         failed: false,
         reads: 0,
+        is_typed: false,
     }
 }
 
@@ -45,6 +48,10 @@ impl Source for Feed<'_> {
         buf[..count].copy_from_slice(now);
         self.rest = later;
         Ok(count)
+    }
+
+    fn is_typed(&self) -> bool {
+        self.is_typed
     }
 }
 
