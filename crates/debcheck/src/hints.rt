@@ -1,7 +1,7 @@
 //! What looks like a slip after a run, told on a terminal.
 
-ghost use Rattle.std.specs.Prelude.{◌≡◌, IfOk, option_map, string_bytes};
-ghost use Rattle.debcheck.specs.Hints.{clue_after, fault_hint_text, hint_text, is_faulty, name_of, run_hint_text};
+ghost use Rattle.std.specs.Prelude.{◌≡◌, IfOk, option_map};
+ghost use Rattle.debcheck.specs.Hints.{clue_after, fault_hint_text, files_of, hint_text, is_faulty, name_of, run_hint_text};
 
 use crate::fault::RunFault;
 use crate::strict;
@@ -11,12 +11,14 @@ use std::alloc::{AllocError, Global};
 use std::io::{IsTerminal, Write};
 
 /// What was seen of an input that a run couldn't use.
-#[derive(Clone, Copy)]
+#[derive(Drop)]
 pub(crate) enum Clue {
     /// Its file can't be opened.
     Unopened(Input),
     /// By its first bytes this is likely wrong with it.
     Likely(Input, Hint),
+    /// This line tells it.
+    Line(Vec<u8>),
 }
 
 // Whether a run ended with a fault of this input.
@@ -32,7 +34,7 @@ fn is_faulty(outcome: &Result<Summary, RunFault>, input: Input) -> bool
     }
 }
 
-/// Notes what the first bytes of an input tell, where a run ended with a fault of it.
+/// Notes what the first bytes of an input tell, where a run ended with a fault of it; where they tell nothing, what was seen before stays.
 #[tactic(auto, unfolding(crate::specs::Hints::clue_after))]
 pub(crate) fn note(
     clue: &mut Option<Clue>,
@@ -43,22 +45,23 @@ pub(crate) fn note(
     ensures { clue.new ≡ clue_after clue.old outcome.now input front.now }
 {
     if is_faulty(outcome, input) {
-        *clue = match hint_of(front) {
-            Some(hint) => Some(Clue::Likely(input, hint)),
-            None => None,
-        };
+        match hint_of(front) {
+            Some(hint) => *clue = Some(Clue::Likely(input, hint)),
+            None => {}
+        }
     }
 }
 
 // The name of an input's file, where it has one.
 #[tactic(auto, unfolding(crate::specs::Hints::name_of))]
 fn name_of(config: &Config, input: Input) -> Option<&str>
-    ensures { option_map (λ name. name.now) result ≡ name_of (option_map string_bytes config.now.bg) (option_map string_bytes config.now.since) input }
+    ensures { option_map (λ name. name.now) result ≡ name_of (files_of config.now) input }
 {
     let name = match input {
         Input::Index => return None,
         Input::Background => &config.bg,
         Input::Earlier => &config.since,
+        Input::Names => &config.only_file,
     };
     match name {
         Some(name) => Some(name.as_str()),
@@ -99,10 +102,10 @@ fn hint_text(
     outcome: &Result<Summary, RunFault>,
     clue: Option<Clue>,
 ) -> Result<Option<Vec<u8>>, AllocError>
-    ensures { IfOk result (λ line. option_map (λ text. text.items) line ≡
-        hint_text (option_map string_bytes config.now.bg) (option_map string_bytes config.now.since) outcome.now clue) }
+    ensures { IfOk result (λ line. option_map (λ text. text.items) line ≡ hint_text (files_of config.now) outcome.now clue) }
 {
     match (outcome, clue) {
+        (_, Some(Clue::Line(line))) => Ok(Some(line)),
         (Ok(summary), _) => run_hint_text(alloc, summary),
         (Err(_), Some(Clue::Likely(input, hint))) => Ok(Some(hint_line(alloc, input, hint)?)),
         (Err(_), Some(Clue::Unopened(input))) => match name_of(config, input) {

@@ -11,11 +11,13 @@
 //!   `later`.
 //! - `fault`: why a run fails, and the line and the status of that.
 //! - `program`: a program, from its words to its exit status, on the `words` of a process, the files that an `opener` opens, one of which
-//!   may have the `names` that are asked, and with its `progress` and `hints` on a screen.
+//!   may have the `names` that are asked, and with its `progress` and `hints` on a screen; `clues`: what is seen for
+//!   these while a run has its texts.
 //! - `laws`: what holds of runs and of reports.
 #![tactic(auto)]
 
 mod asked;
+mod clues;
 mod device;
 mod earlier;
 mod fault;

@@ -6,9 +6,11 @@ ghost use Rattle.deb_index.specs.Reading.{byte_limit, index_of_both};
 ghost use Rattle.deb_report.specs.Settings.{settings_of};
 ghost use Rattle.debcheck.specs.Run.{Fails, FailsToAccept, FailsToIndex, FailsToReadBehind, FailsToReport, IsReadAs, IsReportOn, Leaves, TellsReport, WritesReport, behind, input, is_unread};
 
-use crate::asked::asked_places;
+use crate::asked::ask_noting;
+use crate::clues::note_read;
 use crate::device::{Sink, Source};
 use crate::fault::RunFault;
+use crate::hints::Clue;
 use crate::input::read_all;
 use crate::output::write_all;
 use crate::verdicts::{find_told, wanted_of};
@@ -100,13 +102,14 @@ pub(crate) fn index_both<R: Threads + Sync>(
     }
 }
 
-// The same, of texts that are dropped at the end.
+// The same, of texts that are dropped at the end. What is seen of them is noted.
 pub(crate) fn index_from<R: Threads + Sync>(
     rt: &R,
     alloc: Global,
     config: &Config,
     text: Vec<u8>,
     behind: Vec<u8>,
+    clue: &mut Option<Clue>,
 ) -> Result<Index, RunFault>
     requires text { length text.items ≤ byte_limit }
     requires behind { length behind.items ≤ byte_limit }
@@ -114,7 +117,9 @@ pub(crate) fn index_from<R: Threads + Sync>(
         index_of_both text.items behind.items (settings_of config.now).arch (settings_of config.now).essential ≡ Ok index) }
     ensures refused { IfErr result (FailsToAccept (settings_of config.now) text.items behind.items) }
 {
-    index_both(rt, alloc, config, text.as_slice(), behind.as_slice())
+    let outcome = index_both(rt, alloc, config, text.as_slice(), behind.as_slice());
+    note_read(alloc, clue, &outcome, text.as_slice(), behind.as_slice());
+    outcome
 }
 
 // Checks the asked places and makes the report.
@@ -124,13 +129,14 @@ fn check_and_report<G: Gate + Sync, R: Threads + Sync>(
     config: &Config,
     index: &Index,
     gate: &G,
+    clue: &mut Option<Clue>,
 ) -> Result<(Vec<u8>, Summary), RunFault>
     requires workers { (0 < config.now.workers) × (config.now.workers ≤ 64) }
     requires chunk { 0 < config.now.chunk }
     ensures report { IfOk result (λ r. IsReportOn (settings_of config.now) index.now r.0.items r.1) }
     ensures refused { IfErr result (FailsToReport (settings_of config.now) index.now) }
 {
-    let asked = asked_places(alloc, index, config)?;
+    let asked = ask_noting(alloc, index, config, clue)?;
     let asked = asked.as_slice();
     let found = find_told(rt, alloc, config, wanted_of(config), index, asked, gate)?;
     let verdicts = found.verdicts.as_slice();
@@ -147,6 +153,7 @@ fn read_and_report<S: Source, B: Source, G: Gate + Sync, R: Threads + Sync>(
     reader: &mut S,
     background: &mut B,
     gate: &G,
+    clue: &mut Option<Clue>,
 ) -> Result<(Vec<u8>, Summary), RunFault>
     requires workers { (0 < config.now.workers) × (config.now.workers ≤ 64) }
     requires chunk { 0 < config.now.chunk }
@@ -163,8 +170,48 @@ fn read_and_report<S: Source, B: Source, G: Gate + Sync, R: Threads + Sync>(
         (input (S.remaining reader.old) (S.failed reader.new)) (input (B.remaining background.old) (B.failed background.new)) false) }
 {
     let (text, behind) = read_texts(alloc, config, reader, background)?;
-    let index = index_from(rt, alloc, config, text, behind)?;
-    check_and_report(rt, alloc, config, &index, gate)
+    let index = index_from(rt, alloc, config, text, behind, clue)?;
+    check_and_report(rt, alloc, config, &index, gate, clue)
+}
+
+// The run, of which is noted what was seen of a text or of a name that it couldn't use.
+pub(crate) fn run_noting<S: Source, B: Source, K: Sink, G: Gate + Sync, R: Threads + Sync>(
+    rt: &R,
+    alloc: Global,
+    config: &Config,
+    reader: &mut S,
+    background: &mut B,
+    writer: &mut K,
+    gate: &G,
+    clue: &mut Option<Clue>,
+) -> Result<Summary, RunFault>
+    requires workers { (0 < config.now.workers) × (config.now.workers ≤ 64) }
+    requires chunk { 0 < config.now.chunk }
+    requires reader { S.failed reader.old ≡ false }
+    requires background { B.failed background.old ≡ false }
+    requires writer { K.failed writer.old ≡ false }
+    ensures end { OnOk result (IsAtEnd (S.remaining reader.new)) }
+    ensures background_end { OnOk result ((settings_of config.now).background ≡ true → IsAtEnd (B.remaining background.new)) }
+    ensures spared { (settings_of config.now).background ≡ false → background.new ≡ background.old }
+    ensures unbegun { IfErr result (λ fault. is_unread fault ≡ true → background.new ≡ background.old) }
+    ensures report { IfOk result (WritesReport (settings_of config.now)
+        (input (S.remaining reader.old) (S.failed reader.new)) (input (B.remaining background.old) (B.failed background.new))
+        (K.contents writer.old) (K.contents writer.new)) }
+    ensures flushed { OnOk result (K.flushed writer.new ≡ true) }
+    ensures unfailed { OnOk result ((S.failed reader.new ≡ false) × (B.failed background.new ≡ false) × (K.failed writer.new ≡ false)) }
+    ensures refused { IfErr result (Fails (settings_of config.now)
+        (input (S.remaining reader.old) (S.failed reader.new)) (input (B.remaining background.old) (B.failed background.new))
+        (K.failed writer.new)) }
+    ensures untouched { IfErr result (λ fault. fault ≢ RunFault.Write → writer.new ≡ writer.old) }
+    ensures left { IfErr result (Leaves (settings_of config.now)
+        (input (S.remaining reader.old) (S.failed reader.new)) (input (B.remaining background.old) (B.failed background.new))
+        (K.contents writer.old) (K.contents writer.new)) }
+{
+    let (output, summary) = read_and_report(rt, alloc, config, reader, background, gate, clue)?;
+    match write_all(writer, output.as_slice()) {
+        Ok(()) => Ok(summary),
+        Err(_) => Err(RunFault::Write),
+    }
 }
 
 /// Reads the index to its end, and with `bg` the background; checks each asked package of the index, writes the report and flushes. It may wait
@@ -210,9 +257,8 @@ pub fn run<S: Source, B: Source, K: Sink, G: Gate + Sync, R: Threads + Sync>(
         (input (S.remaining reader.old) (S.failed reader.new)) (input (B.remaining background.old) (B.failed background.new))
         (K.contents writer.old) (K.contents writer.new)) }
 {
-    let (output, summary) = read_and_report(rt, alloc, config, reader, background, gate)?;
-    match write_all(writer, output.as_slice()) {
-        Ok(()) => Ok(summary),
-        Err(_) => Err(RunFault::Write),
-    }
+    let mut clue = None;
+    run_noting(
+        rt, alloc, config, reader, background, writer, gate, &mut clue,
+    )
 }

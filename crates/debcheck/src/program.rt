@@ -13,10 +13,10 @@ use crate::line::{LineFault, line_status, read_line, write_line_fault};
 use crate::names::read_names;
 use crate::opener::{Disk, OpenFault, Opener};
 use crate::output::write_fault;
-use crate::phases::run;
+use crate::phases::run_noting;
 use crate::progress::{Progress, Wiping};
 use crate::recording::Recording;
-use crate::since::run_since;
+use crate::since::run_since_noting;
 use crate::std_device::Std;
 use crate::words::words_of;
 use deb_report::{Config, Summary};
@@ -86,11 +86,11 @@ fn run_behind<
 {
     let alloc = rt.alloc();
     let Some(file) = &config.since else {
-        return run(rt, alloc, config, reader, background, output, gate);
+        return run_noting(rt, alloc, config, reader, background, output, gate, clue);
     };
     match files.open(file.as_str()) {
         Ok(mut earlier) => {
-            let outcome = run_since(
+            let outcome = run_since_noting(
                 rt,
                 alloc,
                 config,
@@ -99,6 +99,7 @@ fn run_behind<
                 &mut earlier,
                 output,
                 gate,
+                clue,
             );
             note(clue, &outcome, Input::Earlier, earlier.front());
             outcome
@@ -157,7 +158,12 @@ fn open_and_run<O: Opener, S: Source, K: Sink, G: Gate + Sync, R: Threads + Sync
 }
 
 // Takes the names that are asked out of the file that has them, where the words name one.
-fn take_names<O: Opener>(alloc: Global, files: &O, config: &mut Config) -> Result<(), RunFault>
+fn take_names<O: Opener>(
+    alloc: Global,
+    files: &O,
+    config: &mut Config,
+    clue: &mut Option<Clue>,
+) -> Result<(), RunFault>
     ensures taken { OnOk result (TakesNames (O.named files.now) (option_map string_bytes config.old.only_file)
         (settings_of config.old) (settings_of config.new)) }
     ensures refused { IfErr result (FailsToTake (O.named files.now) (option_map string_bytes config.old.only_file)) }
@@ -175,7 +181,10 @@ fn take_names<O: Opener>(alloc: Global, files: &O, config: &mut Config) -> Resul
             Ok(())
         }
         Err(OpenFault::Memory) => Err(RunFault::Memory),
-        Err(OpenFault::Unopened) => Err(RunFault::NamesRead),
+        Err(OpenFault::Unopened) => {
+            *clue = Some(Clue::Unopened(Input::Names));
+            Err(RunFault::NamesRead)
+        }
     }
 }
 
@@ -198,7 +207,7 @@ fn name_and_run<O: Opener, S: Source, K: Sink, G: Gate + Sync, R: Threads + Sync
         (input (S.remaining reader.old) (S.failed reader.new)) (S.remaining reader.new)
         (written (K.contents output.old) (K.contents output.new) (K.failed output.new) (K.flushed output.new)) result }
 {
-    match take_names(rt.alloc(), files, config) {
+    match take_names(rt.alloc(), files, config, clue) {
         Ok(()) => open_and_run(rt, config, files, reader, output, gate, clue),
         Err(fault) => Err(fault),
     }

@@ -10,10 +10,11 @@ ghost use Rattle.debcheck.specs.Run.{FailsToIndex, IfIndexed, Input, IsReadAs, R
 ghost use Rattle.debcheck.specs.Strict.{slip_of};
 ghost use Rattle.debcheck.specs.Since.{FailsEarlier, FailsSince, IsReportAfter, LeavesSince, TellsReportSince, WereBroken, WritesReportSince, earlier_fault, is_unread_behind, wanted_since};
 
-use crate::asked::asked_places;
+use crate::asked::ask_noting;
 use crate::device::{Sink, Source};
 use crate::earlier::read_earlier;
 use crate::fault::RunFault;
+use crate::hints::Clue;
 use crate::output::write_all;
 use crate::phases::{index_from, read_texts};
 use crate::verdicts::{find_told, find_verdicts};
@@ -130,6 +131,7 @@ fn read_since<S: Source, B: Source, E: Source, G: Gate + Sync, R: Threads + Sync
     background: &mut B,
     earlier: &mut E,
     gate: &G,
+    clue: &mut Option<Clue>,
 ) -> Result<(Vec<u8>, Summary), RunFault>
     requires workers { (0 < config.now.workers) × (config.now.workers ≤ 64) }
     requires chunk { 0 < config.now.chunk }
@@ -152,8 +154,8 @@ fn read_since<S: Source, B: Source, E: Source, G: Gate + Sync, R: Threads + Sync
 {
     let (text, behind) = read_texts(alloc, config, reader, background)?;
     let before = read_before(rt, alloc, config, earlier, behind.as_slice(), gate);
-    let index = index_from(rt, alloc, config, text, behind)?;
-    let asked = asked_places(alloc, &index, config)?;
+    let index = index_from(rt, alloc, config, text, behind, clue)?;
+    let asked = ask_noting(alloc, &index, config, clue)?;
     let broken = before?;
     let told = report_after(
         rt,
@@ -165,6 +167,58 @@ fn read_since<S: Source, B: Source, E: Source, G: Gate + Sync, R: Threads + Sync
         gate,
     )?;
     Ok(told)
+}
+
+// The run since an earlier index, of which is noted what was seen of a text or of a name that it couldn't use.
+pub(crate) fn run_since_noting<
+    S: Source,
+    B: Source,
+    E: Source,
+    K: Sink,
+    G: Gate + Sync,
+    R: Threads + Sync,
+>(
+    rt: &R,
+    alloc: Global,
+    config: &Config,
+    reader: &mut S,
+    background: &mut B,
+    earlier: &mut E,
+    writer: &mut K,
+    gate: &G,
+    clue: &mut Option<Clue>,
+) -> Result<Summary, RunFault>
+    requires workers { (0 < config.now.workers) × (config.now.workers ≤ 64) }
+    requires chunk { 0 < config.now.chunk }
+    requires reader { S.failed reader.old ≡ false }
+    requires background { B.failed background.old ≡ false }
+    requires earlier { E.failed earlier.old ≡ false }
+    requires writer { K.failed writer.old ≡ false }
+    ensures end { OnOk result (IsAtEnd (S.remaining reader.new)) }
+    ensures background_end { OnOk result ((settings_of config.now).background ≡ true → IsAtEnd (B.remaining background.new)) }
+    ensures earlier_end { OnOk result (IsAtEnd (E.remaining earlier.new)) }
+    ensures spared { (settings_of config.now).background ≡ false → background.new ≡ background.old }
+    ensures unbegun { IfErr result (λ fault. is_unread fault ≡ true → background.new ≡ background.old) }
+    ensures earlier_unbegun { IfErr result (λ fault. is_unread_behind fault ≡ true → earlier.new ≡ earlier.old) }
+    ensures report { IfOk result (WritesReportSince (settings_of config.now)
+        (input (S.remaining reader.old) (S.failed reader.new)) (input (B.remaining background.old) (B.failed background.new))
+        (input (E.remaining earlier.old) (E.failed earlier.new)) (K.contents writer.old) (K.contents writer.new)) }
+    ensures flushed { OnOk result (K.flushed writer.new ≡ true) }
+    ensures unfailed { OnOk result ((S.failed reader.new ≡ false) × (B.failed background.new ≡ false) × (E.failed earlier.new ≡ false)
+        × (K.failed writer.new ≡ false)) }
+    ensures refused { IfErr result (FailsSince (settings_of config.now)
+        (input (S.remaining reader.old) (S.failed reader.new)) (input (B.remaining background.old) (B.failed background.new))
+        (input (E.remaining earlier.old) (E.failed earlier.new)) (K.failed writer.new)) }
+    ensures untouched { IfErr result (λ fault. fault ≢ RunFault.Write → writer.new ≡ writer.old) }
+    ensures left { IfErr result (LeavesSince (settings_of config.now)
+        (input (S.remaining reader.old) (S.failed reader.new)) (input (B.remaining background.old) (B.failed background.new))
+        (input (E.remaining earlier.old) (E.failed earlier.new)) (K.contents writer.old) (K.contents writer.new)) }
+{
+    let (output, summary) = read_since(rt, alloc, config, reader, background, earlier, gate, clue)?;
+    match write_all(writer, output.as_slice()) {
+        Ok(()) => Ok(summary),
+        Err(_) => Err(RunFault::Write),
+    }
 }
 
 /// Reads the index to its end, with `bg` the background, and then an earlier index, with the same background behind it; checks each asked package
@@ -216,9 +270,8 @@ pub fn run_since<S: Source, B: Source, E: Source, K: Sink, G: Gate + Sync, R: Th
         (input (S.remaining reader.old) (S.failed reader.new)) (input (B.remaining background.old) (B.failed background.new))
         (input (E.remaining earlier.old) (E.failed earlier.new)) (K.contents writer.old) (K.contents writer.new)) }
 {
-    let (output, summary) = read_since(rt, alloc, config, reader, background, earlier, gate)?;
-    match write_all(writer, output.as_slice()) {
-        Ok(()) => Ok(summary),
-        Err(_) => Err(RunFault::Write),
-    }
+    let mut clue = None;
+    run_since_noting(
+        rt, alloc, config, reader, background, earlier, writer, gate, &mut clue,
+    )
 }

@@ -19,7 +19,7 @@ struct Case {
     hint: &'static [u8],
 }
 
-const FAULTS: [Case; 8] = [
+const FAULTS: [Case; 9] = [
     Case {
         words: "|--arch|amd64",
         index: b"\x1f\x8b\x08\0\0\0\0\0\x02\x03",
@@ -68,6 +68,114 @@ const FAULTS: [Case; 8] = [
         file: None,
         hint: b"",
     },
+    Case {
+        words: "|--arch|amd64|--checkonly|@names/of today",
+        index: INDEX,
+        file: None,
+        hint: b"hint: --checkonly @names/of today: no file that can be read stands there\n",
+    },
+];
+
+/// A stanza without a fault, and one whose version is none.
+const FAULTY: &[u8] = b"Package: good
+Version: 1
+Architecture: all
+
+Version: 1_2
+package:  foo \t
+Architecture: all
+";
+
+/// Faults of stanzas. What the first bytes tell goes before the package.
+const STANZAS: [Case; 8] = [
+    Case {
+        words: "|--arch|amd64",
+        index: FAULTY,
+        file: None,
+        hint: b"hint: stanza 2 of the index is of the package foo\n",
+    },
+    Case {
+        words: "|--arch|amd64|--since|others",
+        index: FAULTY,
+        file: Some(BACKGROUND),
+        hint: b"hint: stanza 2 of the index is of the package foo\n",
+    },
+    Case {
+        words: "|--arch|amd64|--bg|others",
+        index: INDEX,
+        file: Some(FAULTY),
+        hint: b"hint: stanza 2 of the background is of the package foo\n",
+    },
+    Case {
+        words: "|--arch|amd64|--bg|others",
+        index: b"Package: a\nVersion: 1\nArchitecture: all\nPackage: b\nVersion: 2\n",
+        file: Some(FAULTY),
+        hint: b"hint: stanza 1 of the index is of the package a, and has a second Package: is there no empty line between two indexes?\n",
+    },
+    Case {
+        words: "|--arch|amd64",
+        index: b"Package: a\nVersion: 1\n",
+        file: None,
+        hint: b"hint: stanza 1 of the index is of the package a\n",
+    },
+    Case {
+        words: "|--arch|amd64",
+        index: b"Package: a\r\nVersion: 1\r\n",
+        file: None,
+        hint: b"hint: the index has lines that end with CR LF: tr -d '\\r' < FILE | debcheck ..\n",
+    },
+    Case {
+        words: "|--arch|amd64|--since|others",
+        index: INDEX,
+        file: Some(FAULTY),
+        hint: b"",
+    },
+    Case {
+        words: "|--arch|amd64",
+        index: b"Package: \x1b[2J\n",
+        file: None,
+        hint: b"",
+    },
+];
+
+/// A package that provides a name which none has.
+const PROVIDED: &[u8] = b"Package: exim
+Version: 1
+Architecture: all
+Provides: mta
+
+Package: postfix
+Version: 1
+Architecture: all
+Provides: mta, b
+";
+
+/// Names that no package of the index has.
+const NAMES: [Case; 4] = [
+    Case {
+        words: "|--arch|amd64|--checkonly|zz|--bg|others",
+        index: INDEX,
+        file: Some(BACKGROUND),
+        hint: b"hint: zz is a package of the background: names are asked of the index alone\n",
+    },
+    Case {
+        words: "|--arch|amd64|--checkonly|exim,mta",
+        index: PROVIDED,
+        file: None,
+        hint: b"hint: no package is called mta, but exim provides it\n",
+    },
+    Case {
+        words: "|--arch|amd64|--checkonly|b|--bg|others|--since|others",
+        index: PROVIDED,
+        file: Some(BACKGROUND),
+        hint: b"hint: b is a package of the background: names are asked of the index alone\n",
+    },
+    Case {
+        words: "|--arch|amd64|--checkonly|mta|--bg|others",
+        index: INDEX,
+        file: Some(PROVIDED),
+        hint: b"hint: no package is called mta, but exim provides it\n",
+    },
 ];
 
 /// Two stanzas of another architecture, and one of this.
@@ -84,7 +192,7 @@ Version: 1
 Architecture: amd64
 ";
 
-const REPORTS: [Case; 5] = [
+const REPORTS: [Case; 6] = [
     Case {
         words: "|--arch|amd64",
         index: b"",
@@ -95,6 +203,12 @@ const REPORTS: [Case; 5] = [
         words: "|--arch|i386|--format|json",
         index: MOST,
         file: None,
+        hint: b"hint: no stanza is of this architecture or of all, and most are of arm64: give another by --arch\n",
+    },
+    Case {
+        words: "|--arch|i386|--bg|others",
+        index: b"",
+        file: Some(MOST),
         hint: b"hint: no stanza is of this architecture or of all: give another by --arch\n",
     },
     Case {
@@ -117,7 +231,7 @@ const REPORTS: [Case; 5] = [
     },
 ];
 
-const STRICT: [Case; 3] = [
+const STRICT: [Case; 4] = [
     Case {
         words: "|--arch|amd64|--strict",
         index: b"",
@@ -128,7 +242,13 @@ const STRICT: [Case; 3] = [
         words: "|--arch|i386|--since|others",
         index: MOST,
         file: Some(BACKGROUND),
-        hint: b"hint: no stanza is of this architecture or of all: give another by --arch\n",
+        hint: b"hint: no stanza is of this architecture or of all, and most are of arm64: give another by --arch\n",
+    },
+    Case {
+        words: "|--arch|i386|--strict|--checkonly|c",
+        index: MOST,
+        file: None,
+        hint: b"hint: no stanza is of this architecture or of all, and most are of arm64: give another by --arch\n",
     },
     Case {
         words: "|--arch|amd64|--strict|--bg|others",
@@ -141,7 +261,7 @@ const STRICT: [Case; 3] = [
 const PLAIN_FAULTS: [Case; 3] = [
     Case {
         words: "|--arch|amd64",
-        index: b"Package: a\nVersion: 1\n",
+        index: b"Version: 1\n",
         file: None,
         hint: b"",
     },
@@ -230,6 +350,22 @@ fn expect_case(rt: &(impl Abort + Threads + Sync + AllocGlobal), case: &Case) ->
 #[test]
 fn of_faults(rt: HostRuntime) -> Result<(), Fail> {
     for case in &FAULTS {
+        expect_case(&rt, case)?;
+    }
+    Ok(())
+}
+
+#[test]
+fn of_stanzas(rt: HostRuntime) -> Result<(), Fail> {
+    for case in &STANZAS {
+        expect_case(&rt, case)?;
+    }
+    Ok(())
+}
+
+#[test]
+fn of_names(rt: HostRuntime) -> Result<(), Fail> {
+    for case in &NAMES {
         expect_case(&rt, case)?;
     }
     Ok(())

@@ -4,12 +4,12 @@ use Rattle.debcheck.proofs.program.run_behind.Goals as goal
 
 pub returns-in_default : goal.returns-in_default
 returns-in_default g c =
-    runs_alone _ _ _ _ _ _ _ c.run.result (rw c.in_default.is refl) c.run.ensures.refused c.run.ensures.unfailed c.run.ensures.flushed c.run.ensures.report c.run.ensures.left
+    runs_alone _ _ _ _ _ _ _ c.run_noting.result (rw c.in_default.is refl) c.run_noting.ensures.refused c.run_noting.ensures.unfailed c.run_noting.ensures.flushed c.run_noting.ensures.report c.run_noting.ensures.left
 
 pub returns-in-Ok : goal.returns-in-Ok
 returns-in-Ok g c =
-    runs_since _ _ (option_map string_bytes c.args.config.now.since) c.as_str.result.now (string_bytes c.in-Some.file) _ _ _ _ _ c.run_since-outcome.result (rw c.in-Some.is refl) c.as_str.ensures.value c.in-Ok.ensures.opened
-    c.run_since-outcome.ensures.refused c.run_since-outcome.ensures.unfailed c.run_since-outcome.ensures.flushed c.run_since-outcome.ensures.report c.run_since-outcome.ensures.left
+    runs_since _ _ (option_map string_bytes c.args.config.now.since) c.as_str.result.now (string_bytes c.in-Some.file) _ _ _ _ _ c.run_since_noting-outcome.result (rw c.in-Some.is refl) c.as_str.ensures.value c.in-Ok.ensures.opened
+    c.run_since_noting-outcome.ensures.refused c.run_since_noting-outcome.ensures.unfailed c.run_since_noting-outcome.ensures.flushed c.run_since_noting-outcome.ensures.report c.run_since_noting-outcome.ensures.left
 
 pub returns-in-Err-Memory : goal.returns-in-Err-Memory
 returns-in-Err-Memory g c = unbegun_earlier _ _ _ _ _ _ _ _ (unopened_memory _ _ _ (string_bytes c.in-Some.file) _ _ _ _ _ (rw c.in-Some.is refl) c.requires.reader)

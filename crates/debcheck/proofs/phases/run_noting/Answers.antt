@@ -5,7 +5,7 @@ use Rattle.debcheck.specs.Devices.{AppendsPart}
 use Rattle.deb_report.specs.Settings.{settings_of}
 use Rattle.debcheck.specs.Run.{IsReport, input}
 use Rattle.debcheck.proofs.PhaseLemmas.{fails-unwritten, front-added, leaves-unwritten, report-added, writing-fails}
-use Rattle.debcheck.proofs.phases.run.Goals as goal
+use Rattle.debcheck.proofs.phases.run_noting.Goals as goal
 
 pub returns-in_err-output-clause-refused : goal.returns-in_err-output-clause-refused
 returns-in_err-output-clause-refused g c =

@@ -5,7 +5,7 @@ use Rattle.debcheck.specs.Devices.{AppendsPart}
 use Rattle.deb_report.specs.Settings.{settings_of}
 use Rattle.debcheck.specs.Run.{input}
 use Rattle.debcheck.proofs.SinceLemmas.{since-added, since-front, since-leaves, since-unwritten, since-writing-fails}
-use Rattle.debcheck.proofs.since.run_since.Goals as goal
+use Rattle.debcheck.proofs.since.run_since_noting.Goals as goal
 
 pub returns-in_err-output-clause-refused : goal.returns-in_err-output-clause-refused
 returns-in_err-output-clause-refused g c =

@@ -1,0 +1,141 @@
+//! What is seen of a text that is refused or has nothing for an architecture, or of a name that is asked in vain, while they are there.
+
+ghost use Rattle.std.specs.Prelude.{◌≡◌, IfOk, IfSome, option_map};
+ghost use Rattle.std.specs.Option.{option_copied};
+ghost use Rattle.input_hints.specs.Architectures.{TellsMost};
+ghost use Rattle.debcheck.specs.Clues.{IsElsewhere, clue_of, name_text, provider_of, refused_text, stanza_of, stanza_text};
+
+use crate::fault::RunFault;
+use crate::hints::Clue;
+use deb_index::{Index, IndexError};
+use input_hints::{
+    Input, RunHint, background_name_line, elsewhere_hint_line, provided_name_line, run_hint,
+    stanza_hint_line,
+};
+use std::alloc::{AllocError, Global};
+
+// The stanza that a fault is of.
+#[tactic(auto, unfolding(crate::specs::Clues::stanza_of))]
+fn stanza_of(fault: &IndexError) -> Option<u64>
+    ensures { result ≡ stanza_of fault.now }
+{
+    match fault {
+        IndexError::BadLine { stanza } => Some(*stanza),
+        IndexError::RepeatedField { stanza } => Some(*stanza),
+        IndexError::MissingField { stanza } => Some(*stanza),
+        IndexError::BadName { stanza } => Some(*stanza),
+        IndexError::BadVersion { stanza } => Some(*stanza),
+        IndexError::BadRelation { stanza, .. } => Some(*stanza),
+        IndexError::TooManyStanzas { stanza } => Some(*stanza),
+        IndexError::Memory => None,
+    }
+}
+
+// The line on the stanza for whose fault an input is refused.
+#[tactic(auto, unfolding(crate::specs::Clues::stanza_text))]
+fn stanza_text(
+    alloc: Global,
+    input: Input,
+    fault: &IndexError,
+    text: &[u8],
+) -> Result<Option<Vec<u8>>, AllocError>
+    ensures { IfOk result (λ line. option_map (λ said. said.items) line ≡ stanza_text input fault.now text.now) }
+{
+    match stanza_of(fault) {
+        Some(number) => stanza_hint_line(alloc, input, number, text),
+        None => Ok(None),
+    }
+}
+
+// The line on the texts of an index and of its background, of which one is refused for this fault.
+#[tactic(auto, unfolding(crate::specs::Clues::refused_text))]
+fn refused_text(
+    alloc: Global,
+    fault: &RunFault,
+    text: &[u8],
+    behind: &[u8],
+) -> Result<Option<Vec<u8>>, AllocError>
+    ensures { IfOk result (λ line. option_map (λ said. said.items) line ≡ refused_text fault.now text.now behind.now) }
+{
+    match fault {
+        RunFault::Index(fault) => stanza_text(alloc, Input::Index, fault, text),
+        RunFault::Background(fault) => stanza_text(alloc, Input::Background, fault, behind),
+        _ => Ok(None),
+    }
+}
+
+// The name of the first package that provides this one.
+#[tactic(auto, unfolding(crate::specs::Clues::provider_of))]
+fn provider_of<'i>(index: &'i Index, name: &[u8]) -> Option<&'i [u8]>
+    ensures { option_copied result ≡ provider_of index.now name.now }
+{
+    match index.provides_of(name).first() {
+        Some(entry) if entry.0 < index.len() => Some(index.package(entry.0).name.as_slice()),
+        _ => None,
+    }
+}
+
+// The line on an asked name that no package of the foreground has.
+#[tactic(auto, unfolding(crate::specs::Clues::name_text))]
+fn name_text(alloc: Global, index: &Index, name: &[u8]) -> Result<Option<Vec<u8>>, AllocError>
+    ensures { IfOk result (λ line. option_map (λ said. said.items) line ≡ name_text index.now name.now) }
+{
+    if !index.places_of(name).is_empty() {
+        return Ok(Some(background_name_line(alloc, name)?));
+    }
+    match provider_of(index, name) {
+        Some(provider) => Ok(Some(provided_name_line(alloc, name, provider)?)),
+        None => Ok(None),
+    }
+}
+
+// The line on an index of whose stanzas none is of its architecture or of all.
+fn elsewhere_text(alloc: Global, index: &Index, text: &[u8]) -> Result<Option<Vec<u8>>, AllocError>
+    ensures { IfOk result (λ line. IfSome line (λ said. IsElsewhere index.now × TellsMost text.now said.items)) }
+{
+    match run_hint(index.stanzas(), index.skipped(), 1) {
+        Some(RunHint::OtherArchitectures) => elsewhere_hint_line(alloc, text),
+        _ => Ok(None),
+    }
+}
+
+// Notes a line, where there is one.
+#[tactic(auto, unfolding(crate::specs::Clues::clue_of))]
+fn note_line(clue: &mut Option<Clue>, line: Result<Option<Vec<u8>>, AllocError>)
+    ensures { clue.new ≡ clue_of clue.old line }
+{
+    match line {
+        Ok(Some(line)) => *clue = Some(Clue::Line(line)),
+        _ => {}
+    }
+}
+
+/// Notes of which package the stanza is for whose fault an index or its background is refused, where one is; and where all stanzas are of other
+/// architectures, the one that most are of.
+pub(crate) fn note_read(
+    alloc: Global,
+    clue: &mut Option<Clue>,
+    outcome: &Result<Index, RunFault>,
+    text: &[u8],
+    behind: &[u8],
+) {
+    match outcome {
+        Ok(index) => note_line(clue, elsewhere_text(alloc, index, text)),
+        Err(fault) => note_line(clue, refused_text(alloc, fault, text, behind)),
+    }
+}
+
+/// Notes what a name is that is asked in vain, where one is.
+pub(crate) fn note_unknown(
+    alloc: Global,
+    clue: &mut Option<Clue>,
+    index: &Index,
+    outcome: &Result<Vec<u32>, RunFault>,
+) {
+    match outcome {
+        Err(RunFault::UnknownAsked { name }) => {
+            note_line(clue, name_text(alloc, index, name.as_slice()));
+        }
+        _ => {}
+    }
+}
