@@ -9,11 +9,10 @@ use Rattle.deb_index.specs.Constraints.{constraints_of}
 use Rattle.number_sets.specs.Sets.{NumberSet, all_of, IsWithin, members_of}
 use Rattle.number_sets.proofs.ListMembers.{members_of_at}
 use Rattle.deb_health.specs.Causes.{AreCores, AreCoresWithout, cause_at, either, is_final_at, IsFirstWithout, nothing, without}
-use Rattle.deb_health.specs.Health.{Admits, AdmitsNone, admits_none_upward, IsHopeless, IsInstallable}
+use Rattle.deb_health.specs.Health.{Admits, AdmitsNone, admits_none_upward, IsHopeless}
 use Rattle.deb_health.proofs.CauseLemmas.{core_has_final}
 use Rattle.deb_health.proofs.CoreLemmas.{core_left, without_more, without_nothing}
 use Rattle.core_extract.specs.Reduction.{left, IsRefutation}
-use Rattle.deb_verdict.proofs.Cutting.{meets_from_healthy}
 use Rattle.deb_verdict.proofs.FirstExists.{admits_some}
 use Rattle.deb_verdict.proofs.Whole.{all_admit_none}
 
@@ -130,9 +129,6 @@ module _ (index : IndexView) (p : ℕ) where
   -- before anything is taken out
   pub hopeless_whole : IsHopeless index p → AdmitsNone index p (without nothing all_of)
   hopeless_whole hopeless = admits_none_upward index p all_of (without nothing all_of) (without_nothing nothing all_of (λ k. refl)) (all_admit_none index p hopeless)
-
-  pub installable_whole : IsInstallable index p → Admits index p (without nothing all_of)
-  installable_whole installable = (installable.0, installable.1.1, meets_from_healthy index installable.0 (without nothing all_of) installable.1.0)
 
   -- where some set meets what is left, these are all
   pub all_found : (out : NumberSet) (cores : List (List Constraint)) → AreFound index p out cores → Admits index p (without out all_of) → AreCores index p cores

@@ -1,5 +1,5 @@
 -- One of the sets of numbers below a limit that have a property is the first, or none has it.
-use Rattle.std.proofs.Common.{◌≡◌, ℕ, zero, suc, ◌+◌, ◌<◌, ◌≤◌, Bool, true, false, ◌&&◌, ltb, List, [], ◌∷◌, ◌++◌, ◌⊎◌, refl, sym, subst, ◌∙◌, ap, inl, inr, arith}
+use Rattle.std.proofs.Common.{◌≡◌, ℕ, zero, suc, ◌+◌, ◌<◌, ◌≤◌, Bool, true, false, ◌&&◌, ltb, List, [], ◌∷◌, ◌++◌, ◌⊎◌, refl, subst, ◌∙◌, inl, inr, arith}
 use mathlib.Core.Path.{fun_ext}
 use Rattle.std.proofs.lemmas.Bool.{cases_Bool, cases_lt, false≢true, and_parts, both_ways, lt-ltb, ltb-true, false_from_ne_true}
 use Rattle.number_sets.specs.Sets.{NumberSet, AgreeBelow, IsBefore, IsFirst}

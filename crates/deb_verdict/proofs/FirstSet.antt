@@ -8,7 +8,7 @@ use Rattle.deb_index.specs.Packages.{IndexView}
 use Rattle.number_sets.specs.Sets.{NumberSet, members_of, IsFirst, IsWithin, all_of, positions_of}
 use Rattle.sat_solve.specs.Clauses.{Clause, IsTrueSet}
 use Rattle.deb_health.specs.Health.{IsHealthy, IsInstallation}
-use Rattle.deb_verdict.specs.Closure.{cut, is_kept}
+use Rattle.deb_verdict.specs.Closure.{cut}
 use Rattle.deb_encode.specs.Play.{places_in_play, placed}
 use Rattle.deb_encode.specs.Adding.{AllHold}
 use Rattle.deb_health.specs.Verdicts.{IsFirstInstallation}

@@ -1,5 +1,5 @@
 -- What is found of an index once for all verdicts.
-use Rattle.std.proofs.Common.{◌≡◌, ◌⊎◌, ℕ, ◌+◌, ◌<◌, ◌≤◌, Bool, true, eqb, List, [], ◌∷◌, ◌++◌, length, get_or, All, Some, refl, sym, subst, ◌∙◌, ap, inl, inr, arith}
+use Rattle.std.proofs.Common.{◌≡◌, ◌⊎◌, ℕ, ◌+◌, ◌<◌, ◌≤◌, Bool, true, eqb, List, [], ◌∷◌, ◌++◌, length, get_or, All, Some, sym, subst, ◌∙◌, ap, inl, inr, arith}
 use Rattle.std.specs.List.{list_any, list_all}
 use Rattle.std.proofs.lemmas.Bool.{cases_lt, false≢true, eqb-true}
 use Rattle.std.proofs.lemmas.List.{get_or_append_left, get_or_push, length_push}
@@ -15,7 +15,7 @@ use Rattle.deb_health.specs.Health.{IsInstallation}
 use Rattle.deb_verdict.proofs.Forcing.{member_answers}
 use Rattle.deb_encode.proofs.IndexFacts.{member_satisfiers}
 use Rattle.number_sets.proofs.Placing.{numbers_empty, grows_with, grows_keeps, with_number_has, with_number_only}
-use Rattle.number_sets.proofs.ListMembers.{any_member, member_any, all_member}
+use Rattle.number_sets.proofs.ListMembers.{any_member, all_member}
 
 -- ---- needs that are answered by what is in
 

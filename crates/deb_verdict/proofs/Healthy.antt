@@ -14,7 +14,6 @@ use Rattle.deb_index.specs.declared.constraint.Constraint.TheVariants.{Essential
 use Rattle.deb_index.specs.Packages.{IndexView, PackageView, first_of_each, no_package, package_at, is_named, names, name_at, places_of, essential_names, needs_at, aparts_at}
 use Rattle.deb_index.specs.Constraints.{Holds, constraints_at, constraints_of, below, has_name}
 use Rattle.deb_index.proofs.FirstLemmas.{same-name, name-itself, names-turned, any-filter}
-use Rattle.deb_index.proofs.MemberLemmas.{member-places_where}
 use Rattle.number_sets.specs.Sets.{NumberSet, members_of}
 use Rattle.deb_health.specs.Health.{IsHealthy}
 use Rattle.deb_verdict.specs.Parts.{HasNoEarlier}
@@ -103,7 +102,7 @@ first_has name (x ∷ xs) holds = by (bytes_eq name x) refl (first_has name xs)
 
 module _ (index : IndexView) where
   -- each package's name has a number
-  numbered : (p : ℕ) → p < length index.packages → (number : ℕ) × (number < length (names index)) × (name_at index number ≡ (package_at index p).name)
+  pub numbered : (p : ℕ) → p < length index.packages → (number : ℕ) × (number < length (names index)) × (name_at index number ≡ (package_at index p).name)
   numbered p inside =
       let name_of : PackageView → List ℕ = λ item. item.name in
       let name : List ℕ = (package_at index p).name in

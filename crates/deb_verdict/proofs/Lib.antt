@@ -1,4 +1,5 @@
 pub mod Answered
+pub mod BaseLemmas
 pub mod CauseSteps
 pub mod Cutting
 pub mod Derived

@@ -2,7 +2,7 @@
 use Rattle.std.specs.Prelude.{◌≡◌, ℕ, ◌<◌, ◌↔◌, true, Bool, List, Some, length, map, slice_get, slice_index}
 use Rattle.deb_index.specs.Packages.{IndexView}
 use Rattle.number_sets.specs.Sets.{NumberSet}
-use Rattle.sat_solve.specs.Clauses.{Clauses, IsTrueSet}
+use Rattle.sat_solve.specs.Clauses.{IsTrueSet}
 use Rattle.deb_health.specs.Health.{AdmitsNone}
 use Rattle.deb_verdict.specs.declared.core_formula.CoreFormula.{CoreFormula}
 

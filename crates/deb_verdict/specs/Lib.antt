@@ -3,6 +3,7 @@ pub mod Closure
 pub mod Told
 pub mod Workspaces
 -- ---- the inside: what contracts of single functions cite
+pub mod BaseSets
 pub mod Deriving
 pub mod Encoding
 pub mod Formulas

@@ -11,7 +11,6 @@ ghost use Rattle.deb_health.specs.Health.{Admits, AdmitsNone};
 ghost use Rattle.deb_verdict.specs.Formulas.{Tells};
 
 use crate::core_formula::CoreFormula;
-use crate::decision::is_installable_in;
 use crate::first_core::first_positions;
 use crate::groundwork::Groundwork;
 use crate::kept_positions::list_constraints;
@@ -78,25 +77,25 @@ fn take_out(
 fn is_blocked(
     alloc: Global,
     workspace: &mut Workspace,
-    index: &Index,
+    groundwork: &Groundwork<'_>,
     p: u32,
     out: &[u32],
     formula: &mut Option<CoreFormula>,
 ) -> Result<bool, AllocError>
-    requires place { p < length index.now.packages }
+    requires place { p < length groundwork.now.index.now.packages }
     requires rising { IsStrictlyIncreasing out.now }
-    requires formula { ForSome formula.old (Tells index.now p) }
-    ensures formula { ForSome formula.new (Tells index.now p) }
-    ensures none { IfOk result (λ blocked. blocked ≡ true → AdmitsNone index.now p (without (members_of out.now) all_of)) }
-    ensures some { IfOk result (λ blocked. blocked ≡ false → Admits index.now p (without (members_of out.now) all_of)) }
+    requires formula { ForSome formula.old (Tells groundwork.now.index.now p) }
+    ensures formula { ForSome formula.new (Tells groundwork.now.index.now p) }
+    ensures none { IfOk result (λ blocked. blocked ≡ true → AdmitsNone groundwork.now.index.now p (without (members_of out.now) all_of)) }
+    ensures some { IfOk result (λ blocked. blocked ≡ false → Admits groundwork.now.index.now p (without (members_of out.now) all_of)) }
 {
     let left = Part {
-        index,
+        index: groundwork.index,
         kept: &[],
         rest: 0,
         out,
     };
-    refute_part(alloc, &left, p, formula, workspace)
+    refute_part(alloc, &left, p, &groundwork.base, formula, workspace)
 }
 
 /// The cores whose causes are all causes of the package at a place of the index of a groundwork: none where some healthy set has the package.
@@ -119,14 +118,14 @@ pub fn cores_in(
     let mut cores = Vec::new(alloc);
     let mut out = Vec::new(alloc);
     let mut formula = None;
-    let mut blocked = !is_installable_in(alloc, workspace, groundwork, p)?;
+    let mut blocked = is_blocked(alloc, workspace, groundwork, p, &out, &mut formula)?;
     while blocked {
-        let positions = first_positions(alloc, workspace, index, p, &out, &mut formula)?;
+        let positions = first_positions(alloc, workspace, groundwork, p, &out, &mut formula)?;
         let mut core = Vec::new(alloc);
         list_constraints(index, &positions, &mut core)?;
         take_out(index, &positions, &mut workspace.found, &mut out)?;
         cores.push(core)?;
-        blocked = is_blocked(alloc, workspace, index, p, &out, &mut formula)?;
+        blocked = is_blocked(alloc, workspace, groundwork, p, &out, &mut formula)?;
     }
     Ok(cores)
 }

@@ -8,14 +8,14 @@ ghost use Rattle.deb_health.specs.Health.{MeetsAt};
 ghost use Rattle.deb_verdict.specs.Parts.{HasNoEarlier, positions_in, MeetsAsked, MeetsAskedOf, StandsOnce};
 
 use crate::part::Part;
-use crate::rows::{FEW, has_any, hits_no_other, is_answered};
+use crate::rows::{FEW, Places, has_any, hits_no_other, is_answered};
 use deb_index::{Constraint, Index};
 use number_sets::SparseSet;
 
 /// Whether the set has some package of an essential name, where the part asks for it.
-fn meets_essential(part: &Part<'_>, set: &SparseSet, position: u32, name: u32) -> bool
+fn meets_essential<P: Places>(part: &Part<'_>, set: &P, position: u32, name: u32) -> bool
     requires { slice_get (essential_names part.now.index.now) position ≡ Some name }
-    ensures { result ≡ true → MeetsAsked part.now (members_of set.now) (Constraint.Essential name) }
+    ensures { result ≡ true → MeetsAsked part.now (P.members set.now) (Constraint.Essential name) }
 {
     if !part.has(position) {
         return true;
@@ -24,8 +24,8 @@ fn meets_essential(part: &Part<'_>, set: &SparseSet, position: u32, name: u32) -
 }
 
 /// Whether the set has some package of each essential name that the part asks for.
-fn meets_essentials(part: &Part<'_>, set: &SparseSet) -> bool
-    ensures { result ≡ true → (number : ℕ) → MeetsAsked part.now (members_of set.now) (Constraint.Essential number) }
+pub(crate) fn meets_essentials<P: Places>(part: &Part<'_>, set: &P) -> bool
+    ensures { result ≡ true → (number : ℕ) → MeetsAsked part.now (P.members set.now) (Constraint.Essential number) }
 {
     let index = part.index;
     // An essential name is a name, so its number fits 32 bits.
@@ -39,10 +39,10 @@ fn meets_essentials(part: &Part<'_>, set: &SparseSet) -> bool
 }
 
 /// Whether the set answers a need of a place, where the part asks for it.
-fn meets_need(part: &Part<'_>, set: &SparseSet, place: u32, number: u32) -> bool
+fn meets_need<P: Places>(part: &Part<'_>, set: &P, place: u32, number: u32) -> bool
     requires place { place < length part.now.index.now.packages }
     requires number { number < length (needs_at part.now.index.now place) }
-    ensures { result ≡ true → MeetsAsked part.now (members_of set.now) (Constraint.Need place number) }
+    ensures { result ≡ true → MeetsAsked part.now (P.members set.now) (Constraint.Need place number) }
 {
     let index = part.index;
     if !part.has(index.need_position(place, number)) {
@@ -52,9 +52,10 @@ fn meets_need(part: &Part<'_>, set: &SparseSet, place: u32, number: u32) -> bool
 }
 
 /// Whether the set answers each need of a place that the part asks for.
-fn meets_needs(part: &Part<'_>, set: &SparseSet, place: u32) -> bool
+fn meets_needs<P: Places>(part: &Part<'_>, set: &P, place: u32) -> bool
     requires { place < length part.now.index.now.packages }
-    ensures { result ≡ true → (j : ℕ) → j < length (needs_at part.now.index.now place) → MeetsAsked part.now (members_of set.now) (Constraint.Need place j) }
+    ensures { result ≡ true → (j : ℕ) → j < length (needs_at part.now.index.now place)
+        → MeetsAsked part.now (P.members set.now) (Constraint.Need place j) }
 {
     for number in 0..part.index.need_count(place) {
         if !meets_need(part, set, place, number) {
@@ -65,10 +66,10 @@ fn meets_needs(part: &Part<'_>, set: &SparseSet, place: u32) -> bool
 }
 
 /// Whether an entry of a place hits no other one of the set, where the part asks for it.
-fn meets_apart(part: &Part<'_>, set: &SparseSet, place: u32, number: u32) -> bool
+fn meets_apart<P: Places>(part: &Part<'_>, set: &P, place: u32, number: u32) -> bool
     requires place { place < length part.now.index.now.packages }
     requires number { number < length (aparts_at part.now.index.now place) }
-    ensures { result ≡ true → MeetsAsked part.now (members_of set.now) (Constraint.Apart place number) }
+    ensures { result ≡ true → MeetsAsked part.now (P.members set.now) (Constraint.Apart place number) }
 {
     let index = part.index;
     if !part.has(index.apart_position(place, number)) {
@@ -78,9 +79,10 @@ fn meets_apart(part: &Part<'_>, set: &SparseSet, place: u32, number: u32) -> boo
 }
 
 /// Whether no entry of a place that the part asks for hits another one of the set.
-fn meets_aparts(part: &Part<'_>, set: &SparseSet, place: u32) -> bool
+fn meets_aparts<P: Places>(part: &Part<'_>, set: &P, place: u32) -> bool
     requires { place < length part.now.index.now.packages }
-    ensures { result ≡ true → (j : ℕ) → j < length (aparts_at part.now.index.now place) → MeetsAsked part.now (members_of set.now) (Constraint.Apart place j) }
+    ensures { result ≡ true → (j : ℕ) → j < length (aparts_at part.now.index.now place)
+        → MeetsAsked part.now (P.members set.now) (Constraint.Apart place j) }
 {
     for number in 0..part.index.apart_count(place) {
         if !meets_apart(part, set, place, number) {
@@ -91,17 +93,16 @@ fn meets_aparts(part: &Part<'_>, set: &SparseSet, place: u32) -> bool
 }
 
 /// Whether the set has an earlier place of a row.
-fn has_earlier_in(set: &SparseSet, row: &[u32], place: u32) -> bool
-    ensures { result ≡ list_any (λ other. ltb other place && members_of set.now other) row.now }
+fn has_earlier_in<P: Places>(set: &P, row: &[u32], place: u32) -> bool
+    ensures { result ≡ list_any (λ other. ltb other place && P.members set.now other) row.now }
 {
-    row.iter()
-        .any(|other| *other < place && set.contains(*other))
+    row.iter().any(|other| *other < place && set.has(*other))
 }
 
 /// Whether the set has no earlier package of the name of the one at a place. `false` where there are many of the name.
-fn has_no_earlier(index: &Index, set: &SparseSet, place: u32) -> bool
+pub(crate) fn has_no_earlier<P: Places>(index: &Index, set: &P, place: u32) -> bool
     requires { place < length index.now.packages }
-    ensures { result ≡ true → HasNoEarlier index.now (members_of set.now) place }
+    ensures { result ≡ true → HasNoEarlier index.now (P.members set.now) place }
 {
     let row = index.versions_of(place);
     if row.len() > FEW as usize {
@@ -111,9 +112,9 @@ fn has_no_earlier(index: &Index, set: &SparseSet, place: u32) -> bool
 }
 
 /// Whether the set has no earlier package of the name of the one at a place, where the part asks that one alone is in.
-fn stands_once(part: &Part<'_>, set: &SparseSet, place: u32) -> bool
+fn stands_once<P: Places>(part: &Part<'_>, set: &P, place: u32) -> bool
     requires { place < length part.now.index.now.packages }
-    ensures { result ≡ true → StandsOnce part.now (members_of set.now) place }
+    ensures { result ≡ true → StandsOnce part.now (P.members set.now) place }
 {
     let index = part.index;
     if !part.has(index.only_position(index.name_of(place))) {
@@ -123,9 +124,9 @@ fn stands_once(part: &Part<'_>, set: &SparseSet, place: u32) -> bool
 }
 
 /// Whether the set meets what the part asks of the package at a place.
-pub(crate) fn meets_place(part: &Part<'_>, set: &SparseSet, place: u32) -> bool
+pub(crate) fn meets_place<P: Places>(part: &Part<'_>, set: &P, place: u32) -> bool
     requires { place < length part.now.index.now.packages }
-    ensures { result ≡ true → MeetsAskedOf part.now (members_of set.now) place }
+    ensures { result ≡ true → MeetsAskedOf part.now (P.members set.now) place }
 {
     if !meets_needs(part, set, place) {
         return false;
@@ -136,6 +137,19 @@ pub(crate) fn meets_place(part: &Part<'_>, set: &SparseSet, place: u32) -> bool
     stands_once(part, set, place)
 }
 
+/// Whether the set meets what the part asks of the packages at some places.
+pub(crate) fn meets_places<P: Places>(part: &Part<'_>, set: &P, places: &[u32]) -> bool
+    requires { All (λ q. q < length part.now.index.now.packages) places.now }
+    ensures { result ≡ true → (q : ℕ) → members_of places.now q ≡ true → MeetsAskedOf part.now (P.members set.now) q }
+{
+    for place in places {
+        if !meets_place(part, set, *place) {
+            return false;
+        }
+    }
+    true
+}
+
 /// Whether the set is seen to meet the part. `false` where it isn't, or where there is too much to look at.
 pub(crate) fn meets_part(part: &Part<'_>, set: &SparseSet) -> bool
     requires { All (λ q. q < length part.now.index.now.packages) set.now }
@@ -144,10 +158,5 @@ pub(crate) fn meets_part(part: &Part<'_>, set: &SparseSet) -> bool
     if !meets_essentials(part, set) {
         return false;
     }
-    for place in set.as_slice() {
-        if !meets_place(part, set, *place) {
-            return false;
-        }
-    }
-    true
+    meets_places(part, set, set.as_slice())
 }

@@ -106,17 +106,17 @@ fn told_set(
 fn told_core(
     alloc: Global,
     workspace: &mut Workspace,
-    index: &Index,
+    groundwork: &Groundwork<'_>,
     p: u32,
     cores: bool,
 ) -> Result<Vec<Constraint>, AllocError>
-    requires place { p < length index.now.packages }
-    requires hopeless { IsHopeless index.now p }
-    ensures told { IfOk result (λ core. IsToldCore cores index.now p core.items) }
-    ensures within { IfOk result (λ core. All (IsOfIndex index.now) core.items) }
+    requires place { p < length groundwork.now.index.now.packages }
+    requires hopeless { IsHopeless groundwork.now.index.now p }
+    ensures told { IfOk result (λ core. IsToldCore cores groundwork.now.index.now p core.items) }
+    ensures within { IfOk result (λ core. All (IsOfIndex groundwork.now.index.now) core.items) }
 {
     if cores {
-        first_core(alloc, workspace, index, p)
+        first_core(alloc, workspace, groundwork, p)
     } else {
         Ok(Vec::new(alloc))
     }
@@ -141,7 +141,7 @@ pub fn told_verdict_in(
     match told_set(alloc, workspace, groundwork, p, wanted.sets)? {
         Some(places) => Ok(Verdict::Ok(places)),
         None => {
-            let core = told_core(alloc, workspace, groundwork.index, p, wanted.cores)?;
+            let core = told_core(alloc, workspace, groundwork, p, wanted.cores)?;
             Ok(Verdict::Broken(core))
         }
     }

@@ -11,32 +11,33 @@ ghost use Rattle.deb_health.specs.Verdicts.{IsFirstCore};
 ghost use Rattle.deb_verdict.specs.Formulas.{Tells};
 
 use crate::core_formula::CoreFormula;
+use crate::groundwork::Groundwork;
 use crate::kept_positions::list_constraints;
 use crate::question::Blocking;
 use crate::workspace::Workspace;
 use core_extract::first_failing;
-use deb_index::{Constraint, Index};
+use deb_index::Constraint;
 use std::alloc::{AllocError, Global};
 
 /// The positions, rising, of the first core of the constraints that are not taken out, where they admit no set with the package at a place.
 pub(crate) fn first_positions(
     alloc: Global,
     workspace: &mut Workspace,
-    index: &Index,
+    groundwork: &Groundwork<'_>,
     p: u32,
     out: &[u32],
     formula: &mut Option<CoreFormula>,
 ) -> Result<Vec<u32>, AllocError>
-    requires place { p < length index.now.packages }
+    requires place { p < length groundwork.now.index.now.packages }
     requires rising { IsStrictlyIncreasing out.now }
-    requires formula { ForSome formula.old (Tells index.now p) }
-    requires none { AdmitsNone index.now p (without (members_of out.now) all_of) }
-    ensures formula { ForSome formula.new (Tells index.now p) }
-    ensures first { IfOk result (λ core. IsFirstWithout index.now p (members_of out.now) core.items) }
-    ensures within { IfOk result (λ core. All (λ k. k < length (constraints_of index.now)) core.items) }
+    requires formula { ForSome formula.old (Tells groundwork.now.index.now p) }
+    requires none { AdmitsNone groundwork.now.index.now p (without (members_of out.now) all_of) }
+    ensures formula { ForSome formula.new (Tells groundwork.now.index.now p) }
+    ensures first { IfOk result (λ core. IsFirstWithout groundwork.now.index.now p (members_of out.now) core.items) }
+    ensures within { IfOk result (λ core. All (λ k. k < length (constraints_of groundwork.now.index.now)) core.items) }
 {
     let mut question = Blocking {
-        index,
+        groundwork,
         p,
         out,
         workspace,
@@ -52,16 +53,16 @@ pub(crate) fn first_positions(
 pub(crate) fn first_core(
     alloc: Global,
     workspace: &mut Workspace,
-    index: &Index,
+    groundwork: &Groundwork<'_>,
     p: u32,
 ) -> Result<Vec<Constraint>, AllocError>
-    requires place { p < length index.now.packages }
-    requires hopeless { IsHopeless index.now p }
-    ensures first { IfOk result (λ core. IsFirstCore index.now p core.items) }
-    ensures within { IfOk result (λ core. All (IsOfIndex index.now) core.items) }
+    requires place { p < length groundwork.now.index.now.packages }
+    requires hopeless { IsHopeless groundwork.now.index.now p }
+    ensures first { IfOk result (λ core. IsFirstCore groundwork.now.index.now p core.items) }
+    ensures within { IfOk result (λ core. All (IsOfIndex groundwork.now.index.now) core.items) }
 {
-    let positions = first_positions(alloc, workspace, index, p, &[], &mut None)?;
+    let positions = first_positions(alloc, workspace, groundwork, p, &[], &mut None)?;
     let mut core = Vec::new(alloc);
-    list_constraints(index, &positions, &mut core)?;
+    list_constraints(groundwork.index, &positions, &mut core)?;
     Ok(core)
 }

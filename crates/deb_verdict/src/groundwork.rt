@@ -7,15 +7,16 @@ ghost use Rattle.deb_index.specs.Packages.{aparts_at};
 ghost use Rattle.deb_index.specs.Constraints.{hits};
 ghost use Rattle.number_sets.specs.Sets.{NumberSet, members_of, MarksOnly, IsWithin};
 ghost use Rattle.number_sets.specs.SparseSets.{AreNumbers};
+ghost use Rattle.deb_verdict.specs.BaseSets.{IsBase};
 ghost use Rattle.deb_verdict.specs.Groundwork.{IsInAll, HasAnswers};
 ghost use Rattle.deb_encode.specs.Alone.{IsAlone};
-ghost use Rattle.deb_health.specs.Health.{IsInstallation};
-ghost use Rattle.deb_health.specs.Health.{IsHopeless};
+ghost use Rattle.deb_health.specs.Health.{IsHopeless, IsInstallation};
 ghost use Rattle.deb_verdict.specs.Hopeless.{AreHopeless};
 
+use crate::base_set::BaseSet;
 use crate::forced::{force_essential, force_from};
-use crate::hopeless::find_hopeless;
-use crate::rows::is_answered;
+use crate::hopeless::{find_lacking, spread_by_essential};
+use crate::rows::are_answered;
 use deb_index::Index;
 use number_sets::SparseSet;
 use std::alloc::{AllocError, Global};
@@ -29,29 +30,19 @@ pub struct Groundwork<'a> {
     /// Places that are in every healthy set.
     pub(crate) forced: SparseSet,
     /// Places that no healthy set has.
-    hopeless: SparseSet,
+    pub(crate) hopeless: SparseSet,
     /// By place: what is in every healthy set answers each need.
     pub(crate) met: Vec<bool>,
     /// By place: no other package is hit by an entry, and none has the name.
     pub(crate) alone: Vec<bool>,
+    /// A large set of packages, each with what it asks for.
+    pub(crate) base: BaseSet,
     ghost places: { AreNumbers (length index.now.packages) forced } by { Prim.hlevel props },
     ghost in_all: { IsInAll index.now (members_of forced) },
     ghost in_none: { AreHopeless index.now (members_of hopeless) },
     ghost marks_met: { MarksOnly (HasAnswers index.now (members_of forced)) met.items },
     ghost marks_alone: { MarksOnly (IsAlone index.now) alone.items },
-}
-
-/// Whether places that are in answer each need of a place.
-fn is_met(index: &Index, forced: &SparseSet, place: u32) -> bool
-    requires { place < length index.now.packages }
-    ensures { result ≡ true → HasAnswers index.now (members_of forced.now) place }
-{
-    for number in 0..index.need_count(place) {
-        if !is_answered(index, forced, place, number) {
-            return false;
-        }
-    }
-    true
+    ghost stands: { IsBase index.now base },
 }
 
 /// Whether a row has no place but one.
@@ -92,7 +83,7 @@ fn mark_met(alloc: Global, index: &Index, forced: &SparseSet) -> Result<Vec<bool
 {
     let mut marks = Vec::with_capacity(alloc, index.len() as usize)?;
     for place in 0..index.len() {
-        marks.push(is_met(index, forced, place))?;
+        marks.push(are_answered(index, forced, place))?;
     }
     Ok(marks)
 }
@@ -119,12 +110,12 @@ fn force_all(alloc: Global, index: &Index) -> Result<SparseSet, AllocError>
     Ok(forced)
 }
 
-/// Finds places that no healthy set has.
-fn find_hopeless_places(alloc: Global, index: &Index) -> Result<SparseSet, AllocError>
+/// Finds places that no healthy set has, since they lack a need.
+fn find_lacking_places(alloc: Global, index: &Index) -> Result<SparseSet, AllocError>
     ensures { IfOk result (λ hopeless. AreHopeless index.now (members_of hopeless)) }
 {
     let mut hopeless = SparseSet::new(alloc);
-    find_hopeless(index, &mut hopeless)?;
+    find_lacking(index, &mut hopeless)?;
     Ok(hopeless)
 }
 
@@ -133,7 +124,9 @@ impl<'a> Groundwork<'a> {
     pub fn new(alloc: Global, index: &'a Index) -> Result<Groundwork<'a>, AllocError>
         ensures { IfOk result (λ groundwork. groundwork.index.now ≡ index.now) }
     {
-        let hopeless = find_hopeless_places(alloc, index)?;
+        let mut hopeless = find_lacking_places(alloc, index)?;
+        let base = BaseSet::find(alloc, index, &hopeless)?;
+        spread_by_essential(index, &mut hopeless)?;
         let forced = force_all(alloc, index)?;
         let met = mark_met(alloc, index, &forced)?;
         let alone = mark_alone(alloc, index)?;
@@ -143,6 +136,7 @@ impl<'a> Groundwork<'a> {
             hopeless,
             met,
             alone,
+            base,
         })
     }
 

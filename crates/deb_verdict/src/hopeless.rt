@@ -76,8 +76,9 @@ fn visit_falling(index: &Index, hopeless: &mut SparseSet) -> Result<(), AllocErr
     Ok(())
 }
 
-/// Puts in places that are hopeless, round by round, until none comes. After the last round some may be left out.
-fn spread(index: &Index, hopeless: &mut SparseSet) -> Result<(), AllocError>
+/// Finds places that no healthy set has since a need of theirs lacks an answer that some has, round by round, until none comes. After the last
+/// round some may be left out.
+pub(crate) fn find_lacking(index: &Index, hopeless: &mut SparseSet) -> Result<(), AllocError>
     requires { AreHopeless index.now (members_of hopeless.old) }
     ensures { OnOk result (AreHopeless index.now (members_of hopeless.new)) }
 {
@@ -116,12 +117,11 @@ fn insert_all(index: &Index, hopeless: &mut SparseSet) -> Result<(), AllocError>
     Ok(())
 }
 
-/// Finds places that no healthy set has. Where all packages of an essential name are hopeless, all places are.
-pub(crate) fn find_hopeless(index: &Index, hopeless: &mut SparseSet) -> Result<(), AllocError>
+/// Puts in all places where all packages of an essential name are hopeless.
+pub(crate) fn spread_by_essential(index: &Index, hopeless: &mut SparseSet) -> Result<(), AllocError>
     requires { AreHopeless index.now (members_of hopeless.old) }
     ensures { OnOk result (AreHopeless index.now (members_of hopeless.new)) }
 {
-    spread(index, hopeless)?;
     if lacks_essential(index, hopeless) {
         insert_all(index, hopeless)?;
     }

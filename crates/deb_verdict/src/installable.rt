@@ -1,5 +1,5 @@
-//! Places that some healthy set is seen to have: a few large sets for all, or two for one package, are found without a search, and each is looked up
-//! to be healthy.
+//! Places that some healthy set is seen to have: the base set and a few more for all, or two for one package, are found without a search, and each is
+//! looked up to be healthy.
 
 ghost use Rattle.std.specs.Prelude.{◌≡◌, ◌<◌, true, All, IfOk, OnOk, length};
 ghost use Rattle.number_sets.specs.Sets.{members_of, MarksOnly};
@@ -7,7 +7,7 @@ ghost use Rattle.deb_health.specs.Health.{IsHealthy, IsInstallable};
 
 use crate::check::meets_part;
 use crate::groundwork::Groundwork;
-use crate::installation::{Installation, Lead, weight};
+use crate::installation::{Installation, Lead, weight_of_all};
 use crate::part::Part;
 use deb_index::Index;
 use number_sets::SparseSet;
@@ -50,18 +50,33 @@ fn grow(
     ensures { OnOk result (All (λ member. member < length groundwork.now.index.now.packages) installation.new.members) }
 {
     installation.clear(Lead::First);
-    if !installation.add(groundwork, start)? {
+    if !installation.add(groundwork.index, &groundwork.hopeless, start)? {
         return Ok(false);
     }
-    if !installation.add_essentials(groundwork)? {
+    if !installation.add_essentials(groundwork.index, &groundwork.hopeless)? {
         return Ok(true);
     }
     for place in asked {
         if !marks[*place as usize] {
-            installation.add(groundwork, *place)?;
+            installation.add(groundwork.index, &groundwork.hopeless, *place)?;
         }
     }
     Ok(true)
+}
+
+/// Marks the places of a set where it is seen to be healthy.
+fn mark_healthy(index: &Index, set: &SparseSet, marks: &mut [bool])
+    requires set { All (λ q. q < length index.now.packages) set.now }
+    requires count { length marks.old ≡ length index.now.packages }
+    requires marks { MarksOnly (IsInstallable index.now) marks.old }
+    ensures count { length marks.new ≡ length index.now.packages }
+    ensures marks { MarksOnly (IsInstallable index.now) marks.new }
+{
+    if is_healthy(index, set) {
+        for place in set.as_slice() {
+            marks[*place as usize] = true;
+        }
+    }
 }
 
 /// Makes a set with a package, and marks its places where it is seen to be healthy. `false` where the package doesn't fit by itself.
@@ -82,11 +97,7 @@ fn mark_set(
     if !grow(groundwork, asked, marks, start, installation)? {
         return Ok(false);
     }
-    if is_healthy(groundwork.index, &installation.members) {
-        for place in installation.members.as_slice() {
-            marks[*place as usize] = true;
-        }
-    }
+    mark_healthy(groundwork.index, &installation.members, marks);
     Ok(true)
 }
 
@@ -102,15 +113,6 @@ fn no_marks(alloc: Global, index: &Index) -> Result<Vec<bool>, AllocError>
     Ok(marks)
 }
 
-/// How much all packages ask for.
-fn weight_of_all(index: &Index) -> u64 {
-    let mut sum: u64 = 0;
-    for place in 0..index.len() {
-        sum = sum.saturating_add(weight(index, place));
-    }
-    sum
-}
-
 /// Marks places that are seen to be installable.
 fn mark_installable(
     alloc: Global,
@@ -124,6 +126,7 @@ fn mark_installable(
     ensures count { OnOk result (length marks.new ≡ length groundwork.now.index.now.packages) }
     ensures marks { OnOk result (MarksOnly (IsInstallable groundwork.now.index.now) marks.new) }
 {
+    mark_healthy(groundwork.index, &groundwork.base.members, marks);
     let spare = weight_of_all(groundwork.index).saturating_mul(TIMES);
     let mut installation = Installation::new(alloc, spare);
     let mut sets = 0;
@@ -138,9 +141,9 @@ fn mark_installable(
     Ok(())
 }
 
-/// Marks, by place, packages of the groundwork's index that some healthy set is seen to have, of those that are asked and of what they need; others
-/// may be installable, too. It finds a few large sets, each without a search, and looks up that they are healthy (Debian Policy 7.2 to 7.5;
-/// dose-debcheck(1) calls such a package installable). How many are marked is no promise.
+/// Marks, by place, packages of the groundwork's index that some healthy set is seen to have; others may be installable, too. The base set of the
+/// groundwork is looked up to be healthy, and then a few large sets with asked packages that have no mark yet, each found without a search (Debian
+/// Policy 7.2 to 7.5; dose-debcheck(1) calls such a package installable). How many are marked is no promise.
 ///
 /// `asked` has places of the index, counted from 0 and below its `len()`, in any order.
 ///
@@ -171,7 +174,9 @@ fn is_seen_in(
 {
     installation.clear(lead);
     installation.spare = SPARE_OF_ONE;
-    if !installation.add(groundwork, p)? || !installation.add_essentials(groundwork)? {
+    if !installation.add(groundwork.index, &groundwork.hopeless, p)?
+        || !installation.add_essentials(groundwork.index, &groundwork.hopeless)?
+    {
         return Ok(false);
     }
     let members = &installation.members;

@@ -3,8 +3,7 @@
 ghost use Rattle.std.specs.Prelude.{◌≡◌, [], ◌<◌, All, OnOk, length, take};
 ghost use Rattle.deb_index.specs.Packages.{aparts_at};
 
-use crate::groundwork::Groundwork;
-use crate::rows::{FEW, has_any, hits_no_other};
+use crate::rows::{FEW, has_any, stands_apart};
 use deb_index::Index;
 use number_sets::SparseSet;
 use std::alloc::{AllocError, Global};
@@ -49,22 +48,19 @@ pub(crate) struct Installation {
 }
 
 /// How much a package asks for: itself, its needs and its entries.
-pub(crate) fn weight(index: &Index, place: u32) -> u64
+fn weight(index: &Index, place: u32) -> u64
     requires { place < length index.now.packages }
 {
     1 + u64::from(index.need_count(place)) + u64::from(index.apart_count(place))
 }
 
-/// Whether no entry of a package hits a member. `false` where what one hits is too much for a row.
-fn stands_apart(index: &Index, members: &SparseSet, place: u32) -> bool
-    requires { place < length index.now.packages }
-{
-    for number in 0..index.apart_count(place) {
-        if !hits_no_other(index, members, place, number) {
-            return false;
-        }
+/// How much all packages ask for.
+pub(crate) fn weight_of_all(index: &Index) -> u64 {
+    let mut sum: u64 = 0;
+    for place in 0..index.len() {
+        sum = sum.saturating_add(weight(index, place));
     }
-    true
+    sum
 }
 
 /// Whether no member has the name of a package. `false` where very many packages have it.
@@ -104,17 +100,13 @@ impl Installation {
     }
 
     /// Whether a package may come to the members.
-    fn fits(&mut self, groundwork: &Groundwork<'_>, place: u32) -> Result<bool, AllocError>
-        requires { place < length groundwork.now.index.now.packages }
+    fn fits(&mut self, index: &Index, hopeless: &SparseSet, place: u32) -> Result<bool, AllocError>
+        requires { place < length index.now.packages }
         ensures { OnOk result (self.new.members ≡ self.old.members) }
     {
-        if self.barred.contains(place)
-            || self.unfit.contains(place)
-            || groundwork.is_hopeless(place)
-        {
+        if self.barred.contains(place) || self.unfit.contains(place) || hopeless.contains(place) {
             return Ok(false);
         }
-        let index = groundwork.index;
         if has_free_name(index, &self.members, place) && stands_apart(index, &self.members, place) {
             return Ok(true);
         }
@@ -154,18 +146,23 @@ impl Installation {
     }
 
     /// Puts in the place of a row that fits and is tried first, where none is in. `false` where none fits.
-    fn take_one(&mut self, groundwork: &Groundwork<'_>, row: &[u32]) -> Result<bool, AllocError>
-        requires row { All (λ place. place < length groundwork.now.index.now.packages) row.now }
-        requires members { All (λ member. member < length groundwork.now.index.now.packages) self.old.members }
-        ensures { OnOk result (All (λ member. member < length groundwork.now.index.now.packages) self.new.members) }
+    fn take_one(
+        &mut self,
+        index: &Index,
+        hopeless: &SparseSet,
+        row: &[u32],
+    ) -> Result<bool, AllocError>
+        requires row { All (λ place. place < length index.now.packages) row.now }
+        requires members { All (λ member. member < length index.now.packages) self.old.members }
+        ensures { OnOk result (All (λ member. member < length index.now.packages) self.new.members) }
     {
         if has_any(&self.members, row) {
             return Ok(true);
         }
         for tried in 0..row.len() {
             let place = row[self.lead.number(tried, row.len())];
-            if self.fits(groundwork, place)? {
-                self.insert(groundwork.index, place)?;
+            if self.fits(index, hopeless, place)? {
+                self.insert(index, place)?;
                 return Ok(true);
             }
         }
@@ -175,20 +172,20 @@ impl Installation {
     /// Puts in an answer of each need of a package that has `most` answers at most. `false` where none fits, or there are too many for a row.
     fn take_answers(
         &mut self,
-        groundwork: &Groundwork<'_>,
+        index: &Index,
+        hopeless: &SparseSet,
         place: u32,
         most: usize,
     ) -> Result<bool, AllocError>
-        requires place { place < length groundwork.now.index.now.packages }
-        requires members { All (λ member. member < length groundwork.now.index.now.packages) self.old.members }
-        ensures { OnOk result (All (λ member. member < length groundwork.now.index.now.packages) self.new.members) }
+        requires place { place < length index.now.packages }
+        requires members { All (λ member. member < length index.now.packages) self.old.members }
+        ensures { OnOk result (All (λ member. member < length index.now.packages) self.new.members) }
     {
-        let index = groundwork.index;
         for number in 0..index.need_count(place) {
             let Some(row) = index.answer_row(place, number) else {
                 return Ok(false);
             };
-            if row.len() <= most && !self.take_one(groundwork, row)? {
+            if row.len() <= most && !self.take_one(index, hopeless, row)? {
                 return Ok(false);
             }
         }
@@ -197,9 +194,9 @@ impl Installation {
 
     /// Goes through the needs of one member: first through those with one answer alone, of all members. A member with a need that nothing
     /// answers which fits doesn't fit itself.
-    fn step(&mut self, groundwork: &Groundwork<'_>) -> Result<bool, AllocError>
-        requires members { All (λ member. member < length groundwork.now.index.now.packages) self.old.members }
-        ensures { OnOk result (All (λ member. member < length groundwork.now.index.now.packages) self.new.members) }
+    fn step(&mut self, index: &Index, hopeless: &SparseSet) -> Result<bool, AllocError>
+        requires members { All (λ member. member < length index.now.packages) self.old.members }
+        ensures { OnOk result (All (λ member. member < length index.now.packages) self.new.members) }
     {
         let members = self.members.as_slice();
         let (place, most) = if self.forced < members.len() {
@@ -211,7 +208,7 @@ impl Installation {
         } else {
             return Ok(true);
         };
-        let answered = self.take_answers(groundwork, place, most)?;
+        let answered = self.take_answers(index, hopeless, place, most)?;
         if !answered {
             self.unfit.insert(place)?;
         }
@@ -219,13 +216,13 @@ impl Installation {
     }
 
     /// Goes through the needs of all members, as long as members come. `false` where one isn't answered.
-    fn complete(&mut self, groundwork: &Groundwork<'_>) -> Result<bool, AllocError>
-        requires members { All (λ member. member < length groundwork.now.index.now.packages) self.old.members }
-        ensures { OnOk result (All (λ member. member < length groundwork.now.index.now.packages) self.new.members) }
+    fn complete(&mut self, index: &Index, hopeless: &SparseSet) -> Result<bool, AllocError>
+        requires members { All (λ member. member < length index.now.packages) self.old.members }
+        ensures { OnOk result (All (λ member. member < length index.now.packages) self.new.members) }
     {
         // Each member is gone through twice.
-        for _ in 0..u64::from(groundwork.index.len()) * 2 {
-            if !self.step(groundwork)? {
+        for _ in 0..u64::from(index.len()) * 2 {
+            if !self.step(index, hopeless)? {
                 return Ok(false);
             }
             if self.answered == self.members.as_slice().len() {
@@ -246,15 +243,20 @@ impl Installation {
     }
 
     /// Puts a package in with what it needs, once. `false` where that isn't found: then the members are what they were.
-    fn try_once(&mut self, groundwork: &Groundwork<'_>, place: u32) -> Result<bool, AllocError>
-        requires place { place < length groundwork.now.index.now.packages }
-        requires members { All (λ member. member < length groundwork.now.index.now.packages) self.old.members }
-        ensures { OnOk result (All (λ member. member < length groundwork.now.index.now.packages) self.new.members) }
+    fn try_once(
+        &mut self,
+        index: &Index,
+        hopeless: &SparseSet,
+        place: u32,
+    ) -> Result<bool, AllocError>
+        requires place { place < length index.now.packages }
+        requires members { All (λ member. member < length index.now.packages) self.old.members }
+        ensures { OnOk result (All (λ member. member < length index.now.packages) self.new.members) }
     {
         let members = self.members.as_slice().len();
         let barred = self.barred.as_slice().len();
-        self.insert(groundwork.index, place)?;
-        if self.complete(groundwork)? {
+        self.insert(index, place)?;
+        if self.complete(index, hopeless)? {
             return Ok(true);
         }
         self.take_back(members, barred);
@@ -266,21 +268,22 @@ impl Installation {
     /// Each try that fails shows a package that doesn't fit, and the next one goes without it.
     pub(crate) fn add(
         &mut self,
-        groundwork: &Groundwork<'_>,
+        index: &Index,
+        hopeless: &SparseSet,
         place: u32,
     ) -> Result<bool, AllocError>
-        requires place { place < length groundwork.now.index.now.packages }
-        requires members { All (λ member. member < length groundwork.now.index.now.packages) self.old.members }
-        ensures { OnOk result (All (λ member. member < length groundwork.now.index.now.packages) self.new.members) }
+        requires place { place < length index.now.packages }
+        requires members { All (λ member. member < length index.now.packages) self.old.members }
+        ensures { OnOk result (All (λ member. member < length index.now.packages) self.new.members) }
     {
         if self.members.contains(place) {
             return Ok(true);
         }
         for _ in 0..TRIES {
-            if self.spare == 0 || !self.fits(groundwork, place)? {
+            if self.spare == 0 || !self.fits(index, hopeless, place)? {
                 return Ok(false);
             }
-            if self.try_once(groundwork, place)? {
+            if self.try_once(index, hopeless, place)? {
                 return Ok(true);
             }
         }
@@ -289,13 +292,18 @@ impl Installation {
     }
 
     /// Puts in the first of these packages that can be, with what it needs.
-    fn add_one(&mut self, groundwork: &Groundwork<'_>, row: &[u32]) -> Result<bool, AllocError>
-        requires row { All (λ place. place < length groundwork.now.index.now.packages) row.now }
-        requires members { All (λ member. member < length groundwork.now.index.now.packages) self.old.members }
-        ensures { OnOk result (All (λ member. member < length groundwork.now.index.now.packages) self.new.members) }
+    fn add_one(
+        &mut self,
+        index: &Index,
+        hopeless: &SparseSet,
+        row: &[u32],
+    ) -> Result<bool, AllocError>
+        requires row { All (λ place. place < length index.now.packages) row.now }
+        requires members { All (λ member. member < length index.now.packages) self.old.members }
+        ensures { OnOk result (All (λ member. member < length index.now.packages) self.new.members) }
     {
         for place in row {
-            if self.add(groundwork, *place)? {
+            if self.add(index, hopeless, *place)? {
                 return Ok(true);
             }
         }
@@ -303,14 +311,17 @@ impl Installation {
     }
 
     /// Puts in a package of each essential name, with what it needs. `false` where that isn't found.
-    pub(crate) fn add_essentials(&mut self, groundwork: &Groundwork<'_>) -> Result<bool, AllocError>
-        requires members { All (λ member. member < length groundwork.now.index.now.packages) self.old.members }
-        ensures { OnOk result (All (λ member. member < length groundwork.now.index.now.packages) self.new.members) }
+    pub(crate) fn add_essentials(
+        &mut self,
+        index: &Index,
+        hopeless: &SparseSet,
+    ) -> Result<bool, AllocError>
+        requires members { All (λ member. member < length index.now.packages) self.old.members }
+        ensures { OnOk result (All (λ member. member < length index.now.packages) self.new.members) }
     {
-        let index = groundwork.index;
         for name in index.essential_names() {
             let row = index.places_named(*name);
-            if !has_any(&self.members, row) && !self.add_one(groundwork, row)? {
+            if !has_any(&self.members, row) && !self.add_one(index, hopeless, row)? {
                 return Ok(false);
             }
         }

@@ -13,7 +13,7 @@
 //!   refutation needs, and asks `question` whether a `part` of the constraints admits none. Three modules answer, each where it can tell:
 //!   - `propagation` refutes a part by what the package asks for with no choice; `derivation` has the steps of such a refutation, and
 //!     checks them.
-//!   - `witness` sees, without a search, that some set meets a part: `check` looks it up.
+//!   - `witness` sees, without a search, that some set meets a part: it grows on the `base_set` of the groundwork, and `check` looks it up.
 //!   - `by_formula` knows of each part, by the `core_formula` of the package, which is made once: each constraint that speaks of the closure
 //!     (`kept_positions` lists them) is a group of clauses, the part says which groups are kept, and the solver which it used.
 //! - All causes: `all_causes` takes the cause of the first core out of the constraints, and looks for the first core of what is left, as long
@@ -23,6 +23,7 @@
 #![tactic(auto)]
 
 mod all_causes;
+mod base_set;
 mod by_formula;
 mod check;
 mod core_formula;

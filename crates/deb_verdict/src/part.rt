@@ -32,10 +32,7 @@ impl<'a> Part<'a> {
     pub(crate) fn has(&self, position: u32) -> bool
         ensures { result ≡ positions_in self.now position }
     {
-        if is_among(self.out, position) {
-            return false;
-        }
-        position >= self.rest || is_among(self.kept, position)
+        (position >= self.rest || is_among(self.kept, position)) && !is_among(self.out, position)
     }
 
     /// Whether it may lack a constraint.

@@ -1,10 +1,12 @@
-//! Refutes a part of the constraints by forcing alone: what the package asks for with no choice, down to a contradiction.
+//! Refutes a part of the constraints by forcing alone: what the package asks for with no choice, down to a contradiction. Members of a base set are
+//! passed over, since each has what it asks for.
 
 ghost use Rattle.std.specs.Prelude.{◌≡◌, ℕ, ◌<◌, true, false, IfOk, OnOk, length};
 ghost use Rattle.deb_index.specs.Packages.{names, needs_at, aparts_at};
 ghost use Rattle.number_sets.specs.SparseSets.{AreNumbers, Grows};
 ghost use Rattle.deb_verdict.specs.Parts.{IsRefutedBy};
 
+use crate::base_set::BaseSet;
 use crate::derivation::{Outcome, Step, is_refutation, name_outcome, need_outcome};
 use crate::part::Part;
 use deb_index::Index;
@@ -146,11 +148,11 @@ impl Propagation {
         }
     }
 
-    /// A step forces a place, unless an earlier one did.
-    fn force(&mut self, place: u32, cause: Step) -> Result<(), AllocError>
+    /// A step forces a place, unless an earlier one did, or it is in the base set.
+    fn force(&mut self, base: &BaseSet, place: u32, cause: Step) -> Result<(), AllocError>
         ensures { OnOk result ((count : ℕ) → place < count → Grows count self.old.forced self.new.forced) }
     {
-        if !self.forced.contains(place) {
+        if !base.members.contains(place) && !self.forced.contains(place) {
             self.forced.insert(place)?;
             self.causes.push(cause)?;
         }
@@ -158,7 +160,13 @@ impl Propagation {
     }
 
     /// Forces what alone answers a need, if the part has it. `true`: nothing answers it.
-    fn force_need(&mut self, part: &Part<'_>, place: u32, number: u32) -> Result<bool, AllocError>
+    fn force_need(
+        &mut self,
+        part: &Part<'_>,
+        base: &BaseSet,
+        place: u32,
+        number: u32,
+    ) -> Result<bool, AllocError>
         requires place { place < length part.now.index.now.packages }
         requires number { number < length (needs_at part.now.index.now place) }
         ensures { OnOk result (Grows (length part.now.index.now.packages) self.old.forced self.new.forced) }
@@ -169,7 +177,7 @@ impl Propagation {
         }
         match need_outcome(index, place, number) {
             Some(Outcome::Forced(only)) => {
-                self.force(only, Step::Need(place, number))?;
+                self.force(base, only, Step::Need(place, number))?;
                 Ok(false)
             }
             Some(Outcome::Contradiction) => Ok(true),
@@ -177,13 +185,19 @@ impl Propagation {
         }
     }
 
-    /// Forces what alone answers a need of a place. A need that nothing answers is a contradiction.
-    fn visit(&mut self, part: &Part<'_>, place: u32) -> Result<Option<Step>, AllocError>
+    /// Forces what alone answers a need of a place. A need that nothing answers is a contradiction. Last needs go first, since the first core lacks
+    /// early constraints.
+    fn visit(
+        &mut self,
+        part: &Part<'_>,
+        base: &BaseSet,
+        place: u32,
+    ) -> Result<Option<Step>, AllocError>
         requires { place < length part.now.index.now.packages }
         ensures { OnOk result (Grows (length part.now.index.now.packages) self.old.forced self.new.forced) }
     {
-        for number in 0..part.index.need_count(place) {
-            if self.force_need(part, place, number)? {
+        for number in (0..part.index.need_count(place)).rev() {
+            if self.force_need(part, base, place, number)? {
                 return Ok(Some(Step::Need(place, number)));
             }
         }
@@ -191,14 +205,19 @@ impl Propagation {
     }
 
     /// Forces from the first places on that are not visited, and looks for a contradiction.
-    fn propagate(&mut self, part: &Part<'_>, start: usize) -> Result<Option<Step>, AllocError>
+    fn propagate(
+        &mut self,
+        part: &Part<'_>,
+        base: &BaseSet,
+        start: usize,
+    ) -> Result<Option<Step>, AllocError>
         requires { AreNumbers (length part.now.index.now.packages) self.old.forced }
         ensures { OnOk result (AreNumbers (length part.now.index.now.packages) self.new.forced) }
     {
         let mut visited = start;
         while visited < self.forced.as_slice().len() {
             let place = self.forced.as_slice()[visited];
-            if let Some(step) = self.visit(part, place)? {
+            if let Some(step) = self.visit(part, base, place)? {
                 return Ok(Some(step));
             }
             visited += 1;
@@ -207,7 +226,13 @@ impl Propagation {
     }
 
     /// Forces the package of an essential name that has one only, if the part has the name.
-    fn force_name(&mut self, part: &Part<'_>, number: u32, name: u32) -> Result<(), AllocError>
+    fn force_name(
+        &mut self,
+        part: &Part<'_>,
+        base: &BaseSet,
+        number: u32,
+        name: u32,
+    ) -> Result<(), AllocError>
         requires { name < length (names part.now.index.now) }
         ensures { OnOk result (Grows (length part.now.index.now.packages) self.old.forced self.new.forced) }
     {
@@ -215,39 +240,39 @@ impl Propagation {
             return Ok(());
         }
         if let Some(Outcome::Forced(only)) = name_outcome(part.index, name) {
-            self.force(only, Step::Essential(number))?;
+            self.force(base, only, Step::Essential(number))?;
         }
         Ok(())
     }
 
     /// Forces the packages of essential names that have one only.
-    fn force_essential(&mut self, part: &Part<'_>) -> Result<(), AllocError>
+    fn force_essential(&mut self, part: &Part<'_>, base: &BaseSet) -> Result<(), AllocError>
         ensures { OnOk result (Grows (length part.now.index.now.packages) self.old.forced self.new.forced) }
     {
         let index = part.index;
         let _names = index.name_count();
         for (number, name) in index.essential_names().iter().enumerate() {
-            self.force_name(part, number as u32, *name)?;
+            self.force_name(part, base, number as u32, *name)?;
         }
         Ok(())
     }
 
     /// The step that contradicts, where forcing leads to one. What the package itself asks for goes first.
-    fn find(&mut self, part: &Part<'_>, p: u32) -> Result<Option<Step>, AllocError>
+    fn find(&mut self, part: &Part<'_>, base: &BaseSet, p: u32) -> Result<Option<Step>, AllocError>
         requires { p < length part.now.index.now.packages }
     {
         self.forced.clear();
         self.causes.clear();
         self.forced.insert(p)?;
-        if let Some(step) = self.propagate(part, 0)? {
+        if let Some(step) = self.propagate(part, base, 0)? {
             return Ok(Some(step));
         }
         let visited = self.forced.as_slice().len();
-        self.force_essential(part)?;
+        self.force_essential(part, base)?;
         if self.forced.as_slice().len() == visited {
             return Ok(None);
         }
-        self.propagate(part, visited)
+        self.propagate(part, base, visited)
     }
 
     /// Writes down the steps that a contradiction rests on.
@@ -292,11 +317,12 @@ pub(crate) fn refute_by_last_steps(
     Ok(true)
 }
 
-/// Whether a part of the constraints is seen to admit no set with the package at a place, by forcing alone. Where it is, `used` has the
-/// positions of constraints of the part that already admit none.
+/// Whether a part of the constraints is seen to admit no set with the package at a place, by forcing alone, and none but what is beside the base
+/// set. Where it is, `used` has the positions of constraints of the part that already admit none.
 pub(crate) fn refute_by_forcing(
     part: &Part<'_>,
     p: u32,
+    base: &BaseSet,
     buffers: &mut Propagation,
     used: &mut Vec<u32>,
 ) -> Result<bool, AllocError>
@@ -304,7 +330,7 @@ pub(crate) fn refute_by_forcing(
     ensures refuted { IfOk result (λ refuted. refuted ≡ true → IsRefutedBy used.new.items part.now p) }
     ensures still { IfOk result (λ refuted. refuted ≡ false → used.new.items ≡ used.old.items) }
 {
-    let Some(conflict) = buffers.find(part, p)? else {
+    let Some(conflict) = buffers.find(part, base, p)? else {
         return Ok(false);
     };
     buffers.derive(conflict)?;

@@ -4,17 +4,19 @@ ghost use Rattle.std.specs.Prelude.{◌≡◌, ◌<◌, true, false, IfOk, lengt
 ghost use Rattle.std.specs.Option.{ForSome};
 ghost use Rattle.std.specs.List.Sorted.{IsStrictlyIncreasing};
 ghost use Rattle.deb_health.specs.Health.{AdmitsNone};
+ghost use Rattle.deb_verdict.specs.BaseSets.{IsBase};
 ghost use Rattle.deb_verdict.specs.Parts.{positions_in, IsRefutedBy};
 ghost use Rattle.deb_verdict.specs.Formulas.{Tells};
 
+use crate::base_set::BaseSet;
 use crate::by_formula::refute_by_formula;
 use crate::core_formula::CoreFormula;
+use crate::groundwork::Groundwork;
 use crate::part::Part;
 use crate::propagation::{refute_by_forcing, refute_by_last_steps};
 use crate::witness::is_seen_to_admit;
 use crate::workspace::Workspace;
 use core_extract::{Question, next_of};
-use deb_index::Index;
 use std::alloc::{AllocError, Global};
 
 /// Whether a part of the constraints admits no set with the package at a place. Where it admits none, the workspace's `used` then has the
@@ -23,10 +25,12 @@ pub(crate) fn refute_part(
     alloc: Global,
     part: &Part<'_>,
     p: u32,
+    base: &BaseSet,
     formula: &mut Option<CoreFormula>,
     workspace: &mut Workspace,
 ) -> Result<bool, AllocError>
     requires place { p < length part.now.index.now.packages }
+    requires base { IsBase part.now.index.now base.now }
     requires formula { ForSome formula.old (Tells part.now.index.now p) }
     ensures formula { ForSome formula.new (Tells part.now.index.now p) }
     ensures refuted { IfOk result (λ refuted. refuted ≡ true → IsRefutedBy workspace.new.used.items part.now p) }
@@ -40,11 +44,20 @@ pub(crate) fn refute_part(
         return Ok(true);
     }
     // Each package whose core is looked for is broken, so only without some constraints is there a set.
-    if part.may_lack_one() && is_seen_to_admit(part, p, &mut workspace.witness)? {
+    let may_admit = part.may_lack_one();
+    if may_admit && is_seen_to_admit(part, p, base, &mut workspace.witness)? {
         return Ok(false);
     }
-    if refute_by_forcing(part, p, propagation, used)? {
+    if refute_by_forcing(part, p, base, propagation, used)? {
         return Ok(true);
+    }
+    // What the package asks for may be at odds with the base set.
+    let nothing = BaseSet::empty(alloc);
+    if refute_by_forcing(part, p, &nothing, propagation, used)? {
+        return Ok(true);
+    }
+    if may_admit && is_seen_to_admit(part, p, &nothing, &mut workspace.witness)? {
+        return Ok(false);
     }
     refute_by_formula(alloc, part, p, formula, workspace)
 }
@@ -52,15 +65,15 @@ pub(crate) fn refute_part(
 /// Whether positions of the index's list of constraints, without those that are taken out, admit no set with the package at a place.
 #[derive(Drop)]
 pub(crate) struct Blocking<'a> {
-    pub(crate) index: &'a Index,
+    pub(crate) groundwork: &'a Groundwork<'a>,
     pub(crate) p: u32,
     pub(crate) out: &'a [u32],
     pub(crate) workspace: &'a mut Workspace,
     /// The package's formula, once a question needed it.
     pub(crate) formula: Option<CoreFormula>,
-    ghost place: { p < length index.now.packages },
+    ghost place: { p < length groundwork.now.index.now.packages },
     ghost rising: { IsStrictlyIncreasing out.now },
-    ghost told: { ForSome formula (Tells index.now p) },
+    ghost told: { ForSome formula (Tells groundwork.now.index.now p) },
 }
 
 impl<'a> Question for Blocking<'a> {
@@ -72,27 +85,35 @@ impl<'a> Question for Blocking<'a> {
     ghost use Rattle.deb_health.specs.Health.{AdmitsNone};
     ghost use Rattle.core_extract.specs.Reduction.{listed};
 
-    ghost is_failing = { λ q set. AdmitsNone q.index.now q.p (without (members_of q.out.now) set) };
+    ghost is_failing = { λ q set. AdmitsNone q.groundwork.now.index.now q.p (without (members_of q.out.now) set) };
 
     ghost used = { λ q. listed q.workspace.now.used.items };
 
-    ghost keeps = { λ before after. (after.index.now ≡ before.index.now) × (after.p ≡ before.p) };
+    ghost keeps = { λ before after. (after.groundwork.now.index.now ≡ before.groundwork.now.index.now) × (after.p ≡ before.p) };
 
-    ghost upward = { λ q. without_upward q.index.now q.p (members_of q.out.now) };
+    ghost upward = { λ q. without_upward q.groundwork.now.index.now q.p (members_of q.out.now) };
 
     ghost keeps_itself = { λ q. (refl, refl) };
 
     ghost keeps_further = { λ first next last same also. (also.0 ∙ same.0, also.1 ∙ same.1) };
 
     fn refute(&mut self, alloc: Global, kept: &[u32], rest: u32) -> Result<bool, AllocError> {
-        let _limit = self.index.len();
+        let index = self.groundwork.index;
+        let _limit = index.len();
         let part = Part {
-            index: self.index,
+            index,
             kept,
             rest,
             out: self.out,
         };
-        refute_part(alloc, &part, self.p, &mut self.formula, self.workspace)
+        refute_part(
+            alloc,
+            &part,
+            self.p,
+            &self.groundwork.base,
+            &mut self.formula,
+            self.workspace,
+        )
     }
 
     fn next_used(&self, from: u32) -> Option<u32> {

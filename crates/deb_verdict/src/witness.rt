@@ -1,13 +1,16 @@
-//! A set of packages that meets a part of the constraints, found without a search: each need takes what is in, or else one of its answers.
-//! Whether the set meets the part is then looked up, and no claim rests on how it grew.
+//! A set of packages that meets a part of the constraints, found without a search: on a base set each need takes what is in, or else one of its
+//! answers. Whether the set meets the part is then looked up, and no claim rests on how it grew.
 
-ghost use Rattle.std.specs.Prelude.{◌≡◌, ◌<◌, true, All, IfOk, IfSome, OnOk, length};
+ghost use Rattle.std.specs.Prelude.{◌≡◌, ℕ, ◌<◌, true, All, IfOk, IfSome, OnOk, length};
 ghost use Rattle.deb_index.specs.Packages.{needs_at};
+ghost use Rattle.number_sets.specs.Sets.{members_of};
 ghost use Rattle.number_sets.specs.SparseSets.{AreNumbers, Grows};
 ghost use Rattle.deb_health.specs.Health.{Admits};
+ghost use Rattle.deb_verdict.specs.BaseSets.{HasRoom, IsBase};
 ghost use Rattle.deb_verdict.specs.Parts.{positions_in};
 
-use crate::check::{meets_part, meets_place};
+use crate::base_set::{BaseSet, OnBase};
+use crate::check::{meets_essentials, meets_place, meets_places};
 use crate::derivation::has_need;
 use crate::part::Part;
 use crate::rows::{FEW, has_any};
@@ -18,7 +21,7 @@ use std::alloc::{AllocError, Global};
 /// How many sets are tried at most.
 const TRIES: u32 = 16;
 
-/// Whether the set has a package of the name of the one at a place. `false` where there are many of the name.
+/// Whether more than the base set has a package of the name of the one at a place. `false` where there are many of the name.
 fn has_version(index: &Index, set: &SparseSet, place: u32) -> bool
     requires { place < length index.now.packages }
 {
@@ -38,12 +41,12 @@ fn is_unanswerable(part: &Part<'_>, place: u32, number: u32) -> bool
     }
 }
 
-/// Whether nothing is seen to speak against a package: it has no version in the set, and no need that the part asks for lacks an answer.
-fn is_fit(part: &Part<'_>, set: &SparseSet, place: u32) -> bool
+/// Whether nothing is seen to speak against a package: there is room for it, and no need that the part asks for lacks an answer.
+fn is_fit(part: &Part<'_>, set: &OnBase<'_>, place: u32) -> bool
     requires { place < length part.now.index.now.packages }
 {
     let index = part.index;
-    if has_version(index, set, place) {
+    if !set.base.has_room(index, place) || has_version(index, set.more, place) {
         return false;
     }
     for number in 0..index.need_count(place).min(FEW) {
@@ -61,10 +64,10 @@ struct Cause {
     number: u32,
 }
 
-/// A set that grows, and what was seen on the way.
+/// What grows on a base set, and what was seen on the way.
 #[derive(Drop)]
 pub(crate) struct Witness {
-    /// Its places, in the order in which they came.
+    /// The places beside the base set, in the order in which they came.
     set: SparseSet,
     /// What each of them came for; none for the first one, and for those of essential names.
     causes: Vec<Option<Cause>>,
@@ -83,12 +86,23 @@ impl Witness {
     }
 
     /// The first place of a row that nothing is seen to speak against, or else the first that isn't known to lead nowhere.
-    fn choose(&self, part: &Part<'_>, row: &[u32]) -> Option<u32>
+    fn choose(&self, part: &Part<'_>, base: &BaseSet, row: &[u32]) -> Option<u32>
         requires { All (λ q. q < length part.now.index.now.packages) row.now }
         ensures { IfSome result (λ q. q < length part.now.index.now.packages) }
     {
+        if let [only] = row {
+            return if self.unfit.contains(*only) {
+                None
+            } else {
+                Some(*only)
+            };
+        }
+        let set = OnBase {
+            base,
+            more: &self.set,
+        };
         for place in row {
-            if !self.unfit.contains(*place) && is_fit(part, &self.set, *place) {
+            if !self.unfit.contains(*place) && is_fit(part, &set, *place) {
                 return Some(*place);
             }
         }
@@ -104,16 +118,17 @@ impl Witness {
     fn take_one(
         &mut self,
         part: &Part<'_>,
+        base: &BaseSet,
         row: &[u32],
         cause: Option<Cause>,
     ) -> Result<bool, AllocError>
         requires { All (λ q. q < length part.now.index.now.packages) row.now }
         ensures { OnOk result (Grows (length part.now.index.now.packages) self.old.set self.new.set) }
     {
-        if has_any(&self.set, row) {
+        if has_any(&base.members, row) || has_any(&self.set, row) {
             return Ok(true);
         }
-        match self.choose(part, row) {
+        match self.choose(part, base, row) {
             Some(place) => {
                 self.set.insert(place)?;
                 self.causes.push(cause)?;
@@ -124,26 +139,37 @@ impl Witness {
     }
 
     /// Puts in an answer of a need. `false` where it has none, or too many for a row.
-    fn take_answer(&mut self, part: &Part<'_>, place: u32, number: u32) -> Result<bool, AllocError>
+    fn take_answer(
+        &mut self,
+        part: &Part<'_>,
+        base: &BaseSet,
+        place: u32,
+        number: u32,
+    ) -> Result<bool, AllocError>
         requires place { place < length part.now.index.now.packages }
         requires number { number < length (needs_at part.now.index.now place) }
         ensures { OnOk result (Grows (length part.now.index.now.packages) self.old.set self.new.set) }
     {
         match part.index.answer_row(place, number) {
-            Some(row) => self.take_one(part, row, Some(Cause { place, number })),
+            Some(row) => self.take_one(part, base, row, Some(Cause { place, number })),
             None => Ok(false),
         }
     }
 
     /// Puts in an answer of each need of a place that the part asks for. `false` where one has none, or too many for a row.
-    fn take_answers(&mut self, part: &Part<'_>, place: u32) -> Result<bool, AllocError>
+    fn take_answers(
+        &mut self,
+        part: &Part<'_>,
+        base: &BaseSet,
+        place: u32,
+    ) -> Result<bool, AllocError>
         requires { place < length part.now.index.now.packages }
         ensures { OnOk result (Grows (length part.now.index.now.packages) self.old.set self.new.set) }
     {
         let index = part.index;
         for number in 0..index.need_count(place) {
             if part.has(index.need_position(place, number)) {
-                if !self.take_answer(part, place, number)? {
+                if !self.take_answer(part, base, place, number)? {
                     return Ok(false);
                 }
             }
@@ -152,7 +178,7 @@ impl Witness {
     }
 
     /// Puts in a package of each essential name that the part asks for.
-    fn take_essentials(&mut self, part: &Part<'_>) -> Result<bool, AllocError>
+    fn take_essentials(&mut self, part: &Part<'_>, base: &BaseSet) -> Result<bool, AllocError>
         ensures { OnOk result (Grows (length part.now.index.now.packages) self.old.set self.new.set) }
     {
         let index = part.index;
@@ -160,7 +186,7 @@ impl Witness {
         let _names = index.name_count();
         for (position, name) in index.essential_names().iter().enumerate() {
             if part.has(position as u32) {
-                if !self.take_one(part, index.places_named(*name), None)? {
+                if !self.take_one(part, base, index.places_named(*name), None)? {
                     return Ok(false);
                 }
             }
@@ -169,14 +195,14 @@ impl Witness {
     }
 
     /// Puts in what the places of the set need, as long as places come. Where a need isn't answered, the place that has it.
-    fn take_needs(&mut self, part: &Part<'_>) -> Result<Option<u32>, AllocError>
+    fn take_needs(&mut self, part: &Part<'_>, base: &BaseSet) -> Result<Option<u32>, AllocError>
         requires { AreNumbers (length part.now.index.now.packages) self.old.set }
         ensures { OnOk result (Grows (length part.now.index.now.packages) self.old.set self.new.set) }
     {
         let mut visited = 0;
         while visited < self.set.as_slice().len() {
             let place = self.set.as_slice()[visited];
-            if !self.take_answers(part, place)? {
+            if !self.take_answers(part, base, place)? {
                 return Ok(Some(place));
             }
             visited += 1;
@@ -185,7 +211,7 @@ impl Witness {
     }
 
     /// Makes a set of the package at a place and what the part asks for with it. Where something wasn't found, the place that needs it.
-    fn grow(&mut self, part: &Part<'_>, p: u32) -> Result<Option<u32>, AllocError>
+    fn grow(&mut self, part: &Part<'_>, base: &BaseSet, p: u32) -> Result<Option<u32>, AllocError>
         requires { p < length part.now.index.now.packages }
         ensures { OnOk result (AreNumbers (length part.now.index.now.packages) self.new.set) }
     {
@@ -193,19 +219,23 @@ impl Witness {
         self.causes.clear();
         self.set.insert(p)?;
         self.causes.push(None)?;
-        if !self.take_essentials(part)? {
+        if !self.take_essentials(part, base)? {
             return Ok(Some(p));
         }
-        let lacking = self.take_needs(part)?;
+        let lacking = self.take_needs(part, base)?;
         Ok(lacking)
     }
 
-    /// A place of the set that doesn't meet what the part asks of it.
-    fn amiss(&self, part: &Part<'_>) -> Option<u32>
+    /// A place of the set that has no room, or doesn't meet what the part asks of it.
+    fn amiss(&self, part: &Part<'_>, base: &BaseSet) -> Option<u32>
         requires { All (λ q. q < length part.now.index.now.packages) self.now.set }
     {
+        let set = OnBase {
+            base,
+            more: &self.set,
+        };
         for place in self.set.as_slice() {
-            if !meets_place(part, &self.set, *place) {
+            if !base.has_room(part.index, *place) || !meets_place(part, &set, *place) {
                 return Some(*place);
             }
         }
@@ -247,34 +277,60 @@ impl Witness {
     }
 }
 
-/// Whether a set has the package at a place, and is seen to meet the part.
-fn is_witness(part: &Part<'_>, p: u32, set: &SparseSet) -> bool
-    requires { All (λ q. q < length part.now.index.now.packages) set.now }
+/// Whether a base set has room for each of some places.
+fn has_room(index: &Index, base: &BaseSet, places: &[u32]) -> bool
+    requires { All (λ q. q < length index.now.packages) places.now }
+    ensures { result ≡ true → (q : ℕ) → members_of places.now q ≡ true → HasRoom index.now base.now q }
+{
+    for place in places {
+        if !base.has_room(index, *place) {
+            return false;
+        }
+    }
+    true
+}
+
+/// Whether places on a base set are the package at a place and others, and are seen to meet the part.
+fn is_witness(part: &Part<'_>, p: u32, base: &BaseSet, more: &SparseSet) -> bool
+    requires base { IsBase part.now.index.now base.now }
+    requires more { All (λ q. q < length part.now.index.now.packages) more.now }
     ensures { result ≡ true → Admits part.now.index.now p (positions_in part.now) }
 {
-    set.contains(p) && meets_part(part, set)
+    let set = OnBase { base, more };
+    if !more.contains(p) || !has_room(part.index, base, more.as_slice()) {
+        return false;
+    }
+    if !meets_essentials(part, &set) {
+        return false;
+    }
+    meets_places(part, &set, more.as_slice())
 }
 
 /// Whether a set with the package at a place is seen to meet a part of the constraints.
 ///
-/// A set that is found without a search is enough: each need takes what is in, or else one of its answers. Where that leads nowhere, the
-/// next try goes without what led there.
+/// A set that is found without a search is enough: on the base set each need takes what is in, or else one of its answers. Where that leads
+/// nowhere, the next try goes without what led there.
 pub(crate) fn is_seen_to_admit(
     part: &Part<'_>,
     p: u32,
+    base: &BaseSet,
     witness: &mut Witness,
 ) -> Result<bool, AllocError>
-    requires { p < length part.now.index.now.packages }
+    requires place { p < length part.now.index.now.packages }
+    requires base { IsBase part.now.index.now base.now }
     ensures { IfOk result (λ seen. seen ≡ true → Admits part.now.index.now p (positions_in part.now)) }
 {
     witness.unfit.clear();
+    if !base.has_room(part.index, p) {
+        return Ok(false);
+    }
     for _ in 0..TRIES {
-        let mut lacking = witness.grow(part, p)?;
+        let mut lacking = witness.grow(part, base, p)?;
         if lacking.is_none() {
-            if is_witness(part, p, &witness.set) {
+            if is_witness(part, p, base, &witness.set) {
                 return Ok(true);
             }
-            lacking = witness.amiss(part);
+            lacking = witness.amiss(part, base);
         }
         let Some(place) = lacking else {
             return Ok(false);

@@ -95,7 +95,7 @@ Depends: b, a (<< 2)
 }
 
 #[test]
-fn those_that_are_asked_and_what_they_need(rt: HostRuntime) -> Result<(), Fail> {
+fn those_that_fit_together_be_they_asked_or_not(rt: HostRuntime) -> Result<(), Fail> {
     let text = "Package: a
 Version: 1
 Architecture: all
@@ -109,8 +109,8 @@ Package: c
 Version: 1
 Architecture: all
 ";
-    expect_marks(&rt, text, &[0], &[true, false, true])?;
-    expect_marks(&rt, text, &[], &[false, false, false])
+    expect_marks(&rt, text, &[0], &[true, true, true])?;
+    expect_marks(&rt, text, &[], &[true, true, true])
 }
 
 #[test]

@@ -1,5 +1,4 @@
 use Rattle.std.proofs.Common.{◌≡◌, ℕ, List, [], ◌∷◌, Vec, Global, All, Some, slice_get, map, sym, subst, arith}
-use Rattle.std.proofs.lemmas.Bool.{not-false}
 use Rattle.std.proofs.lemmas.List.{map-append}
 use Rattle.std.proofs.lemmas.List.Elements.{All-nil, All-push}
 use Rattle.deb_index.specs.declared.constraint.Constraint.{Constraint}
@@ -8,8 +7,7 @@ use Rattle.deb_index.proofs.ConstraintLemmas.{constraints-within}
 use Rattle.number_sets.specs.Sets.{all_of, members_of}
 use Rattle.deb_health.specs.Causes.{cause_at, either, IsFirstWithout, without}
 use Rattle.deb_health.specs.Health.{Admits, AdmitsNone}
-use Rattle.deb_health.proofs.CoreLemmas.{true_not_false}
-use Rattle.deb_verdict.proofs.CauseSteps.{all_found, AreFound, fewer_left, hopeless_whole, installable_whole, none_found, one_found}
+use Rattle.deb_verdict.proofs.CauseSteps.{all_found, AreFound, fewer_left, none_found, one_found}
 use Rattle.deb_verdict.proofs.Whole.{named_all}
 use Rattle.deb_verdict.proofs.all_causes.cores_in.Goals as goal
 
@@ -17,14 +15,15 @@ pub loop-blocked-init : goal.loop-blocked-init
 loop-blocked-init c =
     let index = c.args.groundwork.now.index.now in
     let p = c.args.p in
-    let found = c.in_ok-blocked.field-0 in
+    let None : List ℕ → Type 0 = λ list. AdmitsNone index p (without (members_of list) all_of) in
+    let One : List ℕ → Type 0 = λ list. Admits index p (without (members_of list) all_of) in
     record {
       rising = rw c.new-out.ensures.items (λ k below. absurd (omega arith));
-      told = λ x never. cc;
+      told = c.is_blocked.ensures.formula;
       found = rw (c.new-out.ensures.items, c.new-cores.ensures.items) (none_found index p);
       within = rw c.new-cores.ensures.items (All-nil (λ (core : Vec Constraint Global). All (IsOfIndex index) core.items));
-      none = λ is. rw c.new-out.ensures.items (hopeless_whole index p (c.in_ok-blocked.ensures.lacks (true_not_false found is)));
-      some = λ is. rw c.new-out.ensures.items (installable_whole index p (c.in_ok-blocked.ensures.has (not-false found is)));
+      none = λ is. subst None c.deref.ensures.value (c.in_ok-blocked.ensures.none is);
+      some = λ is. subst One c.deref.ensures.value (c.in_ok-blocked.ensures.some is);
     }
 
 pub loop-blocked-preserved : goal.loop-blocked-preserved
@@ -46,12 +45,12 @@ loop-blocked-preserved c =
     let AllOf : List (Vec Constraint Global) → Type 0 = λ list. All OfIndex list in
     let None : List ℕ → Type 0 = λ list. AdmitsNone index p (without (members_of list) all_of) in
     let One : List ℕ → Type 0 = λ list. Admits index p (without (members_of list) all_of) in
-    let first : First out = subst First c.deref.ensures.value c.in_ok-positions.ensures.first in
-    let stand : Stand positions = subst Stand c.deref-in-loop-blocked.ensures.value c.in_ok-list_constraints.ensures in
-    let taken : Taken positions = subst Taken c.deref-in-loop-blocked-2.ensures.value c.in_ok-take_out.ensures.taken in
+    let first : First out = subst First c.deref-in-loop-blocked.ensures.value c.in_ok-positions.ensures.first in
+    let stand : Stand positions = subst Stand c.deref-in-loop-blocked-2.ensures.value c.in_ok-list_constraints.ensures in
+    let taken : Taken positions = subst Taken c.deref-in-loop-blocked-3.ensures.value c.in_ok-take_out.ensures.taken in
     record {
       rising = c.in_ok-take_out.ensures.rising;
-      told = c.is_blocked.ensures.formula;
+      told = c.is_blocked-in-loop-blocked.ensures.formula;
       found =
           subst FoundIn (sym c.in_ok-push.ensures.items)
           (subst Found (sym (map-append (λ (one : Vec Constraint Global). one.items) cores (core ∷ [])))
@@ -59,8 +58,8 @@ loop-blocked-preserved c =
       within =
           subst AllOf (sym c.in_ok-push.ensures.items)
           (All-push OfIndex cores core before.within (named_all (IsOfIndex index) (constraints_of index) core.items positions (constraints-within index) stand));
-      none = λ is. subst None c.deref-in-loop-blocked-3.ensures.value (c.in_ok-blocked-2.ensures.none is);
-      some = λ is. subst One c.deref-in-loop-blocked-3.ensures.value (c.in_ok-blocked-2.ensures.some is);
+      none = λ is. subst None c.deref-in-loop-blocked-4.ensures.value (c.in_ok-blocked-2.ensures.none is);
+      some = λ is. subst One c.deref-in-loop-blocked-4.ensures.value (c.in_ok-blocked-2.ensures.some is);
     }
 
 pub loop-blocked-smaller : goal.loop-blocked-smaller
@@ -73,8 +72,8 @@ loop-blocked-smaller c =
     let First : List ℕ → Type 0 = λ list. IsFirstWithout index p (members_of list) positions in
     let Taken : List ℕ → Type 0 = λ list. (k : ℕ) → members_of after k ≡ either (members_of out) (cause_at index list) k in
     fewer_left index p (members_of out) (members_of after) positions
-    (subst First c.deref.ensures.value c.in_ok-positions.ensures.first)
-    (subst Taken c.deref-in-loop-blocked-2.ensures.value c.in_ok-take_out.ensures.taken)
+    (subst First c.deref-in-loop-blocked.ensures.value c.in_ok-positions.ensures.first)
+    (subst Taken c.deref-in-loop-blocked-3.ensures.value c.in_ok-take_out.ensures.taken)
     c.in_ok-positions.ensures.within
 
 pub returns-clause-cores : goal.returns-clause-cores

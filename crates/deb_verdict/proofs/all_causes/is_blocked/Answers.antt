@@ -9,7 +9,7 @@ use Rattle.deb_verdict.proofs.all_causes.is_blocked.Goals as goal
 
 pub returns-clause-none : goal.returns-clause-none
 returns-clause-none c =
-    let index = c.args.index.now in
+    let index = c.args.groundwork.now.index.now in
     let p = c.args.p in
     let out = members_of c.args.out.now in
     let used = c.refute_part.new.workspace.used.items in
@@ -21,7 +21,7 @@ returns-clause-none c =
 
 pub returns-clause-some : goal.returns-clause-some
 returns-clause-some c =
-    let index = c.args.index.now in
+    let index = c.args.groundwork.now.index.now in
     let p = c.args.p in
     let out = members_of c.args.out.now in
     if_ok_more c.refute_part.result

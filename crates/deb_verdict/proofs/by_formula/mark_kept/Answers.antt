@@ -1,4 +1,4 @@
-use Rattle.std.proofs.Common.{◌≡◌, ◌∙◌, ◌++◌, ◌∷◌, [], ℕ, Bool, List, get_or, map, take, sym, ap}
+use Rattle.std.proofs.Common.{◌∙◌, ◌++◌, ◌∷◌, [], ℕ, Bool, List, get_or, map, take, sym, ap}
 use Rattle.std.proofs.lemmas.List.{take_more, map-append}
 use Rattle.number_sets.proofs.ListMembers.{take_whole}
 use Rattle.deb_verdict.specs.Parts.{positions_in}

@@ -1,9 +1,8 @@
-use Rattle.number_sets.specs.Sets.{members_of}
 use Rattle.deb_index.specs.declared.constraint.Constraint.TheVariants.{Apart}
 use Rattle.deb_verdict.proofs.WitnessLemmas.{unasked}
 use Rattle.deb_verdict.proofs.check.meets_apart.Goals as goal
 
 pub returns-then-not-has : goal.returns-then-not-has
-returns-then-not-has c = λ _.
-    unasked c.args.part.now (members_of c.args.set.now) (Apart c.args.place c.args.number) c.apart_position.result c.has.result
+returns-then-not-has g c = λ _.
+    unasked c.args.part.now (g.P.Places.members c.args.set.now) (Apart c.args.place c.args.number) c.apart_position.result c.has.result
     c.apart_position.ensures c.has.ensures c.if-not-has.true

@@ -1,8 +1,7 @@
 use Rattle.std.proofs.Common.{ℕ, ◌<◌, get_or}
 use Rattle.deb_index.specs.declared.constraint.Constraint.TheVariants.{Essential}
-use Rattle.number_sets.specs.Sets.{members_of}
 use Rattle.deb_verdict.specs.Parts.{MeetsAsked}
 use Rattle.deb_verdict.proofs.check.meets_essentials.Given as goal
 
 abbrev pub invariant-loop-position : goal.invariant-loop-position
-invariant-loop-position l = (k : ℕ) → k < l.position → MeetsAsked l.part (members_of l.set) (Essential (get_or l.name-items k 0))
+invariant-loop-position g l = (k : ℕ) → k < l.position → MeetsAsked l.part (g.P.Places.members l.set) (Essential (get_or l.name-items k 0))

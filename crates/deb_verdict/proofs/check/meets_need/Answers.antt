@@ -1,4 +1,3 @@
-use Rattle.number_sets.specs.Sets.{members_of}
 use Rattle.deb_index.specs.declared.constraint.Constraint.TheVariants.{Need}
 use Rattle.std.proofs.Common.{refl}
 use Rattle.deb_verdict.proofs.GroundworkLemmas.{answered_by_row}
@@ -6,10 +5,10 @@ use Rattle.deb_verdict.proofs.WitnessLemmas.{unasked}
 use Rattle.deb_verdict.proofs.check.meets_need.Goals as goal
 
 pub returns-then-not-has : goal.returns-then-not-has
-returns-then-not-has c = λ _.
-    unasked c.args.part.now (members_of c.args.set.now) (Need c.args.place c.args.number) c.need_position.result c.has.result
+returns-then-not-has g c = λ _.
+    unasked c.args.part.now (g.P.Places.members c.args.set.now) (Need c.args.place c.args.number) c.need_position.result c.has.result
     c.need_position.ensures c.has.ensures c.if-not-has.true
 
 pub returns : goal.returns
-returns c = λ seen asked is_in.
-    answered_by_row c.args.part.now.index.now (members_of c.args.set.now) c.args.place c.args.number _ refl (c.is_answered.ensures seen)
+returns g c = λ seen asked is_in.
+    answered_by_row c.args.part.now.index.now (g.P.Places.members c.args.set.now) c.args.place c.args.number _ refl (c.is_answered.ensures seen)

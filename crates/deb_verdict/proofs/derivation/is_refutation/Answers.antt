@@ -1,5 +1,4 @@
 use Rattle.std.proofs.Common.{sym, ◌∙◌}
-use Rattle.number_sets.specs.Sets.{members_of}
 use Rattle.deb_verdict.specs.Parts.{positions_in}
 use Rattle.deb_verdict.proofs.Derived.{derived_more, derived_refutes}
 use Rattle.deb_verdict.proofs.derivation.is_refutation.Goals as goal

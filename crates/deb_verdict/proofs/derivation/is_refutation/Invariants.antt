@@ -1,4 +1,3 @@
-use Rattle.number_sets.specs.Sets.{members_of}
 use Rattle.deb_verdict.specs.Parts.{positions_in}
 use Rattle.deb_verdict.proofs.Derived.{IsDerived}
 use Rattle.deb_verdict.proofs.derivation.is_refutation.Given as goal

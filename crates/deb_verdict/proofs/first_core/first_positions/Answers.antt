@@ -10,4 +10,4 @@ returns-clause-first c = record { rising = c.in_ok-positions.ensures.rising; fir
 pub returns-clause-within : goal.returns-clause-within
 returns-clause-within c =
     let positions : List ℕ = c.in_ok-positions.positions.items in
-    below_members positions _ (first_in_list c.args.index.now c.args.p (members_of c.args.out.now) (members_of positions) c.in_ok-positions.ensures.first)
+    below_members positions _ (first_in_list c.args.groundwork.now.index.now c.args.p (members_of c.args.out.now) (members_of positions) c.in_ok-positions.ensures.first)

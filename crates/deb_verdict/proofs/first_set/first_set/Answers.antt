@@ -1,8 +1,7 @@
-use Rattle.std.proofs.Common.{◌≡◌, ℕ, List, Some, length, slice_get, sym, ◌∙◌, ap, subst, refl, arith}
+use Rattle.std.proofs.Common.{◌≡◌, ℕ, List, Some, length, slice_get, ◌∙◌, ap, refl, arith}
 use Rattle.std.proofs.lemmas.Option.{slice_get_within}
 use Rattle.number_sets.specs.Sets.{members_of}
 use Rattle.deb_encode.specs.Play.{placed}
-use Rattle.deb_health.specs.Verdicts.{IsFirstInstallation}
 use Rattle.deb_encode.proofs.AddSteps.{below_moved}
 use Rattle.deb_verdict.proofs.Inserted.{placed_below}
 use Rattle.deb_verdict.proofs.FirstSet.{first_answer, no_answer, vars_below}

@@ -5,5 +5,5 @@ use Rattle.deb_verdict.proofs.groundwork.mark_met.Goals as goal
 
 pub loop-place-preserved : goal.loop-place-preserved
 loop-place-preserved c =
-    one_mark_more (HasAnswers c.args.index.now (members_of c.args.forced.now)) c.loop-place.marks.items c.push.new.self.items c.loop-place.place c.is_met.result
-    c.in_ok-push.ensures.items c.is_met.ensures c.loop-place.invariant
+    one_mark_more (HasAnswers c.args.index.now (members_of c.args.forced.now)) c.loop-place.marks.items c.push.new.self.items c.loop-place.place c.are_answered.result
+    c.in_ok-push.ensures.items c.are_answered.ensures c.loop-place.invariant

@@ -1,6 +1,5 @@
 use Rattle.std.proofs.Common.{arith}
 use Rattle.deb_index.specs.declared.constraint.Constraint.TheVariants.{Apart}
-use Rattle.number_sets.specs.Sets.{members_of}
 use Rattle.deb_verdict.proofs.Listing.{lists_start, lists_next, lists_aparts}
 use Rattle.deb_verdict.proofs.kept_positions.add_aparts.Goals as goal
 

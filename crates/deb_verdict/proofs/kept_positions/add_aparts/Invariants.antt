@@ -1,5 +1,4 @@
 use Rattle.deb_index.specs.declared.constraint.Constraint.TheVariants.{Apart}
-use Rattle.number_sets.specs.Sets.{members_of}
 use Rattle.deb_verdict.specs.Listing.{Lists}
 use Rattle.deb_verdict.proofs.Listing.{IsBelow}
 use Rattle.deb_verdict.proofs.kept_positions.add_aparts.Given as goal

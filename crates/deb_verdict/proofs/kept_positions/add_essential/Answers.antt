@@ -3,7 +3,6 @@ use Rattle.std.proofs.lemmas.Option.{slice_get_within}
 use Rattle.deb_index.specs.Packages.{essential_names}
 use Rattle.deb_index.specs.Constraints.{constraints_of}
 use Rattle.deb_index.proofs.ConstraintLemmas.{constraints-few}
-use Rattle.number_sets.specs.Sets.{NumberSet, members_of}
 use Rattle.deb_verdict.proofs.Listing.{essential_at, essential_stands, lists_start, lists_next, lists_essential}
 use Rattle.deb_verdict.proofs.kept_positions.add_essential.Goals as goal
 

@@ -1,4 +1,3 @@
-use Rattle.number_sets.specs.Sets.{members_of}
 use Rattle.deb_verdict.specs.Listing.{Lists}
 use Rattle.deb_verdict.proofs.Listing.{IsBelow, essential_at}
 use Rattle.deb_verdict.proofs.kept_positions.add_essential.Given as goal

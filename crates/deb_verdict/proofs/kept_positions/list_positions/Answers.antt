@@ -1,7 +1,7 @@
 use Rattle.std.proofs.Common.{◌≡◌, ◌∙◌, ◌<◌, ℕ, List, [], All, length, sym, subst, arith}
 use Rattle.deb_index.specs.Constraints.{constraints_of}
 use Rattle.deb_index.proofs.ConstraintLemmas.{constraints-few}
-use Rattle.number_sets.specs.Sets.{NumberSet, members_of}
+use Rattle.number_sets.specs.Sets.{members_of}
 use Rattle.deb_verdict.specs.Listing.{Lists}
 use Rattle.deb_verdict.proofs.Listing.{IsAnEssential}
 use Rattle.number_sets.proofs.ListMembers.{take_whole, below_members}

@@ -1,5 +1,4 @@
 use Rattle.std.proofs.Common.{[], take}
-use Rattle.number_sets.specs.Sets.{members_of}
 use Rattle.deb_verdict.specs.Listing.{Lists}
 use Rattle.deb_verdict.proofs.Listing.{IsAskedIn}
 use Rattle.deb_verdict.proofs.kept_positions.list_positions.Given as goal

@@ -1,5 +1,5 @@
 use Rattle.std.proofs.Common.{◌≡◌, ◌∙◌, ap, List, ℕ, length, [], refl}
-use Rattle.number_sets.specs.SparseSets.{with_number, AreNumbers}
+use Rattle.number_sets.specs.SparseSets.{with_number}
 use Rattle.number_sets.proofs.Placing.{numbers_first}
 use Rattle.deb_verdict.specs.declared.gather.Candidates.{Candidates}
 use Rattle.deb_verdict.proofs.GatherLemmas.{gathered}

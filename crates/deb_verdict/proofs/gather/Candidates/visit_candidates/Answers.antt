@@ -1,4 +1,4 @@
-use Rattle.std.proofs.Common.{◌≡◌, ◌+◌, ◌-◌, ◌<◌, ◌≤◌, ℕ, List, length, get_or, sym, ap, refl, arith}
+use Rattle.std.proofs.Common.{◌+◌, ◌-◌, ◌<◌, ◌≤◌, ℕ, List, length, get_or, sym, ap, refl, arith}
 use Rattle.number_sets.specs.Sets.{members_of}
 use Rattle.number_sets.proofs.Placing.{number_within, grows_longer, grows_at}
 use Rattle.deb_verdict.proofs.GatherLemmas.{gathers_nothing, gathers_next, gathers_list}

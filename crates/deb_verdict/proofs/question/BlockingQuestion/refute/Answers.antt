@@ -8,7 +8,7 @@ use Rattle.deb_verdict.proofs.question.BlockingQuestion.refute.Goals as goal
 
 pub returns-clause-refuted : goal.returns-clause-refuted
 returns-clause-refuted c =
-    let index = c.args.self.now.index.now in
+    let index = c.args.self.now.groundwork.now.index.now in
     let p = c.args.self.now.p in
     let out : NumberSet = members_of c.args.self.now.out.now in
     let part : NumberSet = left (members_of c.args.kept.now) c.args.rest in

@@ -3,11 +3,11 @@ use Rattle.std.proofs.lemmas.List.{length-set}
 use Rattle.number_sets.specs.Sets.{members_of}
 use Rattle.deb_health.specs.Health.{IsHealthy, IsInstallable}
 use Rattle.deb_verdict.proofs.InstallableLemmas.{marks_set, members_installable}
-use Rattle.deb_verdict.proofs.installable.mark_set.Goals as goal
+use Rattle.deb_verdict.proofs.installable.mark_healthy.Goals as goal
 
 pub loop-place-preserved : goal.loop-place-preserved
 loop-place-preserved c =
-    let index = c.args.groundwork.now.index.now in
+    let index = c.args.index.now in
     let set = c.as_slice-place-items.result.now in
     let place = get_or set c.loop-place.place-index 0 in
     let healthy = subst (λ (list : List ℕ). IsHealthy index (members_of list)) (sym c.as_slice-place-items.ensures) (c.is_healthy.ensures c.if-is_healthy.true) in (

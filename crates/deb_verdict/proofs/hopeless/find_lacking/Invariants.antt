@@ -1,6 +1,6 @@
 use Rattle.number_sets.specs.Sets.{members_of}
 use Rattle.deb_verdict.specs.Hopeless.{AreHopeless}
-use Rattle.deb_verdict.proofs.hopeless.spread.Given as goal
+use Rattle.deb_verdict.proofs.hopeless.find_lacking.Given as goal
 
 abbrev pub invariant-loop : goal.invariant-loop
 invariant-loop l = AreHopeless l.index (members_of l.hopeless)
