@@ -152,7 +152,7 @@ class Said:
 
     def fails_itself(self, name):
         """Whether more is amiss than that it calls what isn't proved, or goes round in a cycle of calls with it."""
-        return self.fails(name) and not self.states[name].startswith("no proof: it calls") and not CYCLE.search(self.states[name])
+        return self.fails(name) and not self.states[name].startswith(("no proof: it calls", "not proved; it waits")) and not CYCLE.search(self.states[name])
 
     def waits(self, name):
         """The functions whose proof this one lacks."""
