@@ -6,7 +6,7 @@ use Rattle.deb_index.specs.Meets.{group_satisfiers, provided_at, satisfiers}
 
 -- how many candidates a row is made for at most
 abbrev pub row_limit : ℕ
-row_limit = 64
+row_limit = 256
 
 -- the candidates of an atom: the packages of its name, and the entries that provide it
 abbrev pub candidate_count : IndexView → AtomText → ℕ

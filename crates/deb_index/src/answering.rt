@@ -43,7 +43,7 @@ impl Index {
     }
 
     /// The places of the packages that meet an alternative of a group as `meets_need` tells, rising, each once. There is such
-    /// a row exactly where the alternatives have at most 64 candidates in all: packages of the name, and entries that provide it.
+    /// a row exactly where the alternatives have at most 256 candidates in all: packages of the name, and entries that provide it.
     pub fn answer_row(&self, place: u32, number: u32) -> Option<&[u32]>
         requires place { place < length self.now.packages }
         requires number { number < length (needs_at self.now place) }
@@ -77,7 +77,7 @@ impl Index {
     }
 
     /// The places of the packages that meet an entry as `meets` tells, rising, be they marked `Multi-Arch: allowed` or not.
-    /// There is such a row exactly where the entry has at most 64 candidates: packages of the name, and entries that provide it.
+    /// There is such a row exactly where the entry has at most 256 candidates: packages of the name, and entries that provide it.
     pub fn hit_row(&self, place: u32, number: u32) -> Option<&[u32]>
         requires place { place < length self.now.packages }
         requires number { number < length (aparts_at self.now place) }

@@ -19,7 +19,7 @@ use std::alloc::AllocError;
 use std::marker::Model;
 
 /// How many candidates a row is made for at most. So the rows grow with what is asked for, however many packages provide it.
-pub(crate) const ROW_LIMIT: usize = 64;
+pub(crate) const ROW_LIMIT: usize = 256;
 
 /// Packages by place, an architecture, and the names that they have or provide for it. Contracts see an index that has these alone.
 #[derive(Drop)]

@@ -107,17 +107,17 @@ fn of_need_satisfiers(rt: HostRuntime) -> Result<(), Fail> {
 }
 
 fn expect_answers(rt: &(impl Abort + AllocGlobal), index: &Index) -> Result<(), Fail> {
-    assert!(rt; index.len() == 71);
+    assert!(rt; index.len() == 263);
     assert!(rt; index.need_count(0) == 5);
     let mut found = Vec::new(rt.alloc());
     match index.answers(0, 0, &mut found) {
         Ok(answers) => {
-            assert!(rt; answers.len() == 70);
+            assert!(rt; answers.len() == 262);
             Ok(())
         }
         Err(AllocError) => {
             let again = index.answers(0, 0, &mut found)?;
-            assert!(rt; again.len() == 70);
+            assert!(rt; again.len() == 262);
             Err(Fail::new("out of memory"))
         }
     }
@@ -125,7 +125,7 @@ fn expect_answers(rt: &(impl Abort + AllocGlobal), index: &Index) -> Result<(), 
 
 #[test]
 fn of_answers(rt: HostRuntime) -> Result<(), Fail> {
-    let text = providers(rt.alloc(), SHARED, 70)?;
+    let text = providers(rt.alloc(), SHARED, 262)?;
     let index = read(rt.alloc(), &text, true)?;
     let outcome = expect_answers(&rt, &index);
     drop(index);

@@ -125,13 +125,13 @@ pub fn providers(alloc: Global, asked: &[u8], count: u32) -> Result<Vec<u8>, All
     Ok(text)
 }
 
-/// A row stands where there are no more than 64 candidates.
+/// A row stands where there are no more than 256 candidates.
 #[test]
 fn long_rows(rt: HostRuntime) -> Result<(), Fail> {
     for (count, wanted) in [
         (
-            70,
-            "packages 71, stanzas 71, skipped 0, duplicates 0
+            262,
+            "packages 263, stanzas 263, skipped 0, duplicates 0
 need 0 0: none
 need 0 1: none
 need 0 2: 1 from Some(0)
@@ -139,8 +139,8 @@ apart 0 0: none
 ",
         ),
         (
-            65,
-            "packages 66, stanzas 66, skipped 0, duplicates 0
+            257,
+            "packages 258, stanzas 258, skipped 0, duplicates 0
 need 0 0: none
 need 0 1: none
 need 0 2: 1 from Some(0)
@@ -148,21 +148,21 @@ apart 0 0: none
 ",
         ),
         (
-            64,
-            "packages 65, stanzas 65, skipped 0, duplicates 0
-need 0 0: 64 from Some(1)
+            256,
+            "packages 257, stanzas 257, skipped 0, duplicates 0
+need 0 0: 256 from Some(1)
 need 0 1: none
 need 0 2: 1 from Some(0)
-apart 0 0: 64 from Some(1)
+apart 0 0: 256 from Some(1)
 ",
         ),
         (
-            63,
-            "packages 64, stanzas 64, skipped 0, duplicates 0
-need 0 0: 63 from Some(1)
-need 0 1: 64 from Some(0)
+            255,
+            "packages 256, stanzas 256, skipped 0, duplicates 0
+need 0 0: 255 from Some(1)
+need 0 1: 256 from Some(0)
 need 0 2: 1 from Some(0)
-apart 0 0: 63 from Some(1)
+apart 0 0: 255 from Some(1)
 ",
         ),
     ] {
@@ -179,21 +179,21 @@ apart 0 0: 63 from Some(1)
 
 #[test]
 fn answers_of_long_groups(rt: HostRuntime) -> Result<(), Fail> {
-    let text = providers(rt.alloc(), SHARED, 70)?;
+    let text = providers(rt.alloc(), SHARED, 262)?;
     expect_shown(
         &rt,
         &text,
         &[Part::Counts, Part::AnswerRowEnds, Part::AnswerEnds],
-        "packages 71, stanzas 71, skipped 0, duplicates 0
+        "packages 263, stanzas 263, skipped 0, duplicates 0
 need 0 0: none
 need 0 1: none
 need 0 2: none
 need 0 3: none
 need 0 4: 1 from Some(0)
-answers 0 0: 70 from Some(1)
+answers 0 0: 262 from Some(1)
 answers 0 1: 1 from Some(0)
-answers 0 2: 70 from Some(1)
-answers 0 3: 71 from Some(0)
+answers 0 2: 262 from Some(1)
+answers 0 3: 263 from Some(0)
 answers 0 4: 1 from Some(0)
 ",
     )
@@ -263,28 +263,28 @@ apart 5 2: [3, 4]
 #[test]
 fn no_rows_asked_for_twice(rt: HostRuntime) -> Result<(), Fail> {
     let asked = b"Depends: v, asks, w (= 3), asks\nConflicts: v, asks\nBreaks: v\n";
-    let mut text = providers(rt.alloc(), asked, 65)?;
+    let mut text = providers(rt.alloc(), asked, 257)?;
     text.extend_from_slice(b"\nPackage: again\nVersion: 1\nArchitecture: all\n")?;
     text.extend_from_slice(asked)?;
     expect_shown(
         &rt,
         &text,
         &[Part::Counts, Part::AnswerRowEnds, Part::HitRowEnds],
-        "packages 67, stanzas 67, skipped 0, duplicates 0
+        "packages 259, stanzas 259, skipped 0, duplicates 0
 need 0 0: none
 need 0 1: 1 from Some(0)
 need 0 2: none
 need 0 3: 1 from Some(0)
-need 66 0: none
-need 66 1: 1 from Some(0)
-need 66 2: none
-need 66 3: 1 from Some(0)
+need 258 0: none
+need 258 1: 1 from Some(0)
+need 258 2: none
+need 258 3: 1 from Some(0)
 apart 0 0: none
 apart 0 1: 1 from Some(0)
 apart 0 2: none
-apart 66 0: none
-apart 66 1: 1 from Some(0)
-apart 66 2: none
+apart 258 0: none
+apart 258 1: 1 from Some(0)
+apart 258 2: none
 ",
     )
 }

@@ -95,7 +95,15 @@ fn is_blocked(
         rest: 0,
         out,
     };
-    refute_part(alloc, &left, p, &groundwork.base, formula, workspace)
+    refute_part(
+        alloc,
+        &left,
+        p,
+        &groundwork.base,
+        &groundwork.lacking,
+        formula,
+        workspace,
+    )
 }
 
 /// The cores whose causes are all causes of the package at a place of the index of a groundwork: none where some healthy set has the package.

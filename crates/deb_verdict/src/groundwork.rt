@@ -37,6 +37,8 @@ pub struct Groundwork<'a> {
     pub(crate) alone: Vec<bool>,
     /// A large set of packages, each with what it asks for.
     pub(crate) base: BaseSet,
+    /// Places that lack a need, or need without a choice what does, whatever essential names lack.
+    pub(crate) lacking: SparseSet,
     ghost places: { AreNumbers (length index.now.packages) forced } by { Prim.hlevel props },
     ghost in_all: { IsInAll index.now (members_of forced) },
     ghost in_none: { AreHopeless index.now (members_of hopeless) },
@@ -126,6 +128,8 @@ impl<'a> Groundwork<'a> {
     {
         let mut hopeless = find_lacking_places(alloc, index)?;
         let base = BaseSet::find(alloc, index, &hopeless)?;
+        let mut lacking = SparseSet::new(alloc);
+        lacking.extend(hopeless.as_slice())?;
         spread_by_essential(index, &mut hopeless)?;
         let forced = force_all(alloc, index)?;
         let met = mark_met(alloc, index, &forced)?;
@@ -137,6 +141,7 @@ impl<'a> Groundwork<'a> {
             met,
             alone,
             base,
+            lacking,
         })
     }
 

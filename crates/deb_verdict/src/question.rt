@@ -17,6 +17,7 @@ use crate::propagation::{refute_by_forcing, refute_by_last_steps};
 use crate::witness::is_seen_to_admit;
 use crate::workspace::Workspace;
 use core_extract::{Question, next_of};
+use number_sets::SparseSet;
 use std::alloc::{AllocError, Global};
 
 /// Whether a part of the constraints admits no set with the package at a place. Where it admits none, the workspace's `used` then has the
@@ -26,6 +27,7 @@ pub(crate) fn refute_part(
     part: &Part<'_>,
     p: u32,
     base: &BaseSet,
+    lacking: &SparseSet,
     formula: &mut Option<CoreFormula>,
     workspace: &mut Workspace,
 ) -> Result<bool, AllocError>
@@ -45,7 +47,7 @@ pub(crate) fn refute_part(
     }
     // Each package whose core is looked for is broken, so only without some constraints is there a set.
     let may_admit = part.may_lack_one();
-    if may_admit && is_seen_to_admit(part, p, base, &mut workspace.witness)? {
+    if may_admit && is_seen_to_admit(part, p, base, lacking, &mut workspace.witness)? {
         return Ok(false);
     }
     if refute_by_forcing(part, p, base, propagation, used)? {
@@ -53,10 +55,7 @@ pub(crate) fn refute_part(
     }
     // What the package asks for may be at odds with the base set.
     let nothing = BaseSet::empty(alloc);
-    if refute_by_forcing(part, p, &nothing, propagation, used)? {
-        return Ok(true);
-    }
-    if may_admit && is_seen_to_admit(part, p, &nothing, &mut workspace.witness)? {
+    if may_admit && is_seen_to_admit(part, p, &nothing, lacking, &mut workspace.witness)? {
         return Ok(false);
     }
     refute_by_formula(alloc, part, p, formula, workspace)
@@ -111,6 +110,7 @@ impl<'a> Question for Blocking<'a> {
             &part,
             self.p,
             &self.groundwork.base,
+            &self.groundwork.lacking,
             &mut self.formula,
             self.workspace,
         )

@@ -13,7 +13,7 @@ use crate::base_set::{BaseSet, OnBase};
 use crate::check::{meets_essentials, meets_place, meets_places};
 use crate::derivation::has_need;
 use crate::part::Part;
-use crate::rows::{FEW, has_any};
+use crate::rows::{FEW, has_all, has_any};
 use deb_index::Index;
 use number_sets::SparseSet;
 use std::alloc::{AllocError, Global};
@@ -29,20 +29,20 @@ fn has_version(index: &Index, set: &SparseSet, place: u32) -> bool
     row.len() <= FEW as usize && has_any(set, row)
 }
 
-/// Whether nothing answers a need that the part asks for.
-fn is_unanswerable(part: &Part<'_>, place: u32, number: u32) -> bool
+/// Whether nothing answers a need that the part asks for, or only what lacks a need itself.
+fn is_unanswerable(part: &Part<'_>, lacking: &SparseSet, place: u32, number: u32) -> bool
     requires place { place < length part.now.index.now.packages }
     requires number { number < length (needs_at part.now.index.now place) }
 {
     let index = part.index;
     match index.answer_row(place, number) {
-        Some(row) => row.is_empty() && part.has(index.need_position(place, number)),
+        Some(row) => has_all(lacking, row) && part.has(index.need_position(place, number)),
         None => false,
     }
 }
 
-/// Whether nothing is seen to speak against a package: there is room for it, and no need that the part asks for lacks an answer.
-fn is_fit(part: &Part<'_>, set: &OnBase<'_>, place: u32) -> bool
+/// Whether nothing is seen to speak against a package: there is room for it, and no need that the part asks for lacks an answer that may be had.
+fn is_fit(part: &Part<'_>, set: &OnBase<'_>, lacking: &SparseSet, place: u32) -> bool
     requires { place < length part.now.index.now.packages }
 {
     let index = part.index;
@@ -50,7 +50,7 @@ fn is_fit(part: &Part<'_>, set: &OnBase<'_>, place: u32) -> bool
         return false;
     }
     for number in 0..index.need_count(place).min(FEW) {
-        if is_unanswerable(part, place, number) {
+        if is_unanswerable(part, lacking, place, number) {
             return false;
         }
     }
@@ -86,7 +86,13 @@ impl Witness {
     }
 
     /// The first place of a row that nothing is seen to speak against, or else the first that isn't known to lead nowhere.
-    fn choose(&self, part: &Part<'_>, base: &BaseSet, row: &[u32]) -> Option<u32>
+    fn choose(
+        &self,
+        part: &Part<'_>,
+        base: &BaseSet,
+        lacking: &SparseSet,
+        row: &[u32],
+    ) -> Option<u32>
         requires { All (λ q. q < length part.now.index.now.packages) row.now }
         ensures { IfSome result (λ q. q < length part.now.index.now.packages) }
     {
@@ -102,7 +108,7 @@ impl Witness {
             more: &self.set,
         };
         for place in row {
-            if !self.unfit.contains(*place) && is_fit(part, &set, *place) {
+            if !self.unfit.contains(*place) && is_fit(part, &set, lacking, *place) {
                 return Some(*place);
             }
         }
@@ -119,6 +125,7 @@ impl Witness {
         &mut self,
         part: &Part<'_>,
         base: &BaseSet,
+        lacking: &SparseSet,
         row: &[u32],
         cause: Option<Cause>,
     ) -> Result<bool, AllocError>
@@ -128,7 +135,7 @@ impl Witness {
         if has_any(&base.members, row) || has_any(&self.set, row) {
             return Ok(true);
         }
-        match self.choose(part, base, row) {
+        match self.choose(part, base, lacking, row) {
             Some(place) => {
                 self.set.insert(place)?;
                 self.causes.push(cause)?;
@@ -143,6 +150,7 @@ impl Witness {
         &mut self,
         part: &Part<'_>,
         base: &BaseSet,
+        lacking: &SparseSet,
         place: u32,
         number: u32,
     ) -> Result<bool, AllocError>
@@ -151,7 +159,7 @@ impl Witness {
         ensures { OnOk result (Grows (length part.now.index.now.packages) self.old.set self.new.set) }
     {
         match part.index.answer_row(place, number) {
-            Some(row) => self.take_one(part, base, row, Some(Cause { place, number })),
+            Some(row) => self.take_one(part, base, lacking, row, Some(Cause { place, number })),
             None => Ok(false),
         }
     }
@@ -161,6 +169,7 @@ impl Witness {
         &mut self,
         part: &Part<'_>,
         base: &BaseSet,
+        lacking: &SparseSet,
         place: u32,
     ) -> Result<bool, AllocError>
         requires { place < length part.now.index.now.packages }
@@ -169,7 +178,7 @@ impl Witness {
         let index = part.index;
         for number in 0..index.need_count(place) {
             if part.has(index.need_position(place, number)) {
-                if !self.take_answer(part, base, place, number)? {
+                if !self.take_answer(part, base, lacking, place, number)? {
                     return Ok(false);
                 }
             }
@@ -178,7 +187,12 @@ impl Witness {
     }
 
     /// Puts in a package of each essential name that the part asks for.
-    fn take_essentials(&mut self, part: &Part<'_>, base: &BaseSet) -> Result<bool, AllocError>
+    fn take_essentials(
+        &mut self,
+        part: &Part<'_>,
+        base: &BaseSet,
+        lacking: &SparseSet,
+    ) -> Result<bool, AllocError>
         ensures { OnOk result (Grows (length part.now.index.now.packages) self.old.set self.new.set) }
     {
         let index = part.index;
@@ -186,7 +200,7 @@ impl Witness {
         let _names = index.name_count();
         for (position, name) in index.essential_names().iter().enumerate() {
             if part.has(position as u32) {
-                if !self.take_one(part, base, index.places_named(*name), None)? {
+                if !self.take_one(part, base, lacking, index.places_named(*name), None)? {
                     return Ok(false);
                 }
             }
@@ -195,14 +209,19 @@ impl Witness {
     }
 
     /// Puts in what the places of the set need, as long as places come. Where a need isn't answered, the place that has it.
-    fn take_needs(&mut self, part: &Part<'_>, base: &BaseSet) -> Result<Option<u32>, AllocError>
+    fn take_needs(
+        &mut self,
+        part: &Part<'_>,
+        base: &BaseSet,
+        lacking: &SparseSet,
+    ) -> Result<Option<u32>, AllocError>
         requires { AreNumbers (length part.now.index.now.packages) self.old.set }
         ensures { OnOk result (Grows (length part.now.index.now.packages) self.old.set self.new.set) }
     {
         let mut visited = 0;
         while visited < self.set.as_slice().len() {
             let place = self.set.as_slice()[visited];
-            if !self.take_answers(part, base, place)? {
+            if !self.take_answers(part, base, lacking, place)? {
                 return Ok(Some(place));
             }
             visited += 1;
@@ -211,7 +230,13 @@ impl Witness {
     }
 
     /// Makes a set of the package at a place and what the part asks for with it. Where something wasn't found, the place that needs it.
-    fn grow(&mut self, part: &Part<'_>, base: &BaseSet, p: u32) -> Result<Option<u32>, AllocError>
+    fn grow(
+        &mut self,
+        part: &Part<'_>,
+        base: &BaseSet,
+        lacking: &SparseSet,
+        p: u32,
+    ) -> Result<Option<u32>, AllocError>
         requires { p < length part.now.index.now.packages }
         ensures { OnOk result (AreNumbers (length part.now.index.now.packages) self.new.set) }
     {
@@ -219,11 +244,11 @@ impl Witness {
         self.causes.clear();
         self.set.insert(p)?;
         self.causes.push(None)?;
-        if !self.take_essentials(part, base)? {
+        if !self.take_essentials(part, base, lacking)? {
             return Ok(Some(p));
         }
-        let lacking = self.take_needs(part, base)?;
-        Ok(lacking)
+        let amiss = self.take_needs(part, base, lacking)?;
+        Ok(amiss)
     }
 
     /// A place of the set that has no room, or doesn't meet what the part asks of it.
@@ -314,6 +339,7 @@ pub(crate) fn is_seen_to_admit(
     part: &Part<'_>,
     p: u32,
     base: &BaseSet,
+    lacking: &SparseSet,
     witness: &mut Witness,
 ) -> Result<bool, AllocError>
     requires place { p < length part.now.index.now.packages }
@@ -325,14 +351,14 @@ pub(crate) fn is_seen_to_admit(
         return Ok(false);
     }
     for _ in 0..TRIES {
-        let mut lacking = witness.grow(part, base, p)?;
-        if lacking.is_none() {
+        let mut amiss = witness.grow(part, base, lacking, p)?;
+        if amiss.is_none() {
             if is_witness(part, p, base, &witness.set) {
                 return Ok(true);
             }
-            lacking = witness.amiss(part, base);
+            amiss = witness.amiss(part, base);
         }
-        let Some(place) = lacking else {
+        let Some(place) = amiss else {
             return Ok(false);
         };
         if !witness.rule_out(part.index, place)? {

@@ -164,26 +164,26 @@ Conflicts: y
 
 fn add_many_providers(text: &mut String) -> Result<(), AllocError> {
     text.push_str(MANY_PROVIDERS_HEAD)?;
-    for number in 0..70 {
-        add_provider(text, number, number % 10 == 9)?;
+    for number in 0..260 {
+        add_provider(text, number, number % 65 == 64)?;
     }
     text.push_str("Package: y\nVersion: 1\nArchitecture: all\n")
 }
 
-/// The text of `a` and `c`, which need `v` with `any`, of 70 packages that provide it, every tenth of them marked, and of what these need.
+/// The text of `a` and `c`, which need `v` with `any`, of 260 packages that provide it, every 65th of them marked, and of what these need.
 fn many_providers(alloc: Global) -> Result<String, AllocError> {
     let mut text = String::new(alloc);
     add_many_providers(&mut text)?;
     Ok(text)
 }
 
-/// `a` is at 0, `c` at 1, the marked packages at 11, 21 and so on, and `y`, which each of them needs, at 72.
+/// `a` is at 0, `c` at 1, the marked packages at 66, 131, 196 and 261, and `y`, which each of them needs, at 262.
 #[test]
-fn any_of_more_than_64_providers(rt: HostRuntime) -> Result<(), Fail> {
+fn any_of_more_than_256_providers(rt: HostRuntime) -> Result<(), Fail> {
     let text = many_providers(rt.alloc())?;
-    let expected = "0 set [0, 71, 72]
-0 closure [0, 11, 21, 31, 41, 51, 61, 71, 72]
-1 core [Need(1, 0), Apart(1, 0), Need(11, 0), Need(21, 0), Need(31, 0), Need(41, 0), Need(51, 0), Need(61, 0), Need(71, 0)]
+    let expected = "0 set [0, 261, 262]
+0 closure [0, 66, 131, 196, 261, 262]
+1 core [Need(1, 0), Apart(1, 0), Need(66, 0), Need(131, 0), Need(196, 0), Need(261, 0)]
 ";
     expect(&rt, &text, true, expected)
 }
