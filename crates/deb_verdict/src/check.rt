@@ -45,10 +45,10 @@ fn meets_need<P: Places>(part: &Part<'_>, set: &P, place: u32, number: u32) -> b
     ensures { result ≡ true → MeetsAsked part.now (P.members set.now) (Constraint.Need place number) }
 {
     let index = part.index;
-    if !part.has(index.need_position(place, number)) {
+    if is_answered(index, set, place, number) {
         return true;
     }
-    is_answered(index, set, place, number)
+    !part.has(index.need_position(place, number))
 }
 
 /// Whether the set answers each need of a place that the part asks for.
@@ -72,10 +72,10 @@ fn meets_apart<P: Places>(part: &Part<'_>, set: &P, place: u32, number: u32) -> 
     ensures { result ≡ true → MeetsAsked part.now (P.members set.now) (Constraint.Apart place number) }
 {
     let index = part.index;
-    if !part.has(index.apart_position(place, number)) {
+    if hits_no_other(index, set, place, number) {
         return true;
     }
-    hits_no_other(index, set, place, number)
+    !part.has(index.apart_position(place, number))
 }
 
 /// Whether no entry of a place that the part asks for hits another one of the set.
@@ -117,10 +117,11 @@ fn stands_once<P: Places>(part: &Part<'_>, set: &P, place: u32) -> bool
     ensures { result ≡ true → StandsOnce part.now (P.members set.now) place }
 {
     let index = part.index;
-    if !part.has(index.only_position(index.name_of(place))) {
+    let name = index.name_of(place);
+    if has_no_earlier(index, set, place) {
         return true;
     }
-    has_no_earlier(index, set, place)
+    !part.has(index.only_position(name))
 }
 
 /// Whether the set meets what the part asks of the package at a place.

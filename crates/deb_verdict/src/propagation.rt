@@ -69,8 +69,8 @@ fn conflict_of(part: &Part<'_>, place: u32, forced: &SparseSet) -> Option<Step>
 {
     let index = part.index;
     for number in 0..index.apart_count(place) {
-        if part.has(index.apart_position(place, number)) {
-            if let Some(other) = hit_in(index, place, number, forced) {
+        if let Some(other) = hit_in(index, place, number, forced) {
+            if part.has(index.apart_position(place, number)) {
                 return Some(Step::Apart(place, number, other));
             }
         }

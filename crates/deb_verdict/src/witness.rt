@@ -120,7 +120,12 @@ impl Witness {
         None
     }
 
-    /// Puts in a place of the row, where none is in. `false` where it has none that may lead somewhere.
+    /// Whether a place of the row is in.
+    fn has_any(&self, base: &BaseSet, row: &[u32]) -> bool {
+        has_any(&base.members, row) || has_any(&self.set, row)
+    }
+
+    /// Puts in a place of the row. `false` where it has none that may lead somewhere.
     fn take_one(
         &mut self,
         part: &Part<'_>,
@@ -132,9 +137,6 @@ impl Witness {
         requires { All (λ q. q < length part.now.index.now.packages) row.now }
         ensures { OnOk result (Grows (length part.now.index.now.packages) self.old.set self.new.set) }
     {
-        if has_any(&base.members, row) || has_any(&self.set, row) {
-            return Ok(true);
-        }
         match self.choose(part, base, lacking, row) {
             Some(place) => {
                 self.set.insert(place)?;
@@ -145,7 +147,7 @@ impl Witness {
         }
     }
 
-    /// Puts in an answer of a need. `false` where it has none, or too many for a row.
+    /// Puts in an answer of a need, where none is in and the part asks for one. `false` where it has none, or too many for a row.
     fn take_answer(
         &mut self,
         part: &Part<'_>,
@@ -158,7 +160,14 @@ impl Witness {
         requires number { number < length (needs_at part.now.index.now place) }
         ensures { OnOk result (Grows (length part.now.index.now.packages) self.old.set self.new.set) }
     {
-        match part.index.answer_row(place, number) {
+        let index = part.index;
+        let row = index.answer_row(place, number);
+        if row.is_some_and(|row| self.has_any(base, row))
+            || !part.has(index.need_position(place, number))
+        {
+            return Ok(true);
+        }
+        match row {
             Some(row) => self.take_one(part, base, lacking, row, Some(Cause { place, number })),
             None => Ok(false),
         }
@@ -175,12 +184,9 @@ impl Witness {
         requires { place < length part.now.index.now.packages }
         ensures { OnOk result (Grows (length part.now.index.now.packages) self.old.set self.new.set) }
     {
-        let index = part.index;
-        for number in 0..index.need_count(place) {
-            if part.has(index.need_position(place, number)) {
-                if !self.take_answer(part, base, lacking, place, number)? {
-                    return Ok(false);
-                }
+        for number in 0..part.index.need_count(place) {
+            if !self.take_answer(part, base, lacking, place, number)? {
+                return Ok(false);
             }
         }
         Ok(true)
@@ -199,8 +205,9 @@ impl Witness {
         // An essential name is a name, so its number fits 32 bits.
         let _names = index.name_count();
         for (position, name) in index.essential_names().iter().enumerate() {
-            if part.has(position as u32) {
-                if !self.take_one(part, base, lacking, index.places_named(*name), None)? {
+            let row = index.places_named(*name);
+            if part.has(position as u32) && !self.has_any(base, row) {
+                if !self.take_one(part, base, lacking, row, None)? {
                     return Ok(false);
                 }
             }

@@ -16,4 +16,4 @@ take_needs-requires c =
 pub returns : goal.returns
 returns c =
     let first : c.insert.new.self ≡ with_number [] c.args.p = c.in_ok-insert.ensures ∙ ap (λ (list : List ℕ). with_number list c.args.p) c.clear.ensures in
-    c.in_ok-lacking.ensures.places (c.in_ok-take_essentials.ensures.places (numbers_first (length c.args.part.now.index.now.packages) c.args.p c.insert.new.self c.requires first))
+    c.in_ok-amiss.ensures.places (c.in_ok-take_essentials.ensures.places (numbers_first (length c.args.part.now.index.now.packages) c.args.p c.insert.new.self c.requires first))

@@ -10,12 +10,12 @@ pub overflow_cast-position : goal.overflow_cast-position
 overflow_cast-position c =
     omega (arith, c.loop-position-test.true, ap length c.essential_names-name-items.ensures, where-short (is_essential c.args.part.now.index.now) (names c.args.part.now.index.now), c.name_count-names.ensures)
 
-pub places_named-requires : goal.places_named-requires
-places_named-requires c =
+pub places_named-row-requires : goal.places_named-row-requires
+places_named-row-requires c =
     essential_below c.args.part.now.index.now c.essential_names-name-items.result.now c.essential_names-name-items.ensures c.loop-position.position c.loop-position-test.true
 
 pub take_one-requires : goal.take_one-requires
 take_one-requires c =
     let count : ℕ = length c.args.part.now.index.now.packages in
     let name : ℕ = get_or c.essential_names-name-items.result.now c.loop-position.position 0 in
-    All-same (λ place. place < count) c.places_named.result.now (places_of c.args.part.now.index.now (name_at c.args.part.now.index.now name)) c.places_named.ensures (named_below c.args.part.now.index.now (name_at c.args.part.now.index.now name))
+    All-same (λ place. place < count) c.places_named-row.result.now (places_of c.args.part.now.index.now (name_at c.args.part.now.index.now name)) c.places_named-row.ensures (named_below c.args.part.now.index.now (name_at c.args.part.now.index.now name))
