@@ -15,16 +15,17 @@ use Rattle.debcheck.specs.declared.fault.RunFault.TheVariants as run_fault
 use Rattle.debcheck.specs.declared.hints.Clue.{Clue}
 use Rattle.debcheck.specs.declared.hints.Clue.TheVariants.{Unopened, Likely, Line}
 
--- a run ended with a fault of this input
-unfoldable pub is_faulty : Result Summary RunFault → Input → Bool
-is_faulty (Err (run_fault.Index fault)) input.Index = true
-is_faulty (Err (run_fault.Background fault)) input.Background = true
-is_faulty (Err (run_fault.Earlier fault)) input.Earlier = true
-is_faulty outcome input = false
+-- a run ended with a report, or with a fault of this input
+unfoldable pub is_in_question : Result Summary RunFault → Input → Bool
+is_in_question (Ok summary) input = true
+is_in_question (Err (run_fault.Index fault)) input.Index = true
+is_in_question (Err (run_fault.Background fault)) input.Background = true
+is_in_question (Err (run_fault.Earlier fault)) input.Earlier = true
+is_in_question outcome input = false
 
 -- what was seen, once the first bytes of an input were looked at: where they tell nothing, what was seen before
 unfoldable pub clue_after : Option Clue → Result Summary RunFault → Input → List ℕ → Option Clue
-clue_after old outcome input front = if is_faulty outcome input then option_map_or (λ hint. Some (Likely input hint)) (hint_by front) old else old
+clue_after old outcome input front = if is_in_question outcome input then option_map_or (λ hint. Some (Likely input hint)) (hint_by front) old else old
 
 -- the files that a configuration names
 pub record Files : Type 0 where
@@ -59,7 +60,7 @@ fault_hint_text fault = None
 -- the line that is told after a run, where something looks like a slip, by the files that it names
 unfoldable pub hint_text : Files → Result Summary RunFault → Option Clue → Option (List ℕ)
 hint_text files outcome (Some (Line line)) = Some line.items
+hint_text files outcome (Some (Likely input hint)) = Some (hint_line input hint)
 hint_text files (Ok summary) clue = run_hint_text summary
-hint_text files (Err fault) (Some (Likely input hint)) = Some (hint_line input hint)
 hint_text files (Err fault) (Some (Unopened input)) = unopened_text input (name_of files input)
 hint_text files (Err fault) None = fault_hint_text fault

@@ -1,7 +1,7 @@
 //! What looks like a slip after a run, told on a terminal.
 
 ghost use Rattle.std.specs.Prelude.{◌≡◌, IfOk, option_map};
-ghost use Rattle.debcheck.specs.Hints.{clue_after, fault_hint_text, files_of, hint_text, is_faulty, name_of, run_hint_text};
+ghost use Rattle.debcheck.specs.Hints.{clue_after, fault_hint_text, files_of, hint_text, is_in_question, name_of, run_hint_text};
 
 use crate::fault::RunFault;
 use crate::strict;
@@ -21,12 +21,13 @@ pub(crate) enum Clue {
     Line(Vec<u8>),
 }
 
-// Whether a run ended with a fault of this input.
-#[tactic(auto, unfolding(crate::specs::Hints::is_faulty))]
-fn is_faulty(outcome: &Result<Summary, RunFault>, input: Input) -> bool
-    ensures { result ≡ is_faulty outcome.now input }
+// Whether a run ended with a report, or with a fault of this input.
+#[tactic(auto, unfolding(crate::specs::Hints::is_in_question))]
+fn is_in_question(outcome: &Result<Summary, RunFault>, input: Input) -> bool
+    ensures { result ≡ is_in_question outcome.now input }
 {
     match (outcome, input) {
+        (Ok(_), _) => true,
         (Err(RunFault::Index(_)), Input::Index) => true,
         (Err(RunFault::Background(_)), Input::Background) => true,
         (Err(RunFault::Earlier(_)), Input::Earlier) => true,
@@ -34,7 +35,8 @@ fn is_faulty(outcome: &Result<Summary, RunFault>, input: Input) -> bool
     }
 }
 
-/// Notes what the first bytes of an input tell, where a run ended with a fault of it; where they tell nothing, what was seen before stays.
+/// Notes what the first bytes of an input tell, where a run ended with a report, as of a Sources file, or with a fault of it; where they tell
+/// nothing, what was seen before stays.
 #[tactic(auto, unfolding(crate::specs::Hints::clue_after))]
 pub(crate) fn note(
     clue: &mut Option<Clue>,
@@ -44,7 +46,7 @@ pub(crate) fn note(
 )
     ensures { clue.new ≡ clue_after clue.old outcome.now input front.now }
 {
-    if is_faulty(outcome, input) {
+    if is_in_question(outcome, input) {
         match hint_of(front) {
             Some(hint) => *clue = Some(Clue::Likely(input, hint)),
             None => {}
@@ -106,8 +108,8 @@ fn hint_text(
 {
     match (outcome, clue) {
         (_, Some(Clue::Line(line))) => Ok(Some(line)),
+        (_, Some(Clue::Likely(input, hint))) => Ok(Some(hint_line(alloc, input, hint)?)),
         (Ok(summary), _) => run_hint_text(alloc, summary),
-        (Err(_), Some(Clue::Likely(input, hint))) => Ok(Some(hint_line(alloc, input, hint)?)),
         (Err(_), Some(Clue::Unopened(input))) => match name_of(config, input) {
             Some(name) => file_hint_line(alloc, input, name.as_bytes()),
             None => Ok(None),

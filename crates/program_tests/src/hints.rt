@@ -192,7 +192,26 @@ Version: 1
 Architecture: amd64
 ";
 
-const REPORTS: [Case; 6] = [
+const SOURCES: &[u8] = b"Package: a
+Binary: a, a-doc
+Version: 1
+Architecture: all
+Directory: pool/main/a/a
+
+Package: b
+Binary: b
+Version: 1
+Architecture: any
+Directory: pool/main/b/b
+";
+
+const REPORTS: [Case; 7] = [
+    Case {
+        words: "|--arch|amd64",
+        index: SOURCES,
+        file: None,
+        hint: b"hint: the index describes source packages: take a file Packages\n",
+    },
     Case {
         words: "|--arch|amd64",
         index: b"",
