@@ -49,6 +49,9 @@ pub(crate) fn in_many<'a, R: Threads + Sync>(
     ensures text { IfOk result (λ parted. parted.text.now ≡ text.now) }
     ensures parts { IfOk result (λ parted. ArePartsOf arch.now text.now parted.parts.items) }
 {
+    if workers < 2 {
+        return in_one(alloc, text);
+    }
     let parts = read_parts(rt, alloc, arch, text, workers, least)?;
     Ok(Parted { text, parts })
 }

@@ -1,0 +1,11 @@
+use Rattle.std.proofs.Common.{ℕ, List, Result, Ok, Err, IfOk}
+use Rattle.deb_index.specs.Parts.{ArePartsOf}
+use Rattle.deb_index.proofs.parts.in_many.Goals as goal
+
+-- what holds for each architecture holds for this one
+at-arch : {A E : Type 0} (r : Result A E) (P : List ℕ → A → Type 0) → IfOk r (λ x. (arch : List ℕ) → P arch x) → (arch : List ℕ) → IfOk r (P arch)
+at-arch (Ok x) P all arch = all arch
+at-arch (Err e) P all arch = tt
+
+pub returns-then-workers-lt2-clause-parts : goal.returns-then-workers-lt2-clause-parts
+returns-then-workers-lt2-clause-parts g c = at-arch c.in_one.result (λ arch parted. ArePartsOf arch c.args.text.now parted.parts.items) c.in_one.ensures.parts c.args.arch.now
