@@ -25,6 +25,7 @@ mod ReportLemmas
 mod SimilarLemmas
 mod SinceLemmas
 mod SoughtLemmas
+mod WalkLaws
 mod WalkLemmas
 mod StemLemmas
 pub mod Unshown

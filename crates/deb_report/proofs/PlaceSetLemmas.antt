@@ -19,7 +19,7 @@ pub or_none : (a : Bool) → (a || false) ≡ a
 or_none a = or_false a
 
 -- the members, with one more
-with_number-members : (places : List ℕ) (n q : ℕ) → members_of (with_number places n) q ≡ (members_of places q || (n == q))
+pub with_number-members : (places : List ℕ) (n q : ℕ) → members_of (with_number places n) q ≡ (members_of places q || (n == q))
 with_number-members places n q =
     elim (cases_Bool (members_of places n)) [
       | inl has ↦ ap (λ b. members_of (cond b places (places ++ n ∷ [])) q) has ∙ known has

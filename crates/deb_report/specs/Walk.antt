@@ -195,12 +195,15 @@ step_text index core coming told (Tell depth constraint) = lead depth ++ constra
 
 -- ---- the walk
 
--- it goes on with the first step; what follows from that comes before the others
-unfoldable pub walk : ℕ → IndexView → List Constraint → NumberSet → List ℕ → List Step → List ℕ
-walk zero index core coming told steps = []
-walk (suc count) index core coming told [] = []
-walk (suc count) index core coming told (step ∷ steps) =
-    step_text index core coming told step ++ walk count index core coming (told_behind told step) (steps_behind index core told step ++ steps)
+-- the steps as they are gone, each behind what is told before it: on with the first; what follows from that comes before the others
+unfoldable pub walk : ℕ → IndexView → List Constraint → List ℕ → List Step → List (List ℕ × Step)
+walk zero index core told steps = []
+walk (suc count) index core told [] = []
+walk (suc count) index core told (step ∷ steps) = (told, step) ∷ walk count index core (told_behind told step) (steps_behind index core told step ++ steps)
+
+-- what they tell
+abbrev pub walk_text : ℕ → IndexView → List Constraint → NumberSet → List ℕ → List Step → List ℕ
+walk_text count index core coming told steps = flat_map (λ gone. step_text index core coming gone.0 gone.1) (walk count index core told steps)
 
 -- more steps than a walk has: each constraint of the core is told once and brings each package once at most, and each package of the core is begun once
 abbrev pub step_limit : ℕ
@@ -209,7 +212,21 @@ step_limit = 18446744073709551615
 -- the lines of a core as it is walked from the package at a place
 unfoldable pub walk_lines : IndexView → ℕ → List Constraint → List ℕ
 walk_lines index place core =
-    titled (codes "  why:") (walk step_limit index core (members_of (comers index core place)) [] (first_steps core place))
+    titled (codes "  why:") (walk_text step_limit index core (members_of (comers index core place)) [] (first_steps core place))
+
+-- the steps of that walk
+abbrev pub walk_of : IndexView → ℕ → List Constraint → List (List ℕ × Step)
+walk_of index place core = walk step_limit index core [] (first_steps core place)
+
+-- what the core says in a step
+abbrev pub told_by : Step → List Constraint
+told_by (Begin place) = []
+told_by (Meet depth place constraint) = []
+told_by (Tell depth constraint) = constraint ∷ []
+
+-- what the core says in the walk, in the order of its lines
+unfoldable pub told_in : IndexView → ℕ → List Constraint → List Constraint
+told_in index place core = flat_map (λ gone. told_by gone.1) (walk_of index place core)
 
 -- ---- what is of the index
 

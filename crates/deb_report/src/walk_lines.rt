@@ -11,7 +11,7 @@ ghost use Rattle.deb_report.specs.declared.walk.Step.{Step};
 ghost use Rattle.deb_report.specs.Near.{near_misses, near_view, similar_names};
 ghost use Rattle.deb_report.specs.Similar.{FitsWalk, IsSimilarOf, stems_in};
 ghost use Rattle.deb_report.specs.Stems.{AreSought};
-ghost use Rattle.deb_report.specs.Walk.{IsStepOf, are_told, brought, own_steps, step_limit, steps_behind, told_behind, walk};
+ghost use Rattle.deb_report.specs.Walk.{IsStepOf, are_told, brought, own_steps, step_limit, steps_behind, told_behind, walk_text};
 ghost use Rattle.deb_report.specs.Walk.{above_text, asked_text, constraint_text, hits_text, lead, missing_text, near_text, need_ending, present_text};
 ghost use Rattle.deb_report.specs.Walk.{package_line, package_text, seen_text, seen_texts, similar_text, step_text, walk_lines};
 
@@ -507,7 +507,7 @@ impl<'i> Walk<'i> {
         requires core { All (FitsWalk self.now.index.now self.now.similar.now) self.now.core.now }
         requires steps { All (IsStepOf self.now.index.now (FitsWalk self.now.index.now self.now.similar.now)) (reverse stack.old.items) }
         ensures { OnOk result (out.new.items ≡
-            out.old.items ++ walk step_limit self.now.index.now self.now.core.now (members_of self.now.coming.now) [] (reverse stack.old.items)) }
+            out.old.items ++ walk_text step_limit self.now.index.now self.now.core.now (members_of self.now.coming.now) [] (reverse stack.old.items)) }
     {
         let mut told = PlaceSet::new(self.alloc);
         for _ in 0..u64::MAX {
