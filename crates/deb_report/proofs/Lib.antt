@@ -13,6 +13,7 @@ mod ListLemmas
 mod MarkLemmas
 mod MissingLemmas
 mod NearLemmas
+pub mod NewsLemmas
 mod NumberingLemmas
 mod SaidLemmas
 mod PartLemmas

@@ -31,7 +31,7 @@ abbrev broken_places : List ℕ → List VerdictView → List ℕ
 broken_places asked verdicts = map place_of (broken_ones asked verdicts)
 
 -- which places are broken depends on the statuses alone
-same-places : (asked : List ℕ) (earlier verdicts : List VerdictView) → map is_broken earlier ≡ map is_broken verdicts → broken_places asked earlier ≡ broken_places asked verdicts
+pub same-places : (asked : List ℕ) (earlier verdicts : List VerdictView) → map is_broken earlier ≡ map is_broken verdicts → broken_places asked earlier ≡ broken_places asked verdicts
 same-places [] earlier verdicts same = refl
 same-places (p ∷ ps) [] [] same = refl
 same-places (p ∷ ps) [] (v ∷ vs) same = cc

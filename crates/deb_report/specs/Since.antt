@@ -30,13 +30,21 @@ broken_of index asked verdicts = map (λ one. broken_at index one.0) (broken_one
 abbrev pub was_broken : List BrokenView → List ℕ → Bool
 was_broken before name = list_any (λ deb. bytes_eq deb.name name) before
 
+-- no package of the name of the one at a place was broken
+abbrev pub is_new : IndexView → List BrokenView → ℕ → Bool
+is_new index before place = not (was_broken before (package_at index place).name)
+
 -- the broken package is newly broken: none of its name was
 abbrev pub is_news : IndexView → List BrokenView → ℕ × VerdictView → Bool
-is_news index before one = not (was_broken before (package_at index one.0).name)
+is_news index before one = is_new index before one.0
 
 -- the newly broken of the asked places, with their verdicts
 unfoldable pub news_of : IndexView → List ℕ → List VerdictView → List BrokenView → List (ℕ × VerdictView)
 news_of index asked verdicts before = filter (is_news index before) (broken_ones asked verdicts)
+
+-- the places of the newly broken
+abbrev pub newly_broken : IndexView → List ℕ → List VerdictView → List BrokenView → List ℕ
+newly_broken index asked verdicts before = map (λ one. one.0) (news_of index asked verdicts before)
 
 -- a package at one of the places has the name
 abbrev pub has_named : IndexView → List ℕ → List ℕ → Bool

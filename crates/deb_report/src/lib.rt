@@ -60,4 +60,5 @@ pub use asked::{AskedFault, asked_places, earlier_places};
 pub use broken::{BrokenPackage, broken_packages};
 pub use config::{CHUNK_LIMIT, Config, Format, Show};
 pub use layout::{report, report_since, report_told};
+pub use since::newly_broken;
 pub use summary::{Summary, summary_of};

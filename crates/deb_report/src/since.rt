@@ -1,13 +1,16 @@
 //! Which packages are newly broken since an earlier index.
 
 ghost use Rattle.std.specs.Prelude.{◌≡◌, ◌<◌, ℕ, Bool, List, All, IfOk, filter, length, map, not};
+ghost use Rattle.deb_health.specs.Verdicts.{SpeaksOf, verdict_view};
 ghost use Rattle.deb_index.specs.Packages.{names, package_at};
-ghost use Rattle.deb_report.specs.Since.{AreMarks, broken_view, is_news};
+ghost use Rattle.deb_report.specs.Since.{AreMarks, broken_view, is_news, newly_broken};
 ghost use Rattle.deb_report.specs.Told.{IsAskedOf, shown_view};
 
 use crate::broken::BrokenPackage;
+use crate::config::Show;
 use crate::marks::marks_of;
-use crate::shown::Shown;
+use crate::shown::{Shown, shown_of};
+use deb_health::Verdict;
 use deb_index::Index;
 use std::alloc::{AllocError, Global};
 
@@ -41,4 +44,33 @@ pub(crate) fn news_of<'v>(
         }
     }
     Ok(news)
+}
+
+/// The places of the newly broken packages, in the order of the asked ones: of those that are broken, where no package of their name is among
+/// `before`, the broken packages of an earlier index, as `broken_packages` gives them. Where that is empty, each broken package is newly broken.
+///
+/// There are as many verdicts as places, and both speak of what the index has; of a verdict it counts alone whether it is broken. `AllocError`
+/// where there is no memory for it.
+#[tactic(auto, unfolding(crate::specs::Since::news_of))]
+pub fn newly_broken(
+    alloc: Global,
+    index: &Index,
+    asked: &[u32],
+    verdicts: &[Verdict],
+    before: &[BrokenPackage],
+) -> Result<Vec<u32>, AllocError>
+    requires same { length asked.now ≡ length verdicts.now }
+    requires places { All (λ place. place < length index.now.packages) asked.now }
+    requires within { All (SpeaksOf index.now) (map verdict_view verdicts.now) }
+    ensures { IfOk result (λ places. places.items ≡
+        newly_broken index.now asked.now (map verdict_view verdicts.now) (map broken_view before.now)) }
+{
+    let failures = shown_of(alloc, asked, verdicts, Show::Failures)?;
+    let found = news_of(alloc, index, failures.as_slice(), before)?;
+    let news = found.as_slice();
+    let mut places = Vec::with_capacity(alloc, news.len())?;
+    for one in news {
+        places.push(one.place)?;
+    }
+    Ok(places)
 }

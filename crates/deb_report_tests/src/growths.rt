@@ -5,7 +5,9 @@ use crate::asking::{
 };
 use crate::causes::{CAUSES_ALONE, SHARED, SHARED_CAUSES, SHARED_HEAD};
 use crate::later::{ALL_IN_JSON, FIRST_DOCUMENT, MISSING, expect_told};
-use crate::since::{BLOCKS, EARLIER, HEAD, LATER, NUMBERS, ONE_CAUSE, expect_since};
+use crate::since::{
+    BLOCKS, EARLIER, HEAD, LATER, NUMBERS, ONE_CAUSE, expect_newly_broken, expect_since,
+};
 use crate::why::{EDITOR, EDITOR_REASONS, expect_reasons, expect_walk};
 use deb_index::Index;
 use deb_report::{Config, Format, Show};
@@ -226,6 +228,12 @@ fn of_report_with_walk(rt: HostRuntime) -> Result<(), Fail> {
 #[test]
 fn of_json_report_with_walk(rt: HostRuntime) -> Result<(), Fail> {
     expect_reasons(&rt, &EDITOR, EDITOR_REASONS)
+}
+
+/// The places of what is newly broken.
+#[test]
+fn of_newly_broken(rt: HostRuntime) -> Result<(), Fail> {
+    expect_newly_broken(&rt, EARLIER, LATER, &USUAL, &[1, 2])
 }
 
 /// The broken packages of an earlier index, and what became of them, with the causes of what is newly broken.

@@ -6,8 +6,8 @@ ghost use Rattle.deb_health.specs.Verdicts.{SpeaksOf, verdict_view};
 
 use deb_index::{Constraint, Index};
 use deb_report::{
-    BrokenPackage, Config, Summary, asked_places, broken_packages, earlier_places, report,
-    report_since, report_told,
+    BrokenPackage, Config, Summary, asked_places, broken_packages, earlier_places, newly_broken,
+    report, report_since, report_told,
 };
 use deb_verdict::{Groundwork, Verdict, Workspace, cores_in, verdict};
 use std::alloc::{AllocError, Global};
@@ -131,6 +131,23 @@ pub fn broken_before(
     let places = places.as_slice();
     let verdicts = verdicts_of(alloc, index, places)?;
     broken_packages(alloc, index, places, verdicts.as_slice())
+}
+
+/// The places of the newly broken packages, of those that are asked.
+///
+/// # Errors
+///
+/// A name that no package has, or want of memory.
+pub fn newly_broken_on(
+    alloc: Global,
+    index: &Index,
+    before: &[BrokenPackage],
+    config: &Config,
+) -> Result<Vec<u32>, Fail> {
+    let asked = asked_places(alloc, index, config)?;
+    let asked = asked.as_slice();
+    let verdicts = verdicts_of(alloc, index, asked)?;
+    Ok(newly_broken(alloc, index, asked, verdicts.as_slice(), before)?)
 }
 
 /// The report on what became of the places that are asked, with its numbers.

@@ -1,7 +1,7 @@
 //! The report since an earlier index.
 
-use crate::asking::{Asked, USUAL, config_of, index_of, is_made_of, on_both};
-use crate::reporting::{broken_before, report_since_on};
+use crate::asking::{Asked, USUAL, config_of, index_of, is_made_of, on_both, on_index};
+use crate::reporting::{broken_before, newly_broken_on, report_since_on};
 use deb_index::Index;
 use deb_report::{BrokenPackage, Format, Show};
 use std::alloc::{AllocGlobal, Global};
@@ -399,4 +399,51 @@ fn listed_names(rt: HostRuntime) -> Result<(), Fail> {
         ..USUAL
     };
     expect_since(&rt, EARLIER, LATER, &asked, &[HEAD, ONE_BLOCK, TWO_NAMES])
+}
+
+fn expect_newly_broken_on(
+    rt: &impl Abort,
+    alloc: Global,
+    index: &Index,
+    before: &[BrokenPackage],
+    asked: &Asked<'_>,
+    wanted: &[u32],
+) -> Result<(), Fail> {
+    let config = config_of(alloc, asked)?;
+    let news = newly_broken_on(alloc, index, before, &config)?;
+    assert_eq!(rt; news.as_slice(), wanted);
+    Ok(())
+}
+
+/// Compares the places of the newly broken packages of the index of a text since an earlier index with what is expected.
+pub fn expect_newly_broken(
+    rt: &(impl Abort + AllocGlobal),
+    earlier: &str,
+    text: &str,
+    asked: &Asked<'_>,
+    wanted: &[u32],
+) -> Result<(), Fail> {
+    let before = broken_in(rt.alloc(), earlier, asked)?;
+    on_index(rt.alloc(), text, |index| {
+        expect_newly_broken_on(rt, rt.alloc(), index, before.as_slice(), asked, wanted)
+    })
+}
+
+/// Of one name another version was broken, of one none is broken any more, and one was broken and is still.
+#[test]
+fn places_of_the_newly_broken(rt: HostRuntime) -> Result<(), Fail> {
+    expect_newly_broken(&rt, EARLIER, LATER, &USUAL, &[1, 2])?;
+    expect_newly_broken(&rt, VERSIONS, OTHER_VERSIONS, &USUAL, &[4])?;
+    expect_newly_broken(&rt, LATER, LATER, &USUAL, &[])?;
+    expect_newly_broken(&rt, "", OTHER_VERSIONS, &USUAL, &[1, 2, 4])
+}
+
+/// Of listed names alone.
+#[test]
+fn places_of_listed_names(rt: HostRuntime) -> Result<(), Fail> {
+    let asked = Asked {
+        only: Some(&[b"d", b"a"]),
+        ..USUAL
+    };
+    expect_newly_broken(&rt, EARLIER, LATER, &asked, &[2])
 }

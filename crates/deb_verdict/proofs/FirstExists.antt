@@ -36,7 +36,7 @@ all_or_not (suc limit) P decides =
     ]
 
 -- the constraints at positions of a list
-named_at : (constraints : List Constraint) (numbers : List ℕ) → All (λ k. k < length constraints) numbers
+pub named_at : (constraints : List Constraint) (numbers : List ℕ) → All (λ k. k < length constraints) numbers
     → map (slice_get constraints) numbers ≡ map Some (map (λ k. get_or constraints k (Essential 0)) numbers)
 named_at constraints [] within = refl
 named_at constraints (number ∷ numbers) within =
@@ -133,7 +133,8 @@ module _ (index : IndexView) where
 
     -- ---- the first core
 
-    admits_none_or_not : Decides (AdmitsNone index p)
+    -- whether constraints admit none is known
+    pub admits_none_or_not : Decides (AdmitsNone index p)
     admits_none_or_not positions = elim (first_or_none limit (AdmitsBy positions) (admits_by_or_not positions)) [
       | inl found ↦ inr (λ none. let has : AdmitsBy positions found.0 = found.1.0.1 in none (found.0, has.0, has.1))
       | inr neither ↦ inl (λ admits.

@@ -1,6 +1,7 @@
 pub mod Answered
 pub mod BaseLemmas
 pub mod CauseSteps
+pub mod CoresExist
 pub mod Cutting
 pub mod Derived
 pub mod Described

@@ -1,24 +1,27 @@
--- Cores that are placed are the later ones of the asked places.
-use Rattle.std.proofs.Common.{Global, Vec, ◌≡◌, ◌∙◌, ℕ, zero, suc, ◌+◌, ◌<◌, ◌==◌, ◌||◌, Bool, true, false, List, [], ◌∷◌, ◌++◌, All, Some, if◌then◌else◌, drop, get_or, length, map, set, slice_get, refl, subst, sym, arith, inl, inr}
-use Rattle.std.proofs.lemmas.Bool.{cases_Bool, cases_lt, eq-eqb, eqb-true, false≢true, or_left, or_parts, or_right, true≢false}
+-- Cores that are placed are the later ones of their places.
+use Rattle.std.proofs.Common.{Global, Vec, ◌≡◌, ◌∙◌, ℕ, zero, suc, ◌+◌, ◌<◌, ◌≤◌, ◌==◌, ◌||◌, Bool, true, false, ◌&&◌, List, [], ◌∷◌, ◌++◌, All, Some, ap, ap₂, append_assoc, if◌then◌else◌, drop, get_or, length, map, set, slice_get, refl, subst, sym, take, arith, inl, inr}
+use Rattle.std.proofs.lemmas.Bool.{cases_Bool, cases_lt, eq-eqb, eqb-true, false≢true, or_cases, or_left, or_parts, or_right, true≢false}
 use Rattle.std.proofs.lemmas.Grind.{get_or-set_at}
-use Rattle.std.proofs.lemmas.List.{get_or-set_other, get_or_past, length-set}
+use Rattle.std.proofs.lemmas.List.{drop-drop, drop_all, drop_more, get_or-set_other, get_or_past, length-map, length-set}
 use Rattle.std.proofs.lemmas.List.Elements.{All-cons, All-head, All-map, All-nil, All-set, All-tail, All-weaker}
 use Rattle.deb_index.specs.declared.constraint.Constraint.{Constraint}
 use Rattle.deb_index.specs.Constraints.{IsOfIndex, constraints_of}
-use Rattle.deb_index.specs.Packages.{IndexView}
+use Rattle.deb_index.specs.Packages.{IndexView, PackageView}
 use Rattle.number_sets.specs.Sets.{all_of, members_of}
 use Rattle.deb_health.specs.Causes.{AreCores, AreCoresWithout, nothing, without}
 use Rattle.deb_health.specs.Health.{IsHopeless, IsInstallable}
-use Rattle.deb_health.specs.Verdicts.{Blocked, Found, SpeaksOf, VerdictView}
-use Rattle.deb_health.proofs.CoreLemmas.{first_is_first, installable_has_none, one_list}
+use Rattle.deb_health.specs.Verdicts.{Blocked, Found, IsFirstCore, IsVerdict, SpeaksOf, VerdictView}
+use Rattle.deb_health.proofs.CoreLemmas.{first_is_first, none_of_installable, one_list}
 use Rattle.deb_verdict.specs.Told.{IsToldSet, IsToldVerdict}
+use Rattle.deb_verdict.proofs.CoresExist.{cores_exist}
 use Rattle.deb_verdict.proofs.Cutting.{healthy_from_meets}
+use Rattle.deb_verdict.proofs.OneVerdict.{one_core}
 use Rattle.work_draw.specs.Checks.{AnswersEach, cores_view}
 use Rattle.deb_report.specs.Report.{is_broken, later_at}
+use Rattle.deb_report.specs.Settings.{Settings, tells_all_causes}
 use Rattle.deb_report.specs.Told.{AreLaterOf, later_view}
-use Rattle.debcheck.specs.Later.{AreLaterCores}
-use Rattle.debcheck.specs.Standing.{HaveAllCores, broken_places, first_core, placed, wanting, with_cores}
+use Rattle.debcheck.specs.Later.{AreAllLater, AreLaterCores, AreLaterIf}
+use Rattle.debcheck.specs.Standing.{HaveCores, is_next, placed, wanting, with_cores, with_first}
 
 abbrev Cores : Type 0
 Cores = List (List Constraint)
@@ -63,7 +66,38 @@ placed-all P later [] cores all more = all
 placed-all P later (p ∷ ps) [] all more = all
 placed-all P later (p ∷ ps) (c ∷ cs) all more = placed-all P (set later p c) ps cs (All-set P later p c (All-head P c cs more) all) (All-tail P c cs more)
 
--- ---- cores of broken packages
+-- ---- cores of packages
+
+-- verdicts of this kind tell whether a package can be installed, and the first core where it can't
+pub record Tells (index : IndexView) (R : ℕ → VerdictView → Type 0) : Type 0 where
+  pub found : (p : ℕ) (places : List ℕ) → R p (Found places) → IsInstallable index p
+  pub blocked : (p : ℕ) (core : List Constraint) → R p (Blocked core) → IsHopeless index p × IsFirstCore index p core
+
+-- ---- what is known by a verdict
+
+pub installable : (index : IndexView) (sets : Bool) (p : ℕ) (places : List ℕ) → IsToldSet sets index p places → IsInstallable index p
+installable index true p places told = (members_of places, told.1.0)
+installable index false p places told = told.1
+
+pub told_tells : (index : IndexView) (sets : Bool) → Tells index (IsToldVerdict (wanting sets true) index)
+told_tells index sets = record { found = λ p places told. installable index sets p places told; blocked = λ p core told. told }
+
+pub verdicts_tell : (index : IndexView) → Tells index (IsVerdict index)
+verdicts_tell index = record { found = λ p places first. (members_of places, first.1.0); blocked = λ p core first. first }
+
+first_of_index : (index : IndexView) (cores : Cores) → All (All (IsOfIndex index)) cores → SpeaksOf index (with_first cores)
+first_of_index index [] all = All-nil (IsOfIndex index)
+first_of_index index (core ∷ later) all = All-head (All (IsOfIndex index)) core later all
+
+behind_of_index : (index : IndexView) (cores : Cores) → All (All (IsOfIndex index)) cores → All (All (IsOfIndex index)) (drop 1 cores)
+behind_of_index index [] all = All-nil (All (IsOfIndex index))
+behind_of_index index (core ∷ later) all = All-tail (All (IsOfIndex index)) core later all
+
+pub cores_of_index : (index : IndexView) (cores : List (Vec (Vec Constraint Global) Global)) → All (λ one. All (λ core. All (IsOfIndex index) core.items) one.items) cores → AreLaterOf index (later_view cores)
+cores_of_index index cores all =
+    All-map (All (All (IsOfIndex index))) cores_view cores
+    (All-weaker (λ (one : Vec (Vec Constraint Global) Global). All (λ core. All (IsOfIndex index) core.items) one.items) (λ one. All (All (IsOfIndex index)) (cores_view one))
+    (λ one h. All-map (All (IsOfIndex index)) (λ core. core.items) one.items h) cores all)
 
 module _ (index : IndexView) where
   -- a package without cores can be installed
@@ -74,113 +108,64 @@ module _ (index : IndexView) where
       by [] chain stand = (chain.0, (healthy_from_meets index chain.0 (without nothing all_of) (λ k below. refl) chain.2, chain.1))
       by (x ∷ xs) chain stand = absurd cc
 
-  -- these cores stand behind some first one
-  abbrev HasFirst : ℕ → Cores → Type 0
-  HasFirst p later = (core : List Constraint) × AreCores index p (core ∷ later)
+  -- these are the cores of p behind the first, where it has one
+  abbrev pub AreBehind : ℕ → Cores → Type 0
+  AreBehind p later = (cores : Cores) × AreCores index p cores × (later ≡ drop 1 cores)
 
-  behind_first : (p : ℕ) → IsHopeless index p → (cores : Cores) → AreCores index p cores → HasFirst p (drop 1 cores)
-  behind_first p hopeless [] are = let healthy = coreless p are in absurd (hopeless healthy.0 healthy.1)
-  behind_first p hopeless (core ∷ later) are = (core, are)
+  pub one_behind : (p : ℕ) (a b : Cores) → AreBehind p a → AreBehind p b → a ≡ b
+  one_behind p a b first second = first.2 ∙ ap (drop 1) (one_list index p first.0 second.0 first.1 second.1) ∙ sym second.2
 
-  module _ (sets : Bool) where
-    behind_each : (asked : List ℕ) (verdicts : List VerdictView) (cores : List Cores) → AnswersEach (IsToldVerdict (wanting sets false) index) asked verdicts
-        → AnswersEach (AreCores index) (broken_places asked verdicts) cores → AnswersEach HasFirst (broken_places asked verdicts) (map (drop 1) cores)
-    behind_each [] [] [] told are = tt
-    behind_each [] [] (c ∷ cores) told are = absurd are
-    behind_each [] (v ∷ verdicts) cores told are = absurd told
-    behind_each (p ∷ asked) [] cores told are = absurd told
-    behind_each (p ∷ asked) (Found places ∷ verdicts) cores told are = behind_each asked verdicts cores told.1 are
-    behind_each (p ∷ asked) (Blocked core ∷ verdicts) [] told are = absurd are
-    behind_each (p ∷ asked) (Blocked core ∷ verdicts) (c ∷ cores) told are = (behind_first p told.0.0 c are.0, behind_each asked verdicts cores told.1 are.1)
+  -- a package that can be installed has none
+  pub none_behind : (p : ℕ) → IsInstallable index p → AreBehind p []
+  none_behind p healthy = ([], none_of_installable index p healthy, refl)
 
-    -- the verdicts with their first cores
-    told_first : (p : ℕ) (cores : Cores) → IsHopeless index p → AreCores index p cores → IsToldVerdict (wanting sets true) index p (Blocked (first_core cores))
-    told_first p [] hopeless are = let healthy = coreless p are in absurd (hopeless healthy.0 healthy.1)
-    told_first p (core ∷ later) hopeless are = (hopeless, first_is_first index p core later are)
+  -- those of a package with a first core
+  behind_core : (p : ℕ) (core : List Constraint) (later : Cores) → IsHopeless index p → IsFirstCore index p core → AreBehind p later → AreCores index p (core ∷ later)
+  behind_core p core later hopeless first behind = by behind.0 behind.1 behind.2
+    where
+      by : (cores : Cores) → AreCores index p cores → later ≡ drop 1 cores → AreCores index p (core ∷ later)
+      by [] are is = let healthy = coreless p are in absurd (hopeless healthy.0 healthy.1)
+      by (one ∷ others) are is =
+          let same : core ≡ one = one_core index p core one first (first_is_first index p one others are) in
+          subst (AreCores index p) (ap₂ (λ front rest. front ∷ rest) (sym same) (sym is)) are
 
-    told_each : (asked : List ℕ) (verdicts : List VerdictView) (cores : List Cores) → AnswersEach (IsToldVerdict (wanting sets false) index) asked verdicts
-        → AnswersEach (AreCores index) (broken_places asked verdicts) cores → AnswersEach (IsToldVerdict (wanting sets true) index) asked (with_cores verdicts (map first_core cores))
-    told_each [] [] cores told are = tt
-    told_each [] (v ∷ verdicts) cores told are = absurd told
-    told_each (p ∷ asked) [] cores told are = absurd told
-    told_each (p ∷ asked) (Found places ∷ verdicts) cores told are = (told.0, told_each asked verdicts cores told.1 are)
-    told_each (p ∷ asked) (Blocked core ∷ verdicts) [] told are = absurd are
-    told_each (p ∷ asked) (Blocked core ∷ verdicts) (c ∷ cores) told are = (told_first p c told.0.0 are.0, told_each asked verdicts cores told.1 are.1)
+  -- ---- places with verdicts
 
-    installable : (p : ℕ) (places : List ℕ) → IsToldVerdict (wanting sets false) index p (Found places) → IsInstallable index p
-    installable p places told = by sets told
-      where
-        by : (wanted : Bool) → IsToldSet wanted index p places → IsInstallable index p
-        by true is = (members_of places, is.1.0)
-        by false is = is.1
+  module _ (R : ℕ → VerdictView → Type 0) (tells : Tells index R) (later : List Cores) where
+    abbrev IsLater : ℕ → VerdictView → Type 0
+    IsLater place verdict = AreLaterCores index place verdict (later_at later place)
 
-    -- cores of one package, of which these are known to stand behind some first one
-    same_first : (p : ℕ) (cores later : Cores) → IsHopeless index p → AreCores index p cores → HasFirst p later → AreLaterCores index p (Blocked (first_core cores)) later
-    same_first p cores later hopeless are first =
-        let same : cores ≡ first.0 ∷ later = one_list index p cores (first.0 ∷ later) are first.1 in
-        rw same first.1
+    later_one : (p : ℕ) (verdict : VerdictView) → R p verdict → AreBehind p (later_at later p) → IsLater p verdict
+    later_one p (Found places) told behind = one_behind p (later_at later p) [] behind (none_behind p (tells.found p places told))
+    later_one p (Blocked core) told behind = let first = tells.blocked p core told in behind_core p core (later_at later p) first.0 first.1 behind
 
-    module _ (later : List Cores) (none : (q : ℕ) → IsInstallable index q → later_at later q ≡ []) where
-      of_asked : (asked : List ℕ) (verdicts : List VerdictView) (cores : List Cores) → AnswersEach (IsToldVerdict (wanting sets false) index) asked verdicts
-          → AnswersEach (AreCores index) (broken_places asked verdicts) cores
-          → ((q : ℕ) → members_of (broken_places asked verdicts) q ≡ true → HasFirst q (later_at later q))
-          → AnswersEach (λ place verdict. AreLaterCores index place verdict (later_at later place)) asked (with_cores verdicts (map first_core cores))
-      of_asked [] [] cores told are there = tt
-      of_asked [] (v ∷ verdicts) cores told are there = absurd told
-      of_asked (p ∷ asked) [] cores told are there = absurd told
-      of_asked (p ∷ asked) (Found places ∷ verdicts) cores told are there = (none p (installable p places told.0), of_asked asked verdicts cores told.1 are there)
-      of_asked (p ∷ asked) (Blocked core ∷ verdicts) [] told are there = absurd are
-      of_asked (p ∷ asked) (Blocked core ∷ verdicts) (c ∷ cores) told are there = (
-        same_first p c (later_at later p) told.0.0 are.0 (there p (or_left (p == p) (members_of (broken_places asked verdicts) p) (eq-eqb p p refl))),
-        of_asked asked verdicts cores told.1 are.1 (λ q among. there q (or_right (p == q) (members_of (broken_places asked verdicts) q) among)),
-      )
+    later_each : (asked : List ℕ) (verdicts : List VerdictView) → AnswersEach R asked verdicts → ((q : ℕ) → members_of asked q ≡ true → AreBehind q (later_at later q)) → AnswersEach IsLater asked verdicts
+    later_each [] [] told behind = tt
+    later_each [] (v ∷ verdicts) told behind = absurd told
+    later_each (p ∷ asked) [] told behind = absurd told
+    later_each (p ∷ asked) (v ∷ verdicts) told behind = (
+      later_one p v told.0 (behind p (or_left (p == p) (members_of asked p) (eq-eqb p p refl))),
+      later_each asked verdicts told.1 (λ q among. behind q (or_right (p == q) (members_of asked q) among)),
+    )
 
-  broken_asked : (asked : List ℕ) (verdicts : List VerdictView) (q : ℕ) → members_of asked q ≡ false → members_of (broken_places asked verdicts) q ≡ false
-  broken_asked [] verdicts q out = refl
-  broken_asked (p ∷ asked) [] q out = refl
-  broken_asked (p ∷ asked) (Found places ∷ verdicts) q out = broken_asked asked verdicts q (or_parts (p == q) (members_of asked q) out).1
-  broken_asked (p ∷ asked) (Blocked core ∷ verdicts) q out =
-      let parts = or_parts (p == q) (members_of asked q) out in
-      rw (parts.0, broken_asked asked verdicts q parts.1) refl
+    behind_one : (p : ℕ) (verdict : VerdictView) → R p verdict → IsLater p verdict → AreBehind p (later_at later p)
+    behind_one p (Found places) told are = subst (AreBehind p) (sym are) (none_behind p (tells.found p places told))
+    behind_one p (Blocked core) told are = (core ∷ later_at later p, are, refl)
 
-  pub broken_within : (limit : ℕ) (asked : List ℕ) (verdicts : List VerdictView) → All (λ p. p < limit) asked → All (λ p. p < limit) (broken_places asked verdicts)
-  broken_within limit [] verdicts within = All-nil (λ p. p < limit)
-  broken_within limit (p ∷ asked) [] within = All-nil (λ p. p < limit)
-  broken_within limit (p ∷ asked) (Found places ∷ verdicts) within = broken_within limit asked verdicts (All-tail (λ p. p < limit) p asked within)
-  broken_within limit (p ∷ asked) (Blocked core ∷ verdicts) within =
-      All-cons (λ p. p < limit) p (broken_places asked verdicts) (All-head (λ p. p < limit) p asked within) (broken_within limit asked verdicts (All-tail (λ p. p < limit) p asked within))
+    pub behind_there : (asked : List ℕ) (verdicts : List VerdictView) → AnswersEach R asked verdicts → AnswersEach IsLater asked verdicts → (q : ℕ) → members_of asked q ≡ true → AreBehind q (later_at later q)
+    behind_there [] verdicts told are q among = absurd (false≢true among)
+    behind_there (p ∷ asked) [] told are q among = absurd told
+    behind_there (p ∷ asked) (v ∷ verdicts) told are q among = elim (or_cases (p == q) (members_of asked q) among) [
+      | inl here ↦ subst (λ (r : ℕ). AreBehind r (later_at later r)) (eqb-true p q here) (behind_one p v told.0 are.0)
+      | inr further ↦ behind_there asked verdicts told.1 are.1 q further
+    ]
 
-  -- ---- what is of the index
+  -- ---- cores at their places
 
-  firsts_of_index : (cores : Cores) → All (All (IsOfIndex index)) cores → All (IsOfIndex index) (first_core cores)
-  firsts_of_index [] all = All-nil (IsOfIndex index)
-  firsts_of_index (core ∷ later) all = All-head (All (IsOfIndex index)) core later all
-
-  behind_of_index : (cores : Cores) → All (All (IsOfIndex index)) cores → All (All (IsOfIndex index)) (drop 1 cores)
-  behind_of_index [] all = All-nil (All (IsOfIndex index))
-  behind_of_index (core ∷ later) all = All-tail (All (IsOfIndex index)) core later all
-
-  pub cores_of_index : (cores : List (Vec (Vec Constraint Global) Global)) → All (λ one. All (λ core. All (IsOfIndex index) core.items) one.items) cores → AreLaterOf index (later_view cores)
-  cores_of_index cores all =
-      All-map (All (All (IsOfIndex index))) cores_view cores
-      (All-weaker (λ (one : Vec (Vec Constraint Global) Global). All (λ core. All (IsOfIndex index) core.items) one.items) (λ one. All (All (IsOfIndex index)) (cores_view one))
-      (λ one h. All-map (All (IsOfIndex index)) (λ core. core.items) one.items h) cores all)
-
-  speak_with : (verdicts : List VerdictView) (cores : List (List Constraint)) → All (SpeaksOf index) verdicts → All (All (IsOfIndex index)) cores → All (SpeaksOf index) (with_cores verdicts cores)
-  speak_with [] cores speak all = All-nil (SpeaksOf index)
-  speak_with (Found places ∷ verdicts) cores speak all =
-      All-cons (SpeaksOf index) (Found places) (with_cores verdicts cores) (All-head (SpeaksOf index) (Found places) verdicts speak) (speak_with verdicts cores (All-tail (SpeaksOf index) (Found places) verdicts speak) all)
-  speak_with (Blocked core ∷ verdicts) [] speak all = speak_with verdicts [] (All-tail (SpeaksOf index) (Blocked core) verdicts speak) all
-  speak_with (Blocked core ∷ verdicts) (c ∷ cores) speak all =
-      All-cons (SpeaksOf index) (Blocked c) (with_cores verdicts cores) (All-head (All (IsOfIndex index)) c cores all)
-      (speak_with verdicts cores (All-tail (SpeaksOf index) (Blocked core) verdicts speak) (All-tail (All (IsOfIndex index)) c cores all))
-
-  -- ---- all of it
-
-  module _ (sets : Bool) (asked : List ℕ) (verdicts : List VerdictView) (empty : List Cores) (cores : List Cores) (count : length empty ≡ length index.packages) (inside : All (λ p. p < length index.packages) asked)
-      (none : All (λ all. all ≡ []) empty) (told : AnswersEach (IsToldVerdict (wanting sets false) index) asked verdicts) (are : AnswersEach (AreCores index) (broken_places asked verdicts) cores) where
+  module _ (places : List ℕ) (empty : List Cores) (cores : List Cores) (count : length empty ≡ length index.packages) (inside : All (λ p. p < length index.packages) places)
+      (none : All (λ all. all ≡ []) empty) (are : AnswersEach (AreCores index) places cores) where
     abbrev ends : List Cores
-    ends = placed empty (broken_places asked verdicts) (map (drop 1) cores)
+    ends = placed empty places (map (drop 1) cores)
 
     empty_at : (q : ℕ) → later_at empty q ≡ []
     empty_at q = elim (cases_lt q (length empty)) [
@@ -188,51 +173,72 @@ module _ (index : IndexView) where
       | inr past ↦ get_or_past empty q [] past
     ]
 
-    ends_there : (q : ℕ) → members_of (broken_places asked verdicts) q ≡ true → HasFirst q (later_at ends q)
-    ends_there q among =
-        placed-there HasFirst empty (broken_places asked verdicts) (map (drop 1) cores) (rw count (broken_within (length index.packages) asked verdicts inside)) (behind_each sets asked verdicts cores told are) q among
+    behind_each : (list : List ℕ) (all : List Cores) → AnswersEach (AreCores index) list all → AnswersEach AreBehind list (map (drop 1) all)
+    behind_each [] [] each = tt
+    behind_each [] (c ∷ all) each = absurd each
+    behind_each (p ∷ list) [] each = absurd each
+    behind_each (p ∷ list) (c ∷ all) each = ((c, each.0, refl), behind_each list all each.1)
 
-    ends_none : (q : ℕ) → members_of (broken_places asked verdicts) q ≡ false → later_at ends q ≡ []
-    ends_none q out = placed-other empty (broken_places asked verdicts) (map (drop 1) cores) q out ∙ empty_at q
-
-    ends_installable : (q : ℕ) → IsInstallable index q → later_at ends q ≡ []
-    ends_installable q healthy = elim (cases_Bool (members_of (broken_places asked verdicts) q)) [
-      | inl among ↦ let first = ends_there q among in absurd (cons_not_nil first.0 (later_at ends q) (installable_has_none index q healthy (first.0 ∷ later_at ends q) first.1))
-      | inr out ↦ ends_none q out
-    ]
-      where
-        cons_not_nil : (core : List Constraint) (later : Cores) → core ∷ later ≡ [] → ⊥
-        cons_not_nil core later same = cc
-
-    pub have-all-cores : All (SpeaksOf index) verdicts → All (All (All (IsOfIndex index))) cores → HaveAllCores sets index asked (with_cores verdicts (map first_core cores)) ends
-    have-all-cores speak all = record {
-      each = told_each sets asked verdicts cores told are;
-      are_later = record {
-        count = placed-length empty (broken_places asked verdicts) (map (drop 1) cores) ∙ count;
-        of_asked = of_asked sets ends ends_installable asked verdicts cores told are ends_there;
-        of_others = λ q out. ends_none q (broken_asked asked verdicts q out);
-      };
-      within = speak_with verdicts (map first_core cores) speak
-          (All-map (All (IsOfIndex index)) first_core cores (All-weaker (All (All (IsOfIndex index))) (λ one. All (IsOfIndex index) (first_core one)) firsts_of_index cores all));
-      of_index = placed-all (All (All (IsOfIndex index))) empty (broken_places asked verdicts) (map (drop 1) cores)
-          (All-weaker (λ one. one ≡ []) (All (All (IsOfIndex index))) (λ one is. rw is (All-nil (All (IsOfIndex index)))) empty none)
-          (All-map (All (All (IsOfIndex index))) (drop 1) cores (All-weaker (All (All (IsOfIndex index))) (λ one. All (All (IsOfIndex index)) (drop 1 one)) behind_of_index cores all));
+    -- they are all later ones of what has these verdicts
+    pub all-later : (R : ℕ → VerdictView → Type 0) → Tells index R → (verdicts : List VerdictView) → AnswersEach R places verdicts → AreAllLater index places verdicts ends
+    all-later R tells verdicts told = record {
+      count = placed-length empty places (map (drop 1) cores) ∙ count;
+      of_asked = later_each R tells ends places verdicts told (placed-there AreBehind empty places (map (drop 1) cores) (rw count inside) (behind_each places cores are));
+      of_others = λ q out. placed-other empty places (map (drop 1) cores) q out ∙ empty_at q;
     }
 
--- ---- loops
+    -- ---- what is found of packages that are broken
 
--- the places of broken packages from the ith asked one on
-pub broken_next : (asked : List ℕ) (verdicts : List VerdictView) (i d : ℕ) (e : VerdictView) → i < length asked → i < length verdicts
-    → broken_places (drop i asked) (drop i verdicts) ≡ (if is_broken (get_or verdicts i e) then get_or asked i d ∷ [] else []) ++ broken_places (drop (i + 1) asked) (drop (i + 1) verdicts)
-broken_next [] verdicts i d e below within = absurd (omega arith)
-broken_next (p ∷ asked) [] i d e below within = absurd (omega arith)
-broken_next (p ∷ asked) (Found places ∷ verdicts) zero d e below within = refl
-broken_next (p ∷ asked) (Blocked core ∷ verdicts) zero d e below within = refl
-broken_next (p ∷ asked) (v ∷ verdicts) (suc i) d e below within =
-    let front : i < length asked = omega (arith, below) in
-    let back : i < length verdicts = omega (arith, within) in
-    let more : suc i + 1 ≡ suc (i + 1) = omega arith in
-    rw more (broken_next asked verdicts i d e front back)
+    module _ (sets : Bool) where
+      first_told : (p : ℕ) (one : Cores) → IsHopeless index p → AreCores index p one → IsToldVerdict (wanting sets true) index p (with_first one)
+      first_told p [] hopeless are_of = let healthy = coreless p are_of in absurd (hopeless healthy.0 healthy.1)
+      first_told p (core ∷ later) hopeless are_of = (hopeless, first_is_first index p core later are_of)
+
+      firsts_told : (list : List ℕ) (all : List Cores) → All (IsHopeless index) list → AnswersEach (AreCores index) list all → AnswersEach (IsToldVerdict (wanting sets true) index) list (map with_first all)
+      firsts_told [] [] hopeless each = tt
+      firsts_told [] (c ∷ all) hopeless each = absurd each
+      firsts_told (p ∷ list) [] hopeless each = absurd each
+      firsts_told (p ∷ list) (c ∷ all) hopeless each =
+          (first_told p c (All-head (IsHopeless index) p list hopeless) each.0, firsts_told list all (All-tail (IsHopeless index) p list hopeless) each.1)
+
+      pub have-all : (settings : Settings) → tells_all_causes settings ≡ true → All (IsHopeless index) places → AreLaterOf index cores → HaveCores settings sets index places (map with_first cores) ends
+      have-all settings tells hopeless of_index =
+          let told = firsts_told places cores hopeless are in
+          record {
+            each = told;
+            are_later = subst (λ (tells_all : Bool). AreLaterIf tells_all index places (map with_first cores) ends) (sym tells)
+                (all-later (IsToldVerdict (wanting sets true) index) (told_tells index sets) (map with_first cores) told);
+            within = All-map (SpeaksOf index) with_first cores (All-weaker (All (All (IsOfIndex index))) (λ one. SpeaksOf index (with_first one)) (first_of_index index) cores of_index);
+            of_index = placed-all (All (All (IsOfIndex index))) empty places (map (drop 1) cores)
+                (All-weaker (λ one. one ≡ []) (All (All (IsOfIndex index))) (λ one is. rw is (All-nil (All (IsOfIndex index)))) empty none)
+                (All-map (All (All (IsOfIndex index))) (drop 1) cores (All-weaker (All (All (IsOfIndex index))) (λ one. All (All (IsOfIndex index)) (drop 1 one)) (behind_of_index index) cores of_index));
+          }
+
+-- ---- later cores of all asked places
+
+module _ (index : IndexView) where
+  abbrev limit : ℕ
+  limit = length index.packages
+
+  each_exist : (places : List ℕ) → All (λ p. p < limit) places → (cores : List Cores) × AnswersEach (AreCores index) places cores
+  each_exist [] inside = ([], tt)
+  each_exist (p ∷ places) inside =
+      let first = cores_exist index p (All-head (λ q. q < limit) p places inside) in
+      let rest = each_exist places (All-tail (λ q. q < limit) p places inside) in
+      (first.0 ∷ rest.0, (first.1, rest.1))
+
+  -- there are such, whether a search found them or none did
+  pub later_exist : (asked : List ℕ) → All (λ p. p < limit) asked → (verdicts : List VerdictView) → AnswersEach (IsVerdict index) asked verdicts → (later : List Cores) × AreAllLater index asked verdicts later
+  later_exist asked inside verdicts told =
+      let nothing_at : PackageView → Cores = λ deb. [] in
+      let empty = map nothing_at index.packages in
+      let cores = each_exist asked inside in (
+        placed empty asked (map (drop 1) cores.0),
+        all-later index asked empty cores.0 (length-map index.packages nothing_at) inside (All-map (λ one. one ≡ []) nothing_at index.packages (λ k d below. refl)) cores.1
+            (IsVerdict index) (verdicts_tell index) verdicts told,
+      )
+
+-- ---- loops
 
 -- cores that are placed from the ith place on
 pub placed_next : (later : List Cores) (places : List ℕ) (i d : ℕ) (one : Cores) (cores : List Cores) → i < length places
@@ -247,6 +253,74 @@ placed_next later (p ∷ ps) (suc i) d one cores below =
 pub placed_none : (later : List Cores) (places : List ℕ) → placed later places [] ≡ later
 placed_none later [] = refl
 placed_none later (p ∷ ps) = refl
+
+-- whether a place is the next one behind some
+pub next_at : (places : List ℕ) (count d place : ℕ) → count < length places → is_next place (drop count places) ≡ (get_or places count d == place)
+next_at places count d place below = ap (is_next place) (drop_more places count d below)
+
+pub next_past : (places : List ℕ) (count place : ℕ) → length places ≤ count → is_next place (drop count places) ≡ false
+next_past places count place past = ap (is_next place) (drop_all count places past)
+
+-- ---- the loop that puts verdicts with cores in their places
+
+cores_none : (asked places : List ℕ) (others : List VerdictView) → with_cores asked [] places others ≡ []
+cores_none [] places others = refl
+cores_none (p ∷ asked) places others = refl
+
+module _ (asked places : List ℕ) (i met : ℕ) (told total : List VerdictView) (below : i < length asked) where
+  abbrev TellsAt : ℕ → ℕ → List VerdictView → List VerdictView → List VerdictView → Type 0
+  TellsAt index count so_far left rest = so_far ++ with_cores (drop index asked) left (drop count places) rest ≡ total
+
+  abbrev takes : VerdictView → Bool
+  takes verdict = is_broken verdict && is_next (get_or asked i 0) (drop met places)
+
+  step_taken : (verdict : VerdictView) (left rest : List VerdictView) → takes verdict ≡ true
+      → with_cores (drop i asked) (verdict ∷ left) (drop met places) rest ≡ take 1 rest ++ with_cores (drop (i + 1) asked) left (drop (met + 1) places) (drop 1 rest)
+  step_taken verdict left rest yes_so =
+      ap (λ (list : List ℕ). with_cores list (verdict ∷ left) (drop met places) rest) (drop_more asked i 0 below)
+      ∙ ap (λ (so : Bool). if so then take 1 rest ++ with_cores (drop (i + 1) asked) left (drop 1 (drop met places)) (drop 1 rest) else verdict ∷ with_cores (drop (i + 1) asked) left (drop met places) rest) yes_so
+      ∙ ap (λ (list : List ℕ). take 1 rest ++ with_cores (drop (i + 1) asked) left list (drop 1 rest)) (drop-drop 1 met places)
+
+  step_kept : (verdict : VerdictView) (left rest : List VerdictView) → takes verdict ≡ false
+      → with_cores (drop i asked) (verdict ∷ left) (drop met places) rest ≡ verdict ∷ with_cores (drop (i + 1) asked) left (drop met places) rest
+  step_kept verdict left rest not_so =
+      ap (λ (list : List ℕ). with_cores list (verdict ∷ left) (drop met places) rest) (drop_more asked i 0 below)
+      ∙ ap (λ (so : Bool). if so then take 1 rest ++ with_cores (drop (i + 1) asked) left (drop 1 (drop met places)) (drop 1 rest) else verdict ∷ with_cores (drop (i + 1) asked) left (drop met places) rest) not_so
+
+  -- another verdict is taken in the place of one
+  pub cores_taken : (verdict other : VerdictView) (left left_then rest rest_then : List VerdictView) → takes verdict ≡ true → left ≡ verdict ∷ left_then → rest ≡ other ∷ rest_then
+      → TellsAt i met told left rest → TellsAt (i + 1) (met + 1) (told ++ other ∷ []) left_then rest_then
+  cores_taken verdict other left left_then rest rest_then yes_so left_is rest_is tells =
+      append_assoc told (other ∷ []) (with_cores (drop (i + 1) asked) left_then (drop (met + 1) places) rest_then)
+      ∙ ap (λ list. told ++ list)
+      (sym (ap₂ (λ l r. with_cores (drop i asked) l (drop met places) r) left_is rest_is ∙ step_taken verdict left_then (other ∷ rest_then) yes_so))
+      ∙ tells
+
+  -- none is left to be taken
+  pub cores_missing : (verdict : VerdictView) (left left_then rest rest_then : List VerdictView) → takes verdict ≡ true → left ≡ verdict ∷ left_then → rest ≡ [] → rest_then ≡ []
+      → TellsAt i met told left rest → TellsAt (i + 1) (met + 1) told left_then rest_then
+  cores_missing verdict left left_then rest rest_then yes_so left_is rest_is then_is tells =
+      ap (λ list. told ++ list)
+      (ap (with_cores (drop (i + 1) asked) left_then (drop (met + 1) places)) then_is
+      ∙ sym (ap₂ (λ l r. with_cores (drop i asked) l (drop met places) r) left_is rest_is ∙ step_taken verdict left_then [] yes_so))
+      ∙ tells
+
+  -- a verdict stays
+  pub cores_kept : (verdict : VerdictView) (left left_then rest : List VerdictView) → takes verdict ≡ false → left ≡ verdict ∷ left_then
+      → TellsAt i met told left rest → TellsAt (i + 1) met (told ++ verdict ∷ []) left_then rest
+  cores_kept verdict left left_then rest not_so left_is tells =
+      append_assoc told (verdict ∷ []) (with_cores (drop (i + 1) asked) left_then (drop met places) rest)
+      ∙ ap (λ list. told ++ list) (sym (ap (λ l. with_cores (drop i asked) l (drop met places) rest) left_is ∙ step_kept verdict left_then rest not_so))
+      ∙ tells
+
+  -- no verdict is left
+  pub cores_ended : (left left_then rest : List VerdictView) → left ≡ [] → left_then ≡ [] → TellsAt i met told left rest → TellsAt (i + 1) met told left_then rest
+  cores_ended left left_then rest left_is then_is tells =
+      ap (λ list. told ++ list)
+      (ap (λ l. with_cores (drop (i + 1) asked) l (drop met places) rest) then_is
+      ∙ cores_none (drop (i + 1) asked) (drop met places) rest
+      ∙ sym (ap (λ l. with_cores (drop i asked) l (drop met places) rest) left_is ∙ cores_none (drop i asked) (drop met places) rest))
+      ∙ tells
 
 pub empty_list : {A : Type 0} (xs : List A) → (0 < length xs → ⊥) → xs ≡ []
 empty_list [] none = refl

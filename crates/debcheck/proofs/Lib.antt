@@ -8,6 +8,7 @@ mod LineFacts
 mod LineLemmas
 mod MergeLemmas
 mod NameLemmas
+mod NewsLemmas
 mod OneReport
 mod PhaseLemmas
 mod ProgramLemmas

@@ -59,7 +59,7 @@ one_there index a b (p ∷ asked) (v ∷ verdicts) q among first second = elim (
 ]
 
 -- lists of one length that are the same at each place are the same
-same_lists : (a b : List (List (List Constraint))) → length a ≡ length b → ((k : ℕ) → later_at a k ≡ later_at b k) → a ≡ b
+pub same_lists : (a b : List (List (List Constraint))) → length a ≡ length b → ((k : ℕ) → later_at a k ≡ later_at b k) → a ≡ b
 same_lists [] [] count each = refl
 same_lists [] (y ∷ b) count each = absurd (omega (arith, count))
 same_lists (x ∷ a) [] count each = absurd (omega (arith, count))

@@ -8,10 +8,9 @@ use Rattle.std.proofs.lemmas.Option.{slice_get-get_or}
 use Rattle.deb_index.specs.declared.constraint.Constraint.{Constraint}
 use Rattle.deb_index.specs.Packages.{IndexView}
 use Rattle.number_sets.specs.Sets.{MarksOnly}
-use Rattle.deb_health.specs.Causes.{AreCores}
 use Rattle.deb_health.specs.Health.{IsInstallable}
 use Rattle.deb_health.specs.Verdicts.{Blocked, Found, IsVerdict, SpeaksOf, VerdictView}
-use Rattle.deb_verdict.specs.Told.{IsToldVerdict, as_told}
+use Rattle.deb_verdict.specs.Told.{IsToldCore, IsToldSet, IsToldVerdict, as_told}
 use Rattle.deb_verdict.specs.declared.wanted.Wanted.{Wanted}
 use Rattle.deb_verdict.proofs.FirstExists.{verdict_behind}
 use Rattle.deb_verdict.proofs.ToldLemmas.{told_without_set}
@@ -21,11 +20,13 @@ use Rattle.deb_report.specs.declared.config.Show.TheVariants as show
 use Rattle.deb_report.specs.declared.summary.Summary.{Summary}
 use Rattle.deb_report.specs.Report.{is_broken, is_shown, later_at, summary_of}
 use Rattle.deb_report.specs.Settings.{Settings, shows_installable, shows_sets, tells_all_causes}
+use Rattle.deb_report.specs.Since.{BrokenView, is_new}
 use Rattle.deb_report.specs.Written.{written_told}
 use Rattle.deb_report.proofs.Unshown.{LeavesTold, report_unchanged, summary_unchanged}
-use Rattle.debcheck.specs.Later.{AreAllLater, AreLaterCores, AreLaterIf}
+use Rattle.debcheck.specs.Later.{AreLaterIf}
 use Rattle.debcheck.specs.Run.{IsAsked, IsReportOn}
-use Rattle.debcheck.specs.Standing.{AreFound, HaveAllCores, Merges, is_unmarked, wanted_by, wanting}
+use Rattle.debcheck.specs.Standing.{AreFound, Merges, TellSame, is_unmarked, wanted_at, wanted_by}
+use Rattle.debcheck.proofs.OneReport.{same_lists}
 
 -- ---- what is left
 
@@ -98,94 +99,62 @@ told_by_marks wanted unshown index marks shown_marks asked held left found told 
     let each_left = subst (λ (others : List ℕ). AnswersEach (IsToldVerdict wanted index) others found) (same ∙ are) each in
     told_each wanted unshown index shown_marks asked found told (ap length shown ∙ count) only_shown places each_left speaks merges
 
--- they are the verdicts of the asked places, but for what isn't wanted
-pub record StandFor (wanted : Wanted) (index : IndexView) (asked : List ℕ) (told : List VerdictView) : Type 0 where
+-- what is told of a verdict, where as much is wanted otherwise
+pub told_alike : (index : IndexView) (place : ℕ) (verdict : VerdictView) (wanted other : Wanted) → wanted.sets ≡ other.sets → wanted.cores ≡ other.cores
+    → IsToldVerdict wanted index place verdict → IsToldVerdict other index place verdict
+told_alike index place (Found places) wanted other sets cores told = subst (λ (tells : Bool). IsToldSet tells index place places) sets told
+told_alike index place (Blocked core) wanted other sets cores told = (told.0, subst (λ (tells : Bool). IsToldCore tells index place core) cores told.1)
+
+-- they are the verdicts of the asked places, but for what isn't wanted of each
+pub record StandFor (wanted : ℕ → Wanted) (index : IndexView) (asked : List ℕ) (told : List VerdictView) : Type 0 where
   pub verdicts : List VerdictView
   pub are_verdicts : AnswersEach (IsVerdict index) asked verdicts
-  pub same : map (as_told wanted) told ≡ map (as_told wanted) verdicts
+  pub same : TellSame wanted asked told verdicts
 
 -- what tells as much of each verdict as is wanted stands for them
-pub stands-told : (wanted : Wanted) (index : IndexView) (asked : List ℕ) (told : List VerdictView) → All (λ place. place < length index.packages) asked
-    → AnswersEach (IsToldVerdict wanted index) asked told → StandFor wanted index asked told
-stands-told wanted index [] [] within each = record { verdicts = []; are_verdicts = tt; same = refl }
+pub stands-told : (wanted : ℕ → Wanted) (index : IndexView) (asked : List ℕ) (told : List VerdictView) → All (λ place. place < length index.packages) asked
+    → AnswersEach (λ place. IsToldVerdict (wanted place) index place) asked told → StandFor wanted index asked told
+stands-told wanted index [] [] within each = record { verdicts = []; are_verdicts = tt; same = tt }
 stands-told wanted index [] (first ∷ told) within each = absurd each
 stands-told wanted index (place ∷ asked) [] within each = absurd each
 stands-told wanted index (place ∷ asked) (first ∷ told) within each =
-    let behind = verdict_behind index place (within 0 place (omega arith)) wanted first each.0 in
+    let behind = verdict_behind index place (within 0 place (omega arith)) (wanted place) first each.0 in
     let rest = stands-told wanted index asked told (λ k d below. within (suc k) d (omega (arith, below))) each.1 in
     record {
       verdicts = behind.0 ∷ rest.verdicts;
       are_verdicts = (behind.1, rest.are_verdicts);
-      same = ap₂ (λ one others. one ∷ others) behind.2 rest.same;
+      same = (behind.2, rest.same);
     }
 
--- ---- later cores
+-- where the same is wanted of all places
+pub same_all : (wanted : Wanted) (asked : List ℕ) (told verdicts : List VerdictView) → TellSame (λ place. wanted) asked told verdicts → map (as_told wanted) told ≡ map (as_told wanted) verdicts
+same_all wanted [] [] [] same = refl
+same_all wanted [] [] (other ∷ verdicts) same = absurd same
+same_all wanted [] (one ∷ told) verdicts same = absurd same
+same_all wanted (place ∷ asked) [] verdicts same = absurd same
+same_all wanted (place ∷ asked) (one ∷ told) [] same = absurd same
+same_all wanted (place ∷ asked) (one ∷ told) (other ∷ verdicts) same = ap₂ (λ first others. first ∷ others) same.0 (same_all wanted asked told verdicts same.1)
 
-module _ (wanted : Wanted) where
-  -- what is wanted of verdicts with cores
-  twice_one : (verdict : VerdictView) → as_told wanted (as_told (wanting wanted.sets true) verdict) ≡ as_told wanted verdict
-  twice_one (Found places) = by wanted.sets
-    where
-      by : (sets : Bool) → Found (if sets then (if sets then places else []) else []) ≡ Found (if sets then places else [])
-      by true = refl
-      by false = refl
-  twice_one (Blocked core) = refl
+-- where no name makes a difference, and no later cores are told, what tells as much of each verdict as is wanted is found
+module _ (settings : Settings) (wanted : Wanted) (before : List BrokenView) (index : IndexView) (asked : List ℕ) (told : List VerdictView) (later : List (List (List Constraint)))
+    (places : All (λ place. place < length index.packages) asked) (alike : (place : ℕ) → wanted.cores ≡ (is_new index before place && wanted.cores)) where
+  told_at : (list : List ℕ) (views : List VerdictView) → AnswersEach (IsToldVerdict wanted index) list views → AnswersEach (λ place. IsToldVerdict (wanted_at wanted index before place) index place) list views
+  told_at [] [] each = tt
+  told_at [] (view ∷ views) each = absurd each
+  told_at (place ∷ list) [] each = absurd each
+  told_at (place ∷ list) (view ∷ views) each = (told_alike index place view wanted (wanted_at wanted index before place) refl (alike place) each.0, told_at list views each.1)
 
-  twice : (verdicts : List VerdictView) → map (as_told wanted) (map (as_told (wanting wanted.sets true)) verdicts) ≡ map (as_told wanted) verdicts
-  twice [] = refl
-  twice (verdict ∷ verdicts) = ap₂ (λ one others. one ∷ others) (twice_one verdict) (twice verdicts)
-
-  -- later cores of what is told with cores are those of the verdicts
-  later_same : (index : IndexView) (place : ℕ) (told verdict : VerdictView) (later : List (List Constraint)) → as_told (wanting wanted.sets true) told ≡ as_told (wanting wanted.sets true) verdict
-      → AreLaterCores index place told later → AreLaterCores index place verdict later
-  later_same index place (Found a) (Found b) later same are = are
-  later_same index place (Found a) (Blocked b) later same are = absurd cc
-  later_same index place (Blocked a) (Found b) later same are = absurd cc
-  later_same index place (Blocked a) (Blocked b) later same are =
-      let equal : a ≡ b = cc in
-      subst (λ (core : List Constraint). AreCores index place (core ∷ later)) equal are
-
-  later_each : (index : IndexView) (later : List (List (List Constraint))) (asked : List ℕ) (told verdicts : List VerdictView)
-      → map (as_told (wanting wanted.sets true)) told ≡ map (as_told (wanting wanted.sets true)) verdicts
-      → AnswersEach (λ place verdict. AreLaterCores index place verdict (later_at later place)) asked told
-      → AnswersEach (λ place verdict. AreLaterCores index place verdict (later_at later place)) asked verdicts
-  later_each index later [] [] [] same are = tt
-  later_each index later [] [] (v ∷ verdicts) same are = absurd cc
-  later_each index later [] (t ∷ told) verdicts same are = absurd are
-  later_each index later (p ∷ asked) [] verdicts same are = absurd are
-  later_each index later (p ∷ asked) (t ∷ told) [] same are = absurd cc
-  later_each index later (p ∷ asked) (t ∷ told) (v ∷ verdicts) same are =
-      let first : as_told (wanting wanted.sets true) t ≡ as_told (wanting wanted.sets true) v = cc in
-      let others : map (as_told (wanting wanted.sets true)) told ≡ map (as_told (wanting wanted.sets true)) verdicts = cc in
-      (later_same index p t v (later_at later p) first are.0, later_each index later asked told verdicts others are.1)
-
-module _ (settings : Settings) (wanted : Wanted) (index : IndexView) (asked : List ℕ) (told : List VerdictView) (later : List (List (List Constraint)))
-    (places : All (λ place. place < length index.packages) asked) where
-  -- where all causes are told
-  pub found-all : tells_all_causes settings ≡ true → HaveAllCores wanted.sets index asked told later → AreFound settings wanted index asked told later
-  found-all tells have =
-      let stand = stands-told (wanting wanted.sets true) index asked told places have.each in
-      let are : AreAllLater index asked stand.verdicts later = record {
-        count = have.are_later.count;
-        of_asked = later_each wanted index later asked told stand.verdicts stand.same have.are_later.of_asked;
-        of_others = have.are_later.of_others;
-      } in
-      record {
-        verdicts = stand.verdicts;
-        are_verdicts = stand.are_verdicts;
-        same = sym (twice wanted told) ∙ ap (map (as_told wanted)) stand.same ∙ twice wanted stand.verdicts;
-        are_later = subst (λ (tells_all : Bool). AreLaterIf tells_all index asked stand.verdicts later) (sym tells) are;
-      }
-
-  -- and where they are not
-  pub found-first : tells_all_causes settings ≡ false → AnswersEach (IsToldVerdict wanted index) asked told → later ≡ [] → AreFound settings wanted index asked told later
+  pub found-first : tells_all_causes settings ≡ false → AnswersEach (IsToldVerdict wanted index) asked told → later ≡ [] → AreFound settings wanted before index asked told later
   found-first tells each none =
-      let stand = stands-told wanted index asked told places each in
+      let stand = stands-told (wanted_at wanted index before) index asked told places (told_at asked told each) in
       record {
         verdicts = stand.verdicts;
+        all_later = [];
         are_verdicts = stand.are_verdicts;
+        are_later = subst (λ (tells_all : Bool). AreLaterIf tells_all index asked stand.verdicts []) (sym tells) refl;
         same = stand.same;
-        are_later = subst (λ (tells_all : Bool). AreLaterIf tells_all index asked stand.verdicts later) (sym tells) none;
+        count = ap length none;
+        same_later = λ place new. ap (λ list. later_at list place) none;
       }
 
 -- ---- what a report tells
@@ -205,7 +174,7 @@ module _ (settings : Settings) where
   same_status (Found places) = refl
   same_status (Blocked core) = refl
 
-  with_core : (core : List Constraint) → (settings.causes || (settings.explain && is_shown settings.show (Blocked []))) ≡ true → as_told (wanted_by settings) (Blocked core) ≡ Blocked core
+  with_core : (core : List Constraint) → (tells_all_causes settings || (settings.explain && is_shown settings.show (Blocked []))) ≡ true → as_told (wanted_by settings) (Blocked core) ≡ Blocked core
   with_core core told = ap (λ (tells : Bool). Blocked (if tells then core else [])) told
 
   same_shown : (verdict : VerdictView) → (settings.explain && is_shown settings.show verdict) ≡ true → as_told (wanted_by settings) verdict ≡ verdict
@@ -213,12 +182,12 @@ module _ (settings : Settings) where
       let told : shows_sets settings ≡ true = ap (λ (shows : Bool). settings.explain && shows) (sym (found_shown settings.show places)) ∙ there in
       ap (λ (tells : Bool). Found (if tells then places else [])) told
   same_shown (Blocked core) there =
-      with_core core (or_right settings.causes (settings.explain && is_shown settings.show (Blocked []))
+      with_core core (or_right (tells_all_causes settings) (settings.explain && is_shown settings.show (Blocked []))
       (ap (λ (shows : Bool). settings.explain && shows) (sym (blocked_shown settings.show core)) ∙ there))
 
   same_caused : (verdict : VerdictView) → settings.causes ≡ true → is_broken verdict ≡ true → as_told (wanted_by settings) verdict ≡ verdict
   same_caused (Found places) told broken = absurd (false≢true broken)
-  same_caused (Blocked core) told broken = with_core core (ap (λ (causes : Bool). causes || (settings.explain && is_shown settings.show (Blocked []))) told)
+  same_caused (Blocked core) told broken = with_core core (ap (λ (causes : Bool). (causes || settings.all_reasons) || (settings.explain && is_shown settings.show (Blocked []))) told)
 
   leaves_told : LeavesTold settings.explain settings.show settings.causes (as_told (wanted_by settings))
   leaves_told = record { status = same_status; shown = same_shown; caused = same_caused }
@@ -226,17 +195,20 @@ module _ (settings : Settings) where
 -- ---- the report on it
 
 module _ (settings : Settings) (index : IndexView) (asked : List ℕ) (told : List VerdictView) (later : List (List (List Constraint)))
-    (found : AreFound settings (wanted_by settings) index asked told later) where
-  same_report : written_told settings index asked told later ≡ written_told settings index asked found.verdicts later
+    (found : AreFound settings (wanted_by settings) [] index asked told later) where
+  same_verdicts : map (as_told (wanted_by settings)) told ≡ map (as_told (wanted_by settings)) found.verdicts
+  same_verdicts = same_all (wanted_by settings) asked told found.verdicts found.same
+
+  same_report : written_told settings index asked told later ≡ written_told settings index asked found.verdicts found.all_later
   same_report =
       sym (report_unchanged settings (as_told (wanted_by settings)) (leaves_told settings) index asked told later)
-      ∙ ap (λ verdicts. written_told settings index asked verdicts later) found.same
-      ∙ report_unchanged settings (as_told (wanted_by settings)) (leaves_told settings) index asked found.verdicts later
+      ∙ ap₂ (λ verdicts all. written_told settings index asked verdicts all) same_verdicts (same_lists later found.all_later found.count (λ place. found.same_later place refl))
+      ∙ report_unchanged settings (as_told (wanted_by settings)) (leaves_told settings) index asked found.verdicts found.all_later
 
   same_summary : summary_of index asked told ≡ summary_of index asked found.verdicts
   same_summary =
       sym (summary_unchanged settings (as_told (wanted_by settings)) (leaves_told settings) index asked told)
-      ∙ ap (λ verdicts. summary_of index asked verdicts) found.same
+      ∙ ap (λ verdicts. summary_of index asked verdicts) same_verdicts
       ∙ summary_unchanged settings (as_told (wanted_by settings)) (leaves_told settings) index asked found.verdicts
 
   pub reported-told : (output : List ℕ) (summary : Summary) → IsAsked settings index asked → output ≡ written_told settings index asked told later
@@ -244,7 +216,7 @@ module _ (settings : Settings) (index : IndexView) (asked : List ℕ) (told : Li
   reported-told output summary is written counted = record {
     asked = asked;
     verdicts = found.verdicts;
-    later = later;
+    later = found.all_later;
     is_asked = is;
     are_verdicts = found.are_verdicts;
     are_later = found.are_later;

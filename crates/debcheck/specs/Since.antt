@@ -6,7 +6,7 @@ use Rattle.deb_health.specs.Verdicts.{IsVerdict, VerdictView}
 use Rattle.deb_verdict.specs.declared.wanted.Wanted.{Wanted}
 use Rattle.work_draw.specs.Checks.{AnswersEach}
 use Rattle.deb_report.specs.declared.summary.Summary.{Summary}
-use Rattle.deb_report.specs.Settings.{Settings}
+use Rattle.deb_report.specs.Settings.{Settings, tells_all_causes}
 use Rattle.deb_report.specs.Asked.{listed_places}
 use Rattle.deb_report.specs.Since.{BrokenView, broken_of, summary_since}
 use Rattle.deb_report.specs.Written.{written_since}
@@ -16,9 +16,9 @@ use Rattle.debcheck.specs.Run.{Fails, FailsToIndex, HasAsked, HasIndex, IfIndexe
 
 -- ---- the report
 
--- what it tells of verdicts: no set, and cores where it explains or tells causes
+-- what it tells of verdicts: no set, and cores where it explains or tells all causes
 abbrev pub wanted_since : Settings → Wanted
-wanted_since settings = record { sets = false; cores = settings.causes || settings.explain }
+wanted_since settings = record { sets = false; cores = tells_all_causes settings || settings.explain }
 
 -- these are the broken packages of an earlier index, of those that are asked in it
 pub record WereBroken (settings : Settings) (before : List BrokenView) (index : IndexView) : Type 0 where

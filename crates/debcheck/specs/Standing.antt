@@ -1,26 +1,44 @@
 -- Verdicts that a report may be made of in the place of the true ones.
-use Rattle.std.specs.Prelude.{◌≡◌, ℕ, Bool, false, true, not, ◌&&◌, ◌||◌, List, [], ◌∷◌, ◌++◌, All, drop, filter, length, map, set, slice_index_or, take, zip}
+use Rattle.std.specs.Prelude.{◌≡◌, ℕ, ◌==◌, Bool, false, true, not, ◌&&◌, ◌||◌, List, [], ◌∷◌, ◌++◌, All, drop, filter, if◌then◌else◌, length, map, set, slice_index_or, take, zip}
 use Rattle.deb_index.specs.declared.constraint.Constraint.{Constraint}
 use Rattle.deb_index.specs.Packages.{IndexView}
 use Rattle.deb_health.specs.Verdicts.{Blocked, Found, IsVerdict, SpeaksOf, VerdictView}
 use Rattle.deb_verdict.specs.Told.{IsToldVerdict, as_told}
 use Rattle.deb_verdict.specs.declared.wanted.Wanted.{Wanted}
 use Rattle.work_draw.specs.Checks.{AnswersEach}
-use Rattle.deb_report.specs.Report.{broken_ones, is_shown}
-use Rattle.deb_report.specs.Settings.{Settings, shows_sets}
+use Rattle.deb_report.specs.Report.{is_broken, is_shown, later_at}
+use Rattle.deb_report.specs.Settings.{Settings, shows_sets, tells_all_causes}
+use Rattle.deb_report.specs.Since.{BrokenView, is_new}
 use Rattle.deb_report.specs.Told.{AreLaterOf}
-use Rattle.debcheck.specs.Later.{AreAllLater, AreLater}
+use Rattle.debcheck.specs.Later.{AreLater}
 
--- what a report tells of verdicts: sets where blocks explain and packages that can be installed have one; cores where broken ones do, or causes are told
+-- as much of a verdict: with a set or without, and with a core or without
+abbrev pub wanting : Bool → Bool → Wanted
+wanting sets cores = record { sets = sets; cores = cores }
+
+-- what a report tells of verdicts: sets where blocks explain and packages that can be installed have one; cores where broken ones do, or all causes are told
 abbrev pub wanted_by : Settings → Wanted
-wanted_by settings = record { sets = shows_sets settings; cores = settings.causes || (settings.explain && is_shown settings.show (Blocked [])) }
+wanted_by settings = wanting (shows_sets settings) (tells_all_causes settings || (settings.explain && is_shown settings.show (Blocked [])))
 
--- these and the later cores are what is found of the asked places, but for what isn't wanted of the verdicts
-pub record AreFound (settings : Settings) (wanted : Wanted) (index : IndexView) (asked : List ℕ) (told : List VerdictView) (later : List (List (List Constraint))) : Type 0 where
+-- what it tells of that of a package since these were broken: no core, where one of them has its name
+abbrev pub wanted_at : Wanted → IndexView → List BrokenView → ℕ → Wanted
+wanted_at wanted index before place = wanting wanted.sets (is_new index before place && wanted.cores)
+
+-- two lists of verdicts of asked places are the same, but for what isn't wanted of each place
+abbrev pub TellSame : (ℕ → Wanted) → List ℕ → List VerdictView → List VerdictView → Type 0
+TellSame wanted [] [] [] = Unit {0}
+TellSame wanted (place ∷ asked) (one ∷ told) (other ∷ verdicts) = (as_told (wanted place) one ≡ as_told (wanted place) other) × TellSame wanted asked told verdicts
+TellSame wanted asked told verdicts = ⊥
+
+-- these and the later cores are what is found of the asked places since these packages were broken, but for what isn't wanted of the verdicts, and for the later cores of a package where one of these has its name
+pub record AreFound (settings : Settings) (wanted : Wanted) (before : List BrokenView) (index : IndexView) (asked : List ℕ) (told : List VerdictView) (later : List (List (List Constraint))) : Type 0 where
   pub verdicts : List VerdictView
+  pub all_later : List (List (List Constraint))
   pub are_verdicts : AnswersEach (IsVerdict index) asked verdicts
-  pub same : map (as_told wanted) told ≡ map (as_told wanted) verdicts
-  pub are_later : AreLater settings index asked verdicts later
+  pub are_later : AreLater settings index asked verdicts all_later
+  pub same : TellSame (wanted_at wanted index before) asked told verdicts
+  pub count : length later ≡ length all_later
+  pub same_later : (place : ℕ) → is_new index before place ≡ true → later_at later place ≡ later_at all_later place
 
 -- ---- marks
 
@@ -34,25 +52,23 @@ pub record Merges (marks : List Bool) (asked : List ℕ) (found told : List Verd
   pub of_marked : All (λ pair. is_unmarked marks pair.0 ≡ false → pair.1 ≡ Found []) (zip asked told)
   pub of_others : map (λ pair. pair.1) (filter (λ pair. is_unmarked marks pair.0) (zip asked told)) ≡ found
 
--- ---- all cores
+-- ---- cores
 
--- the verdicts with sets, where these are wanted, and with cores or without
-abbrev pub wanting : Bool → Bool → Wanted
-wanting sets cores = record { sets = sets; cores = cores }
+-- the verdict with the first of the cores of a package
+abbrev pub with_first : List (List Constraint) → VerdictView
+with_first cores = Blocked (slice_index_or cores 0 [])
 
--- the places of broken packages
-abbrev pub broken_places : List ℕ → List VerdictView → List ℕ
-broken_places asked verdicts = map (λ one. one.0) (broken_ones asked verdicts)
+-- the place is the first of these
+abbrev pub is_next : ℕ → List ℕ → Bool
+is_next place [] = false
+is_next place (next ∷ places) = next == place
 
--- the first of the cores of a package
-abbrev pub first_core : List (List Constraint) → List Constraint
-first_core cores = slice_index_or cores 0 []
-
--- the next of these cores in each broken verdict
-abbrev pub with_cores : List VerdictView → List (List Constraint) → List VerdictView
-with_cores [] cores = []
-with_cores (Found places ∷ verdicts) cores = Found places ∷ with_cores verdicts cores
-with_cores (Blocked core ∷ verdicts) cores = map Blocked (take 1 cores) ++ with_cores verdicts (drop 1 cores)
+-- the verdicts of asked places, with the next of some others in the place of each broken one that stands at the next of their places
+abbrev pub with_cores : List ℕ → List VerdictView → List ℕ → List VerdictView → List VerdictView
+with_cores [] verdicts places others = []
+with_cores (place ∷ asked) [] places others = []
+with_cores (place ∷ asked) (verdict ∷ verdicts) places others = if is_broken verdict && is_next place places
+    then take 1 others ++ with_cores asked verdicts (drop 1 places) (drop 1 others) else verdict ∷ with_cores asked verdicts places others
 
 -- at each of the places the next of these cores
 abbrev pub placed : List (List (List Constraint)) → List ℕ → List (List (List Constraint)) → List (List (List Constraint))
@@ -60,9 +76,9 @@ placed later [] cores = later
 placed later (place ∷ places) [] = later
 placed later (place ∷ places) (one ∷ cores) = placed (set later place one) places cores
 
--- these are the verdicts of the asked places with their first cores, and with sets, where these are wanted, beside all later cores; all are of what the index has
-pub record HaveAllCores (sets : Bool) (index : IndexView) (asked : List ℕ) (told : List VerdictView) (later : List (List (List Constraint))) : Type 0 where
-  pub each : AnswersEach (IsToldVerdict (wanting sets true) index) asked told
-  pub are_later : AreAllLater index asked told later
+-- these are the verdicts of the places, with sets, where these are wanted, and with cores, beside their later cores, where all causes are told; all are of what the index has
+pub record HaveCores (settings : Settings) (sets : Bool) (index : IndexView) (places : List ℕ) (told : List VerdictView) (later : List (List (List Constraint))) : Type 0 where
+  pub each : AnswersEach (IsToldVerdict (wanting sets true) index) places told
+  pub are_later : AreLater settings index places told later
   pub within : All (SpeaksOf index) told
   pub of_index : AreLaterOf index later

@@ -1,11 +1,11 @@
-//! All cores of broken packages: the first ones go into their verdicts, and the later ones by place into a list of their own.
+//! The cores of broken packages: the first ones go into their verdicts, and the later ones by place into a list of their own.
 
-ghost use Rattle.std.specs.Prelude.{◌≡◌, ◌<◌, [], All, IfOk, drop, length, map};
+ghost use Rattle.std.specs.Prelude.{◌≡◌, ◌<◌, [], All, IfOk, drop, length, map, true};
 ghost use Rattle.deb_health.specs.Verdicts.{verdict_view};
 ghost use Rattle.deb_report.specs.Report.{is_broken};
 ghost use Rattle.deb_report.specs.Told.{later_view};
 ghost use Rattle.work_draw.specs.Checks.{cores_view};
-ghost use Rattle.debcheck.specs.Standing.{broken_places, first_core, placed, with_cores};
+ghost use Rattle.debcheck.specs.Standing.{is_next, placed, with_cores, with_first};
 
 use deb_index::Constraint;
 use deb_verdict::Verdict;
@@ -29,24 +29,6 @@ fn is_broken(verdict: &Verdict) -> bool
     }
 }
 
-// The places with broken verdicts, in their order.
-pub(crate) fn broken_places(
-    alloc: Global,
-    asked: &[u32],
-    verdicts: &[Verdict],
-) -> Result<Vec<u32>, AllocError>
-    requires { length asked.now ≡ length verdicts.now }
-    ensures { IfOk result (λ places. places.items ≡ broken_places asked.now (map verdict_view verdicts.now)) }
-{
-    let mut places = Vec::new(alloc);
-    for (i, place) in asked.iter().enumerate() {
-        if is_broken(&verdicts[i]) {
-            places.push(*place)?;
-        }
-    }
-    Ok(places)
-}
-
 // No cores for each of so many places.
 pub(crate) fn no_cores(alloc: Global, count: usize) -> Result<Vec<Vec<Vec<Constraint>>>, AllocError>
     ensures count { IfOk result (λ later. length later.items ≡ count) }
@@ -59,12 +41,12 @@ pub(crate) fn no_cores(alloc: Global, count: usize) -> Result<Vec<Vec<Vec<Constr
     Ok(later)
 }
 
-// The first core, and those behind it.
+// The verdict with the first core, and the cores behind it.
 fn split_first(
     alloc: Global,
     cores: Vec<Vec<Constraint>>,
-) -> Result<(Vec<Constraint>, Vec<Vec<Constraint>>), AllocError>
-    ensures first { IfOk result (λ r. r.0.items ≡ first_core (cores_view cores)) }
+) -> Result<(Verdict, Vec<Vec<Constraint>>), AllocError>
+    ensures first { IfOk result (λ r. verdict_view r.0 ≡ with_first (cores_view cores)) }
     ensures behind { IfOk result (λ r. cores_view r.1 ≡ drop 1 (cores_view cores)) }
 {
     let mut rest = cores.into_iter();
@@ -73,15 +55,15 @@ fn split_first(
         None => Vec::new(alloc),
     };
     let behind = rest.collect(alloc)?;
-    Ok((first, behind))
+    Ok((Verdict::Broken(first), behind))
 }
 
-// The first core of each package, and those behind it.
+// The verdict of each package with its first core, and the cores behind it.
 pub(crate) fn split_firsts(
     alloc: Global,
     cores: Vec<Vec<Vec<Constraint>>>,
-) -> Result<(Vec<Vec<Constraint>>, Vec<Vec<Vec<Constraint>>>), AllocError>
-    ensures firsts { IfOk result (λ r. map (λ core. core.items) r.0.items ≡ map first_core (later_view cores.items)) }
+) -> Result<(Vec<Verdict>, Vec<Vec<Vec<Constraint>>>), AllocError>
+    ensures firsts { IfOk result (λ r. map verdict_view r.0.items ≡ map with_first (later_view cores.items)) }
     ensures behind { IfOk result (λ r. later_view r.1.items ≡ map (drop 1) (later_view cores.items)) }
 {
     let mut firsts = Vec::with_capacity(alloc, cores.len())?;
@@ -111,24 +93,38 @@ pub(crate) fn place_cores(
     }
 }
 
-// The verdicts, with the next of these cores in each broken one.
+// Whether a place is the next of these behind the first ones.
+fn is_next(places: &[u32], count: usize, place: u32) -> bool
+    ensures next { result ≡ is_next place (drop count places.now) }
+    ensures within { result ≡ true → count < length places.now }
+{
+    count < places.len() && places[count] == place
+}
+
+// The verdicts of asked places, with the next of some others in the place of each broken one that stands at the next of their places.
 pub(crate) fn with_cores(
     alloc: Global,
+    asked: &[u32],
     verdicts: Vec<Verdict>,
-    cores: Vec<Vec<Constraint>>,
+    places: &[u32],
+    others: Vec<Verdict>,
 ) -> Result<Vec<Verdict>, AllocError>
     ensures { IfOk result (λ told. map verdict_view told.items ≡
-        with_cores (map verdict_view verdicts.items) (map (λ core. core.items) cores.items)) }
+        with_cores asked.now (map verdict_view verdicts.items) places.now (map verdict_view others.items)) }
 {
-    let mut told = Vec::with_capacity(alloc, verdicts.len())?;
-    let mut rest = cores.into_iter();
-    for verdict in verdicts {
-        match verdict {
-            Verdict::Ok(places) => told.push(Verdict::Ok(places))?,
-            Verdict::Broken(_) => {
-                if let Some(core) = rest.next() {
-                    told.push(Verdict::Broken(core))?;
+    let mut told = Vec::with_capacity(alloc, asked.len())?;
+    let mut left = verdicts.into_iter();
+    let mut rest = others.into_iter();
+    let mut met = 0;
+    for place in asked {
+        if let Some(verdict) = left.next() {
+            if is_broken(&verdict) && is_next(places, met, *place) {
+                met += 1;
+                if let Some(other) = rest.next() {
+                    told.push(other)?;
                 }
+            } else {
+                told.push(verdict)?;
             }
         }
     }

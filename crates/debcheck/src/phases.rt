@@ -138,7 +138,8 @@ fn check_and_report<G: Gate + Sync, R: Threads + Sync>(
 {
     let asked = ask_noting(alloc, index, config, clue)?;
     let asked = asked.as_slice();
-    let found = find_told(rt, alloc, config, wanted_of(config), index, asked, gate)?;
+    let wanted = wanted_of(config);
+    let found = find_told(rt, alloc, config, wanted, index, asked, &[], gate)?;
     let verdicts = found.verdicts.as_slice();
     let later = found.later.as_slice();
     let output = report_told(alloc, index, asked, verdicts, later, config)?;

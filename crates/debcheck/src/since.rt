@@ -92,7 +92,7 @@ fn wanted_since(config: &Config) -> Wanted
 {
     Wanted {
         sets: false,
-        cores: config.causes || config.explain,
+        cores: config.tells_all_causes() || config.explain,
     }
 }
 
@@ -115,7 +115,7 @@ fn report_after<G: Gate + Sync, R: Threads + Sync>(
     ensures { IfOk result (λ r. IsReportAfter (map broken_view before.now) (settings_of config.now) index.now r.0.items r.1) }
 {
     let wanted = wanted_since(config);
-    let found = find_told(rt, alloc, config, wanted, index, asked, gate)?;
+    let found = find_told(rt, alloc, config, wanted, index, asked, before, gate)?;
     let verdicts = found.verdicts.as_slice();
     let later = found.later.as_slice();
     report_since(alloc, index, asked, verdicts, later, before, config)

@@ -1,17 +1,19 @@
 //! The verdicts that a report is made of: where it tells no set, none is looked for, and where it tells no core, none either. Where it tells all causes,
-//! all cores are looked for, each once.
+//! all cores are looked for, each once. Since an earlier index cores are looked for of the newly broken alone.
 
-ghost use Rattle.std.specs.Prelude.{◌≡◌, ◌^◌, ◌<◌, ◌≤◌, All, IfOk, filter, length, map};
-ghost use Rattle.deb_report.specs.Settings.{settings_of};
+ghost use Rattle.std.specs.Prelude.{◌≡◌, ◌^◌, ◌<◌, ◌≤◌, All, IfOk, filter, length, map, true};
+ghost use Rattle.deb_health.specs.Health.{IsHopeless};
 ghost use Rattle.deb_health.specs.Verdicts.{SpeaksOf, verdict_view};
+ghost use Rattle.deb_report.specs.Settings.{settings_of, tells_all_causes};
+ghost use Rattle.deb_report.specs.Since.{broken_view};
 ghost use Rattle.deb_report.specs.Told.{AreLaterOf, later_view};
 ghost use Rattle.deb_verdict.specs.Told.{IsToldVerdict};
 ghost use Rattle.work_draw.specs.Checks.{AnswersEach};
-ghost use Rattle.debcheck.specs.Standing.{AreFound, HaveAllCores, Merges, is_unmarked, wanted_by};
+ghost use Rattle.debcheck.specs.Standing.{AreFound, HaveCores, Merges, is_unmarked, wanted_by};
 
-use crate::later::{Findings, broken_places, no_cores, place_cores, split_firsts, with_cores};
+use crate::later::{Findings, no_cores, place_cores, split_firsts, with_cores};
 use deb_index::Index;
-use deb_report::{Config, Show};
+use deb_report::{BrokenPackage, Config, Show, newly_broken};
 use deb_verdict::{Groundwork, Verdict, Wanted, find_installable};
 use std::alloc::{AllocError, Global};
 use std::thread::Threads;
@@ -60,7 +62,7 @@ pub(crate) fn wanted_of(config: &Config) -> Wanted
 {
     Wanted {
         sets: config.shows_sets(),
-        cores: config.causes || (config.explain && config.show != Show::Successes),
+        cores: config.tells_all_causes() || (config.explain && config.show != Show::Successes),
     }
 }
 
@@ -123,37 +125,77 @@ pub(crate) fn find_verdicts<G: Gate + Sync, R: Threads + Sync>(
     find_on(rt, alloc, config, wanted, &groundwork, asked, gate)
 }
 
-// The verdicts of the asked places with their first cores, and with sets where these are wanted, beside all later cores. No core is looked for twice.
-fn find_all_cores<G: Gate + Sync, R: Threads + Sync>(
+// The verdicts of broken packages, with their first cores, beside all later cores where all causes are told. No core is looked for twice.
+fn find_broken<G: Gate + Sync, R: Threads + Sync>(
     rt: &R,
     alloc: Global,
     config: &Config,
     sets: bool,
     index: &Index,
+    groundwork: &Groundwork<'_>,
+    places: &[u32],
+    gate: &G,
+) -> Result<Findings, AllocError>
+    requires groundwork { groundwork.now.index.now ≡ index.now }
+    requires places { All (λ place. place < length index.now.packages) places.now }
+    requires broken { All (IsHopeless index.now) places.now }
+    requires few { length places.now < 2 ^ 32 }
+    requires workers { (0 < config.now.workers) × (config.now.workers ≤ 64) }
+    requires chunk { 0 < config.now.chunk }
+    ensures { IfOk result (λ found. HaveCores (settings_of config.now) sets index.now places.now
+        (map verdict_view found.verdicts.items) (later_view found.later.items)) }
+{
+    let (workers, chunk) = (config.workers, config.chunk);
+    if config.tells_all_causes() {
+        let cores = find_cores(rt, alloc, groundwork, places, workers)?;
+        let mut later = no_cores(alloc, index.len() as usize)?;
+        let (verdicts, behind) = split_firsts(alloc, cores)?;
+        place_cores(&mut later, places, behind);
+        return Ok(Findings { verdicts, later });
+    }
+    gate.start(0, places.len() as u32);
+    let wanted = Wanted { sets, cores: true };
+    let verdicts = check_told(rt, alloc, groundwork, wanted, places, workers, chunk, gate)?;
+    let later = Vec::new(alloc);
+    Ok(Findings { verdicts, later })
+}
+
+// The verdicts of the asked places, with sets where these are wanted, and the cores of those that are newly broken since these packages were broken.
+fn find_news<G: Gate + Sync, R: Threads + Sync>(
+    rt: &R,
+    alloc: Global,
+    config: &Config,
+    wanted: Wanted,
+    index: &Index,
     asked: &[u32],
+    before: &[BrokenPackage],
     gate: &G,
 ) -> Result<Findings, AllocError>
     requires places { All (λ place. place < length index.now.packages) asked.now }
     requires few { length asked.now < 2 ^ 32 }
     requires workers { (0 < config.now.workers) × (config.now.workers ≤ 64) }
     requires chunk { 0 < config.now.chunk }
-    ensures { IfOk result (λ found. HaveAllCores sets index.now asked.now (map verdict_view found.verdicts.items) (later_view found.later.items)) }
+    requires cores { wanted.cores ≡ true }
+    ensures same { IfOk result (λ found. length found.verdicts.items ≡ length asked.now) }
+    ensures within { IfOk result (λ found. All (SpeaksOf index.now) (map verdict_view found.verdicts.items)) }
+    ensures of_index { IfOk result (λ found. AreLaterOf index.now (later_view found.later.items)) }
+    ensures found { IfOk result (λ found. AreFound (settings_of config.now) wanted (map broken_view before.now) index.now asked.now
+        (map verdict_view found.verdicts.items) (later_view found.later.items)) }
 {
     let groundwork = Groundwork::new(alloc, index)?;
-    let wanted = Wanted { sets, cores: false };
-    let found = find_on(rt, alloc, config, wanted, &groundwork, asked, gate)?;
-    let broken = broken_places(alloc, asked, found.as_slice())?;
-    let places = broken.as_slice();
-    let cores = find_cores(rt, alloc, &groundwork, places, config.workers)?;
-    let mut later = no_cores(alloc, index.len() as usize)?;
-    let split = split_firsts(alloc, cores)?;
-    let (firsts, behind) = split;
-    place_cores(&mut later, places, behind);
-    let verdicts = with_cores(alloc, found, firsts)?;
+    let sets = wanted.sets;
+    let statuses = Wanted { sets, cores: false };
+    let found = find_on(rt, alloc, config, statuses, &groundwork, asked, gate)?;
+    let news = newly_broken(alloc, index, asked, found.as_slice(), before)?;
+    let places = news.as_slice();
+    let broken = find_broken(rt, alloc, config, sets, index, &groundwork, places, gate)?;
+    let verdicts = with_cores(alloc, asked, found, places, broken.verdicts)?;
+    let later = broken.later;
     Ok(Findings { verdicts, later })
 }
 
-// As much as is wanted of the verdicts of the asked places, in their order, and their later cores where all causes are told.
+// As much as is wanted of the verdicts of the asked places, in their order, and their later cores where all causes are told. Where these packages were
+// broken in an earlier index, cores are told of the newly broken alone.
 pub(crate) fn find_told<G: Gate + Sync, R: Threads + Sync>(
     rt: &R,
     alloc: Global,
@@ -161,20 +203,22 @@ pub(crate) fn find_told<G: Gate + Sync, R: Threads + Sync>(
     wanted: Wanted,
     index: &Index,
     asked: &[u32],
+    before: &[BrokenPackage],
     gate: &G,
 ) -> Result<Findings, AllocError>
     requires places { All (λ place. place < length index.now.packages) asked.now }
     requires few { length asked.now < 2 ^ 32 }
     requires workers { (0 < config.now.workers) × (config.now.workers ≤ 64) }
     requires chunk { 0 < config.now.chunk }
+    requires cores { tells_all_causes (settings_of config.now) ≡ true → wanted.cores ≡ true }
     ensures same { IfOk result (λ found. length found.verdicts.items ≡ length asked.now) }
     ensures within { IfOk result (λ found. All (SpeaksOf index.now) (map verdict_view found.verdicts.items)) }
     ensures of_index { IfOk result (λ found. AreLaterOf index.now (later_view found.later.items)) }
-    ensures found { IfOk result (λ found. AreFound (settings_of config.now) wanted index.now asked.now
+    ensures found { IfOk result (λ found. AreFound (settings_of config.now) wanted (map broken_view before.now) index.now asked.now
         (map verdict_view found.verdicts.items) (later_view found.later.items)) }
 {
-    if config.tells_all_causes() {
-        return find_all_cores(rt, alloc, config, wanted.sets, index, asked, gate);
+    if wanted.cores && (config.tells_all_causes() || !before.is_empty()) {
+        return find_news(rt, alloc, config, wanted, index, asked, before, gate);
     }
     let verdicts = find_verdicts(rt, alloc, config, wanted, index, asked, gate)?;
     let later = Vec::new(alloc);

@@ -181,6 +181,14 @@ fn of_run_since(rt: HostRuntime) -> Result<(), Fail> {
     expect_since(&rt, &config)
 }
 
+/// The same where all reasons are told; there is one.
+#[test]
+fn of_run_since_with_all_reasons(rt: HostRuntime) -> Result<(), Fail> {
+    let mut config = with_background(rt.alloc())?;
+    config.all_reasons = true;
+    expect_since(&rt, &config)
+}
+
 fn expect_since(
     rt: &(impl Abort + Threads + Sync + AllocGlobal),
     config: &Config,

@@ -2,7 +2,7 @@
 
 ghost use Rattle.std.specs.Prelude.{◌≡◌, ◌<◌, ◌≤◌, IfOk, false, length};
 
-use debcheck::{Config, RunFault, Summary, run_since, status};
+use debcheck::{Config, Format, RunFault, Summary, run_since, status};
 use std::alloc::{AllocError, Global};
 use std::process::Abort;
 use std::test::Fail;
@@ -178,5 +178,173 @@ fn readers_that_go_on_give_a_report(rt: HostRuntime) -> Result<(), Fail> {
     let (index, background) = (source_of(INDEX, 1), source_of(BACKGROUND, 1));
     let told = told_on(&rt, &config, index, background, source_of(EARLIER, 1));
     assert_eq!(rt; told.0, "report");
+    Ok(())
+}
+
+/// One package that was broken and is still, a newly broken one, each for two reasons, and one that is fine.
+const NEWS: &[u8] = b"Package: a
+Version: 1
+Architecture: all
+Depends: x, y
+
+Package: b
+Version: 1
+Architecture: all
+Depends: y, c (>= 2)
+
+Package: c
+Version: 1
+Architecture: all
+";
+
+const BEFORE: &[u8] = b"Package: a
+Version: 1
+Architecture: all
+Depends: x
+";
+
+/// A run on the index with news since the one before it writes this.
+fn expect_news(rt: &(impl Abort + Threads + Sync + AllocGlobal), config: &Config, wanted: &str)
+    requires workers { (0 < config.now.workers) × (config.now.workers ≤ 64) }
+    requires chunk { 0 < config.now.chunk }
+{
+    let mut output = sink_of(rt.alloc(), 50, 0, false);
+    let (mut index, mut background) = (source_of(NEWS, 50), source_of(BACKGROUND, 50));
+    let mut earlier = source_of(BEFORE, 50);
+    let outcome = run_on(
+        rt,
+        config,
+        &mut index,
+        &mut background,
+        &mut earlier,
+        &mut output,
+    );
+    assert_eq!(rt; status(&outcome), 1);
+    assert_eq!(rt; output.bytes.as_slice(), wanted.as_bytes());
+}
+
+const FIRST_REASONS: &str = "architecture: amd64
+report:
+ -
+  package: b
+  version: 1
+  architecture: all
+  status: broken
+  reasons:
+   - missing: b 1 Depends: c (>= 2)
+stanzas: 4
+skipped: 0
+duplicates: 0
+background: 1
+asked: 3
+broken: 2
+newly-broken: 1
+mended:
+gone:
+";
+
+#[test]
+fn first_reasons_of_news(rt: HostRuntime) -> Result<(), Fail> {
+    let config = with_background(rt.alloc())?;
+    expect_news(&rt, &config, FIRST_REASONS);
+    Ok(())
+}
+
+const WALKS_AND_CAUSES: &str = "architecture: amd64
+report:
+ -
+  package: b
+  version: 1
+  architecture: all
+  status: broken
+  why:
+   - b 1 Depends: c (>= 2) missing; present: c 1
+  also:
+   - missing: b 1 Depends: y
+stanzas: 4
+skipped: 0
+duplicates: 0
+background: 1
+asked: 3
+broken: 2
+newly-broken: 1
+mended:
+gone:
+causes: 2
+ -
+  packages: 1
+  frees: 0
+  reasons:
+   - missing: c (>= 2)
+  needed-by:
+   - b 1 Depends: c (>= 2)
+  present:
+   - c 1
+  broken:
+   - b 1
+ -
+  packages: 1
+  frees: 0
+  reasons:
+   - missing: y
+  needed-by:
+   - b 1 Depends: y
+  broken:
+   - b 1
+";
+
+#[test]
+fn all_reasons_and_causes_of_news(rt: HostRuntime) -> Result<(), Fail> {
+    let mut config = with_background(rt.alloc())?;
+    config.all_reasons = true;
+    config.causes = true;
+    config.why = true;
+    expect_news(&rt, &config, WALKS_AND_CAUSES);
+    Ok(())
+}
+
+const DOCUMENT: &str =
+    r#"{"format":1,"options":["explain","bg","since","causes","all-reasons"],"architecture":"amd64","report":[
+{"package":"b","version":"1","architecture":"all","status":"broken","reasons":[{"kind":"missing","package":"b","version":"1","field":"Depends","relation":"c (>= 2)"}],"also":[[{"kind":"missing","package":"b","version":"1","field":"Depends","relation":"y"}]]}
+],"stanzas":4,"skipped":0,"duplicates":0,"background":1,"asked":3,"broken":2,"newly-broken":1,"mended":[],"gone":[],"causes":[
+{"packages":1,"frees":0,"reasons":[{"kind":"missing","relation":"c (>= 2)"}],"needed-by":[{"package":"b","version":"1","field":"Depends","relation":"c (>= 2)"}],"hits":[],"versions":[],"present":[{"package":"c","version":"1"}],"similar":[],"broken":[{"package":"b","version":"1"}]},
+{"packages":1,"frees":0,"reasons":[{"kind":"missing","relation":"y"}],"needed-by":[{"package":"b","version":"1","field":"Depends","relation":"y"}],"hits":[],"versions":[],"present":[],"similar":[],"broken":[{"package":"b","version":"1"}]}
+]}
+"#;
+
+#[test]
+fn all_reasons_and_causes_of_news_in_json(rt: HostRuntime) -> Result<(), Fail> {
+    let mut config = with_background(rt.alloc())?;
+    config.all_reasons = true;
+    config.causes = true;
+    config.format = Format::Json;
+    expect_news(&rt, &config, DOCUMENT);
+    Ok(())
+}
+
+const STATUSES: &str = "architecture: amd64
+report:
+ -
+  package: b
+  version: 1
+  architecture: all
+  status: broken
+stanzas: 4
+skipped: 0
+duplicates: 0
+background: 1
+asked: 3
+broken: 2
+newly-broken: 1
+mended:
+gone:
+";
+
+/// Without explanations and causes no core is told.
+#[test]
+fn statuses_of_news(rt: HostRuntime) -> Result<(), Fail> {
+    let mut config = with_background(rt.alloc())?;
+    config.explain = false;
+    expect_news(&rt, &config, STATUSES);
     Ok(())
 }

@@ -7,7 +7,7 @@ use Rattle.deb_verdict.specs.declared.wanted.Wanted.{Wanted}
 use Rattle.deb_report.specs.Settings.{settings_of}
 use Rattle.deb_report.specs.Since.{broken_of, broken_view}
 use Rattle.debcheck.proofs.SinceLemmas.{told_status, were-broken}
-use Rattle.debcheck.proofs.StandingLemmas.{stands-told}
+use Rattle.debcheck.proofs.StandingLemmas.{same_all, stands-told}
 use Rattle.debcheck.proofs.since.broken_in.Goals as goal
 
 pub returns : goal.returns
@@ -17,7 +17,7 @@ returns g c =
     let told = ap (λ (verdicts : List Verdict). broken_of index asked (map verdict_view verdicts)) c.as_slice.ensures.value in
     let statuses : Wanted = record { sets = false; cores = false } in
     let places : All (λ place. place < length index.packages) asked = rw c.as_slice-asked.ensures.value c.in_ok-asked.ensures.within in
-    let stand = stands-told statuses index asked (map verdict_view c.in_ok-verdicts.verdicts.items) places c.in_ok-verdicts.ensures.each in
+    let stand = stands-told (λ place. statuses) index asked (map verdict_view c.in_ok-verdicts.verdicts.items) places c.in_ok-verdicts.ensures.each in
     IfOk-weaker c.broken_packages.result _ _
     (λ before is. were-broken (as_told statuses) (told_status statuses) (settings_of c.args.config.now) index asked c.in_ok-asked.asked.items (map verdict_view c.in_ok-verdicts.verdicts.items) stand.verdicts
-    (map broken_view before.items) c.in_ok-asked.ensures.places c.as_slice-asked.ensures.value stand.are_verdicts stand.same (is ∙ told)) c.broken_packages.ensures
+    (map broken_view before.items) c.in_ok-asked.ensures.places c.as_slice-asked.ensures.value stand.are_verdicts (same_all statuses asked (map verdict_view c.in_ok-verdicts.verdicts.items) stand.verdicts stand.same) (is ∙ told)) c.broken_packages.ensures
