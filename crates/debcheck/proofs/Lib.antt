@@ -1,6 +1,5 @@
 mod BackgroundLemmas
 mod DeviceLemmas
-mod EarlierLemmas
 mod FaultLemmas
 mod IndexLemmas
 mod LaterLemmas
@@ -10,6 +9,7 @@ mod MergeLemmas
 mod NameLemmas
 mod OneReport
 mod PhaseLemmas
+mod PieceLemmas
 mod ProgramLemmas
 mod RecordingLemmas
 mod RunLemmas

@@ -12,14 +12,15 @@ use test_devices::{
 };
 
 /// What a program is given, and the hint that it tells, perhaps none. The words have a `|` before each; what is in the file stands under the name `others`.
-struct Case {
-    words: &'static str,
-    index: &'static [u8],
-    file: Option<&'static [u8]>,
-    hint: &'static [u8],
+#[derive(Clone, Copy)]
+struct Case<'a> {
+    words: &'a str,
+    index: &'a [u8],
+    file: Option<&'a [u8]>,
+    hint: &'a [u8],
 }
 
-const FAULTS: [Case; 9] = [
+const FAULTS: [Case<'static>; 9] = [
     Case {
         words: "|--arch|amd64",
         index: b"\x1f\x8b\x08\0\0\0\0\0\x02\x03",
@@ -87,7 +88,7 @@ Architecture: all
 ";
 
 /// Faults of stanzas. What the first bytes tell goes before the package.
-const STANZAS: [Case; 8] = [
+const STANZAS: [Case<'static>; 10] = [
     Case {
         words: "|--arch|amd64",
         index: FAULTY,
@@ -128,6 +129,18 @@ const STANZAS: [Case; 8] = [
         words: "|--arch|amd64|--since|others",
         index: INDEX,
         file: Some(FAULTY),
+        hint: b"hint: stanza 2 of the earlier index is of the package foo\n",
+    },
+    Case {
+        words: "|--arch|amd64|--since|others",
+        index: b"Package: a\nVersion: 1\n",
+        file: Some(FAULTY),
+        hint: b"hint: stanza 1 of the index is of the package a\n",
+    },
+    Case {
+        words: "|--arch|amd64|--since|others|--checkonly|zz",
+        index: INDEX,
+        file: Some(FAULTY),
         hint: b"",
     },
     Case {
@@ -151,7 +164,7 @@ Provides: mta, b
 ";
 
 /// Names that no package of the index has.
-const NAMES: [Case; 4] = [
+const NAMES: [Case<'static>; 4] = [
     Case {
         words: "|--arch|amd64|--checkonly|zz|--bg|others",
         index: INDEX,
@@ -205,7 +218,7 @@ Architecture: any
 Directory: pool/main/b/b
 ";
 
-const REPORTS: [Case; 7] = [
+const REPORTS: [Case<'static>; 7] = [
     Case {
         words: "|--arch|amd64",
         index: SOURCES,
@@ -250,7 +263,7 @@ const REPORTS: [Case; 7] = [
     },
 ];
 
-const STRICT: [Case; 4] = [
+const STRICT: [Case<'static>; 4] = [
     Case {
         words: "|--arch|amd64|--strict",
         index: b"",
@@ -277,7 +290,7 @@ const STRICT: [Case; 4] = [
     },
 ];
 
-const PLAIN_FAULTS: [Case; 3] = [
+const PLAIN_FAULTS: [Case<'static>; 3] = [
     Case {
         words: "|--arch|amd64",
         index: b"Version: 1\n",
@@ -310,7 +323,7 @@ struct Left {
 
 fn left_by(
     rt: &(impl Threads + Sync + AllocGlobal),
-    case: &Case,
+    case: &Case<'_>,
     words: &str,
     is_terminal: bool,
 ) -> Result<Left, AllocError> {
@@ -344,7 +357,10 @@ fn expect_same(rt: &impl Abort, left: &Left, other: &Left) {
 
 /// But for the line that the index is read, the hint alone is on the screen, behind all else; and where that is no terminal, or quiet is asked for, it
 /// isn't there, and all else is as it was.
-fn expect_case(rt: &(impl Abort + Threads + Sync + AllocGlobal), case: &Case) -> Result<(), Fail> {
+fn expect_case(
+    rt: &(impl Abort + Threads + Sync + AllocGlobal),
+    case: &Case<'_>,
+) -> Result<(), Fail> {
     let told = left_by(rt, case, case.words, true)?;
     assert_eq!(rt;
         told.lines,
@@ -378,6 +394,51 @@ fn of_faults(rt: HostRuntime) -> Result<(), Fail> {
 fn of_stanzas(rt: HostRuntime) -> Result<(), Fail> {
     for case in &STANZAS {
         expect_case(&rt, case)?;
+    }
+    Ok(())
+}
+
+/// So many stanzas of another architecture, longer together than what is read of an index at a time.
+const STANZAS_OF_A_PIECE: u32 = 120_000;
+
+fn add_skipped(text: &mut Vec<u8>) -> Result<(), AllocError> {
+    for _ in 0..STANZAS_OF_A_PIECE {
+        text.extend_from_slice(b"Package: p\nVersion: 1\nArchitecture: i386\n\n")?;
+    }
+    Ok(())
+}
+
+/// The stanza with the fault is sought where it stands, in the last piece or before it, and told by its number in the whole text.
+#[test]
+fn of_stanzas_of_later_pieces(rt: HostRuntime) -> Result<(), Fail> {
+    let mut text = Vec::new(rt.alloc());
+    for _ in 0..2 {
+        add_skipped(&mut text)?;
+        text.extend_from_slice(b"Package: foo\nVersion: 1_2\nArchitecture: all\n\n")?;
+        for (words, index, file, hint) in [
+            (
+                "|--arch|amd64",
+                text.as_slice(),
+                None,
+                b"hint: stanza 120001 of the index is of the package foo\n".as_slice(),
+            ),
+            (
+                "|--arch|amd64|--since|others",
+                INDEX,
+                Some(text.as_slice()),
+                b"hint: stanza 120001 of the earlier index is of the package foo\n".as_slice(),
+            ),
+        ] {
+            let case = Case {
+                words,
+                index,
+                file,
+                hint,
+            };
+            let told = left_by(&rt, &case, words, true)?;
+            assert_eq!(rt; told.lines, [1, 1]);
+            assert_eq!(rt; told.status, 65);
+        }
     }
     Ok(())
 }
