@@ -68,13 +68,15 @@ fn take_last<R: Threads + Sync>(
     }
 }
 
-// Gives back so many of the first bytes that are held.
+// Drops so many of the first bytes that are held. Their memory is kept for the next ones, since what is given back and asked for again costs time.
 fn drop_taken(held: &mut Vec<u8>, taken: usize) -> Result<(), AllocError>
     requires { taken ≤ length held.old.items }
     ensures { OnOk result (held.new.items ≡ drop taken held.old.items) }
 {
     if taken > 0 {
-        *held = held.split_off(taken)?;
+        let left = held.split_off(taken)?;
+        held.clear();
+        held.extend_from_slice(left.as_slice())?;
     }
     Ok(())
 }

@@ -399,11 +399,16 @@ fn of_stanzas(rt: HostRuntime) -> Result<(), Fail> {
 }
 
 /// So many stanzas of another architecture, longer together than what is read of an index at a time.
-const STANZAS_OF_A_PIECE: u32 = 120_000;
+const STANZAS_OF_A_PIECE: u32 = 5_000;
 
 fn add_skipped(text: &mut Vec<u8>) -> Result<(), AllocError> {
+    let line = [b' '; 1_000];
     for _ in 0..STANZAS_OF_A_PIECE {
-        text.extend_from_slice(b"Package: p\nVersion: 1\nArchitecture: i386\n\n")?;
+        text.extend_from_slice(
+            b"Package: p\nVersion: 1\nArchitecture: i386\nDescription: long\n x",
+        )?;
+        text.extend_from_slice(&line)?;
+        text.extend_from_slice(b"\n\n")?;
     }
     Ok(())
 }
@@ -420,13 +425,13 @@ fn of_stanzas_of_later_pieces(rt: HostRuntime) -> Result<(), Fail> {
                 "|--arch|amd64",
                 text.as_slice(),
                 None,
-                b"hint: stanza 120001 of the index is of the package foo\n".as_slice(),
+                b"hint: stanza 5001 of the index is of the package foo\n".as_slice(),
             ),
             (
                 "|--arch|amd64|--since|others",
                 INDEX,
                 Some(text.as_slice()),
-                b"hint: stanza 120001 of the earlier index is of the package foo\n".as_slice(),
+                b"hint: stanza 5001 of the earlier index is of the package foo\n".as_slice(),
             ),
         ] {
             let case = Case {
