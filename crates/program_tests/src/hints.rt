@@ -3,7 +3,7 @@
 ghost use Rattle.std.specs.Prelude.{◌≡◌, false};
 
 use debcheck::{Ended, OpenFault, Recording, run_program};
-use std::alloc::AllocError;
+use std::alloc::{AllocError, Global};
 use std::process::Abort;
 use std::test::Fail;
 use std::thread::Threads;
@@ -334,7 +334,7 @@ fn left_by(
         &clock_of(rt, 0),
         Ok(words_in(alloc, words)?),
         &Cabinet::new("others", case.file, OpenFault::Unopened),
-        &mut Recording::new(source_of(case.index, 11)),
+        &mut Recording::new(source_of(case.index, 11 + case.index.len() / 64)),
         Beside::new(&screen, sink_of(alloc, 50, 0, false)),
         &mut errors,
         &screen,
@@ -413,38 +413,45 @@ fn add_skipped(text: &mut Vec<u8>) -> Result<(), AllocError> {
     Ok(())
 }
 
+/// A text in which the fault stands behind a piece, and perhaps before one.
+fn later_fault(alloc: Global, is_last: bool) -> Result<Vec<u8>, AllocError> {
+    let mut text = Vec::new(alloc);
+    add_skipped(&mut text)?;
+    text.extend_from_slice(b"Package: foo\nVersion: 1_2\nArchitecture: all\n\n")?;
+    if !is_last {
+        add_skipped(&mut text)?;
+    }
+    Ok(text)
+}
+
 /// The stanza with the fault is sought where it stands, in the last piece or before it, and told by its number in the whole text.
 #[test]
-fn of_stanzas_of_later_pieces(rt: HostRuntime) -> Result<(), Fail> {
-    let mut text = Vec::new(rt.alloc());
-    for _ in 0..2 {
-        add_skipped(&mut text)?;
-        text.extend_from_slice(b"Package: foo\nVersion: 1_2\nArchitecture: all\n\n")?;
-        for (words, index, file, hint) in [
-            (
-                "|--arch|amd64",
-                text.as_slice(),
-                None,
-                b"hint: stanza 5001 of the index is of the package foo\n".as_slice(),
-            ),
-            (
-                "|--arch|amd64|--since|others",
-                INDEX,
-                Some(text.as_slice()),
-                b"hint: stanza 5001 of the earlier index is of the package foo\n".as_slice(),
-            ),
-        ] {
-            let case = Case {
-                words,
-                index,
-                file,
-                hint,
-            };
-            let told = left_by(&rt, &case, words, true)?;
-            assert_eq!(rt; told.lines, [1, 1]);
-            assert_eq!(rt; told.status, 65);
-        }
+fn of_a_stanza_of_a_later_piece(rt: HostRuntime) -> Result<(), Fail> {
+    for is_last in [false, true] {
+        let text = later_fault(rt.alloc(), is_last)?;
+        let case = Case {
+            words: "|--arch|amd64",
+            index: text.as_slice(),
+            file: None,
+            hint: b"hint: stanza 5001 of the index is of the package foo\n",
+        };
+        let told = left_by(&rt, &case, case.words, true)?;
+        assert_eq!(rt; told.lines, [1, 1]);
     }
+    Ok(())
+}
+
+#[test]
+fn of_a_stanza_of_a_later_piece_of_the_earlier_index(rt: HostRuntime) -> Result<(), Fail> {
+    let text = later_fault(rt.alloc(), true)?;
+    let case = Case {
+        words: "|--arch|amd64|--since|others",
+        index: INDEX,
+        file: Some(text.as_slice()),
+        hint: b"hint: stanza 5001 of the earlier index is of the package foo\n",
+    };
+    let told = left_by(&rt, &case, case.words, true)?;
+    assert_eq!(rt; told.lines, [1, 1]);
     Ok(())
 }
 
