@@ -3,7 +3,7 @@
 ghost use Rattle.std.specs.Prelude.{◌≡◌, false};
 
 use debcheck::{Ended, OpenFault, Recording, run_program};
-use std::alloc::{AllocError, Global};
+use std::alloc::AllocError;
 use std::process::Abort;
 use std::test::Fail;
 use std::thread::Threads;
@@ -12,15 +12,14 @@ use test_devices::{
 };
 
 /// What a program is given, and the hint that it tells, perhaps none. The words have a `|` before each; what is in the file stands under the name `others`.
-#[derive(Clone, Copy)]
-struct Case<'a> {
-    words: &'a str,
-    index: &'a [u8],
-    file: Option<&'a [u8]>,
-    hint: &'a [u8],
+struct Case {
+    words: &'static str,
+    index: &'static [u8],
+    file: Option<&'static [u8]>,
+    hint: &'static [u8],
 }
 
-const FAULTS: [Case<'static>; 9] = [
+const FAULTS: [Case; 9] = [
     Case {
         words: "|--arch|amd64",
         index: b"\x1f\x8b\x08\0\0\0\0\0\x02\x03",
@@ -88,7 +87,7 @@ Architecture: all
 ";
 
 /// Faults of stanzas. What the first bytes tell goes before the package.
-const STANZAS: [Case<'static>; 10] = [
+const STANZAS: [Case; 10] = [
     Case {
         words: "|--arch|amd64",
         index: FAULTY,
@@ -164,7 +163,7 @@ Provides: mta, b
 ";
 
 /// Names that no package of the index has.
-const NAMES: [Case<'static>; 4] = [
+const NAMES: [Case; 4] = [
     Case {
         words: "|--arch|amd64|--checkonly|zz|--bg|others",
         index: INDEX,
@@ -218,7 +217,7 @@ Architecture: any
 Directory: pool/main/b/b
 ";
 
-const REPORTS: [Case<'static>; 7] = [
+const REPORTS: [Case; 7] = [
     Case {
         words: "|--arch|amd64",
         index: SOURCES,
@@ -263,7 +262,7 @@ const REPORTS: [Case<'static>; 7] = [
     },
 ];
 
-const STRICT: [Case<'static>; 4] = [
+const STRICT: [Case; 4] = [
     Case {
         words: "|--arch|amd64|--strict",
         index: b"",
@@ -290,7 +289,7 @@ const STRICT: [Case<'static>; 4] = [
     },
 ];
 
-const PLAIN_FAULTS: [Case<'static>; 3] = [
+const PLAIN_FAULTS: [Case; 3] = [
     Case {
         words: "|--arch|amd64",
         index: b"Version: 1\n",
@@ -323,7 +322,7 @@ struct Left {
 
 fn left_by(
     rt: &(impl Threads + Sync + AllocGlobal),
-    case: &Case<'_>,
+    case: &Case,
     words: &str,
     is_terminal: bool,
 ) -> Result<Left, AllocError> {
@@ -334,7 +333,7 @@ fn left_by(
         &clock_of(rt, 0),
         Ok(words_in(alloc, words)?),
         &Cabinet::new("others", case.file, OpenFault::Unopened),
-        &mut Recording::new(source_of(case.index, 11 + case.index.len() / 64)),
+        &mut Recording::new(source_of(case.index, 11)),
         Beside::new(&screen, sink_of(alloc, 50, 0, false)),
         &mut errors,
         &screen,
@@ -357,10 +356,7 @@ fn expect_same(rt: &impl Abort, left: &Left, other: &Left) {
 
 /// But for the line that the index is read, the hint alone is on the screen, behind all else; and where that is no terminal, or quiet is asked for, it
 /// isn't there, and all else is as it was.
-fn expect_case(
-    rt: &(impl Abort + Threads + Sync + AllocGlobal),
-    case: &Case<'_>,
-) -> Result<(), Fail> {
+fn expect_case(rt: &(impl Abort + Threads + Sync + AllocGlobal), case: &Case) -> Result<(), Fail> {
     let told = left_by(rt, case, case.words, true)?;
     assert_eq!(rt;
         told.lines,
@@ -395,63 +391,6 @@ fn of_stanzas(rt: HostRuntime) -> Result<(), Fail> {
     for case in &STANZAS {
         expect_case(&rt, case)?;
     }
-    Ok(())
-}
-
-/// So many stanzas of another architecture, longer together than what is read of an index at a time.
-const STANZAS_OF_A_PIECE: u32 = 5_000;
-
-fn add_skipped(text: &mut Vec<u8>) -> Result<(), AllocError> {
-    let line = [b' '; 1_000];
-    for _ in 0..STANZAS_OF_A_PIECE {
-        text.extend_from_slice(
-            b"Package: p\nVersion: 1\nArchitecture: i386\nDescription: long\n x",
-        )?;
-        text.extend_from_slice(&line)?;
-        text.extend_from_slice(b"\n\n")?;
-    }
-    Ok(())
-}
-
-/// A text in which the fault stands behind a piece, and perhaps before one.
-fn later_fault(alloc: Global, is_last: bool) -> Result<Vec<u8>, AllocError> {
-    let mut text = Vec::new(alloc);
-    add_skipped(&mut text)?;
-    text.extend_from_slice(b"Package: foo\nVersion: 1_2\nArchitecture: all\n\n")?;
-    if !is_last {
-        add_skipped(&mut text)?;
-    }
-    Ok(text)
-}
-
-/// The stanza with the fault is sought where it stands, in the last piece or before it, and told by its number in the whole text.
-#[test]
-fn of_a_stanza_of_a_later_piece(rt: HostRuntime) -> Result<(), Fail> {
-    for is_last in [false, true] {
-        let text = later_fault(rt.alloc(), is_last)?;
-        let case = Case {
-            words: "|--arch|amd64",
-            index: text.as_slice(),
-            file: None,
-            hint: b"hint: stanza 5001 of the index is of the package foo\n",
-        };
-        let told = left_by(&rt, &case, case.words, true)?;
-        assert_eq!(rt; told.lines, [1, 1]);
-    }
-    Ok(())
-}
-
-#[test]
-fn of_a_stanza_of_a_later_piece_of_the_earlier_index(rt: HostRuntime) -> Result<(), Fail> {
-    let text = later_fault(rt.alloc(), true)?;
-    let case = Case {
-        words: "|--arch|amd64|--since|others",
-        index: INDEX,
-        file: Some(text.as_slice()),
-        hint: b"hint: stanza 5001 of the earlier index is of the package foo\n",
-    };
-    let told = left_by(&rt, &case, case.words, true)?;
-    assert_eq!(rt; told.lines, [1, 1]);
     Ok(())
 }
 
