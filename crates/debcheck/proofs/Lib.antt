@@ -1,6 +1,5 @@
 mod BackgroundLemmas
 mod DeviceLemmas
-mod EarlierLemmas
 mod FaultLemmas
 mod IndexLemmas
 mod LaterLemmas
@@ -11,6 +10,7 @@ mod NameLemmas
 mod NewsLemmas
 mod OneReport
 mod PhaseLemmas
+mod PieceLemmas
 mod ProgramLemmas
 mod RecordingLemmas
 mod RunLemmas

@@ -28,15 +28,16 @@ stanza_of (BadRelation stanza field) = Some stanza
 stanza_of (TooManyStanzas stanza) = Some stanza
 stanza_of Memory = None
 
--- the line on the stanza for whose fault an input is refused
-unfoldable pub stanza_text : Input → IndexError → List ℕ → Option (List ℕ)
-stanza_text input fault text = option_and_then (λ number. stanza_hint_line input number text) (stanza_of fault)
+-- the line on the stanza for whose fault an input is refused, by what stands of its text behind so many stanzas
+unfoldable pub stanza_text : Input → IndexError → ℕ → List ℕ → Option (List ℕ)
+stanza_text input fault before text = option_and_then (λ number. stanza_hint_line input before number text) (stanza_of fault)
 
--- the line on an index or its background, where one of them is refused for this fault
-unfoldable pub refused_text : RunFault → List ℕ → List ℕ → Option (List ℕ)
-refused_text (Index fault) text behind = stanza_text input.Index fault text
-refused_text (Background fault) text behind = stanza_text input.Background fault behind
-refused_text fault text behind = None
+-- the line on an index or its background, where one of them is refused for this fault, by what stands of the index behind so many stanzas, and by the
+-- background
+unfoldable pub refused_text : RunFault → ℕ → List ℕ → List ℕ → Option (List ℕ)
+refused_text (Index fault) before text behind = stanza_text input.Index fault before text
+refused_text (Background fault) before text behind = stanza_text input.Background fault 0 behind
+refused_text fault before text behind = None
 
 -- the name of the first package that provides this one
 unfoldable pub provider_of : IndexView → List ℕ → Option (List ℕ)

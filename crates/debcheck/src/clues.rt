@@ -1,13 +1,15 @@
 //! What is seen of a text that is refused or has nothing for an architecture, or of a name that is asked in vain, while they are there.
 
-ghost use Rattle.std.specs.Prelude.{◌≡◌, IfOk, IfSome, option_map};
+ghost use Rattle.std.specs.Prelude.{◌≡◌, ◌≤◌, IfOk, IfSome, length, option_map};
 ghost use Rattle.std.specs.Option.{option_copied};
+ghost use Rattle.deb_index.specs.Reading.{byte_limit};
 ghost use Rattle.input_hints.specs.Architectures.{TellsMost};
 ghost use Rattle.debcheck.specs.Clues.{IsElsewhere, clue_of, name_text, provider_of, refused_text, stanza_of, stanza_text};
 
 use crate::fault::RunFault;
 use crate::hints::Clue;
 use deb_index::{Index, IndexError};
+use deb_report::Config;
 use input_hints::{
     Input, RunHint, background_name_line, elsewhere_hint_line, provided_name_line, run_hint,
     stanza_hint_line,
@@ -31,18 +33,19 @@ fn stanza_of(fault: &IndexError) -> Option<u64>
     }
 }
 
-// The line on the stanza for whose fault an input is refused.
+// The line on the stanza for whose fault an input is refused. So many stanzas stand before the text that has it.
 #[tactic(auto, unfolding(crate::specs::Clues::stanza_text))]
 fn stanza_text(
     alloc: Global,
     input: Input,
     fault: &IndexError,
+    before: u64,
     text: &[u8],
 ) -> Result<Option<Vec<u8>>, AllocError>
-    ensures { IfOk result (λ line. option_map (λ said. said.items) line ≡ stanza_text input fault.now text.now) }
+    ensures { IfOk result (λ line. option_map (λ said. said.items) line ≡ stanza_text input fault.now before text.now) }
 {
     match stanza_of(fault) {
-        Some(number) => stanza_hint_line(alloc, input, number, text),
+        Some(number) => stanza_hint_line(alloc, input, before, number, text),
         None => Ok(None),
     }
 }
@@ -52,14 +55,15 @@ fn stanza_text(
 fn refused_text(
     alloc: Global,
     fault: &RunFault,
+    before: u64,
     text: &[u8],
     behind: &[u8],
 ) -> Result<Option<Vec<u8>>, AllocError>
-    ensures { IfOk result (λ line. option_map (λ said. said.items) line ≡ refused_text fault.now text.now behind.now) }
+    ensures { IfOk result (λ line. option_map (λ said. said.items) line ≡ refused_text fault.now before text.now behind.now) }
 {
     match fault {
-        RunFault::Index(fault) => stanza_text(alloc, Input::Index, fault, text),
-        RunFault::Background(fault) => stanza_text(alloc, Input::Background, fault, behind),
+        RunFault::Index(fault) => stanza_text(alloc, Input::Index, fault, before, text),
+        RunFault::Background(fault) => stanza_text(alloc, Input::Background, fault, 0, behind),
         _ => Ok(None),
     }
 }
@@ -110,18 +114,68 @@ fn note_line(clue: &mut Option<Clue>, line: Result<Option<Vec<u8>>, AllocError>)
     }
 }
 
+/// How many stanzas stand before a piece of a text that is refused for a fault of this piece: read by itself, it has that fault at a number of its
+/// own. Where there are too many stanzas that number is another one, and none is told.
+pub(crate) fn stanzas_before(
+    alloc: Global,
+    config: &Config,
+    outcome: &Result<Index, RunFault>,
+    piece: &[u8],
+) -> u64
+    requires { length piece.now ≤ byte_limit }
+{
+    let number = match outcome {
+        Err(RunFault::Index(IndexError::TooManyStanzas { .. })) => return 0,
+        Err(RunFault::Index(fault)) => stanza_of(fault),
+        _ => return 0,
+    };
+    match Index::read(alloc, piece, config.arch.as_str(), config.essential) {
+        Ok(_) => 0,
+        Err(own) => number
+            .unwrap_or(0)
+            .saturating_sub(stanza_of(&own).unwrap_or(0)),
+    }
+}
+
 /// Notes of which package the stanza is for whose fault an index or its background is refused, where one is; and where all stanzas are of other
-/// architectures, the one that most are of.
+/// architectures, the one that most are of. The text is that of the index, or the piece of it that was looked at last, behind so many stanzas.
 pub(crate) fn note_read(
     alloc: Global,
     clue: &mut Option<Clue>,
     outcome: &Result<Index, RunFault>,
+    before: u64,
     text: &[u8],
     behind: &[u8],
 ) {
     match outcome {
         Ok(index) => note_line(clue, elsewhere_text(alloc, index, text)),
-        Err(fault) => note_line(clue, refused_text(alloc, fault, text, behind)),
+        Err(fault) => note_line(clue, refused_text(alloc, fault, before, text, behind)),
+    }
+}
+
+/// Notes of which package the stanza is for whose fault an earlier index is refused, where one is, by the piece that has it.
+pub(crate) fn note_earlier(
+    alloc: Global,
+    clue: &mut Option<Clue>,
+    outcome: &Result<Index, RunFault>,
+    before: u64,
+    text: &[u8],
+) {
+    match outcome {
+        Err(RunFault::Index(fault)) => {
+            note_line(
+                clue,
+                stanza_text(alloc, Input::Earlier, fault, before, text),
+            );
+        }
+        _ => {}
+    }
+}
+
+/// Notes what was seen before, where something was.
+pub(crate) fn note_seen(clue: &mut Option<Clue>, seen: Option<Clue>) {
+    if seen.is_some() {
+        *clue = seen;
     }
 }
 

@@ -6,9 +6,9 @@
 //!   other programs call them.
 //! - `device`: what a run reads from and writes to; `std_device`: such devices over std's; `recording`: a source that keeps its beginning. `input` reads to
 //!   the end, `output` writes whole texts.
-//! - `phases`: a run, from bytes to bytes; `since`: one that tells what became of an earlier index, which `earlier` reads piece by piece; `asked`: the places
-//!   that are asked in it; `strict`: what a strict run takes for a fault of that; `verdicts`: what is found of them for the report, with all cores by
-//!   `later`.
+//! - `pieces`: an index whose text is read piece by piece; `phases`: a run, from bytes to bytes; `since`: one that tells what became of an earlier index;
+//!   `asked`: the places that are asked in it; `strict`: what a strict run takes for a fault of that; `verdicts`: what is found of them for the report,
+//!   with all cores by `later`.
 //! - `fault`: why a run fails, and the line and the status of that.
 //! - `program`: a program, from its words to its exit status, on the `words` of a process, the files that an `opener` opens, one of which
 //!   may have the `names` that are asked, and with its `progress` and `hints` on a screen; `clues`: what is seen for
@@ -19,7 +19,6 @@
 mod asked;
 mod clues;
 mod device;
-mod earlier;
 mod fault;
 mod hints;
 mod input;
@@ -32,6 +31,7 @@ mod options;
 mod other_words;
 mod output;
 mod phases;
+mod pieces;
 mod program;
 mod progress;
 mod recording;
@@ -45,13 +45,13 @@ mod words;
 pub use asked::asked_places;
 pub use deb_report::{CHUNK_LIMIT, Config, Format, Show, Summary, report};
 pub use device::{DeviceFault, Sink, Source};
-pub use earlier::read_pieces;
 pub use fault::{RunFault, fault_line, status};
 pub use input::read_all;
 pub use line::{LineFault, VERSION_LINE, line_status, read_line, write_line_fault};
 pub use opener::{Disk, OpenFault, Opener};
 pub use output::write_fault;
 pub use phases::run;
+pub use pieces::read_pieces;
 pub use program::{Ended, run_process, run_program};
 pub use progress::Progress;
 pub use recording::Recording;

@@ -4,21 +4,40 @@ ghost use Rattle.std.specs.Prelude.{◌≡◌, ◌≢◌, ◌<◌, ◌≤◌, If
 ghost use Rattle.std.specs.Io.KnownBytes.{IsAtEnd};
 ghost use Rattle.deb_index.specs.Reading.{byte_limit, index_of_both};
 ghost use Rattle.deb_report.specs.Settings.{settings_of};
-ghost use Rattle.debcheck.specs.Run.{Fails, FailsToAccept, FailsToIndex, FailsToReadBehind, FailsToReport, IsReadAs, IsReportOn, Leaves, TellsReport, WritesReport, behind, input, is_unread};
+ghost use Rattle.debcheck.specs.Run.{Fails, FailsToAccept, FailsToIndex, FailsToReadBehind, FailsToReport, IsReadAs, IsReportOn, Leaves, ReadsAs, TellsReport, WritesReport, behind, input, is_unread};
 
 use crate::asked::ask_noting;
-use crate::clues::note_read;
+use crate::clues::{note_read, stanzas_before};
 use crate::device::{Sink, Source};
 use crate::fault::RunFault;
 use crate::hints::Clue;
 use crate::input::read_all;
 use crate::output::write_all;
+use crate::pieces::{PIECE, TextRead, finish, read_text};
 use crate::verdicts::{find_told, wanted_of};
 use deb_index::{BothError, Index, PART_SIZE, TEXT_LIMIT};
 use deb_report::{Config, Summary, report_told, summary_of};
 use std::alloc::Global;
+use std::mem::forget;
 use std::thread::Threads;
 use work_draw::Gate;
+
+/// What comes behind a run.
+#[derive(Clone, Copy)]
+pub(crate) enum After {
+    /// Its caller goes on, so the index is given back.
+    Caller,
+    /// The process ends, and all its memory goes back at once: an index is given back in some hundred thousand pieces.
+    End,
+}
+
+/// Gives an index back, where somebody has use for its memory.
+pub(crate) fn let_go(index: Index, after: After) {
+    match after {
+        After::Caller => drop(index),
+        After::End => forget(index),
+    }
+}
 
 // Reads what stands behind the index: the background, where one is asked for, else no bytes.
 fn read_behind<B: Source>(
@@ -118,8 +137,38 @@ pub(crate) fn index_from<R: Threads + Sync>(
     ensures refused { IfErr result (FailsToAccept (settings_of config.now) text.items behind.items) }
 {
     let outcome = index_both(rt, alloc, config, text.as_slice(), behind.as_slice());
-    note_read(alloc, clue, &outcome, text.as_slice(), behind.as_slice());
+    note_read(alloc, clue, &outcome, 0, text.as_slice(), behind.as_slice());
     outcome
+}
+
+// Reads the index, piece by piece, and what stands behind it. What is seen of them is noted.
+fn read_index<S: Source, B: Source, R: Threads + Sync>(
+    rt: &R,
+    alloc: Global,
+    config: &Config,
+    reader: &mut S,
+    background: &mut B,
+    clue: &mut Option<Clue>,
+) -> Result<Index, RunFault>
+    requires reader { S.failed reader.old ≡ false }
+    requires background { B.failed background.old ≡ false }
+    ensures end { OnOk result (IsAtEnd (S.remaining reader.new)) }
+    ensures background_end { OnOk result ((settings_of config.now).background ≡ true → IsAtEnd (B.remaining background.new)) }
+    ensures spared { (settings_of config.now).background ≡ false → background.new ≡ background.old }
+    ensures unbegun { IfErr result (λ fault. is_unread fault ≡ true → background.new ≡ background.old) }
+    ensures unfailed { OnOk result ((S.failed reader.new ≡ false) × (B.failed background.new ≡ false)) }
+    ensures index { IfOk result (ReadsAs (settings_of config.now)
+        (input (S.remaining reader.old) (S.failed reader.new)) (input (B.remaining background.old) (B.failed background.new))) }
+    ensures refused { IfErr result (FailsToIndex (settings_of config.now)
+        (input (S.remaining reader.old) (S.failed reader.new)) (input (B.remaining background.old) (B.failed background.new))) }
+{
+    let TextRead { outcome, last } = read_text(rt, alloc, config, reader, PIECE)?;
+    let more = read_behind(alloc, config, background)?;
+    let index = finish(rt, alloc, config, outcome, more.as_slice());
+    let (piece, more) = (last.as_slice(), more.as_slice());
+    let before = stanzas_before(alloc, config, &index, piece);
+    note_read(alloc, clue, &index, before, piece, more);
+    index
 }
 
 // Checks the asked places and makes the report.
@@ -146,7 +195,7 @@ fn check_and_report<G: Gate + Sync, R: Threads + Sync>(
     Ok((output, summary_of(index, asked, verdicts)))
 }
 
-// Reads the index and what stands behind it, and makes the report. All of it is dropped at the end.
+// Reads the index and what stands behind it, and makes the report.
 fn read_and_report<S: Source, B: Source, G: Gate + Sync, R: Threads + Sync>(
     rt: &R,
     alloc: Global,
@@ -155,6 +204,7 @@ fn read_and_report<S: Source, B: Source, G: Gate + Sync, R: Threads + Sync>(
     background: &mut B,
     gate: &G,
     clue: &mut Option<Clue>,
+    after: After,
 ) -> Result<(Vec<u8>, Summary), RunFault>
     requires workers { (0 < config.now.workers) × (config.now.workers ≤ 64) }
     requires chunk { 0 < config.now.chunk }
@@ -170,9 +220,10 @@ fn read_and_report<S: Source, B: Source, G: Gate + Sync, R: Threads + Sync>(
     ensures refused { IfErr result (Fails (settings_of config.now)
         (input (S.remaining reader.old) (S.failed reader.new)) (input (B.remaining background.old) (B.failed background.new)) false) }
 {
-    let (text, behind) = read_texts(alloc, config, reader, background)?;
-    let index = index_from(rt, alloc, config, text, behind, clue)?;
-    check_and_report(rt, alloc, config, &index, gate, clue)
+    let index = read_index(rt, alloc, config, reader, background, clue)?;
+    let told = check_and_report(rt, alloc, config, &index, gate, clue);
+    let_go(index, after);
+    told
 }
 
 // The run, of which is noted what was seen of a text or of a name that it couldn't use.
@@ -185,6 +236,7 @@ pub(crate) fn run_noting<S: Source, B: Source, K: Sink, G: Gate + Sync, R: Threa
     writer: &mut K,
     gate: &G,
     clue: &mut Option<Clue>,
+    after: After,
 ) -> Result<Summary, RunFault>
     requires workers { (0 < config.now.workers) × (config.now.workers ≤ 64) }
     requires chunk { 0 < config.now.chunk }
@@ -208,7 +260,9 @@ pub(crate) fn run_noting<S: Source, B: Source, K: Sink, G: Gate + Sync, R: Threa
         (input (S.remaining reader.old) (S.failed reader.new)) (input (B.remaining background.old) (B.failed background.new))
         (K.contents writer.old) (K.contents writer.new)) }
 {
-    let (output, summary) = read_and_report(rt, alloc, config, reader, background, gate, clue)?;
+    let (output, summary) = read_and_report(
+        rt, alloc, config, reader, background, gate, clue, after,
+    )?;
     match write_all(writer, output.as_slice()) {
         Ok(()) => Ok(summary),
         Err(_) => Err(RunFault::Write),
@@ -260,6 +314,14 @@ pub fn run<S: Source, B: Source, K: Sink, G: Gate + Sync, R: Threads + Sync>(
 {
     let mut clue = None;
     run_noting(
-        rt, alloc, config, reader, background, writer, gate, &mut clue,
+        rt,
+        alloc,
+        config,
+        reader,
+        background,
+        writer,
+        gate,
+        &mut clue,
+        After::Caller,
     )
 }

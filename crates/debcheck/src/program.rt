@@ -13,7 +13,7 @@ use crate::line::{LineFault, line_status, read_line, write_line_fault};
 use crate::names::read_names;
 use crate::opener::{Disk, OpenFault, Opener};
 use crate::output::write_fault;
-use crate::phases::run_noting;
+use crate::phases::{After, run_noting};
 use crate::progress::{Progress, Wiping};
 use crate::recording::Recording;
 use crate::since::run_since_noting;
@@ -86,7 +86,17 @@ fn run_behind<
 {
     let alloc = rt.alloc();
     let Some(file) = &config.since else {
-        return run_noting(rt, alloc, config, reader, background, output, gate, clue);
+        return run_noting(
+            rt,
+            alloc,
+            config,
+            reader,
+            background,
+            output,
+            gate,
+            clue,
+            After::End,
+        );
     };
     match files.open(file.as_str()) {
         Ok(mut earlier) => {
@@ -100,6 +110,7 @@ fn run_behind<
                 output,
                 gate,
                 clue,
+                After::End,
             );
             note(clue, &outcome, Input::Earlier, earlier.front());
             outcome
@@ -293,6 +304,8 @@ fn config_of(alloc: Global, words: Result<Vec<String>, LineFault>) -> Result<Con
 /// got nothing. Under a fault its line, or that of want of memory, goes to the errors, and the output has got nothing, but for a front of the report
 /// where it failed. Help and the version go to the output, and where it fails, that is told as of a report; a refusal goes to the errors. The status
 /// is that of `status` or of `line_status`: a line that the errors don't take changes none.
+///
+/// The index isn't given back, since a program ends with it.
 ///
 /// The screen may be where the errors go: the line of progress is taken away before anything else is written. Where something looks like a slip, a
 /// line that begins with `hint: ` is written to it behind all else, if it is a terminal and quiet isn't asked for.

@@ -11,12 +11,13 @@ ghost use Rattle.debcheck.specs.Strict.{slip_of};
 ghost use Rattle.debcheck.specs.Since.{FailsEarlier, FailsSince, IsReportAfter, LeavesSince, TellsReportSince, WereBroken, WritesReportSince, earlier_fault, is_unread_behind, wanted_since};
 
 use crate::asked::ask_noting;
+use crate::clues::{note_earlier, note_seen, stanzas_before};
 use crate::device::{Sink, Source};
-use crate::earlier::read_earlier;
 use crate::fault::RunFault;
 use crate::hints::Clue;
 use crate::output::write_all;
-use crate::phases::{index_from, read_texts};
+use crate::phases::{After, index_from, let_go, read_texts};
+use crate::pieces::{PIECE, TextRead, finish, read_text};
 use crate::verdicts::{find_told, find_verdicts};
 use deb_index::Index;
 use deb_report::{BrokenPackage, Config, Summary, broken_packages, earlier_places, report_since};
@@ -59,6 +60,33 @@ fn broken_in<G: Gate + Sync, R: Threads + Sync>(
     broken_packages(alloc, index, asked, verdicts.as_slice())
 }
 
+// The earlier index, of all that is left in the reader and of what stands behind it. What is seen of it is noted.
+fn read_earlier<E: Source, R: Threads + Sync>(
+    rt: &R,
+    alloc: Global,
+    config: &Config,
+    earlier: &mut E,
+    more: &[u8],
+    seen: &mut Option<Clue>,
+) -> Result<Index, RunFault>
+    requires earlier { E.failed earlier.old ≡ false }
+    requires more { length more.now ≤ byte_limit }
+    ensures end { OnOk result (IsAtEnd (E.remaining earlier.new)) }
+    ensures unfailed { OnOk result (E.failed earlier.new ≡ false) }
+    ensures index { IfOk result (λ index. (background : Input) → IsReadAs (behind (settings_of config.now) background) more.now
+        → ReadsAs (settings_of config.now) (input (E.remaining earlier.old) (E.failed earlier.new)) background index) }
+    ensures refused { IfErr result (λ fault. (background : Input) → IsReadAs (behind (settings_of config.now) background) more.now
+        → FailsToIndex (settings_of config.now) (input (E.remaining earlier.old) (E.failed earlier.new)) background fault) }
+    ensures behind_read { IfErr result (λ fault. is_unread_behind (earlier_fault fault) ≡ false) }
+{
+    let TextRead { outcome, last } = read_text(rt, alloc, config, earlier, PIECE)?;
+    let index = finish(rt, alloc, config, outcome, more);
+    let piece = last.as_slice();
+    let before = stanzas_before(alloc, config, &index, piece);
+    note_earlier(alloc, seen, &index, before, piece);
+    index
+}
+
 // Reads the earlier index to its end, and tells what is broken in it. The index is dropped at the end.
 fn read_before<E: Source, G: Gate + Sync, R: Threads + Sync>(
     rt: &R,
@@ -67,6 +95,7 @@ fn read_before<E: Source, G: Gate + Sync, R: Threads + Sync>(
     earlier: &mut E,
     more: &[u8],
     gate: &G,
+    seen: &mut Option<Clue>,
 ) -> Result<Vec<BrokenPackage>, RunFault>
     requires workers { (0 < config.now.workers) × (config.now.workers ≤ 64) }
     requires chunk { 0 < config.now.chunk }
@@ -80,7 +109,7 @@ fn read_before<E: Source, G: Gate + Sync, R: Threads + Sync>(
     ensures refused { IfErr result (λ fault. (background : Input) → IsReadAs (behind (settings_of config.now) background) more.now
         → FailsEarlier (settings_of config.now) (input (E.remaining earlier.old) (E.failed earlier.new)) background fault) }
 {
-    match read_earlier(rt, alloc, config, earlier, more) {
+    match read_earlier(rt, alloc, config, earlier, more, seen) {
         Ok(index) => Ok(broken_in(rt, alloc, config, &index, gate)?),
         Err(fault) => Err(as_earlier(fault)),
     }
@@ -121,8 +150,8 @@ fn report_after<G: Gate + Sync, R: Threads + Sync>(
     report_since(alloc, index, asked, verdicts, later, before, config)
 }
 
-// Reads the index, what stands behind it, and the earlier index, and makes the report. All of it is dropped at the end; the earlier index is, before
-// the index is there.
+// Reads the index, what stands behind it, and the earlier index, and makes the report. The earlier index is given back before the index is
+// there.
 fn read_since<S: Source, B: Source, E: Source, G: Gate + Sync, R: Threads + Sync>(
     rt: &R,
     alloc: Global,
@@ -132,6 +161,7 @@ fn read_since<S: Source, B: Source, E: Source, G: Gate + Sync, R: Threads + Sync
     earlier: &mut E,
     gate: &G,
     clue: &mut Option<Clue>,
+    after: After,
 ) -> Result<(Vec<u8>, Summary), RunFault>
     requires workers { (0 < config.now.workers) × (config.now.workers ≤ 64) }
     requires chunk { 0 < config.now.chunk }
@@ -153,9 +183,12 @@ fn read_since<S: Source, B: Source, E: Source, G: Gate + Sync, R: Threads + Sync
         (input (E.remaining earlier.old) (E.failed earlier.new)) false) }
 {
     let (text, behind) = read_texts(alloc, config, reader, background)?;
-    let before = read_before(rt, alloc, config, earlier, behind.as_slice(), gate);
+    let mut seen = None;
+    let more = behind.as_slice();
+    let before = read_before(rt, alloc, config, earlier, more, gate, &mut seen);
     let index = index_from(rt, alloc, config, text, behind, clue)?;
     let asked = ask_noting(alloc, &index, config, clue)?;
+    note_seen(clue, seen);
     let broken = before?;
     let told = report_after(
         rt,
@@ -166,6 +199,7 @@ fn read_since<S: Source, B: Source, E: Source, G: Gate + Sync, R: Threads + Sync
         broken.as_slice(),
         gate,
     )?;
+    let_go(index, after);
     Ok(told)
 }
 
@@ -187,6 +221,7 @@ pub(crate) fn run_since_noting<
     writer: &mut K,
     gate: &G,
     clue: &mut Option<Clue>,
+    after: After,
 ) -> Result<Summary, RunFault>
     requires workers { (0 < config.now.workers) × (config.now.workers ≤ 64) }
     requires chunk { 0 < config.now.chunk }
@@ -214,7 +249,9 @@ pub(crate) fn run_since_noting<
         (input (S.remaining reader.old) (S.failed reader.new)) (input (B.remaining background.old) (B.failed background.new))
         (input (E.remaining earlier.old) (E.failed earlier.new)) (K.contents writer.old) (K.contents writer.new)) }
 {
-    let (output, summary) = read_since(rt, alloc, config, reader, background, earlier, gate, clue)?;
+    let (output, summary) = read_since(
+        rt, alloc, config, reader, background, earlier, gate, clue, after,
+    )?;
     match write_all(writer, output.as_slice()) {
         Ok(()) => Ok(summary),
         Err(_) => Err(RunFault::Write),
@@ -272,6 +309,15 @@ pub fn run_since<S: Source, B: Source, E: Source, K: Sink, G: Gate + Sync, R: Th
 {
     let mut clue = None;
     run_since_noting(
-        rt, alloc, config, reader, background, earlier, writer, gate, &mut clue,
+        rt,
+        alloc,
+        config,
+        reader,
+        background,
+        earlier,
+        writer,
+        gate,
+        &mut clue,
+        After::Caller,
     )
 }

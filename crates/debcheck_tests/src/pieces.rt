@@ -1,4 +1,4 @@
-//! A text that is read piece by piece, as an earlier index is.
+//! A text that is read piece by piece.
 
 ghost use Rattle.std.specs.Prelude.{◌<◌};
 

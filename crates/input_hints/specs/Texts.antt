@@ -1,5 +1,5 @@
 -- What is said of an input.
-use Rattle.std.specs.Prelude.{ℕ, Bool, ◌==◌, ◌||◌, nat_lt, List, ◌++◌, Option, Some, None, codes, decimal, option_map, if◌then◌else◌}
+use Rattle.std.specs.Prelude.{ℕ, Bool, ◌==◌, ◌||◌, ◌-◌, nat_lt, List, ◌++◌, Option, Some, None, codes, decimal, option_map, if◌then◌else◌}
 use Rattle.std.specs.List.{list_any}
 use Rattle.std.specs.Option.{option_map_or}
 use Rattle.input_hints.specs.declared.hint.Compression.TheVariants.{Gzip, Xz, Bzip2, Zstd, Lz4}
@@ -86,9 +86,10 @@ unfoldable pub package_line : Input → ℕ → List ℕ → Bool → List ℕ
 package_line input number name second =
     codes "hint: stanza " ++ decimal number ++ codes " of " ++ input_name input ++ codes " is of the package " ++ name ++ stanza_end second
 
--- the same by the text of the input, where the package can be told
-unfoldable pub stanza_hint_line : Input → ℕ → List ℕ → Option (List ℕ)
-stanza_hint_line input number text = option_map (λ name. package_line input number name (has_second_package number text)) (stanza_package number text)
+-- the same by what stands of the input's text behind so many stanzas, where the package can be told
+unfoldable pub stanza_hint_line : Input → ℕ → ℕ → List ℕ → Option (List ℕ)
+stanza_hint_line input before number text =
+    option_map (λ name. package_line input number name (has_second_package (number - before) text)) (stanza_package (number - before) text)
 
 -- the line on an asked name that packages of the background alone have, with LF
 unfoldable pub background_name_line : List ℕ → List ℕ

@@ -61,7 +61,7 @@ fn package_line(
 }
 
 /// The line that tells of which package an input's stanza is, with LF, and whether it has a second line that begins with `Package:`. Stanzas count
-/// from 1, as in the faults of an index.
+/// from 1, as in the faults of an index; the text is what stands of the input behind so many of them.
 ///
 /// The package is what the first such line has, cut behind 60 bytes. None where there is no such stanza or line, or some byte there is no printable
 /// ASCII. `AllocError` where there is no memory for it.
@@ -69,14 +69,16 @@ fn package_line(
 pub fn stanza_hint_line(
     alloc: Global,
     input: Input,
+    before: u64,
     number: u64,
     text: &[u8],
 ) -> Result<Option<Vec<u8>>, AllocError>
-    ensures { IfOk result (λ line. option_map (λ said. said.items) line ≡ stanza_hint_line input number text.now) }
+    ensures { IfOk result (λ line. option_map (λ said. said.items) line ≡ stanza_hint_line input before number text.now) }
 {
-    match stanza_package(text, number) {
+    let own = number.saturating_sub(before);
+    match stanza_package(text, own) {
         Some(name) => {
-            let second = has_second_package(text, number);
+            let second = has_second_package(text, own);
             Ok(Some(package_line(alloc, input, number, name, second)?))
         }
         None => Ok(None),

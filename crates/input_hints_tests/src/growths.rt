@@ -27,7 +27,7 @@ fn of_file_hint_line(rt: HostRuntime) -> Result<(), Fail> {
 
 #[test]
 fn of_stanza_hint_line(rt: HostRuntime) -> Result<(), Fail> {
-    let line = stanza_hint_line(rt.alloc(), Input::Index, 1, b"Package: a\nVersion: 1\n")?;
+    let line = stanza_hint_line(rt.alloc(), Input::Index, 0, 1, b"Package: a\nVersion: 1\n")?;
     let wanted = b"hint: stanza 1 of the index is of the package a\n".as_slice();
     assert!(rt; matches!(&line, Some(line) if line.as_slice() == wanted));
     Ok(())

@@ -12,7 +12,7 @@ fn expect(
     name: &str,
     second: bool,
 ) -> Result<(), Fail> {
-    let line = stanza_hint_line(rt.alloc(), Input::Index, number, text.as_bytes())?;
+    let line = stanza_hint_line(rt.alloc(), Input::Index, 0, number, text.as_bytes())?;
     let end = if second {
         ", and has a second Package: is there no empty line between two indexes?\n"
     } else {
@@ -109,8 +109,18 @@ fn what_is_shown_is_short(rt: HostRuntime) -> Result<(), Fail> {
 
 #[test]
 fn of_the_background(rt: HostRuntime) -> Result<(), Fail> {
-    let line = stanza_hint_line(rt.alloc(), Input::Background, 1, b"Package: a")?;
+    let line = stanza_hint_line(rt.alloc(), Input::Background, 0, 1, b"Package: a")?;
     let wanted = b"hint: stanza 1 of the background is of the package a\n".as_slice();
+    assert!(rt; matches!(&line, Some(line) if line.as_slice() == wanted));
+    Ok(())
+}
+
+/// The number that is told is that in the whole text.
+#[test]
+fn of_what_stands_behind_other_stanzas(rt: HostRuntime) -> Result<(), Fail> {
+    let rest = b"Package: y\n\nPackage: z\n".as_slice();
+    let line = stanza_hint_line(rt.alloc(), Input::Earlier, 24, 26, rest)?;
+    let wanted = b"hint: stanza 26 of the earlier index is of the package z\n".as_slice();
     assert!(rt; matches!(&line, Some(line) if line.as_slice() == wanted));
     Ok(())
 }

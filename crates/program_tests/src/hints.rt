@@ -87,7 +87,7 @@ Architecture: all
 ";
 
 /// Faults of stanzas. What the first bytes tell goes before the package.
-const STANZAS: [Case; 8] = [
+const STANZAS: [Case; 10] = [
     Case {
         words: "|--arch|amd64",
         index: FAULTY,
@@ -126,6 +126,18 @@ const STANZAS: [Case; 8] = [
     },
     Case {
         words: "|--arch|amd64|--since|others",
+        index: INDEX,
+        file: Some(FAULTY),
+        hint: b"hint: stanza 2 of the earlier index is of the package foo\n",
+    },
+    Case {
+        words: "|--arch|amd64|--since|others",
+        index: b"Package: a\nVersion: 1\n",
+        file: Some(FAULTY),
+        hint: b"hint: stanza 1 of the index is of the package a\n",
+    },
+    Case {
+        words: "|--arch|amd64|--since|others|--checkonly|zz",
         index: INDEX,
         file: Some(FAULTY),
         hint: b"",

@@ -48,7 +48,7 @@ returns-in_err-broken-clause-refused g c =
     let background = input (g.B.Source.remaining c.args.background.now) (g.B.Source.failed c.read_texts.new.background) in
     let index = c.in_ok-index.index in
     let reads = accepted-as settings text background c.in_ok-text.text.items c.in_ok-text.behind.items index c.in_ok-text.ensures.text c.in_ok-text.ensures.behind c.in_ok-index.ensures.index in
-    let fails = c.in_err-broken.ensures.refused background (rw c.as_slice.ensures.value c.in_ok-text.ensures.behind) in
+    let fails = c.in_err-broken.ensures.refused background (rw c.as_slice-more.ensures.value c.in_ok-text.ensures.behind) in
     rw (p.1, p.2) (inr (as-indexed settings text background index (HasAsked settings) reads (c.in_ok-asked.asked.items, record { are_asked = c.in_ok-asked.ensures.asked; no_slip = c.in_ok-asked.ensures.no_slip }), fails))
 
 pub returns-clause-report : goal.returns-clause-report
@@ -59,5 +59,5 @@ returns-clause-report g c =
     let earlier = input (g.E.Source.remaining c.args.earlier.now) (g.E.Source.failed c.read_before-before.new.earlier) in
     let index = c.in_ok-index.index in
     let reads = accepted-as settings text background c.in_ok-text.text.items c.in_ok-text.behind.items index c.in_ok-text.ensures.text c.in_ok-text.ensures.behind c.in_ok-index.ensures.index in
-    let was = c.in_ok-broken.ensures.broken background (rw c.as_slice.ensures.value c.in_ok-text.ensures.behind) in
-    told-since settings text background earlier index (map broken_view c.in_ok-broken.broken.items) c.in_ok-told.told.0.items c.in_ok-told.told.1 reads was (rw (← c.as_slice-3.ensures.value) c.in_ok-told.ensures)
+    let was = c.in_ok-broken.ensures.broken background (rw c.as_slice-more.ensures.value c.in_ok-text.ensures.behind) in
+    told-since settings text background earlier index (map broken_view c.in_ok-broken.broken.items) c.in_ok-told.told.0.items c.in_ok-told.told.1 reads was (rw (← c.as_slice-2.ensures.value) c.in_ok-told.ensures)

@@ -1,9 +1,10 @@
 -- What is read of a text piece by piece, and why it is no index.
-use Rattle.std.specs.Prelude.{◌≡◌, ◌≢◌, ◌⊎◌, ℕ, ◌≤◌, Bool, List, ◌++◌, Option, Err, length}
+use Rattle.std.specs.Prelude.{◌≡◌, ◌≢◌, ◌⊎◌, ℕ, ◌≤◌, Bool, List, ◌++◌, Option, Result, Ok, Err, length}
 use Rattle.std.specs.Io.KnownBytes.{Consumes, IsAtEnd}
 use Rattle.deb_index.specs.declared.error.IndexError.{IndexError}
 use Rattle.deb_index.specs.declared.error.IndexError.TheVariants as index_error
-use Rattle.deb_index.specs.Reading.{byte_limit, index_of}
+use Rattle.deb_index.specs.Packages.{IndexView}
+use Rattle.deb_index.specs.Reading.{byte_limit, index_of, index_of_both}
 use Rattle.deb_report.specs.Settings.{Settings}
 use Rattle.deb_control.specs.Stanzas.{IsClosed}
 use Rattle.deb_index.specs.Pieces.{FrontView, IsFrontOf}
@@ -37,13 +38,26 @@ abbrev pub RefusesPiece : Settings → FrontView → List ℕ → IndexError →
 RefusesPiece settings front held fault = fault ≢ index_error.Memory → (text more : List ℕ) → IsClosedFront settings text front
     → index_of (text ++ held ++ more) settings.arch settings.essential ≡ Err fault
 
--- why the text is no index that ends with what is held, whatever stands behind it
-abbrev pub FailsLast : Settings → FrontView → List ℕ → RunFault → Type 0
-FailsLast settings front held fault = (text more : List ℕ) → IsClosedFront settings text front → FailsToAccept settings (text ++ held) more fault
+-- what a text comes to that was read to its end: the index so far, or the first fault of its stanzas
+abbrev pub ComesTo : Settings → List ℕ → Result FrontView IndexError → Type 0
+ComesTo settings text (Ok front) = IsFrontOf settings.arch settings.essential text front
+ComesTo settings text (Err fault) = (fault ≢ index_error.Memory) × (index_of text settings.arch settings.essential ≡ Err fault)
 
--- why the text that was read and this one behind it are no index
-abbrev pub FailsToFinish : Settings → FrontView → List ℕ → RunFault → Type 0
-FailsToFinish settings whole more fault = (text : List ℕ) → IsFrontOf settings.arch settings.essential text whole → FailsToAccept settings text more fault
+-- what a text comes to that ends with what is held
+abbrev pub TakesLast : Settings → FrontView → List ℕ → Result FrontView IndexError → Type 0
+TakesLast settings front held outcome = (text : List ℕ) → IsClosedFront settings text front → ComesTo settings (text ++ held) outcome
+
+-- all that was left in a reader was read, and comes to this
+abbrev pub ReadsText : Settings → Option (List ℕ) → Option (List ℕ) → Bool → Bool → Result FrontView IndexError → Type 0
+ReadsText settings old new before failed outcome = (bytes : List ℕ) × ReadsAll old new before failed bytes × ComesTo settings bytes outcome
+
+-- the text that came to this and what stands behind it make this index
+abbrev pub MakesIndex : Settings → Result FrontView IndexError → List ℕ → IndexView → Type 0
+MakesIndex settings outcome more index = (text : List ℕ) → ComesTo settings text outcome → index_of_both text more settings.arch settings.essential ≡ Ok index
+
+-- why they make none
+abbrev pub FailsToFinish : Settings → Result FrontView IndexError → List ℕ → RunFault → Type 0
+FailsToFinish settings outcome more fault = (text : List ℕ) → ComesTo settings text outcome → FailsToAccept settings text more fault
 
 -- why there is no index of all that was left in a reader and of what stands behind it: it was not read; or it was, and is refused
 abbrev pub FailsInPieces : Settings → Option (List ℕ) → Option (List ℕ) → Bool → Bool → List ℕ → RunFault → Type 0

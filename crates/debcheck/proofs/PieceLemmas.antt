@@ -1,5 +1,6 @@
 -- Lemmas on a text that is read piece by piece.
-use Rattle.std.proofs.Common.{◌≡◌, ◌≢◌, ◌∙◌, ℕ, ◌+◌, ◌<◌, ◌≤◌, Bool, false, List, [], ◌++◌, Option, Some, None, Result, Ok, Err, IfSome, OnOk, ap, append-nil, append_assoc, arith, inl, inr, length, length-append, refl, subst, sym}
+use Rattle.std.proofs.Common.{◌≡◌, ◌≢◌, ◌∙◌, ℕ, ◌+◌, ◌<◌, ◌≤◌, Bool, false, List, [], ◌++◌, Option, Some, None, Result, Ok, Err, IfSome, OnOk, ap, append-nil, append_assoc, arith, drop, inl, inr, length, length-append, refl, subst, sym}
+use Rattle.std.proofs.lemmas.List.{drop_at}
 use Rattle.std.specs.Io.KnownBytes.{Consumes, IsAtEnd}
 use Rattle.deb_control.specs.Stanzas.{IsClosed, runs, stanzas_of}
 use Rattle.deb_control.proofs.LineLemmas.{content_lines-nil}
@@ -11,8 +12,8 @@ use Rattle.deb_index.specs.Reading.{byte_limit, index_of, index_of_both}
 use Rattle.deb_report.specs.Settings.{Settings}
 use Rattle.debcheck.specs.declared.fault.RunFault.{RunFault}
 use Rattle.debcheck.specs.declared.fault.RunFault.TheVariants.{Read, TooLong, BackgroundRead, BackgroundTooLong, EarlierRead, EarlierTooLong, NamesRead, NamesTooLong, BadNameLine, Index, Background, Earlier, UnknownAsked, Slipped, Memory, Write}
-use Rattle.deb_index.specs.Pieces.{Accepts, Finishes, FrontView, IsFrontOf, Refuses}
-use Rattle.debcheck.specs.Earlier.{FailsInPieces, FailsLast, FailsToFinish, IsClosedFront, ReadsAll, ReadsFront, RefusesPiece, TakesPiece}
+use Rattle.deb_index.specs.Pieces.{Accepts, FrontView, IsFrontOf, Refuses}
+use Rattle.debcheck.specs.Pieces.{FailsInPieces, FailsToFinish, IsClosedFront, MakesIndex, ReadsAll, ReadsFront, ReadsText, RefusesPiece, TakesLast, TakesPiece}
 use Rattle.debcheck.specs.Run.{FailsAtRead, FailsToIndex, FailsToRead, Input, IsReadAs, ReadsAs, behind, input}
 use Rattle.debcheck.specs.Since.{earlier_fault, is_unread_behind}
 use Rattle.debcheck.proofs.DeviceLemmas.{consumes_more, consumes_nothing, consumes_over}
@@ -35,12 +36,14 @@ closed-both front piece ends piece_ends more =
 
 -- ---- a piece
 
-pub takes-piece : (settings : Settings) (front : FrontView) (held piece left : List ℕ) (next : FrontView) → held ≡ piece ++ left → IsClosed piece → Accepts front piece next → TakesPiece settings front held next left
-takes-piece settings front held piece left next whole ends accepts text is = (
-  piece,
-  whole,
-  record { closed = closed-both text piece is.closed ends; is_front = accepts settings.arch settings.essential text is.closed is.is_front },
-)
+pub takes-piece : (settings : Settings) (front : FrontView) (held piece left : List ℕ) (taken : ℕ) (next : FrontView) → held ≡ piece ++ left → taken ≡ length piece → IsClosed piece → Accepts front piece next
+    → TakesPiece settings front held next (drop taken held)
+takes-piece settings front held piece left taken next whole size ends accepts text is =
+    let rest : drop taken held ≡ left = ap (λ (bytes : List ℕ). drop taken bytes) whole ∙ drop_at piece left taken (sym size) in (
+      piece,
+      whole ∙ ap (λ (bytes : List ℕ). piece ++ bytes) (sym rest),
+      record { closed = closed-both text piece is.closed ends; is_front = accepts settings.arch settings.essential text is.closed is.is_front },
+    )
 
 -- no piece at all
 pub takes-none : (settings : Settings) (front : FrontView) (held : List ℕ) → TakesPiece settings front held front held
@@ -57,13 +60,14 @@ refuses-piece settings front held piece left fault whole ends refuses meant text
     ∙ ap (λ (bytes : List ℕ). text ++ bytes ++ more) (sym whole) in
     subst P same (refuses meant settings.arch settings.essential text (left ++ more) is.closed is.is_front (inl (closed-both text piece is.closed ends)))
 
-pub refuses-last : (settings : Settings) (front : FrontView) (held : List ℕ) (fault : IndexError) → Refuses front held fault → fault ≢ index_error.Memory → FailsLast settings front held (Index fault)
-refuses-last settings front held fault refuses meant text more is =
-    let P : List ℕ → Type 0 = λ all. index_of all settings.arch settings.essential ≡ Err fault in (
-      meant,
-      fore-fails (text ++ held) more settings.arch settings.essential fault
-          (subst P (append-nil (text ++ held)) (refuses meant settings.arch settings.essential text [] is.closed is.is_front (inr refl))),
-    )
+-- what is held last
+pub takes-last : (settings : Settings) (front : FrontView) (held : List ℕ) (whole : FrontView) → Accepts front held whole → TakesLast settings front held (Ok whole)
+takes-last settings front held whole accepts text is = accepts settings.arch settings.essential text is.closed is.is_front
+
+pub refuses-last : (settings : Settings) (front : FrontView) (held : List ℕ) (fault : IndexError) → Refuses front held fault → fault ≢ index_error.Memory → TakesLast settings front held (Err fault)
+refuses-last settings front held fault refuses meant text is =
+    let P : List ℕ → Type 0 = λ all. index_of all settings.arch settings.essential ≡ Err fault in
+    (meant, subst P (append-nil (text ++ held)) (refuses meant settings.arch settings.essential text [] is.closed is.is_front (inr refl)))
 
 -- ---- what was read so far
 
@@ -115,23 +119,21 @@ reads-whole settings old new before failed front held reads ends kept within =
 
 -- ---- the whole text
 
-pub last-fails : (settings : Settings) (old new : Option (List ℕ)) (before failed : Bool) (front : FrontView) (held more : List ℕ) (fault : RunFault) → ReadsFront settings old new front held → IsAtEnd new
-    → failed ≡ before → front.size + length held ≤ byte_limit → FailsLast settings front held fault → FailsInPieces settings old new before failed more fault
-last-fails settings old new before failed front held more fault reads ends kept within fails =
-    inr (reads.text ++ held, reads-whole settings old new before failed front held reads ends kept within, fails reads.text more reads.is_front)
+pub reads-last : (settings : Settings) (old new : Option (List ℕ)) (before failed : Bool) (front : FrontView) (held : List ℕ) (outcome : Result FrontView IndexError) → ReadsFront settings old new front held → IsAtEnd new
+    → failed ≡ before → front.size + length held ≤ byte_limit → TakesLast settings front held outcome → ReadsText settings old new before failed outcome
+reads-last settings old new before failed front held outcome reads ends kept within takes =
+    (reads.text ++ held, reads-whole settings old new before failed front held reads ends kept within, takes reads.text reads.is_front)
 
-pub finishes : (settings : Settings) (old new : Option (List ℕ)) (before failed : Bool) (front whole : FrontView) (held more : List ℕ) (index : IndexView) → ReadsFront settings old new front held → IsAtEnd new
-    → failed ≡ before → front.size + length held ≤ byte_limit → Accepts front held whole → Finishes whole more index
-    → (bytes : List ℕ) × ReadsAll old new before failed bytes × (index_of_both bytes more settings.arch settings.essential ≡ Ok index)
-finishes settings old new before failed front whole held more index reads ends kept within accepts is =
-    let all = accepts settings.arch settings.essential reads.text reads.is_front.closed reads.is_front.is_front in
-    (reads.text ++ held, reads-whole settings old new before failed front held reads ends kept within, is settings.arch settings.essential (reads.text ++ held) all)
+pub fault-finishes : (settings : Settings) (fault : IndexError) (more : List ℕ) → FailsToFinish settings (Err fault) more (Index fault)
+fault-finishes settings fault more text comes = (comes.0, fore-fails text more settings.arch settings.essential fault comes.1)
 
-pub finish-fails : (settings : Settings) (old new : Option (List ℕ)) (before failed : Bool) (front whole : FrontView) (held more : List ℕ) (fault : RunFault) → ReadsFront settings old new front held → IsAtEnd new
-    → failed ≡ before → front.size + length held ≤ byte_limit → Accepts front held whole → FailsToFinish settings whole more fault → FailsInPieces settings old new before failed more fault
-finish-fails settings old new before failed front whole held more fault reads ends kept within accepts fails =
-    let all = accepts settings.arch settings.essential reads.text reads.is_front.closed reads.is_front.is_front in
-    inr (reads.text ++ held, reads-whole settings old new before failed front held reads ends kept within, fails (reads.text ++ held) all)
+pub pieces-make : (settings : Settings) (old new : Option (List ℕ)) (before failed : Bool) (outcome : Result FrontView IndexError) (more : List ℕ) (index : IndexView) → ReadsText settings old new before failed outcome
+    → MakesIndex settings outcome more index → (bytes : List ℕ) × ReadsAll old new before failed bytes × (index_of_both bytes more settings.arch settings.essential ≡ Ok index)
+pieces-make settings old new before failed outcome more index reads makes = (reads.0, reads.1, makes reads.0 reads.2)
+
+pub pieces-make-none : (settings : Settings) (old new : Option (List ℕ)) (before failed : Bool) (outcome : Result FrontView IndexError) (more : List ℕ) (fault : RunFault) → ReadsText settings old new before failed outcome
+    → FailsToFinish settings outcome more fault → FailsInPieces settings old new before failed more fault
+pieces-make-none settings old new before failed outcome more fault reads fails = inr (reads.0, reads.1, fails reads.0 reads.2)
 
 -- ---- why reading ends
 
@@ -181,11 +183,11 @@ fails-behind old mid before marked failed bytes room limit Memory consumes fits 
 fails-behind old mid before marked failed bytes room limit Write consumes fits same h = absurd h
 
 -- more bytes than the limit were read
-pub fails-over : (settings : Settings) (old new : Option (List ℕ)) (before failed : Bool) (front : FrontView) (held more : List ℕ) → ReadsFront settings old new front held → failed ≡ before
-    → byte_limit < front.size + length held → FailsInPieces settings old new before failed more TooLong
-fails-over settings old new before failed front held more reads kept over =
+pub fails-over : (settings : Settings) (old new : Option (List ℕ)) (before failed : Bool) (front : FrontView) (held : List ℕ) → ReadsFront settings old new front held → failed ≡ before
+    → byte_limit < front.size + length held → FailsToRead old before failed byte_limit TooLong
+fails-over settings old new before failed front held reads kept over =
     let size = size-read settings old new front held reads in
-    inl (kept, consumes_over old new (reads.text ++ held) byte_limit reads.consumes (omega arith))
+    (kept, consumes_over old new (reads.text ++ held) byte_limit reads.consumes (omega arith))
 
 -- reading the rest of a text with a fault fails
 pub fails-rest : (settings : Settings) (old mid : Option (List ℕ)) (before marked failed : Bool) (front : FrontView) (held : List ℕ) (room : ℕ) (fault : RunFault) → ReadsFront settings old mid front held
@@ -195,16 +197,15 @@ fails-rest settings old mid before marked failed front held room fault reads kep
     fails-behind old mid before marked failed (reads.text ++ held) room byte_limit fault reads.consumes (omega arith) kept fails
 
 -- a text with a fault, which was read to its end
-pub fault-behind : (settings : Settings) (old mid new : Option (List ℕ)) (before failed : Bool) (front : FrontView) (held rest more : List ℕ) (room : ℕ) (fault : IndexError) → ReadsFront settings old mid front held
+pub fault-behind : (settings : Settings) (old mid new : Option (List ℕ)) (before failed : Bool) (front : FrontView) (held rest : List ℕ) (room : ℕ) (fault : IndexError) → ReadsFront settings old mid front held
     → Consumes mid new rest → IsAtEnd new → failed ≡ before → length rest ≤ room → front.size + length held + room ≤ byte_limit → fault ≢ index_error.Memory → RefusesPiece settings front held fault
-    → FailsInPieces settings old new before failed more (Index fault)
-fault-behind settings old mid new before failed front held rest more room fault reads consumes ends kept fits within meant refuses =
+    → ReadsText settings old new before failed (Err fault)
+fault-behind settings old mid new before failed front held rest room fault reads consumes ends kept fits within meant refuses =
     let size = size-read settings old mid front held reads in
-    let parts : length ((reads.text ++ held) ++ rest) ≡ length (reads.text ++ held) + length rest = length-append (reads.text ++ held) rest in
-    inr (
+    let parts : length ((reads.text ++ held) ++ rest) ≡ length (reads.text ++ held) + length rest = length-append (reads.text ++ held) rest in (
       (reads.text ++ held) ++ rest,
       record { consumes = consumes_more old mid new (reads.text ++ held) rest reads.consumes consumes; ends = ends; unfailed = kept; within = omega arith },
-      (meant, fore-fails ((reads.text ++ held) ++ rest) more settings.arch settings.essential fault (refuses meant reads.text rest reads.is_front)),
+      (meant, refuses meant reads.text rest reads.is_front),
     )
 
 -- ---- from the whole text to the index
