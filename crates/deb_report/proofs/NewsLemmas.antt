@@ -9,7 +9,7 @@ use Rattle.deb_report.specs.declared.config.Format.{Format}
 use Rattle.deb_report.specs.declared.config.Format.TheVariants.{Json, Text}
 use Rattle.deb_report.specs.CauseLines.{causes_text}
 use Rattle.deb_report.specs.Causes.{CauseView, by_count, by_first, causes_list, cores_of}
-use Rattle.deb_report.specs.Content.{ContentView, causes_if, content_since}
+use Rattle.deb_report.specs.Content.{causes_if, content_since}
 use Rattle.deb_report.specs.Json.{block_json, causes_json, escaped, explanation_json, head_json, json_text, list_json, member, number_json, object, quoted, tall_array, told_json}
 use Rattle.deb_report.specs.Lines.{block_of, explanation, lines_text, list_lines}
 use Rattle.deb_report.specs.Report.{TellingView, broken_ones, is_broken, later_at, line, number_line, numbers_of, telling_of, titled}

@@ -3,7 +3,7 @@ use Rattle.std.proofs.Common.{Global, Vec, ◌≡◌, ◌∙◌, ℕ, zero, suc,
 use Rattle.std.proofs.lemmas.Bool.{cases_Bool, cases_lt, eq-eqb, eqb-true, false≢true, or_cases, or_left, or_parts, or_right, true≢false}
 use Rattle.std.proofs.lemmas.Grind.{get_or-set_at}
 use Rattle.std.proofs.lemmas.List.{drop-drop, drop_all, drop_more, get_or-set_other, get_or_past, length-map, length-set}
-use Rattle.std.proofs.lemmas.List.Elements.{All-cons, All-head, All-map, All-nil, All-set, All-tail, All-weaker}
+use Rattle.std.proofs.lemmas.List.Elements.{All-head, All-map, All-nil, All-set, All-tail, All-weaker}
 use Rattle.deb_index.specs.declared.constraint.Constraint.{Constraint}
 use Rattle.deb_index.specs.Constraints.{IsOfIndex, constraints_of}
 use Rattle.deb_index.specs.Packages.{IndexView, PackageView}

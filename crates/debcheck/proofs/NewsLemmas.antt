@@ -1,6 +1,5 @@
 -- The verdicts of asked places, with cores of the newly broken alone, stand for their verdicts.
-use Rattle.std.proofs.Common.{◌≡◌, ◌∙◌, ℕ, zero, suc, ◌<◌, ◌≤◌, ◌==◌, ◌||◌, Bool, true, false, ◌&&◌, List, [], ◌∷◌, ◌++◌, All, ap, drop, if◌then◌else◌, length, map, refl, subst, sym, take, arith, inl, inr}
-use Rattle.std.specs.List.{filter, zip}
+use Rattle.std.proofs.Common.{◌≡◌, ◌∙◌, ℕ, ◌<◌, ◌≤◌, ◌==◌, Bool, true, false, ◌&&◌, List, [], ◌∷◌, ◌++◌, All, ap, drop, length, refl, subst, sym, take, arith, inl, inr}
 use Rattle.std.proofs.lemmas.Bool.{and_from, cases_Bool, eq-eqb, eqb-true, false_from_ne_true, false≢true, or_cases, or_parts, true≢false}
 use Rattle.std.proofs.lemmas.List.Elements.{All-cons, All-head, All-nil, All-tail}
 use Rattle.deb_index.specs.declared.constraint.Constraint.{Constraint}
@@ -13,7 +12,7 @@ use Rattle.deb_verdict.specs.declared.wanted.Wanted.{Wanted}
 use Rattle.work_draw.specs.Checks.{AnswersEach}
 use Rattle.deb_report.specs.Report.{is_broken, later_at}
 use Rattle.deb_report.specs.Settings.{Settings, tells_all_causes}
-use Rattle.deb_report.specs.Since.{BrokenView, is_new, is_news, newly_broken, news_of}
+use Rattle.deb_report.specs.Since.{BrokenView, is_new, newly_broken, news_of}
 use Rattle.debcheck.specs.Later.{AreAllLater, AreLaterIf}
 use Rattle.debcheck.specs.Standing.{AreFound, HaveCores, is_next, wanted_at, wanting, with_cores}
 use Rattle.debcheck.proofs.LaterLemmas.{AreBehind, behind_there, installable, later_exist, none_behind, one_behind, told_tells, verdicts_tell}

@@ -1,8 +1,8 @@
-use Rattle.std.proofs.Common.{◌≡◌, ◌+◌, ◌<◌, ◌&&◌, ◌++◌, ◌∷◌, ◌∙◌, Bool, Global, List, Some, Vec, [], ap, arith, false, get_or, drop, length, map, refl, sym, true}
+use Rattle.std.proofs.Common.{◌≡◌, ◌+◌, ◌<◌, ◌&&◌, ◌++◌, ◌∷◌, ◌∙◌, Bool, Global, Some, Vec, [], ap, arith, false, get_or, drop, length, map, refl, sym, true}
 use Rattle.std.proofs.lemmas.Bool.{and_from, and_right, false≢true}
 use Rattle.std.proofs.lemmas.List.{map-append}
 use Rattle.std.specs.Vec.Iter.{into_iter_items, into_iter_len}
-use Rattle.deb_health.specs.Verdicts.{VerdictView, verdict_view}
+use Rattle.deb_health.specs.Verdicts.{verdict_view}
 use Rattle.deb_health.specs.declared.answer.Verdict.{Verdict}
 use Rattle.deb_report.specs.Report.{is_broken}
 use Rattle.debcheck.specs.Standing.{is_next}

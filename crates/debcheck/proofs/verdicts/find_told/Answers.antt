@@ -1,4 +1,4 @@
-use Rattle.std.proofs.Common.{◌≡◌, ◌∙◌, ◌&&◌, Bool, [], ap, arith, false, length, map, not, refl, sym, true}
+use Rattle.std.proofs.Common.{◌≡◌, ◌∙◌, Bool, [], ap, arith, false, length, map, not, refl, sym, true}
 use Rattle.std.proofs.lemmas.Bool.{and_right, eqb-true, false_from_ne_true, true≢false}
 use Rattle.deb_health.specs.Verdicts.{verdict_view}
 use Rattle.deb_report.specs.Settings.{settings_of, tells_all_causes}
