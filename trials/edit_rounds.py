@@ -31,7 +31,22 @@ def load_rt():
     rt = importlib.util.module_from_spec(importlib.util.spec_from_loader("rt", loader))
     loader.exec_module(rt)
     rt.rtlib.guarded()  # (a signal's handler, which only the main thread may set)
+    if not hasattr(rt, "linked"):
+        tell_kinds(rt)
     return rt
+
+
+def tell_kinds(rt):
+    """Has a kit whose rt says of an edit only whether it was refused say what it comes to, as later ones do."""
+    rt.REFUSED, rt.MISSED, rt.BAD, rt.AT_LIMIT, rt.UNSURE = "refused", "not refused", "bad", "at a limit", "unsure"
+    rt.SETTLED, rt.LIMITS, says = {rt.REFUSED}, re.compile(r"gave up|step limit"), rt.must_fail
+
+    def must_fail(crate, edit, flags, kept=None):
+        is_refused, text = says(crate, edit, flags, kept)
+        return rt.REFUSED if is_refused else rt.MISSED if "NOT REFUSED" in text else rt.BAD, text
+
+    rt.must_fail = must_fail
+    rt.linked = lambda kept, over: shutil.copytree(kept, over, copy_function=os.link)
 
 
 class Function:
