@@ -8,6 +8,7 @@ MOST_NEEDED = slice(200, 6000)   # of the names by how often they are needed
 NEEDS = re.compile(rb"^(?:Pre-)?Depends: (.*)$", re.M)
 NAME = re.compile(rb"([a-z0-9][a-z0-9+.-]+)")
 VERSION = re.compile(rb"^Version: (.*)$", re.M)
+SOURCE = re.compile(rb"^Source: (\S+)", re.M)
 
 TEXTS = {
     "del1": "without one stanza in a hundred",
@@ -36,6 +37,11 @@ def name_of(stanza):
     return stanza.split(b"\n", 1)[0][len(b"Package: "):]
 
 
+def source_of(stanza):
+    found = SOURCE.search(stanza)
+    return found.group(1) if found else name_of(stanza)
+
+
 def often_needed(stanzas, names):
     counts = collections.Counter(name for stanza in stanzas for field in NEEDS.finditer(stanza) for name in NAME.findall(field.group(1)))
     return [name for name, _ in counts.most_common(MOST_NEEDED.stop) if name in names][MOST_NEEDED.start:]
@@ -52,14 +58,18 @@ def in_two_versions(stanzas, chance):
             yield VERSION.sub(rb"Version: \1~old", stanza, count=1)
 
 
-def in_versions_ahead(stanzas, ahead):
-    """One stanza for each name of these: that of the suite ahead where it has the name, else the last of its own."""
+def in_versions_ahead(stanzas, ahead, stays=(), comes=()):
+    """One stanza for each name of these: that of the suite ahead where it has the name, else the last of its own.
+
+    What is of a source that stays is its own all the same; packages that come are taken though no stanza has their name.
+    """
     chosen = {name_of(stanza): stanza for stanza in stanzas}
-    chosen.update((name_of(stanza), stanza) for stanza in ahead if name_of(stanza) in chosen)
+    known = {*chosen, *comes}
+    chosen.update((name_of(stanza), stanza) for stanza in ahead if name_of(stanza) in known and source_of(stanza) not in stays)
     return list(chosen.values())
 
 
-def mutations(stanzas, ahead=None):
+def mutations(stanzas, ahead=None, stays=(), comes=()):
     """Each name of TEXTS with its stanzas, one after another; `ahead` only where the stanzas of a suite ahead are given."""
     chance = random.Random(7)
     yield "del1", [stanza for stanza in stanzas if chance.random() >= 0.01]
@@ -72,4 +82,4 @@ def mutations(stanzas, ahead=None):
     yield "conftop2", [breaking(stanza, some_of(needed, OFTEN_NEEDED, chance)) for stanza in stanzas]
     yield "twover", list(in_two_versions(stanzas, random.Random(10)))
     if ahead is not None:
-        yield "ahead", in_versions_ahead(stanzas, ahead)
+        yield "ahead", in_versions_ahead(stanzas, ahead, stays, comes)
