@@ -1,5 +1,6 @@
 -- Places that no healthy set has: what one more is found by.
-use Rattle.std.proofs.Common.{◌≡◌, ℕ, ◌<◌, true, List, get_or, length, sym, subst, ◌∙◌, ap, inl, inr, Contains}
+use Rattle.std.proofs.Common.{◌≡◌, ◌⊎◌, ℕ, ◌<◌, true, List, [], get_or, length, sym, subst, ◌∙◌, ap, inl, inr, Contains}
+use Rattle.std.proofs.lemmas.Bool.{false≢true}
 use Rattle.std.specs.List.{list_all}
 use Rattle.std.proofs.lemmas.List.Elements.{Contains-get_or}
 use Rattle.deb_index.specs.declared.constraint.Constraint.TheVariants.{Essential, Need}
@@ -36,6 +37,15 @@ hopeless_with index before after place placed hopeless here q is_in =
     elim (with_number_only before place q (sym (ap (λ list. members_of list q) placed) ∙ is_in)) [
       | inl old ↦ hopeless q old
       | inr same ↦ subst (IsHopeless index) same here
+    ]
+
+-- what came to an empty list is hopeless where the row of what came is
+pub hopeless_of : (index : IndexView) (known row empty places : List ℕ) → row ≡ known → empty ≡ [] → ((q : ℕ) → members_of places q ≡ true → (members_of empty q ≡ true) ⊎ (members_of row q ≡ true))
+    → AreHopeless index (members_of known) → AreHopeless index (members_of places)
+hopeless_of index known row empty places row_is empty_is only hopeless q is_in =
+    elim (only q is_in) [
+      | inl never ↦ absurd (false≢true (sym (ap (λ list. members_of list q) empty_is) ∙ never))
+      | inr listed ↦ hopeless q (sym (ap (λ list. members_of list q) row_is) ∙ listed)
     ]
 
 -- where an essential name has such places alone, no place is in a healthy set

@@ -122,8 +122,8 @@ fn find_lacking_places(alloc: Global, index: &Index) -> Result<SparseSet, AllocE
 }
 
 impl<'a> Groundwork<'a> {
-    /// Goes once through the packages of the index, which stays as it is. The error is want of memory.
-    pub fn new(alloc: Global, index: &'a Index) -> Result<Groundwork<'a>, AllocError>
+    /// What is found of an index without a search.
+    pub(crate) fn of(alloc: Global, index: &'a Index) -> Result<Groundwork<'a>, AllocError>
         ensures { IfOk result (λ groundwork. groundwork.index.now ≡ index.now) }
     {
         let mut hopeless = find_lacking_places(alloc, index)?;

@@ -4,7 +4,7 @@
 //! `deb_health` says. `specs/Lib` names first the definitions that public contracts cite, then those of the inside. The modules, room by room:
 //!
 //! - Common to all: `workspace` has the buffers that one verdict leaves to the next, `rows` tells what a set has of a row of places, `groundwork`
-//!   knows what all verdicts of an index have in common.
+//!   knows what all verdicts of an index have in common, with what `essentials` finds of names that no healthy set can have.
 //! - The closure: `reach` finds it.
 //! - The first healthy set: `forced` finds places that are in every healthy set, `gather` the candidates beside them and the needs that
 //!   these leave open, `describe` has the encoder of `deb_encode` make clauses of all constraints that speak of these places, and `first_set`
@@ -30,6 +30,7 @@ mod core_formula;
 mod decision;
 mod derivation;
 mod describe;
+mod essentials;
 mod first_core;
 mod first_set;
 mod forced;

@@ -1,0 +1,121 @@
+//! Essential names that no healthy set can have. Where they are at odds with each other nothing of the index can be installed, and one search tells
+//! that of all packages.
+
+ghost use Rattle.std.specs.Prelude.{◌≡◌, ◌<◌, All, IfOk, OnOk, length};
+ghost use Rattle.number_sets.specs.Sets.{members_of};
+ghost use Rattle.deb_verdict.specs.Hopeless.{AreHopeless};
+
+use crate::decision::is_installable_in;
+use crate::groundwork::Groundwork;
+use crate::hopeless::spread_by_essential;
+use crate::rows::has_any;
+use crate::workspace::Workspace;
+use deb_index::Index;
+use number_sets::SparseSet;
+use std::alloc::{AllocError, Global};
+
+/// How many packages are searched for at most.
+const SEARCHES: usize = 8;
+
+/// Puts in a place that no healthy set has.
+fn search_one(
+    alloc: Global,
+    groundwork: &Groundwork<'_>,
+    place: u32,
+    workspace: &mut Workspace,
+    hopeless: &mut SparseSet,
+) -> Result<(), AllocError>
+    requires place { place < length groundwork.now.index.now.packages }
+    requires hopeless { AreHopeless groundwork.now.index.now (members_of hopeless.old) }
+    ensures { OnOk result (AreHopeless groundwork.now.index.now (members_of hopeless.new)) }
+{
+    let found = is_installable_in(alloc, workspace, groundwork, place)?;
+    if found {
+        return Ok(());
+    }
+    hopeless.insert(place)?;
+    Ok(())
+}
+
+/// Puts in those of some packages that no healthy set has.
+fn search_each(
+    alloc: Global,
+    groundwork: &Groundwork<'_>,
+    places: &[u32],
+    workspace: &mut Workspace,
+    hopeless: &mut SparseSet,
+) -> Result<(), AllocError>
+    requires places { All (λ place. place < length groundwork.now.index.now.packages) places.now }
+    requires hopeless { AreHopeless groundwork.now.index.now (members_of hopeless.old) }
+    ensures { OnOk result (AreHopeless groundwork.now.index.now (members_of hopeless.new)) }
+{
+    for place in places {
+        search_one(alloc, groundwork, *place, workspace, hopeless)?;
+    }
+    Ok(())
+}
+
+/// Puts in packages of an essential name that no healthy set has, where the base set has none of the name. So many are searched for at most, and
+/// answered is how many more may be.
+fn search_name(
+    alloc: Global,
+    groundwork: &Groundwork<'_>,
+    places: &[u32],
+    most: usize,
+    workspace: &mut Workspace,
+    hopeless: &mut SparseSet,
+) -> Result<usize, AllocError>
+    requires places { All (λ place. place < length groundwork.now.index.now.packages) places.now }
+    requires hopeless { AreHopeless groundwork.now.index.now (members_of hopeless.old) }
+    ensures { OnOk result (AreHopeless groundwork.now.index.now (members_of hopeless.new)) }
+{
+    if places.len() > most || has_any(&groundwork.base.members, places) {
+        return Ok(most);
+    }
+    search_each(alloc, groundwork, places, workspace, hopeless)?;
+    Ok(most - places.len())
+}
+
+/// Puts in packages of essential names that no healthy set has: those of the names that the base set lacks are searched for.
+fn search_lacked(
+    alloc: Global,
+    groundwork: &Groundwork<'_>,
+    hopeless: &mut SparseSet,
+) -> Result<(), AllocError>
+    requires { AreHopeless groundwork.now.index.now (members_of hopeless.old) }
+    ensures { OnOk result (AreHopeless groundwork.now.index.now (members_of hopeless.new)) }
+{
+    let index = groundwork.index;
+    let mut workspace = Workspace::new(alloc)?;
+    let mut most = SEARCHES;
+    for name in index.essential_names() {
+        let places = index.places_named(*name);
+        most = search_name(alloc, groundwork, places, most, &mut workspace, hopeless)?;
+    }
+    Ok(())
+}
+
+/// What no healthy set has, as far as it is known with a search for essential names.
+fn find_hopeless(alloc: Global, groundwork: &Groundwork<'_>) -> Result<SparseSet, AllocError>
+    ensures { IfOk result (λ hopeless. AreHopeless groundwork.now.index.now (members_of hopeless)) }
+{
+    let mut hopeless = SparseSet::new(alloc);
+    hopeless.extend(groundwork.hopeless.as_slice())?;
+    search_lacked(alloc, groundwork, &mut hopeless)?;
+    spread_by_essential(groundwork.index, &mut hopeless)?;
+    Ok(hopeless)
+}
+
+impl<'a> Groundwork<'a> {
+    ghost use Rattle.std.specs.Prelude.{◌≡◌};
+
+    /// Goes once through the packages of the index, which stays as it is. The error is want of memory.
+    pub fn new(alloc: Global, index: &'a Index) -> Result<Groundwork<'a>, AllocError>
+        ensures { IfOk result (λ groundwork. groundwork.index.now ≡ index.now) }
+    {
+        let mut groundwork = Groundwork::of(alloc, index)?;
+        let hopeless = find_hopeless(alloc, &groundwork)?;
+        groundwork.hopeless = hopeless;
+        Ok(groundwork)
+    }
+}
