@@ -9,10 +9,13 @@ use std::alloc::{AllocError, Global};
 use std::process::Abort;
 use std::test::Fail;
 
-/// Whether sets have all needed numbers. Each question is counted, and each refutation uses these numbers alone.
+/// Whether sets have all needed numbers. Each question is counted, and each refutation uses these numbers, and idly all that aren't settled
+/// below one.
 #[derive(Drop)]
 struct Counting<'a> {
     needed: &'a [u32],
+    idle: u32,
+    rest: u32,
     asked: u32,
 }
 
@@ -27,11 +30,11 @@ impl<'a> Question for Counting<'a> {
     ghost use Rattle.std.specs.Prelude.{◌≡◌, refl};
     ghost use Rattle.std.proofs.Common.{◌∙◌};
     ghost use Rattle.core_extract.specs.Reduction.{listed};
-    ghost use Rattle.core_extract_tests.specs.Having.{HasAll, having_upward};
+    ghost use Rattle.core_extract_tests.specs.Having.{HasAll, having_upward, or_idle};
 
     ghost is_failing = { λ q. HasAll (listed q.needed.now) };
 
-    ghost used = { λ q. listed q.needed.now };
+    ghost used = { λ q. or_idle (listed q.needed.now) q.rest q.idle };
 
     ghost keeps = { λ before after. before.needed.now ≡ after.needed.now };
 
@@ -50,17 +53,32 @@ impl<'a> Question for Counting<'a> {
             }
             at = number + 1;
         }
+        self.rest = rest;
         Ok(true)
     }
 
     fn next_used(&self, from: u32) -> Option<u32> {
-        next_of(self.needed, from)
+        let needed = next_of(self.needed, from);
+        let idle = from.max(self.rest);
+        if idle >= self.idle {
+            return needed;
+        }
+        match needed {
+            Some(number) => Some(number.min(idle)),
+            None => Some(idle),
+        }
     }
 }
 
-/// How many questions it takes where these numbers are needed; none, where the answer is another.
-pub fn asked_for(alloc: Global, needed: &[u32]) -> Result<Option<u32>, AllocError> {
-    let mut question = Counting { needed, asked: 0 };
+/// How many questions it takes where these numbers are needed, and all below `idle` are used as long as they are there; none, where the
+/// answer is another.
+pub fn asked_for(alloc: Global, needed: &[u32], idle: u32) -> Result<Option<u32>, AllocError> {
+    let mut question = Counting {
+        needed,
+        idle,
+        rest: 0,
+        asked: 0,
+    };
     let kept = first_failing(alloc, &mut question)?;
     if kept.as_slice() == needed {
         return Ok(Some(question.asked));
@@ -79,7 +97,24 @@ fn questions_of_exact_refutations(rt: HostRuntime) -> Result<(), Fail> {
         (&[0, 1023], 3),
         (&[1, 2, 3, 511, 512, 1000], 7),
     ] {
-        assert_eq!(rt; asked_for(rt.alloc(), needed)?, Some(asked));
+        assert_eq!(rt; asked_for(rt.alloc(), needed, 0)?, Some(asked));
+    }
+    Ok(())
+}
+
+/// Where refutations come in a row, one question takes out 1, 1, 2, 4, 8 numbers and so on. Where that takes out a needed one, it begins again.
+#[test]
+fn questions_of_idle_refutations(rt: HostRuntime) -> Result<(), Fail> {
+    for (needed, idle, asked) in [
+        // 0, 1, 2 to 3, 4 to 7, and so on, to 512 to 1023
+        ([].as_slice(), 1024, 1 + 11),
+        // 0, 1, 2 to 3 in vain; 2, 3 in vain
+        (&[3], 4, 1 + 3 + 2),
+        // 0, 1, 2 to 3, and so on, 64 to 127 in vain; 64, 65, 66 to 67, and so on, 96 to 127 in vain; 96, 97, 98 to 99, 100 to 103 in vain;
+        // 100 in vain; 101, 102, 103 to 104, and so on, 613 to 1023
+        (&[100], 1024, 1 + 8 + 7 + 4 + 1 + 11),
+    ] {
+        assert_eq!(rt; asked_for(rt.alloc(), needed, idle)?, Some(asked));
     }
     Ok(())
 }

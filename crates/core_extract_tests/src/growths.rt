@@ -5,7 +5,7 @@ use std::test::Fail;
 
 #[test]
 fn of_first_failing(rt: HostRuntime) -> Result<(), Fail> {
-    match asked_for(rt.alloc(), &[0, 700, 1023]) {
+    match asked_for(rt.alloc(), &[0, 700, 1023], 0) {
         Ok(asked) => {
             assert!(rt; asked == Some(4));
             Ok(())

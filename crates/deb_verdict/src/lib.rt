@@ -15,7 +15,8 @@
 //!     checks them.
 //!   - `witness` sees, without a search, that some set meets a part: it grows on the `base_set` of the groundwork, and `check` looks it up.
 //!   - `by_formula` knows of each part, by the `core_formula` of the package, which is made once: each constraint that speaks of the closure
-//!     (`kept_positions` lists them) is a group of clauses, the part says which groups are kept, and the solver which it used.
+//!     (`kept_positions` lists them) is a group of clauses, the part says which groups are kept (by a `lookup` of each in rising order), and
+//!     the solver which it used.
 //! - All causes: `all_causes` takes the cause of the first core out of the constraints, and looks for the first core of what is left, as long
 //!   as that admits no set.
 //! - Marks: `hopeless` finds places that no healthy set has. `installable` finds many that some healthy set has, for which no set need be
@@ -41,6 +42,7 @@ mod installable;
 mod installation;
 mod kept_positions;
 pub mod laws;
+mod lookup;
 mod part;
 mod propagation;
 mod question;

@@ -1,21 +1,25 @@
-use Rattle.std.proofs.Common.{rules, ◌≡◌, ℕ, ◌+◌, false, List, sym, subst}
+use Rattle.std.proofs.Common.{rules, ◌≡◌, ℕ, ◌+◌, false, List, sym, subst, arith}
 use Rattle.number_sets.specs.Sets.{NumberSet, members_of}
 use Rattle.core_extract.specs.Reduction.{left}
 use Rattle.core_extract.proofs.Cores.{reduced_pushed, rising_after}
 use Rattle.core_extract.proofs.reduction.first_failing.Goals as goal
 
-pub loop-number-preserved-in_ok-push : goal.loop-number-preserved-in_ok-push
-loop-number-preserved-in_ok-push g c =
-    let so_far = c.loop-number.invariant in
-    let numbers : List ℕ = c.loop-number.kept.items in
-    let next : ℕ = c.in-Some.number in
+pub loop-first-preserved-in_ok-push : goal.loop-first-preserved-in_ok-push
+loop-first-preserved-in_ok-push g c =
+    let so_far = c.loop-first.invariant in
+    let numbers : List ℕ = c.loop-first.kept.items in
+    let next : ℕ = c.in-Some.first in
+    let last : ℕ = c.last_of_stride-last.result in
+    let alone : next ≡ last = c.if-first-last.true in
     let is_false : c.in_ok-refute-2.field-0 ≡ false = search rules in
-    let FailsFrom : List ℕ → Type 0 = λ list. g.Q.Question.is_failing c.loop-number.question (left (members_of list) (next + 1)) in (
-      reduced_pushed (g.Q.Question.is_failing c.refute.new.self) (g.met.Q.Question.upward c.refute.new.self) (g.Q.Question.used c.loop-number.question) (g.Q.Question.used c.refute-in-Some.new.self)
-          numbers c.push.new.self.items c.loop-number.at next c.in-Some.ensures.some.0 c.in-Some.ensures.some.3 so_far.0
-          (λ still. c.in_ok-refute-2.ensures.admitted is_false (subst FailsFrom (sym c.deref.ensures.value) ((so_far.2 (left (members_of numbers) (next + 1))).0 still)))
+    let FailsFrom : List ℕ → Type 0 = λ list. g.Q.Question.is_failing c.loop-first.question (left (members_of list) (last + 1)) in
+    let FailsAfter : ℕ → Type 0 = λ number. g.Q.Question.is_failing c.loop-first.question (left (members_of numbers) (number + 1)) in (
+      reduced_pushed (g.Q.Question.is_failing c.refute.new.self) (g.met.Q.Question.upward c.refute.new.self) (g.Q.Question.used c.loop-first.question) (g.Q.Question.used c.refute-in-Some.new.self)
+          numbers c.push.new.self.items c.loop-first.at next c.in-Some.ensures.some.0 c.in-Some.ensures.some.3 so_far.0
+          (λ still. c.in_ok-refute-2.ensures.admitted is_false (subst FailsFrom (sym c.deref.ensures.value) (subst FailsAfter alone ((so_far.2 (left (members_of numbers) (next + 1))).0 still))))
           (c.in_ok-refute-2.ensures.still is_false) c.in_ok-push.ensures.items,
-      rising_after numbers c.push.new.self.items c.loop-number.at next c.in-Some.ensures.some.0 so_far.1 so_far.0.settled c.in_ok-push.ensures.items,
+      rising_after numbers c.push.new.self.items c.loop-first.at next c.in-Some.ensures.some.0 so_far.1 so_far.0.settled c.in_ok-push.ensures.items,
       λ (set : NumberSet). (λ fails. (c.in_ok-refute-2.ensures.same set).0 ((so_far.2 set).0 fails), λ fails. (so_far.2 set).1 ((c.in_ok-refute-2.ensures.same set).1 fails)),
-      g.met.Q.Question.keeps_further c.refute.new.self c.loop-number.question c.refute-in-Some.new.self so_far.3 c.in_ok-refute-2.ensures.kept,
+      g.met.Q.Question.keeps_further c.refute.new.self c.loop-first.question c.refute-in-Some.new.self so_far.3 c.in_ok-refute-2.ensures.kept,
+      omega arith,
     )
