@@ -40,6 +40,7 @@ mod installable;
 mod installation;
 mod kept_positions;
 pub mod laws;
+mod needed;
 mod part;
 mod propagation;
 mod question;
