@@ -79,7 +79,7 @@ module _ (index : IndexView) where
       ]
 
   -- what a package is a version of, is a version of it
-  turned : (q r : ℕ) → q < length index.packages → members_of (places_of index (package_at index q).name) r ≡ true
+  pub turned : (q r : ℕ) → q < length index.packages → members_of (places_of index (package_at index q).name) r ≡ true
       → members_of (places_of index (package_at index r).name) q ≡ true
   turned q r inside version =
       let at = numbered index q inside in
@@ -106,7 +106,7 @@ module _ (part : Part) (base : BaseSet) (is_base : IsBase part.index.now base) (
           | inr r_more ↦ false≢true (sym ((room r r_more).unnamed q (turned part.index.now q r (is_place q based) version)) ∙ based)
         ]
 
-    stays : (q : ℕ) → members_of base.members q ≡ true → MeetsAskedOf part on_base q
+    pub stays : (q : ℕ) → members_of base.members q ≡ true → MeetsAskedOf part on_base q
     stays q based =
         let index = part.index.now in
         let stands = is_base.stand q based in

@@ -19,6 +19,7 @@ pub mod Inserted
 pub mod JoinLemmas
 pub mod Listing
 pub mod Names
+pub mod NeededLemmas
 pub mod OneVerdict
 pub mod Propagated
 pub mod ReachLemmas

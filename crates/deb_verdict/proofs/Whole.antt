@@ -51,6 +51,14 @@ module _ (index : IndexView) (p : ℕ) where
     fails = none_in_list (members_of used) (λ k. ltb k (2 ^ 32 - 1)) (λ k below. lt-ltb k (2 ^ 32 - 1) (omega (arith, constraints-few index few few_asked))) refuted.fails;
   }
 
+  -- the same numbers in another order
+  pub refuted_same : (part : NumberSet) (used sorted : List ℕ) → ((k : ℕ) → members_of sorted k ≡ members_of used k)
+      → IsRefutation (AdmitsNone index p) part (members_of used) → IsRefutation (AdmitsNone index p) part (members_of sorted)
+  refuted_same part used sorted same refuted = record {
+    within = λ k is_used. refuted.within k (sym (same k) ∙ is_used);
+    fails = admits_none_upward index p (members_of used) (members_of sorted) (λ k is_used. same k ∙ is_used) refuted.fails;
+  }
+
   -- a refutation of what is not taken out
   pub refuted_without : (out part used : NumberSet) → IsRefutation (AdmitsNone index p) (without out part) used → IsRefutation (λ set. AdmitsNone index p (without out set)) part used
   refuted_without out part used refuted = record {

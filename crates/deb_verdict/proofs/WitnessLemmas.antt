@@ -79,7 +79,7 @@ module _ (part : Part) (set : NumberSet) where
       ap (λ list. members_of list number) items_is ∙ contains_member (essential_names part.index.now) number (All-at (IsRight part.index.now) (constraints_of part.index.now) asked.0 (Essential number) (all_right part.index.now) asked.2) in
       of_members (λ n. MeetsAsked part set (Essential n)) items count past each number listed asked
 
-  only_held : ((q : ℕ) → set q ≡ true → StandsOnce part set q) → (number : ℕ) → number < length (names part.index.now) → MeetsAsked part set (Only number)
+  pub only_held : ((q : ℕ) → set q ≡ true → StandsOnce part set q) → (number : ℕ) → number < length (names part.index.now) → MeetsAsked part set (Only number)
   only_held each number within asked =
       (only_says part.index.now set number).0 (λ q is_place is_in.
       let once = each q is_in in

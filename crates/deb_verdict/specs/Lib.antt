@@ -11,5 +11,6 @@ pub mod Gathering
 pub mod Groundwork
 pub mod Hopeless
 pub mod Listing
+pub mod Needed
 pub mod Parts
 pub mod Reach

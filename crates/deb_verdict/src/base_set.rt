@@ -20,7 +20,7 @@ const TIMES: u64 = 2;
 pub(crate) struct BaseSet {
     pub(crate) members: SparseSet,
     /// What an entry of a member hits.
-    hit: SparseSet,
+    pub(crate) hit: SparseSet,
 }
 
 /// A base set, and more places.
@@ -53,7 +53,7 @@ fn stands_in(index: &Index, set: &SparseSet, place: u32) -> bool
 }
 
 /// Takes in what the entries of a package hit. `false` where that is too much for a row.
-fn take_hits(index: &Index, place: u32, hit: &mut SparseSet) -> Result<bool, AllocError>
+pub(crate) fn take_hits(index: &Index, place: u32, hit: &mut SparseSet) -> Result<bool, AllocError>
     requires { place < length index.now.packages }
     ensures keeps { OnOk result (IsWithin (members_of hit.old) (members_of hit.new)) }
     ensures has { IfOk result (λ all. all ≡ true → HasHits index.now (members_of hit.new) place) }
@@ -76,6 +76,15 @@ impl BaseSet {
             members: SparseSet::new(alloc),
             hit: SparseSet::new(alloc),
         }
+    }
+
+    /// Takes all out, and keeps the room.
+    pub(crate) fn clear(&mut self)
+        ensures members { self.new.members ≡ [] }
+        ensures hit { self.new.hit ≡ [] }
+    {
+        self.members.clear();
+        self.hit.clear();
     }
 
     /// These places, if each is seen to have what its package asks for among them; else none.

@@ -39,7 +39,7 @@ pub(crate) fn meets_essentials<P: Places>(part: &Part<'_>, set: &P) -> bool
 }
 
 /// Whether the set answers a need of a place, where the part asks for it.
-fn meets_need<P: Places>(part: &Part<'_>, set: &P, place: u32, number: u32) -> bool
+pub(crate) fn meets_need<P: Places>(part: &Part<'_>, set: &P, place: u32, number: u32) -> bool
     requires place { place < length part.now.index.now.packages }
     requires number { number < length (needs_at part.now.index.now place) }
     ensures { result ≡ true → MeetsAsked part.now (P.members set.now) (Constraint.Need place number) }
@@ -79,7 +79,7 @@ fn meets_apart<P: Places>(part: &Part<'_>, set: &P, place: u32, number: u32) -> 
 }
 
 /// Whether no entry of a place that the part asks for hits another one of the set.
-fn meets_aparts<P: Places>(part: &Part<'_>, set: &P, place: u32) -> bool
+pub(crate) fn meets_aparts<P: Places>(part: &Part<'_>, set: &P, place: u32) -> bool
     requires { place < length part.now.index.now.packages }
     ensures { result ≡ true → (j : ℕ) → j < length (aparts_at part.now.index.now place)
         → MeetsAsked part.now (P.members set.now) (Constraint.Apart place j) }
@@ -112,7 +112,7 @@ pub(crate) fn has_no_earlier<P: Places>(index: &Index, set: &P, place: u32) -> b
 }
 
 /// Whether the set has no earlier package of the name of the one at a place, where the part asks that one alone is in.
-fn stands_once<P: Places>(part: &Part<'_>, set: &P, place: u32) -> bool
+pub(crate) fn stands_once<P: Places>(part: &Part<'_>, set: &P, place: u32) -> bool
     requires { place < length part.now.index.now.packages }
     ensures { result ≡ true → StandsOnce part.now (P.members set.now) place }
 {

@@ -13,6 +13,7 @@ ghost use Rattle.deb_verdict.specs.Formulas.{Tells};
 use crate::core_formula::CoreFormula;
 use crate::groundwork::Groundwork;
 use crate::kept_positions::list_constraints;
+use crate::needed::find_needed;
 use crate::question::Blocking;
 use crate::workspace::Workspace;
 use core_extract::first_failing;
@@ -36,11 +37,14 @@ pub(crate) fn first_positions(
     ensures first { IfOk result (λ core. IsFirstWithout groundwork.now.index.now p (members_of out.now) core.items) }
     ensures within { IfOk result (λ core. All (λ k. k < length (constraints_of groundwork.now.index.now)) core.items) }
 {
+    let needed = find_needed(alloc, groundwork, p, out, &mut workspace.way)?;
     let mut question = Blocking {
         groundwork,
         p,
         out,
+        needed: &needed,
         workspace,
+        used: Vec::new(alloc),
         formula: formula.take(),
     };
     let positions = first_failing(alloc, &mut question)?;

@@ -43,6 +43,7 @@ mod installation;
 mod kept_positions;
 pub mod laws;
 mod lookup;
+mod needed;
 mod part;
 mod propagation;
 mod question;

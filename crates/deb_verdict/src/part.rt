@@ -18,7 +18,7 @@ pub(crate) struct Part<'a> {
 }
 
 /// Whether a rising list has a number.
-fn is_among(numbers: &[u32], number: u32) -> bool
+pub(crate) fn is_among(numbers: &[u32], number: u32) -> bool
     requires { IsStrictlyIncreasing numbers.now }
     ensures { result ≡ members_of numbers.now number }
 {

@@ -1,10 +1,14 @@
 //! The question whether a part of the constraints admits no set with a package.
 
-ghost use Rattle.std.specs.Prelude.{◌≡◌, ◌<◌, true, false, IfOk, length};
+ghost use Rattle.std.specs.Prelude.{◌≡◌, ℕ, ◌<◌, ◌≤◌, true, false, IfOk, IfSome, IfNone, length};
 ghost use Rattle.std.specs.Option.{ForSome};
 ghost use Rattle.std.specs.List.Sorted.{IsStrictlyIncreasing};
+ghost use Rattle.number_sets.specs.Sets.{members_of};
+ghost use Rattle.core_extract.specs.Reduction.{listed, IsNext};
 ghost use Rattle.deb_health.specs.Health.{AdmitsNone};
 ghost use Rattle.deb_verdict.specs.BaseSets.{IsBase};
+ghost use Rattle.deb_verdict.specs.Listing.{BeginsAt};
+ghost use Rattle.deb_verdict.specs.Needed.{AreNeeded};
 ghost use Rattle.deb_verdict.specs.Parts.{positions_in, IsRefutedBy};
 ghost use Rattle.deb_verdict.specs.Formulas.{Tells};
 
@@ -12,13 +16,14 @@ use crate::base_set::BaseSet;
 use crate::by_formula::refute_by_formula;
 use crate::core_formula::CoreFormula;
 use crate::groundwork::Groundwork;
-use crate::part::Part;
+use crate::part::{Part, is_among};
 use crate::propagation::{refute_by_forcing, refute_by_last_steps};
 use crate::witness::is_seen_to_admit;
 use crate::workspace::Workspace;
-use core_extract::{Question, next_of};
-use number_sets::SparseSet;
+use core_extract::Question;
+use number_sets::{SparseSet, sort_once};
 use std::alloc::{AllocError, Global};
+use std::mem;
 
 /// Whether a part of the constraints admits no set with the package at a place. Where it admits none, the workspace's `used` then has the
 /// positions of constraints of the part that already do; where it admits one, `used` stays.
@@ -61,17 +66,72 @@ pub(crate) fn refute_part(
     refute_by_formula(alloc, part, p, formula, workspace)
 }
 
+/// Whether the part lacks the constraint before its rest, and that is among these.
+fn lacks_needed(part: &Part<'_>, needed: &[u32]) -> bool
+    requires { IsStrictlyIncreasing needed.now }
+    ensures { result ≡ true → (u : ℕ) × (members_of needed.now u ≡ true) × (positions_in part.now u ≡ false) }
+{
+    if part.rest == 0 {
+        return false;
+    }
+    let last = part.rest - 1;
+    is_among(needed, last) && !part.has(last)
+}
+
+/// Takes over what a refutation used, in rising order. `found` is then a buffer.
+fn take_rising(found: &mut Vec<u32>, used: &mut Vec<u32>)
+    ensures rising { IsStrictlyIncreasing used.new.items }
+    ensures same { (number : ℕ) → members_of used.new.items number ≡ members_of found.old.items number }
+{
+    mem::swap(found, used);
+    sort_once(used);
+}
+
+/// Where the numbers of a rising list begin that are no less than this one.
+fn first_from(numbers: &[u32], from: u32) -> usize
+    requires { IsStrictlyIncreasing numbers.now }
+    ensures { BeginsAt numbers.now from result }
+{
+    match numbers.binary_search(&from) {
+        Ok(at) => at,
+        Err(at) => at,
+    }
+}
+
+/// The least number of a rising list from `from` on, where the largest number of 32 bits doesn't count.
+fn next_in(numbers: &[u32], from: u32) -> Option<u32>
+    requires { IsStrictlyIncreasing numbers.now }
+    ensures some { IfSome result (IsNext (listed numbers.now) from) }
+    ensures none { IfNone result ((number : ℕ) → from ≤ number → listed numbers.now number ≡ false) }
+{
+    let Some(number) = numbers.get(first_from(numbers, from)) else {
+        return None;
+    };
+    if *number < u32::MAX {
+        Some(*number)
+    } else {
+        None
+    }
+}
+
 /// Whether positions of the index's list of constraints, without those that are taken out, admit no set with the package at a place.
 #[derive(Drop)]
 pub(crate) struct Blocking<'a> {
     pub(crate) groundwork: &'a Groundwork<'a>,
     pub(crate) p: u32,
     pub(crate) out: &'a [u32],
+    /// Positions of constraints that each refutation needs.
+    pub(crate) needed: &'a [u32],
     pub(crate) workspace: &'a mut Workspace,
+    /// The positions of the constraints that the last refutation used, rising.
+    pub(crate) used: Vec<u32>,
     /// The package's formula, once a question needed it.
     pub(crate) formula: Option<CoreFormula>,
     ghost place: { p < length groundwork.now.index.now.packages },
     ghost rising: { IsStrictlyIncreasing out.now },
+    ghost needed_rising: { IsStrictlyIncreasing needed.now },
+    ghost all_needed: { AreNeeded groundwork.now.index.now p (members_of out.now) needed.now },
+    ghost used_rising: { IsStrictlyIncreasing used.items },
     ghost told: { ForSome formula (Tells groundwork.now.index.now p) },
 }
 
@@ -86,7 +146,7 @@ impl<'a> Question for Blocking<'a> {
 
     ghost is_failing = { λ q set. AdmitsNone q.groundwork.now.index.now q.p (without (members_of q.out.now) set) };
 
-    ghost used = { λ q. listed q.workspace.now.used.items };
+    ghost used = { λ q. listed q.used.items };
 
     ghost keeps = { λ before after. (after.groundwork.now.index.now ≡ before.groundwork.now.index.now) × (after.p ≡ before.p) };
 
@@ -105,7 +165,10 @@ impl<'a> Question for Blocking<'a> {
             rest,
             out: self.out,
         };
-        refute_part(
+        if lacks_needed(&part, self.needed) {
+            return Ok(false);
+        }
+        let refuted = refute_part(
             alloc,
             &part,
             self.p,
@@ -113,10 +176,15 @@ impl<'a> Question for Blocking<'a> {
             &self.groundwork.lacking,
             &mut self.formula,
             self.workspace,
-        )
+        )?;
+        if !refuted {
+            return Ok(false);
+        }
+        take_rising(&mut self.workspace.used, &mut self.used);
+        Ok(true)
     }
 
     fn next_used(&self, from: u32) -> Option<u32> {
-        next_of(&self.workspace.used, from)
+        next_in(&self.used, from)
     }
 }

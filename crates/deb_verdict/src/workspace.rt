@@ -3,6 +3,7 @@
 ghost use Rattle.std.specs.Prelude.{IfOk};
 ghost use Rattle.deb_verdict.specs.Workspaces.{IsFresh};
 
+use crate::base_set::BaseSet;
 use crate::gather::Candidates;
 use crate::installation::Installation;
 use crate::propagation::Propagation;
@@ -30,6 +31,8 @@ pub struct Workspace {
     pub(crate) solver: sat_solve::Workspace,
     pub(crate) propagation: Propagation,
     pub(crate) witness: Witness,
+    /// A way from need to need, of which each refutation needs all.
+    pub(crate) way: BaseSet,
     /// A set that is grown for a package whose set need not be shown.
     pub(crate) installation: Installation,
     /// The closure of a broken package, and the constraints that speak of it.
@@ -58,6 +61,7 @@ impl Workspace {
             solver: sat_solve::Workspace::new(alloc),
             propagation: Propagation::new(alloc),
             witness: Witness::new(alloc),
+            way: BaseSet::empty(alloc),
             installation: Installation::new(alloc, 0),
             closure: SparseSet::new(alloc),
             constraints: Vec::new(alloc),

@@ -1,9 +1,9 @@
 //! Verdicts of small indexes, compared with answers that were found by hand or by trying all sets.
 //!
 //! `reading` makes an index of a text and `lent` lends it, `expected` compares what is found with what is expected, `grounded` has an index
-//! with its groundwork. `verdicts`, `first_sets`, `cores`, `all_causes` and `qualifiers` have worked examples, `installable` those of the packages that are
-//! marked as installable, `told` those of verdicts of which not all is wanted; `workspaces` asks for verdicts by turns in one workspace;
-//! `comparison` and `causes_comparison` compare what is found in the indexes of
+//! with its groundwork. `verdicts`, `first_sets`, `cores`, `all_causes` and `qualifiers` have worked examples, `chains` those of chains of
+//! needs, `installable` those of the packages that are marked as installable, `told` those of verdicts of which not all is wanted;
+//! `workspaces` asks for verdicts by turns in one workspace; `comparison` and `causes_comparison` compare what is found in the indexes of
 //! `generated` with what `trial` comes to, and `growths` has a test for each call that can want memory.
 #![tactic(auto)]
 
@@ -11,6 +11,8 @@
 mod all_causes;
 #[cfg(test)]
 mod causes_comparison;
+#[cfg(test)]
+mod chains;
 #[cfg(test)]
 mod comparison;
 #[cfg(test)]

@@ -1,0 +1,23 @@
+use Rattle.std.proofs.Common.{◌<◌, ◌∙◌, length, arith, sym}
+use Rattle.std.proofs.lemmas.List.{get_or_default}
+use Rattle.std.proofs.lemmas.Bool.{ltb-true, ltb-false}
+use Rattle.deb_verdict.proofs.Searched.{first_is_next, none_there, none_under}
+use Rattle.deb_verdict.proofs.question.next_in.Goals as goal
+
+pub returns-in_default-clause-none : goal.returns-in_default-clause-none
+returns-in_default-clause-none c =
+    none_there c.args.numbers.now c.args.from c.requires c.first_from.result c.first_from.ensures
+    (ltb-false c.first_from.result (length c.args.numbers.now) (sym c.in_default.ensures.lookup.0))
+
+pub returns-then-number-lt4294967295-clause-some : goal.returns-then-number-lt4294967295-clause-some
+returns-then-number-lt4294967295-clause-some c =
+    let inside : c.first_from.result < length c.args.numbers.now = ltb-true c.first_from.result (length c.args.numbers.now) (sym c.in-Some.ensures.lookup.0) in
+    first_is_next c.args.numbers.now c.args.from c.requires c.first_from.result c.first_from.ensures inside c.in-Some.number.now
+    (c.in-Some.ensures.lookup.1 ∙ get_or_default c.args.numbers.now c.first_from.result c.in-Some.number.now 0 inside)
+    c.if-number-lt4294967295.true
+
+pub returns-else-number-lt4294967295-clause-none : goal.returns-else-number-lt4294967295-clause-none
+returns-else-number-lt4294967295-clause-none c =
+    let inside : c.first_from.result < length c.args.numbers.now = ltb-true c.first_from.result (length c.args.numbers.now) (sym c.in-Some.ensures.lookup.0) in
+    none_under c.args.numbers.now c.args.from c.requires c.first_from.result c.first_from.ensures inside
+    (omega (arith, c.if-number-lt4294967295.false, c.in-Some.ensures.lookup.1, get_or_default c.args.numbers.now c.first_from.result c.in-Some.number.now 0 inside))
