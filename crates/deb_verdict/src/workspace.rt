@@ -4,9 +4,9 @@ ghost use Rattle.std.specs.Prelude.{IfOk};
 ghost use Rattle.deb_verdict.specs.Workspaces.{IsFresh};
 
 use crate::gather::Candidates;
+use crate::growth::Witness;
 use crate::installation::Installation;
 use crate::propagation::Propagation;
-use crate::witness::Witness;
 use deb_encode::{Rivals, Versions};
 use deb_index::Constraint;
 use number_sets::SparseSet;
