@@ -13,7 +13,8 @@
 //!   refutation needs, and asks `question` whether a `part` of the constraints admits none. Three modules answer, each where it can tell:
 //!   - `propagation` refutes a part by what the package asks for with no choice; `derivation` has the steps of such a refutation, and
 //!     checks them.
-//!   - `witness` sees, without a search, that some set meets a part: it grows on the `base_set` of the groundwork, and `check` looks it up.
+//!   - `witness` sees, without a search, that some set meets a part: that is the `growth` of a set on the `base_set` of the groundwork, by a
+//!     `choice` of one answer for each need, and `check` looks it up.
 //!   - `by_formula` knows of each part, by the `core_formula` of the package, which is made once: each constraint that speaks of the closure
 //!     (`kept_positions` lists them) is a group of clauses, the part says which groups are kept (by a `lookup` of each in rising order), and
 //!     the solver which it used.
@@ -27,6 +28,7 @@ mod all_causes;
 mod base_set;
 mod by_formula;
 mod check;
+mod choice;
 mod core_formula;
 mod decision;
 mod derivation;
@@ -37,6 +39,7 @@ mod first_set;
 mod forced;
 mod gather;
 mod groundwork;
+mod growth;
 mod hopeless;
 mod installable;
 mod installation;

@@ -5,9 +5,9 @@ ghost use Rattle.deb_verdict.specs.Workspaces.{IsFresh};
 
 use crate::base_set::BaseSet;
 use crate::gather::Candidates;
+use crate::growth::Witness;
 use crate::installation::Installation;
 use crate::propagation::Propagation;
-use crate::witness::Witness;
 use deb_encode::{Rivals, Versions};
 use deb_index::Constraint;
 use number_sets::SparseSet;

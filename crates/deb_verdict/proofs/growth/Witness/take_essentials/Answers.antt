@@ -4,7 +4,7 @@ use Rattle.deb_index.specs.Packages.{names, is_essential, places_of, name_at}
 use Rattle.deb_index.proofs.ConstraintLemmas.{where-short}
 use Rattle.deb_encode.proofs.AddSteps.{named_below}
 use Rattle.deb_verdict.proofs.ReachLemmas.{essential_below}
-use Rattle.deb_verdict.proofs.witness.Witness.take_essentials.Goals as goal
+use Rattle.deb_verdict.proofs.growth.Witness.take_essentials.Goals as goal
 
 pub overflow_cast-position : goal.overflow_cast-position
 overflow_cast-position c =

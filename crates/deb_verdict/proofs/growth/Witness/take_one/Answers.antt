@@ -1,7 +1,7 @@
 use Rattle.std.proofs.Common.{List, ℕ, length, sym, subst}
 use Rattle.number_sets.specs.SparseSets.{Grows}
 use Rattle.number_sets.proofs.Placing.{grows_with}
-use Rattle.deb_verdict.proofs.witness.Witness.take_one.Goals as goal
+use Rattle.deb_verdict.proofs.growth.Witness.take_one.Goals as goal
 
 pub returns-in_ok-push-in-Some : goal.returns-in_ok-push-in-Some
 returns-in_ok-push-in-Some c =

@@ -1,6 +1,6 @@
 use Rattle.std.proofs.Common.{◌<◌, ◌+◌, ◌-◌, length, get_or, refl, ap, arith}
 use Rattle.number_sets.proofs.Placing.{number_within}
-use Rattle.deb_verdict.proofs.witness.Witness.take_needs.Goals as goal
+use Rattle.deb_verdict.proofs.growth.Witness.take_needs.Goals as goal
 
 pub loop-visited-smaller : goal.loop-visited-smaller
 loop-visited-smaller c =

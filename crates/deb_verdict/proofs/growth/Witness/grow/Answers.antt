@@ -1,7 +1,7 @@
 use Rattle.std.proofs.Common.{◌≡◌, ◌∙◌, ap, List, ℕ, length, []}
 use Rattle.number_sets.specs.SparseSets.{with_number}
 use Rattle.number_sets.proofs.Placing.{numbers_first}
-use Rattle.deb_verdict.proofs.witness.Witness.grow.Goals as goal
+use Rattle.deb_verdict.proofs.growth.Witness.grow.Goals as goal
 
 pub returns-then-not-branch : goal.returns-then-not-branch
 returns-then-not-branch c =

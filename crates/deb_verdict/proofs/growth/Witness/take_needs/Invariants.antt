@@ -1,6 +1,6 @@
 use Rattle.std.proofs.Common.{◌-◌, ◌≤◌, length}
 use Rattle.number_sets.specs.SparseSets.{Grows}
-use Rattle.deb_verdict.proofs.witness.Witness.take_needs.Given as goal
+use Rattle.deb_verdict.proofs.growth.Witness.take_needs.Given as goal
 
 abbrev pub invariant-loop-visited : goal.invariant-loop-visited
 invariant-loop-visited l = record {
