@@ -1,4 +1,5 @@
-//! A set of packages that grows: each need takes what is in, or else its first answer that fits, or its last one. No claim rests on how it grew.
+//! A set of packages that grows: each need takes what is in, or else an answer that fits, tried in the order of a lead. No claim rests on how it
+//! grew.
 
 ghost use Rattle.std.specs.Prelude.{◌≡◌, [], ◌<◌, All, OnOk, length, take};
 ghost use Rattle.deb_index.specs.Packages.{aparts_at};
@@ -16,6 +17,8 @@ const TRIES: u32 = 8;
 pub(crate) enum Lead {
     First,
     Last,
+    /// Those that are the last of their names, and then from the first one on: so an index of one suite after another gives the later suite.
+    LastOfName,
 }
 
 impl Lead {
@@ -25,7 +28,7 @@ impl Lead {
         ensures { result < count }
     {
         match self {
-            Lead::First => tried,
+            Lead::First | Lead::LastOfName => tried,
             Lead::Last => count - 1 - tried,
         }
     }
@@ -69,6 +72,16 @@ fn has_free_name(index: &Index, members: &SparseSet, place: u32) -> bool
 {
     let versions = index.versions_of(place);
     versions.len() <= FEW as usize && !has_any(members, versions)
+}
+
+/// Whether no later place has the name of the package at a place.
+fn is_last_of_name(index: &Index, place: u32) -> bool
+    requires { place < length index.now.packages }
+{
+    match index.versions_of(place) {
+        [.., last] => *last == place,
+        [] => false,
+    }
 }
 
 impl Installation {
@@ -145,6 +158,26 @@ impl Installation {
         Ok(())
     }
 
+    /// Puts in the first place of a row that fits and is the last one of its name. `false` where none is.
+    fn take_last_of_name(
+        &mut self,
+        index: &Index,
+        hopeless: &SparseSet,
+        row: &[u32],
+    ) -> Result<bool, AllocError>
+        requires row { All (λ place. place < length index.now.packages) row.now }
+        requires members { All (λ member. member < length index.now.packages) self.old.members }
+        ensures { OnOk result (All (λ member. member < length index.now.packages) self.new.members) }
+    {
+        for place in row {
+            if is_last_of_name(index, *place) && self.fits(index, hopeless, *place)? {
+                self.insert(index, *place)?;
+                return Ok(true);
+            }
+        }
+        Ok(false)
+    }
+
     /// Puts in the place of a row that fits and is tried first, where none is in. `false` where none fits.
     fn take_one(
         &mut self,
@@ -158,6 +191,11 @@ impl Installation {
     {
         if has_any(&self.members, row) {
             return Ok(true);
+        }
+        if let Lead::LastOfName = self.lead {
+            if self.take_last_of_name(index, hopeless, row)? {
+                return Ok(true);
+            }
         }
         for tried in 0..row.len() {
             let place = row[self.lead.number(tried, row.len())];
