@@ -2,10 +2,12 @@
 //! grew.
 
 ghost use Rattle.std.specs.Prelude.{◌≡◌, [], ◌<◌, All, OnOk, length, take};
-ghost use Rattle.deb_index.specs.Packages.{aparts_at};
+ghost use Rattle.deb_index.specs.Packages.{aparts_at, needs_at};
 
+use crate::candidates::{ALTERNATIVES, CANDIDATES, candidate, has_answer};
 use crate::rows::{FEW, has_any, stands_apart};
 use deb_index::Index;
+use deb_relation::Atom;
 use number_sets::SparseSet;
 use std::alloc::{AllocError, Global};
 
@@ -207,7 +209,77 @@ impl Installation {
         Ok(false)
     }
 
-    /// Puts in an answer of each need of a package that has `most` answers at most. `false` where none fits, or there are too many for a row.
+    /// Puts in the first candidate of an alternative that meets it and fits. `false` where none of those that are looked at does.
+    fn take_candidate(
+        &mut self,
+        index: &Index,
+        hopeless: &SparseSet,
+        atom: &Atom,
+    ) -> Result<bool, AllocError>
+        requires members { All (λ member. member < length index.now.packages) self.old.members }
+        ensures { OnOk result (All (λ member. member < length index.now.packages) self.new.members) }
+    {
+        let named = index.places_of(atom.name.as_slice());
+        let provided = index.provides_of(atom.name.as_slice());
+        for number in 0..CANDIDATES {
+            let Some(place) = candidate(named, provided, number) else {
+                return Ok(false);
+            };
+            if index.meets_need(place, atom) && self.fits(index, hopeless, place)? {
+                self.insert(index, place)?;
+                return Ok(true);
+            }
+        }
+        Ok(false)
+    }
+
+    /// Puts in a candidate that answers a need, where none is in. `false` where none of those that are looked at fits.
+    fn take_any(
+        &mut self,
+        index: &Index,
+        hopeless: &SparseSet,
+        place: u32,
+        number: u32,
+    ) -> Result<bool, AllocError>
+        requires place { place < length index.now.packages }
+        requires number { number < length (needs_at index.now place) }
+        requires members { All (λ member. member < length index.now.packages) self.old.members }
+        ensures { OnOk result (All (λ member. member < length index.now.packages) self.new.members) }
+    {
+        if has_answer(index, &self.members, place, number) {
+            return Ok(true);
+        }
+        let alternatives = index.need(place, number);
+        for tried in 0..alternatives.len().min(ALTERNATIVES) {
+            if self.take_candidate(index, hopeless, &alternatives[tried])? {
+                return Ok(true);
+            }
+        }
+        Ok(false)
+    }
+
+    /// Puts in an answer of a need that has `most` answers at most. `false` where none is seen to fit.
+    fn take_answer(
+        &mut self,
+        index: &Index,
+        hopeless: &SparseSet,
+        place: u32,
+        number: u32,
+        most: usize,
+    ) -> Result<bool, AllocError>
+        requires place { place < length index.now.packages }
+        requires number { number < length (needs_at index.now place) }
+        requires members { All (λ member. member < length index.now.packages) self.old.members }
+        ensures { OnOk result (All (λ member. member < length index.now.packages) self.new.members) }
+    {
+        match index.answer_row(place, number) {
+            Some(row) if row.len() <= most => self.take_one(index, hopeless, row),
+            None if most == usize::MAX => self.take_any(index, hopeless, place, number),
+            _ => Ok(true),
+        }
+    }
+
+    /// Puts in an answer of each need of a package that has `most` answers at most. `false` where none is seen to fit.
     fn take_answers(
         &mut self,
         index: &Index,
@@ -220,10 +292,7 @@ impl Installation {
         ensures { OnOk result (All (λ member. member < length index.now.packages) self.new.members) }
     {
         for number in 0..index.need_count(place) {
-            let Some(row) = index.answer_row(place, number) else {
-                return Ok(false);
-            };
-            if row.len() <= most && !self.take_one(index, hopeless, row)? {
+            if !self.take_answer(index, hopeless, place, number, most)? {
                 return Ok(false);
             }
         }
