@@ -1,5 +1,5 @@
-//! Places that some healthy set is seen to have: the base set and a few more for all, or two for one package, are found without a search, and each is
-//! looked up to be healthy.
+//! Places that some healthy set is seen to have: the base set and a few more for all, or three for one package, are found without a search, and each
+//! is looked up to be healthy.
 
 ghost use Rattle.std.specs.Prelude.{◌≡◌, ◌<◌, true, All, IfOk, OnOk, length};
 ghost use Rattle.number_sets.specs.Sets.{members_of, MarksOnly};
@@ -42,6 +42,7 @@ fn grow(
     asked: &[u32],
     marks: &[bool],
     start: u32,
+    lead: Lead,
     installation: &mut Installation,
 ) -> Result<bool, AllocError>
     requires asked { All (λ place. place < length groundwork.now.index.now.packages) asked.now }
@@ -49,7 +50,7 @@ fn grow(
     requires marks { length marks.now ≡ length groundwork.now.index.now.packages }
     ensures { OnOk result (All (λ member. member < length groundwork.now.index.now.packages) installation.new.members) }
 {
-    installation.clear(Lead::First);
+    installation.clear(lead);
     if !installation.add(groundwork.index, &groundwork.hopeless, start)? {
         return Ok(false);
     }
@@ -84,6 +85,7 @@ fn mark_set(
     groundwork: &Groundwork<'_>,
     asked: &[u32],
     start: u32,
+    lead: Lead,
     installation: &mut Installation,
     marks: &mut [bool],
 ) -> Result<bool, AllocError>
@@ -94,7 +96,7 @@ fn mark_set(
     ensures count { OnOk result (length marks.new ≡ length groundwork.now.index.now.packages) }
     ensures marks { OnOk result (MarksOnly (IsInstallable groundwork.now.index.now) marks.new) }
 {
-    if !grow(groundwork, asked, marks, start, installation)? {
+    if !grow(groundwork, asked, marks, start, lead, installation)? {
         return Ok(false);
     }
     mark_healthy(groundwork.index, &installation.members, marks);
@@ -111,6 +113,15 @@ fn no_marks(alloc: Global, index: &Index) -> Result<Vec<bool>, AllocError>
         marks.push(false)?;
     }
     Ok(marks)
+}
+
+/// The lead of a large set, by how many were found before it.
+fn lead_of(sets: u32) -> Lead {
+    if sets % 2 == 0 {
+        Lead::LastOfName
+    } else {
+        Lead::First
+    }
 }
 
 /// Marks places that are seen to be installable.
@@ -133,7 +144,14 @@ fn mark_installable(
     for place in asked {
         if sets < SETS
             && !marks[*place as usize]
-            && mark_set(groundwork, asked, *place, &mut installation, marks)?
+            && mark_set(
+                groundwork,
+                asked,
+                *place,
+                lead_of(sets),
+                &mut installation,
+                marks,
+            )?
         {
             sets += 1;
         }
@@ -183,8 +201,7 @@ fn is_seen_in(
     Ok(members.contains(p) && is_healthy(groundwork.index, members))
 }
 
-/// Whether the package at a place is seen to be installable, without a search: two sets are grown for it, one by the first answers of each need, one
-/// by the last.
+/// Whether the package at a place is seen to be installable, without a search: three sets are grown for it, each by another lead.
 pub(crate) fn is_seen_installable(
     groundwork: &Groundwork<'_>,
     p: u32,
@@ -193,8 +210,10 @@ pub(crate) fn is_seen_installable(
     requires { p < length groundwork.now.index.now.packages }
     ensures { IfOk result (λ seen. seen ≡ true → IsInstallable groundwork.now.index.now p) }
 {
-    if is_seen_in(groundwork, p, Lead::First, installation)? {
-        return Ok(true);
+    for lead in [Lead::First, Lead::LastOfName, Lead::Last] {
+        if is_seen_in(groundwork, p, lead, installation)? {
+            return Ok(true);
+        }
     }
-    is_seen_in(groundwork, p, Lead::Last, installation)
+    Ok(false)
 }

@@ -1,10 +1,13 @@
-//! A set of packages that grows: each need takes what is in, or else its first answer that fits, or its last one. No claim rests on how it grew.
+//! A set of packages that grows: each need takes what is in, or else an answer that fits, tried in the order of a lead. No claim rests on how it
+//! grew.
 
 ghost use Rattle.std.specs.Prelude.{◌≡◌, [], ◌<◌, All, OnOk, length, take};
-ghost use Rattle.deb_index.specs.Packages.{aparts_at};
+ghost use Rattle.deb_index.specs.Packages.{aparts_at, needs_at};
 
+use crate::long_needs::{ALTERNATIVES, CANDIDATES, candidate, has_answer};
 use crate::rows::{FEW, has_any, stands_apart};
 use deb_index::Index;
+use deb_relation::Atom;
 use number_sets::SparseSet;
 use std::alloc::{AllocError, Global};
 
@@ -16,6 +19,8 @@ const TRIES: u32 = 8;
 pub(crate) enum Lead {
     First,
     Last,
+    /// Those that are the last of their names, and then from the first one on: so an index of one suite after another gives the later suite.
+    LastOfName,
 }
 
 impl Lead {
@@ -25,7 +30,7 @@ impl Lead {
         ensures { result < count }
     {
         match self {
-            Lead::First => tried,
+            Lead::First | Lead::LastOfName => tried,
             Lead::Last => count - 1 - tried,
         }
     }
@@ -69,6 +74,16 @@ fn has_free_name(index: &Index, members: &SparseSet, place: u32) -> bool
 {
     let versions = index.versions_of(place);
     versions.len() <= FEW as usize && !has_any(members, versions)
+}
+
+/// Whether no later place has the name of the package at a place.
+fn is_last_of_name(index: &Index, place: u32) -> bool
+    requires { place < length index.now.packages }
+{
+    match index.versions_of(place) {
+        [.., last] => *last == place,
+        [] => false,
+    }
 }
 
 impl Installation {
@@ -145,6 +160,26 @@ impl Installation {
         Ok(())
     }
 
+    /// Puts in the first place of a row that fits and is the last one of its name. `false` where none is.
+    fn take_last_of_name(
+        &mut self,
+        index: &Index,
+        hopeless: &SparseSet,
+        row: &[u32],
+    ) -> Result<bool, AllocError>
+        requires row { All (λ place. place < length index.now.packages) row.now }
+        requires members { All (λ member. member < length index.now.packages) self.old.members }
+        ensures { OnOk result (All (λ member. member < length index.now.packages) self.new.members) }
+    {
+        for place in row {
+            if is_last_of_name(index, *place) && self.fits(index, hopeless, *place)? {
+                self.insert(index, *place)?;
+                return Ok(true);
+            }
+        }
+        Ok(false)
+    }
+
     /// Puts in the place of a row that fits and is tried first, where none is in. `false` where none fits.
     fn take_one(
         &mut self,
@@ -159,6 +194,11 @@ impl Installation {
         if has_any(&self.members, row) {
             return Ok(true);
         }
+        if let Lead::LastOfName = self.lead {
+            if self.take_last_of_name(index, hopeless, row)? {
+                return Ok(true);
+            }
+        }
         for tried in 0..row.len() {
             let place = row[self.lead.number(tried, row.len())];
             if self.fits(index, hopeless, place)? {
@@ -169,7 +209,77 @@ impl Installation {
         Ok(false)
     }
 
-    /// Puts in an answer of each need of a package that has `most` answers at most. `false` where none fits, or there are too many for a row.
+    /// Puts in the first candidate of an alternative that meets it and fits. `false` where none of those that are looked at does.
+    fn take_candidate(
+        &mut self,
+        index: &Index,
+        hopeless: &SparseSet,
+        atom: &Atom,
+    ) -> Result<bool, AllocError>
+        requires members { All (λ member. member < length index.now.packages) self.old.members }
+        ensures { OnOk result (All (λ member. member < length index.now.packages) self.new.members) }
+    {
+        let named = index.places_of(atom.name.as_slice());
+        let provided = index.provides_of(atom.name.as_slice());
+        for number in 0..CANDIDATES {
+            let Some(place) = candidate(named, provided, number) else {
+                return Ok(false);
+            };
+            if index.meets_need(place, atom) && self.fits(index, hopeless, place)? {
+                self.insert(index, place)?;
+                return Ok(true);
+            }
+        }
+        Ok(false)
+    }
+
+    /// Puts in a candidate that answers a need, where none is in. `false` where none of those that are looked at fits.
+    fn take_any(
+        &mut self,
+        index: &Index,
+        hopeless: &SparseSet,
+        place: u32,
+        number: u32,
+    ) -> Result<bool, AllocError>
+        requires place { place < length index.now.packages }
+        requires number { number < length (needs_at index.now place) }
+        requires members { All (λ member. member < length index.now.packages) self.old.members }
+        ensures { OnOk result (All (λ member. member < length index.now.packages) self.new.members) }
+    {
+        if has_answer(index, &self.members, place, number) {
+            return Ok(true);
+        }
+        let alternatives = index.need(place, number);
+        for tried in 0..alternatives.len().min(ALTERNATIVES) {
+            if self.take_candidate(index, hopeless, &alternatives[tried])? {
+                return Ok(true);
+            }
+        }
+        Ok(false)
+    }
+
+    /// Puts in an answer of a need that has `most` answers at most. `false` where none is seen to fit.
+    fn take_answer(
+        &mut self,
+        index: &Index,
+        hopeless: &SparseSet,
+        place: u32,
+        number: u32,
+        most: usize,
+    ) -> Result<bool, AllocError>
+        requires place { place < length index.now.packages }
+        requires number { number < length (needs_at index.now place) }
+        requires members { All (λ member. member < length index.now.packages) self.old.members }
+        ensures { OnOk result (All (λ member. member < length index.now.packages) self.new.members) }
+    {
+        match index.answer_row(place, number) {
+            Some(row) if row.len() <= most => self.take_one(index, hopeless, row),
+            None if most == usize::MAX => self.take_any(index, hopeless, place, number),
+            _ => Ok(true),
+        }
+    }
+
+    /// Puts in an answer of each need of a package that has `most` answers at most. `false` where none is seen to fit.
     fn take_answers(
         &mut self,
         index: &Index,
@@ -182,10 +292,7 @@ impl Installation {
         ensures { OnOk result (All (λ member. member < length index.now.packages) self.new.members) }
     {
         for number in 0..index.need_count(place) {
-            let Some(row) = index.answer_row(place, number) else {
-                return Ok(false);
-            };
-            if row.len() <= most && !self.take_one(index, hopeless, row)? {
+            if !self.take_answer(index, hopeless, place, number, most)? {
                 return Ok(false);
             }
         }

@@ -260,6 +260,7 @@ impl Propagation {
     /// The step that contradicts, where forcing leads to one. What the package itself asks for goes first.
     fn find(&mut self, part: &Part<'_>, base: &BaseSet, p: u32) -> Result<Option<Step>, AllocError>
         requires { p < length part.now.index.now.packages }
+        ensures { OnOk result (AreNumbers (length part.now.index.now.packages) self.new.forced) }
     {
         self.forced.clear();
         self.causes.clear();
@@ -275,8 +276,22 @@ impl Propagation {
         self.propagate(part, base, visited)
     }
 
+    /// Whether a base set has no room for something that was forced last.
+    pub(crate) fn lacks_room(&self, index: &Index, base: &BaseSet) -> bool
+        requires { AreNumbers (length index.now.packages) self.now.forced }
+    {
+        for place in self.forced.as_slice() {
+            if !base.has_room(index, *place) {
+                return true;
+            }
+        }
+        false
+    }
+
     /// Writes down the steps that a contradiction rests on.
-    fn derive(&mut self, conflict: Step) -> Result<(), AllocError> {
+    fn derive(&mut self, conflict: Step) -> Result<(), AllocError>
+        ensures { OnOk result (self.new.forced ≡ self.old.forced) }
+    {
         self.needed.clear();
         self.needed.resize(self.causes.len(), false)?;
         mark_places(&self.forced, conflict, &mut self.needed);
@@ -302,6 +317,7 @@ pub(crate) fn refute_by_last_steps(
 ) -> Result<bool, AllocError>
     ensures refuted { IfOk result (λ refuted. refuted ≡ true → IsRefutedBy used.new.items part.now p) }
     ensures still { IfOk result (λ refuted. refuted ≡ false → used.new.items ≡ used.old.items) }
+    ensures forced { buffers.new.forced ≡ buffers.old.forced }
 {
     let holds = is_refutation(
         part,
@@ -329,6 +345,7 @@ pub(crate) fn refute_by_forcing(
     requires { p < length part.now.index.now.packages }
     ensures refuted { IfOk result (λ refuted. refuted ≡ true → IsRefutedBy used.new.items part.now p) }
     ensures still { IfOk result (λ refuted. refuted ≡ false → used.new.items ≡ used.old.items) }
+    ensures forced { OnOk result (AreNumbers (length part.now.index.now.packages) buffers.new.forced) }
 {
     let Some(conflict) = buffers.find(part, base, p)? else {
         return Ok(false);

@@ -63,6 +63,12 @@ pub(crate) fn refute_part(
     if may_admit && is_seen_to_admit(part, p, &nothing, lacking, &mut workspace.witness)? {
         return Ok(false);
     }
+    // Only what came against the base set may come against what its members need.
+    if propagation.lacks_room(part.index, base)
+        && refute_by_forcing(part, p, &nothing, propagation, used)?
+    {
+        return Ok(true);
+    }
     refute_by_formula(alloc, part, p, formula, workspace)
 }
 

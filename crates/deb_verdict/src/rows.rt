@@ -8,6 +8,7 @@ ghost use Rattle.deb_index.specs.Constraints.{Holds};
 ghost use Rattle.number_sets.specs.Sets.{NumberSet, members_of};
 ghost use Rattle.deb_verdict.specs.Groundwork.{HasAnswers};
 
+use crate::long_needs::has_answer;
 use deb_index::{Constraint, Index};
 use number_sets::SparseSet;
 
@@ -45,7 +46,7 @@ pub(crate) fn has_all(set: &SparseSet, row: &[u32]) -> bool
     row.iter().all(|place| set.contains(*place))
 }
 
-/// Whether a place that is in answers a need. `false` where the answers are too many for a row.
+/// Whether a place that is in answers a need. `false`, too, where there is no row and none of the first candidates does.
 pub(crate) fn is_answered<P: Places>(index: &Index, set: &P, place: u32, number: u32) -> bool
     requires place { place < length index.now.packages }
     requires number { number < length (needs_at index.now place) }
@@ -53,11 +54,11 @@ pub(crate) fn is_answered<P: Places>(index: &Index, set: &P, place: u32, number:
 {
     match index.answer_row(place, number) {
         Some(row) => has_any(set, row),
-        None => false,
+        None => has_answer(index, set, place, number),
     }
 }
 
-/// Whether a set answers each need of a place. `false` where the answers of one are too many for a row.
+/// Whether a set is seen to answer each need of a place.
 pub(crate) fn are_answered(index: &Index, set: &SparseSet, place: u32) -> bool
     requires { place < length index.now.packages }
     ensures { result ≡ true → HasAnswers index.now (members_of set.now) place }

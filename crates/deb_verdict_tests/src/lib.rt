@@ -2,7 +2,8 @@
 //!
 //! `reading` makes an index of a text and `lent` lends it, `expected` compares what is found with what is expected, `grounded` has an index
 //! with its groundwork. `verdicts`, `first_sets`, `cores`, `all_causes` and `qualifiers` have worked examples, `chains` those of chains of
-//! needs, `installable` those of the packages that are marked as installable, `told` those of verdicts of which not all is wanted;
+//! needs, `installable` those of the packages that are marked as installable, `many_answers` those of needs that very many packages may
+//! answer, `told` those of verdicts of which not all is wanted;
 //! `workspaces` asks for verdicts by turns in one workspace; `comparison` and `causes_comparison` compare what is found in the indexes of
 //! `generated` with what `trial` comes to, and `growths` has a test for each call that can want memory.
 #![tactic(auto)]
@@ -31,6 +32,8 @@ mod growths;
 mod installable;
 #[cfg(test)]
 mod lent;
+#[cfg(test)]
+mod many_answers;
 #[cfg(test)]
 mod qualifiers;
 #[cfg(test)]
