@@ -11,7 +11,8 @@
 //!   these leave open, `describe` has the encoder of `deb_encode` make clauses of all constraints that speak of these places, and `first_set`
 //!   has the solver find the first true set of the clauses.
 //! - The first core: `first_core` finds the first set of constraints that no set meets. The crate `core_extract` takes out those that no
-//!   refutation needs, and asks `question` whether a `part` of the constraints admits none. Three modules answer, each where it can tell:
+//!   refutation needs, and asks `question` whether a `part` of the constraints admits none. `needed` finds constraints beforehand without which
+//!   no part does. Three modules answer about the others, each where it can tell:
 //!   - `propagation` refutes a part by what the package asks for with no choice; `derivation` has the steps of such a refutation, and
 //!     checks them.
 //!   - `witness` sees, without a search, that some set meets a part: that is the `growth` of a set on the `base_set` of the groundwork, by a
