@@ -5,9 +5,10 @@ ghost use Rattle.number_sets.specs.Sets.{members_of, IsWithin};
 ghost use Rattle.deb_health.specs.Causes.{either};
 ghost use Rattle.deb_verdict.specs.BaseSets.{HasHits, HasRoom, IsBase, StandsIn};
 
+use crate::answering::are_answered;
 use crate::check::has_no_earlier;
 use crate::installation::{Installation, weight_of_all};
-use crate::rows::{FEW, Places, are_answered, has_any, stands_apart};
+use crate::rows::{FEW, Places, has_any, stands_apart};
 use deb_index::Index;
 use number_sets::SparseSet;
 use std::alloc::{AllocError, Global};

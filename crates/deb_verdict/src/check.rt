@@ -7,8 +7,9 @@ ghost use Rattle.number_sets.specs.Sets.{members_of};
 ghost use Rattle.deb_health.specs.Health.{MeetsAt};
 ghost use Rattle.deb_verdict.specs.Parts.{HasNoEarlier, positions_in, MeetsAsked, MeetsAskedOf, StandsOnce};
 
+use crate::answering::is_answered;
 use crate::part::Part;
-use crate::rows::{FEW, Places, has_any, hits_no_other, is_answered};
+use crate::rows::{FEW, Places, has_any, hits_no_other};
 use deb_index::{Constraint, Index};
 use number_sets::SparseSet;
 

@@ -13,10 +13,10 @@ ghost use Rattle.deb_encode.specs.Alone.{IsAlone};
 ghost use Rattle.deb_health.specs.Health.{IsHopeless, IsInstallation};
 ghost use Rattle.deb_verdict.specs.Hopeless.{AreHopeless};
 
+use crate::answering::are_answered;
 use crate::base_set::BaseSet;
 use crate::forced::{force_essential, force_from};
 use crate::hopeless::{find_lacking, spread_by_essential};
-use crate::rows::are_answered;
 use deb_index::Index;
 use number_sets::SparseSet;
 use std::alloc::{AllocError, Global};

@@ -4,7 +4,7 @@
 ghost use Rattle.std.specs.Prelude.{◌≡◌, [], ◌<◌, All, OnOk, length, take};
 ghost use Rattle.deb_index.specs.Packages.{aparts_at, needs_at};
 
-use crate::long_needs::{ALTERNATIVES, CANDIDATES, candidate, has_answer};
+use crate::answering::{ALTERNATIVES, CANDIDATES, candidate, has_answer};
 use crate::rows::{FEW, has_any, stands_apart};
 use deb_index::Index;
 use deb_relation::Atom;

@@ -3,8 +3,8 @@
 //! `decision` has the public calls, `laws` what holds of the definitions alone. What is found of a package, and what a healthy set is,
 //! `deb_health` says. `specs/Lib` names first the definitions that public contracts cite, then those of the inside. The modules, room by room:
 //!
-//! - Common to all: `workspace` has the buffers that one verdict leaves to the next, `rows` tells what a set has of a row of places, and
-//!   `long_needs` what it has of a need that has no row; `groundwork` knows what all verdicts of an index have in common, with what `essentials`
+//! - Common to all: `workspace` has the buffers that one verdict leaves to the next, `rows` tells what a set has of a row of places,
+//!   `answering` whether it answers a need, be there a row or not; `groundwork` knows what all verdicts of an index have in common, with what `essentials`
 //!   finds of names that no healthy set can have.
 //! - The closure: `reach` finds it.
 //! - The first healthy set: `forced` finds places that are in every healthy set, `gather` the candidates beside them and the needs that
@@ -27,6 +27,7 @@
 #![tactic(auto)]
 
 mod all_causes;
+mod answering;
 mod base_set;
 mod by_formula;
 mod check;
@@ -47,7 +48,6 @@ mod installable;
 mod installation;
 mod kept_positions;
 pub mod laws;
-mod long_needs;
 mod lookup;
 mod needed;
 mod part;

@@ -2,13 +2,10 @@
 
 ghost use Rattle.std.specs.Prelude.{◌≡◌, ℕ, ◌<◌, ◌&&◌, ◌==◌, not, true, length};
 ghost use Rattle.std.specs.List.{list_any, list_all};
-ghost use Rattle.deb_index.specs.Packages.{needs_at, aparts_at, need_at};
-ghost use Rattle.deb_index.specs.Meets.{group_satisfiers};
+ghost use Rattle.deb_index.specs.Packages.{aparts_at};
 ghost use Rattle.deb_index.specs.Constraints.{Holds};
 ghost use Rattle.number_sets.specs.Sets.{NumberSet, members_of};
-ghost use Rattle.deb_verdict.specs.Groundwork.{HasAnswers};
 
-use crate::long_needs::has_answer;
 use deb_index::{Constraint, Index};
 use number_sets::SparseSet;
 
@@ -44,31 +41,6 @@ pub(crate) fn has_all(set: &SparseSet, row: &[u32]) -> bool
     ensures { result ≡ list_all (members_of set.now) row.now }
 {
     row.iter().all(|place| set.contains(*place))
-}
-
-/// Whether a place that is in answers a need. `false`, too, where there is no row and none of the first candidates does.
-pub(crate) fn is_answered<P: Places>(index: &Index, set: &P, place: u32, number: u32) -> bool
-    requires place { place < length index.now.packages }
-    requires number { number < length (needs_at index.now place) }
-    ensures { result ≡ true → list_any (P.members set.now) (group_satisfiers index.now (need_at index.now place number)) ≡ true }
-{
-    match index.answer_row(place, number) {
-        Some(row) => has_any(set, row),
-        None => has_answer(index, set, place, number),
-    }
-}
-
-/// Whether a set is seen to answer each need of a place.
-pub(crate) fn are_answered(index: &Index, set: &SparseSet, place: u32) -> bool
-    requires { place < length index.now.packages }
-    ensures { result ≡ true → HasAnswers index.now (members_of set.now) place }
-{
-    for number in 0..index.need_count(place) {
-        if !is_answered(index, set, place, number) {
-            return false;
-        }
-    }
-    true
 }
 
 /// Whether the set has another place of a row.

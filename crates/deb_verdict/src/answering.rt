@@ -1,14 +1,18 @@
-//! Needs with too many answers for a row: the first candidates of each of its alternatives are looked at, and none of the many others.
+//! Whether a set answers a need: by its row, or, where it has too many answers for one, by the first candidates of its alternatives. None of the
+//! many others are looked at.
 
 ghost use Rattle.std.specs.Prelude.{◌≡◌, ℕ, ◌<◌, true, All, IfSome, length};
 ghost use Rattle.std.specs.List.{list_any};
 ghost use Rattle.deb_relation.specs.AtomView.{atom_view};
 ghost use Rattle.deb_index.specs.Packages.{needs_at, need_at};
 ghost use Rattle.deb_index.specs.Meets.{group_satisfiers, need_satisfiers};
+ghost use Rattle.number_sets.specs.Sets.{members_of};
+ghost use Rattle.deb_verdict.specs.Groundwork.{HasAnswers};
 
-use crate::rows::Places;
+use crate::rows::{Places, has_any};
 use deb_index::Index;
 use deb_relation::Atom;
+use number_sets::SparseSet;
 
 /// Of a need so many alternatives are looked at.
 pub(crate) const ALTERNATIVES: usize = 64;
@@ -57,4 +61,29 @@ pub(crate) fn has_answer<P: Places>(index: &Index, set: &P, place: u32, number: 
         }
     }
     false
+}
+
+/// Whether a place that is in answers a need. `false`, too, where there is no row and none of the first candidates does.
+pub(crate) fn is_answered<P: Places>(index: &Index, set: &P, place: u32, number: u32) -> bool
+    requires place { place < length index.now.packages }
+    requires number { number < length (needs_at index.now place) }
+    ensures { result ≡ true → list_any (P.members set.now) (group_satisfiers index.now (need_at index.now place number)) ≡ true }
+{
+    match index.answer_row(place, number) {
+        Some(row) => has_any(set, row),
+        None => has_answer(index, set, place, number),
+    }
+}
+
+/// Whether a set is seen to answer each need of a place.
+pub(crate) fn are_answered(index: &Index, set: &SparseSet, place: u32) -> bool
+    requires { place < length index.now.packages }
+    ensures { result ≡ true → HasAnswers index.now (members_of set.now) place }
+{
+    for number in 0..index.need_count(place) {
+        if !is_answered(index, set, place, number) {
+            return false;
+        }
+    }
+    true
 }

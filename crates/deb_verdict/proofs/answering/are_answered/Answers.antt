@@ -4,7 +4,7 @@ use Rattle.deb_index.specs.Packages.{need_at}
 use Rattle.deb_index.specs.Meets.{group_satisfiers}
 use Rattle.number_sets.specs.Sets.{members_of}
 use Rattle.deb_verdict.proofs.GatherLemmas.{more_below}
-use Rattle.deb_verdict.proofs.rows.are_answered.Goals as goal
+use Rattle.deb_verdict.proofs.answering.are_answered.Goals as goal
 
 pub loop-number-preserved : goal.loop-number-preserved
 loop-number-preserved c =

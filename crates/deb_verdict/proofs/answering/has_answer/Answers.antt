@@ -1,6 +1,6 @@
 use Rattle.std.proofs.Common.{◌<◌, length, arith}
 use Rattle.deb_verdict.proofs.CandidateLemmas.{answered_by_one}
-use Rattle.deb_verdict.proofs.long_needs.has_answer.Goals as goal
+use Rattle.deb_verdict.proofs.answering.has_answer.Goals as goal
 
 pub returns-then-has_candidate : goal.returns-then-has_candidate
 returns-then-has_candidate g c = λ holds.

@@ -1,7 +1,7 @@
 use Rattle.std.proofs.Common.{◌∙◌, sym}
 use Rattle.deb_relation.specs.AtomView.{atom_view}
 use Rattle.deb_verdict.proofs.CandidateLemmas.{candidate_is_place, met_by_one}
-use Rattle.deb_verdict.proofs.long_needs.has_candidate.Goals as goal
+use Rattle.deb_verdict.proofs.answering.has_candidate.Goals as goal
 
 pub meets_need-requires : goal.meets_need-requires
 meets_need-requires g c =
