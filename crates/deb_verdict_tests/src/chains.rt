@@ -11,7 +11,7 @@ const LENGTH: u32 = 300;
 fn add_package(alloc: Global, text: &mut String, number: u32) -> Result<(), AllocError> {
     text.push_str(&format!(in alloc; "Package: c{number}\nVersion: 1\n")?)?;
     text.push_str("Architecture: all\nDepends: c")?;
-    text.push_str(&format!(in alloc; "{}\n\n", number + 1)?)
+    text.push_str(&format!(in alloc; "{}\n\n", number.wrapping_add(1))?)
 }
 
 /// A chain of packages, each of which needs the next one; the last one needs what is missing.
