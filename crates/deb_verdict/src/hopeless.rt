@@ -12,8 +12,8 @@ use deb_index::Index;
 use number_sets::SparseSet;
 use std::alloc::AllocError;
 
-/// How often at most all places are gone through, in rising order and then in falling order.
-const ROUNDS: u32 = 16;
+/// How often at most all places are gone through, in rising order and in falling order by turns.
+const PASSES: u32 = 32;
 
 /// Whether hopeless places alone answer a need, or none. `false` where the answers are too many for a row.
 fn is_unanswered(index: &Index, hopeless: &SparseSet, place: u32, number: u32) -> bool
@@ -76,16 +76,27 @@ fn visit_falling(index: &Index, hopeless: &mut SparseSet) -> Result<(), AllocErr
     Ok(())
 }
 
-/// Finds places that no healthy set has since a need of theirs lacks an answer that some has, round by round, until none comes. After the last
-/// round some may be left out.
+/// Visits all places, in rising order and in falling order by turns.
+fn visit_all(index: &Index, pass: u32, hopeless: &mut SparseSet) -> Result<(), AllocError>
+    requires { AreHopeless index.now (members_of hopeless.old) }
+    ensures { OnOk result (AreHopeless index.now (members_of hopeless.new)) }
+{
+    if pass % 2 == 0 {
+        visit_rising(index, hopeless)
+    } else {
+        visit_falling(index, hopeless)
+    }
+}
+
+/// Finds places that no healthy set has since a need of theirs lacks an answer that some has, pass by pass, until none comes. After the last
+/// pass some may be left out.
 pub(crate) fn find_lacking(index: &Index, hopeless: &mut SparseSet) -> Result<(), AllocError>
     requires { AreHopeless index.now (members_of hopeless.old) }
     ensures { OnOk result (AreHopeless index.now (members_of hopeless.new)) }
 {
-    for _ in 0..ROUNDS {
+    for pass in 0..PASSES {
         let known = hopeless.as_slice().len();
-        visit_rising(index, hopeless)?;
-        visit_falling(index, hopeless)?;
+        visit_all(index, pass, hopeless)?;
         if hopeless.as_slice().len() == known {
             return Ok(());
         }
