@@ -1,10 +1,12 @@
 //! How many questions a reduction asks.
 
 ghost use Rattle.std.specs.Prelude.{◌≡◌};
+ghost use Rattle.std.specs.List.Sorted.{IsStrictlyIncreasing};
 ghost use Rattle.number_sets.specs.Sets.{members_of};
 ghost use Rattle.core_extract.specs.Reduction.{left};
 
 use core_extract::{Question, first_failing, next_of};
+use number_sets::sort_once;
 use std::alloc::{AllocError, Global};
 use std::process::Abort;
 use std::test::Fail;
@@ -17,6 +19,7 @@ struct Counting<'a> {
     idle: u32,
     rest: u32,
     asked: u32,
+    ghost rising: { IsStrictlyIncreasing needed.now },
 }
 
 /// Whether a number is kept or stands from `rest` on.
@@ -73,8 +76,10 @@ impl<'a> Question for Counting<'a> {
 /// How many questions it takes where these numbers are needed, and all below `idle` are used as long as they are there; none, where the
 /// answer is another.
 pub fn asked_for(alloc: Global, needed: &[u32], idle: u32) -> Result<Option<u32>, AllocError> {
+    let mut rising = Vec::from_slice(alloc, needed)?;
+    sort_once(&mut rising);
     let mut question = Counting {
-        needed,
+        needed: &rising,
         idle,
         rest: 0,
         asked: 0,

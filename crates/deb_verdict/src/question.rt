@@ -1,13 +1,11 @@
 //! The question whether a part of the constraints admits no set with a package.
 
-ghost use Rattle.std.specs.Prelude.{◌≡◌, ℕ, ◌<◌, ◌≤◌, true, false, IfOk, IfSome, IfNone, length};
+ghost use Rattle.std.specs.Prelude.{◌≡◌, ℕ, ◌<◌, true, false, IfOk, length};
 ghost use Rattle.std.specs.Option.{ForSome};
 ghost use Rattle.std.specs.List.Sorted.{IsStrictlyIncreasing};
 ghost use Rattle.number_sets.specs.Sets.{members_of};
-ghost use Rattle.core_extract.specs.Reduction.{listed, IsNext};
 ghost use Rattle.deb_health.specs.Health.{AdmitsNone};
 ghost use Rattle.deb_verdict.specs.BaseSets.{IsBase};
-ghost use Rattle.deb_verdict.specs.Listing.{BeginsAt};
 ghost use Rattle.deb_verdict.specs.Needed.{AreNeeded};
 ghost use Rattle.deb_verdict.specs.Parts.{positions_in, IsRefutedBy};
 ghost use Rattle.deb_verdict.specs.Formulas.{Tells};
@@ -20,7 +18,7 @@ use crate::part::{Part, is_among};
 use crate::propagation::{refute_by_forcing, refute_by_last_steps};
 use crate::witness::is_seen_to_admit;
 use crate::workspace::Workspace;
-use core_extract::Question;
+use core_extract::{Question, next_of};
 use number_sets::{SparseSet, sort_once};
 use std::alloc::{AllocError, Global};
 use std::mem;
@@ -91,33 +89,6 @@ fn take_rising(found: &mut Vec<u32>, used: &mut Vec<u32>)
 {
     mem::swap(found, used);
     sort_once(used);
-}
-
-/// Where the numbers of a rising list begin that are no less than this one.
-fn first_from(numbers: &[u32], from: u32) -> usize
-    requires { IsStrictlyIncreasing numbers.now }
-    ensures { BeginsAt numbers.now from result }
-{
-    match numbers.binary_search(&from) {
-        Ok(at) => at,
-        Err(at) => at,
-    }
-}
-
-/// The least number of a rising list from `from` on, where the largest number of 32 bits doesn't count.
-fn next_in(numbers: &[u32], from: u32) -> Option<u32>
-    requires { IsStrictlyIncreasing numbers.now }
-    ensures some { IfSome result (IsNext (listed numbers.now) from) }
-    ensures none { IfNone result ((number : ℕ) → from ≤ number → listed numbers.now number ≡ false) }
-{
-    let Some(number) = numbers.get(first_from(numbers, from)) else {
-        return None;
-    };
-    if *number < u32::MAX {
-        Some(*number)
-    } else {
-        None
-    }
 }
 
 /// Whether positions of the index's list of constraints, without those that are taken out, admit no set with the package at a place.
@@ -191,6 +162,6 @@ impl<'a> Question for Blocking<'a> {
     }
 
     fn next_used(&self, from: u32) -> Option<u32> {
-        next_in(&self.used, from)
+        next_of(&self.used, from)
     }
 }

@@ -1,27 +1,23 @@
-use Rattle.std.proofs.Common.{◌∙◌, ℕ, List, subst}
-use Rattle.std.proofs.lemmas.List.{take_all}
-use Rattle.core_extract.proofs.NextOf.{IsNextOf, next_start, next_before, next_lower, next_some, next_none}
+use Rattle.std.proofs.Common.{◌<◌, ◌∙◌, length, arith, sym}
+use Rattle.std.proofs.lemmas.List.{get_or_default}
+use Rattle.std.proofs.lemmas.Bool.{ltb-true, ltb-false}
+use Rattle.core_extract.proofs.NextOf.{first_is_next, none_there, none_under}
 use Rattle.core_extract.proofs.reduction.next_of.Goals as goal
-use Rattle.core_extract.proofs.reduction.next_of.Goals.{then-number-from, else-number-from}
 
-pub loop-number-init : goal.loop-number-init
-loop-number-init c = next_start c.args.from c.args.numbers.now
+pub returns-in_default-clause-none : goal.returns-in_default-clause-none
+returns-in_default-clause-none c =
+    none_there c.args.numbers.now c.args.from c.requires c.first_from.result c.first_from.ensures
+    (ltb-false c.first_from.result (length c.args.numbers.now) (sym c.in_default.ensures.lookup.0))
 
-pub loop-number-preserved : goal.loop-number-preserved
-loop-number-preserved c =
-    elim c.if-number-from.branch [
-      | then-number-from w ↦
-          next_lower c.args.from c.args.numbers.now c.loop-number.number-index c.loop-number.next c.loop-number-test.true c.loop-number.invariant w.if-number-from.true
-          c.if-number-from.next (w.next-is ∙ w.min-next.ensures)
-      | else-number-from w ↦ rw w.next-is (next_before c.args.from c.args.numbers.now c.loop-number.number-index c.loop-number.next c.loop-number-test.true c.loop-number.invariant w.if-number-from.false)
-    ]
+pub returns-then-number-lt4294967295-clause-some : goal.returns-then-number-lt4294967295-clause-some
+returns-then-number-lt4294967295-clause-some c =
+    let inside : c.first_from.result < length c.args.numbers.now = ltb-true c.first_from.result (length c.args.numbers.now) (sym c.in-Some.ensures.lookup.0) in
+    first_is_next c.args.numbers.now c.args.from c.requires c.first_from.result c.first_from.ensures inside c.in-Some.number.now
+    (c.in-Some.ensures.lookup.1 ∙ get_or_default c.args.numbers.now c.first_from.result c.in-Some.number.now 0 inside)
+    c.if-number-lt4294967295.true
 
-pub returns-then-next-lt4294967295-clause-some : goal.returns-then-next-lt4294967295-clause-some
-returns-then-next-lt4294967295-clause-some c =
-    let Next : List ℕ → Type 0 = λ list. IsNextOf c.args.from list c.loop-number.next in
-    next_some c.args.from c.args.numbers.now c.loop-number.next (subst Next (take_all c.loop-number.number-index c.args.numbers.now c.loop-number-test.false) c.loop-number.invariant) c.if-next-lt4294967295.true
-
-pub returns-else-next-lt4294967295-clause-none : goal.returns-else-next-lt4294967295-clause-none
-returns-else-next-lt4294967295-clause-none c =
-    let Next : List ℕ → Type 0 = λ list. IsNextOf c.args.from list c.loop-number.next in
-    next_none c.args.from c.args.numbers.now c.loop-number.next (subst Next (take_all c.loop-number.number-index c.args.numbers.now c.loop-number-test.false) c.loop-number.invariant) c.if-next-lt4294967295.false
+pub returns-else-number-lt4294967295-clause-none : goal.returns-else-number-lt4294967295-clause-none
+returns-else-number-lt4294967295-clause-none c =
+    let inside : c.first_from.result < length c.args.numbers.now = ltb-true c.first_from.result (length c.args.numbers.now) (sym c.in-Some.ensures.lookup.0) in
+    none_under c.args.numbers.now c.args.from c.requires c.first_from.result c.first_from.ensures inside
+    (omega (arith, c.if-number-lt4294967295.false, c.in-Some.ensures.lookup.1, get_or_default c.args.numbers.now c.first_from.result c.in-Some.number.now 0 inside))
