@@ -122,12 +122,6 @@ module _ (part : Part) (p : ℕ) (base : BaseSet) where
       (hits_kept : IsWithin (members_of old.hit) (members_of after.hit))
       (unhit : members_of after.hit next ≡ false)
       (unnamed : (q : ℕ) → members_of (places_of part.index.now (package_at part.index.now next).name) q ≡ true → members_of old.members q ≡ false) where
-    on_old : NumberSet
-    on_old = either (members_of base.members) (members_of old.members)
-
-    on_after : NumberSet
-    on_after = either (members_of base.members) (members_of after.members)
-
     keep : (q : ℕ) → members_of old.members q ≡ true → members_of after.members q ≡ true
     keep q is_in =
         ap (λ list. members_of list q) members
