@@ -10,7 +10,7 @@ use Rattle.number_sets.specs.Sets.{NumberSet, members_of}
 use Rattle.sat_solve.specs.Clauses.{Clause, Clauses}
 use Rattle.deb_encode.specs.Adding.{Adds, AllHold}
 use Rattle.deb_encode.specs.Play.{placed, places_in_play}
-use Rattle.deb_encode.specs.Standings.{has_row, MeetsNarrow}
+use Rattle.deb_encode.specs.Standings.{is_narrow, MeetsNarrow}
 use Rattle.deb_encode.proofs.AddLemmas.{All-front, All-back, adds_both, adds_as, taken_either, taken_before, taken_last}
 use Rattle.number_sets.proofs.ListMembers.{take_whole}
 
@@ -112,7 +112,7 @@ module _ (index : IndexView) (forced candidates : List ℕ) where
   meaning_of_narrow place vars = MeetsNarrow index (placed forced candidates vars) place
 
   abbrev pub meaning_of_row : ℕ → ℕ → NumberSet → Type 0
-  meaning_of_row place j vars = has_row index place j ≡ true → Holds index (placed forced candidates vars) (Apart place j)
+  meaning_of_row place j vars = is_narrow index place j ≡ true → Holds index (placed forced candidates vars) (Apart place j)
 
   abbrev pub meaning_of_only : ℕ → NumberSet → Type 0
   meaning_of_only number vars = Holds index (placed forced candidates vars) (Only number)

@@ -14,7 +14,7 @@ use Rattle.deb_encode.specs.declared.rivals.Entry.{Entry}
 use Rattle.deb_encode.specs.Play.{places_in_play, placed, AddsPlaces}
 use Rattle.deb_encode.specs.Exclusions.{IsWide, AddsWide, entry_at, IsRun}
 use Rattle.deb_encode.specs.Alone.{IsAlone}
-use Rattle.deb_encode.specs.Standings.{has_row, AreApart, MeetsWide}
+use Rattle.deb_encode.specs.Standings.{is_narrow, AreApart, MeetsWide}
 use Rattle.deb_encode.proofs.AddLemmas.{adds_both, adds_as, taken_either, in_push, front_in, last_in}
 use Rattle.number_sets.proofs.ListMembers.{take_whole}
 use Rattle.deb_encode.proofs.Each.{AddsBelow}
@@ -28,9 +28,9 @@ entry_of place number = record { place = place; number = number }
 pub record ListsWide (index : IndexView) (place limit : ℕ) (before after : List Entry) : Type 0 where
   pub wide : All (IsWide index) before → All (IsWide index) after
   pub kept : (entry : Entry) → Contains before entry → Contains after entry
-  pub all : (j : ℕ) → j < limit → has_row index place j ≡ false → Contains after (record { place = place; number = j })
+  pub all : (j : ℕ) → j < limit → is_narrow index place j ≡ false → Contains after (record { place = place; number = j })
 
-pub lists_more : (index : IndexView) (place number : ℕ) (before between after : List Entry) → place < length index.packages → number < length (aparts_at index place) → has_row index place number ≡ false
+pub lists_more : (index : IndexView) (place number : ℕ) (before between after : List Entry) → place < length index.packages → number < length (aparts_at index place) → is_narrow index place number ≡ false
     → after ≡ between ++ record { place = place; number = number } ∷ [] → ListsWide index place number before between → ListsWide index place (number + 1) before after
 lists_more index place number before between after inside numbered wide after_is so_far =
     let entry : Entry = entry_of place number in
@@ -49,7 +49,7 @@ lists_more index place number before between after inside numbered wide after_is
     let For : List Entry → Type 0 = λ list. ListsWide index place (number + 1) before list in
     subst For (sym after_is) more
 
-pub lists_passed : (index : IndexView) (place number : ℕ) (before between : List Entry) → has_row index place number ≡ true
+pub lists_passed : (index : IndexView) (place number : ℕ) (before between : List Entry) → is_narrow index place number ≡ true
     → ListsWide index place number before between → ListsWide index place (number + 1) before between
 lists_passed index place number before between narrow so_far = record {
   wide = so_far.wide;
@@ -59,7 +59,7 @@ lists_passed index place number before between narrow so_far = record {
         | inl old ↦ so_far.all j old is_wide
         | inr last ↦
             let same : j ≡ number = omega (arith, last, less) in
-            absurd (both_ways (has_row index place j) is_wide (ap (has_row index place) same ∙ narrow))
+            absurd (both_ways (is_narrow index place j) is_wide (ap (is_narrow index place) same ∙ narrow))
       ];
 }
 
@@ -69,7 +69,7 @@ lists_whole index place number before after past lists = record {
   kept = lists.kept;
   all = λ q is_place.
       let same : place ≡ q = sym (eqb-true q place is_place) in
-      let All_of : ℕ → Type 0 = λ p. (j : ℕ) → j < length (aparts_at index p) → has_row index p j ≡ false → Contains after (entry_of p j) in
+      let All_of : ℕ → Type 0 = λ p. (j : ℕ) → j < length (aparts_at index p) → is_narrow index p j ≡ false → Contains after (entry_of p j) in
       inr (subst All_of same (λ j less is_wide. lists.all j (omega (arith, less, past)) is_wide));
 }
 
@@ -194,7 +194,7 @@ module _ (index : IndexView) (forced candidates forced_row candidates_row : List
   pub all_wide : All (IsWide index) entries
   all_wide = two.wide (one.wide (λ k d inside. absurd (omega (arith, inside, ap length empty))))
 
-  has_entry : (q : ℕ) → places_in_play (members_of forced) candidates q ≡ true → IsAlone index q ⊎ ((j : ℕ) → j < length (aparts_at index q) → has_row index q j ≡ false → Contains entries (entry_of q j))
+  has_entry : (q : ℕ) → places_in_play (members_of forced) candidates q ≡ true → IsAlone index q ⊎ ((j : ℕ) → j < length (aparts_at index q) → is_narrow index q j ≡ false → Contains entries (entry_of q j))
   has_entry q in_play =
       elim (or_cases (members_of forced q) (members_of candidates q) in_play) [
         | inl is_in ↦ elim (one.all q (ap (λ list. members_of list q) forced_are ∙ is_in)) [

@@ -7,7 +7,7 @@ use Rattle.deb_index.specs.Constraints.{Holds}
 use Rattle.number_sets.specs.Sets.{NumberSet, members_of}
 use Rattle.deb_encode.specs.declared.rivals.Entry.{Entry}
 use Rattle.deb_encode.specs.Alone.{IsAlone}
-use Rattle.deb_encode.specs.Standings.{has_row}
+use Rattle.deb_encode.specs.Standings.{is_narrow}
 
 -- a list has just the numbers of a set
 abbrev pub Lists : NumberSet → List ℕ → Type 0
@@ -41,11 +41,11 @@ AddsNames index places before after = (some : NumberSet) → AreNamesOf index so
 abbrev pub is_of_name : IndexView → ℕ → NumberSet
 is_of_name index name q = bytes_eq (name_at index name) (package_at index q).name
 
--- an entry of the index that very many packages may meet
+-- an entry of the index that is not narrow
 pub record IsWide (index : IndexView) (entry : Entry) : Type 0 where
   pub of_place : entry.place < length index.packages
   pub numbered : entry.number < length (aparts_at index entry.place)
-  pub wide : has_row index entry.place entry.number ≡ false
+  pub wide : is_narrow index entry.place entry.number ≡ false
 
 -- what an entry says
 abbrev pub EntryHolds : IndexView → NumberSet → Entry → Type 0
@@ -55,7 +55,7 @@ EntryHolds index set entry = Holds index set (Apart entry.place entry.number)
 pub record AddsWide (index : IndexView) (places : NumberSet) (before after : List Entry) : Type 0 where
   pub wide : All (IsWide index) before → All (IsWide index) after
   pub kept : (entry : Entry) → Contains before entry → Contains after entry
-  pub all : (q : ℕ) → places q ≡ true → IsAlone index q ⊎ ((j : ℕ) → j < length (aparts_at index q) → has_row index q j ≡ false → Contains after (record { place = q; number = j }))
+  pub all : (q : ℕ) → places q ≡ true → IsAlone index q ⊎ ((j : ℕ) → j < length (aparts_at index q) → is_narrow index q j ≡ false → Contains after (record { place = q; number = j }))
 
 -- the entry at an index of a list
 abbrev pub entry_at : List Entry → ℕ → Entry

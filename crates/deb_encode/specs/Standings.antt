@@ -3,7 +3,7 @@ use Rattle.std.specs.Prelude.{◌≡◌, ℕ, ◌<◌, Bool, true, false, ◌||�
 use Rattle.deb_relation.specs.Relationship.{AtomText}
 use Rattle.deb_index.specs.declared.constraint.Constraint.TheVariants.{Essential, Apart}
 use Rattle.deb_index.specs.Packages.{IndexView, package_at, places_of, essential_names, aparts_at, apart_at}
-use Rattle.deb_index.specs.Meets.{meets_at}
+use Rattle.deb_index.specs.Meets.{meets_at, satisfiers}
 use Rattle.deb_index.specs.Rows.{candidate_count, row_limit}
 use Rattle.deb_index.specs.Constraints.{Holds}
 use Rattle.sat_solve.specs.declared.clause.Lit.{Lit}
@@ -33,9 +33,14 @@ pub record Widens (test : NumberSet → Bool) (count : ℕ) (before after : List
   pub in_range : All (λ literal. literal.var < count) before → All (λ literal. literal.var < count) after
   pub says : (vars : NumberSet) → (anyway || clause_holds vars after) ≡ (clause_holds vars before || test vars)
 
--- few packages may meet an entry of the package at a place
-abbrev pub has_row : IndexView → ℕ → ℕ → Bool
-has_row index place j = nat_le (candidate_count index (apart_at index place j)) row_limit
+-- how many packages a narrow entry hits at most
+abbrev pub narrow_limit : ℕ
+narrow_limit = 64
+
+-- an entry of the package at a place has a row, and hits few packages
+abbrev pub is_narrow : IndexView → ℕ → ℕ → Bool
+is_narrow index place j =
+    nat_le (candidate_count index (apart_at index place j)) row_limit && nat_le (length (satisfiers index (apart_at index place j))) narrow_limit
 
 -- none of the owners is in the set together with another one of these places
 abbrev pub AreApart : List ℕ → List ℕ → NumberSet → Type 0
@@ -53,9 +58,9 @@ HasOneOf places = AreApart places places
 abbrev pub HasOneVersion : IndexView → NumberSet → ℕ → Type 0
 HasOneVersion index set place = HasOneOf (places_of index (package_at index place).name) set
 
--- an entry holds if few packages may meet it, so that the index has a row of them, or if it is one of the others
+-- an entry holds if it hits few packages, by a row of them, or if it is one of the others
 abbrev pub MeetsEntry : Bool → IndexView → NumberSet → ℕ → ℕ → Type 0
-MeetsEntry narrow index set place j = has_row index place j ≡ narrow → Holds index set (Apart place j)
+MeetsEntry narrow index set place j = is_narrow index place j ≡ narrow → Holds index set (Apart place j)
 
 -- all such entries of the package at a place hold
 abbrev pub MeetsEntries : Bool → IndexView → NumberSet → ℕ → Type 0

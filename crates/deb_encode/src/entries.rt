@@ -1,26 +1,32 @@
-//! What the entries of all places in play say that few packages may meet: each by itself.
+//! What the entries of all places in play say that hit few packages: each by itself.
 
 ghost use Rattle.std.specs.Prelude.{◌≡◌, ℕ, ◌<◌, not, true, All, OnOk, length};
 ghost use Rattle.deb_index.specs.Packages.{aparts_at};
 ghost use Rattle.number_sets.specs.Sets.{members_of};
 ghost use Rattle.deb_encode.specs.Encoders.{Tells, in_play};
-ghost use Rattle.deb_encode.specs.Standings.{has_row, MeetsEntry, MeetsNarrow};
+ghost use Rattle.deb_encode.specs.Standings.{is_narrow, MeetsEntry, MeetsNarrow};
 
 use crate::encoder::Encoder;
 use deb_index::Index;
 use std::alloc::AllocError;
 
-/// Whether very many packages may meet an entry.
+// How many packages an entry hits at most that gets a clause for each of them. Where it hits more, a list serves all who hit the same.
+const NARROW_LIMIT: usize = 64;
+
+/// Whether an entry hits many packages, or very many may meet it.
 pub(crate) fn is_wide(index: &Index, place: u32, number: u32) -> bool
     requires place { place < length index.now.packages }
     requires number { number < length (aparts_at index.now place) }
-    ensures { result ≡ not (has_row index.now place number) }
+    ensures { result ≡ not (is_narrow index.now place number) }
 {
-    index.hit_row(place, number).is_none()
+    match index.hit_row(place, number) {
+        Some(row) => row.len() > NARROW_LIMIT,
+        None => true,
+    }
 }
 
 impl Encoder<'_> {
-    /// Adds what an entry says, if few packages may meet it.
+    /// Adds what an entry says, if it hits few packages.
     fn add_entry(&mut self, place: u32, number: u32) -> Result<(), AllocError>
         requires place { place < length self.old.play.index.now.packages }
         requires number { number < length (aparts_at self.old.play.index.now place) }
@@ -33,7 +39,7 @@ impl Encoder<'_> {
         self.add_apart(place, number)
     }
 
-    /// Adds what the package at a place keeps out by entries that few packages may meet.
+    /// Adds what the package at a place keeps out by entries that hit few packages.
     fn add_entries(&mut self, place: u32) -> Result<(), AllocError>
         requires place { place < length self.old.play.index.now.packages }
         ensures same_formula { self.new.formula.ghost_name ≡ self.old.formula.ghost_name }
@@ -49,7 +55,7 @@ impl Encoder<'_> {
         Ok(())
     }
 
-    /// Adds what the packages at these places keep out by entries that few packages may meet.
+    /// Adds what the packages at these places keep out by entries that hit few packages.
     fn add_all_entries(&mut self, places: &[u32]) -> Result<(), AllocError>
         requires places { All (λ q. q < length self.old.play.index.now.packages) places.now }
         ensures same_formula { self.new.formula.ghost_name ≡ self.old.formula.ghost_name }
@@ -61,7 +67,7 @@ impl Encoder<'_> {
         Ok(())
     }
 
-    /// Adds what the places in play keep out by entries of Conflicts and Breaks that few packages may meet. The error is want of memory.
+    /// Adds what the places in play keep out by entries of Conflicts and Breaks that hit few packages. The error is want of memory.
     pub fn add_narrow(&mut self) -> Result<(), AllocError>
         ensures same_formula { self.new.formula.ghost_name ≡ self.old.formula.ghost_name }
         ensures adds { OnOk result (Tells (λ play set. (q : ℕ) → in_play play q ≡ true → MeetsNarrow play.index.now set q) self.old self.new) }

@@ -7,7 +7,7 @@
 //!   one thing.
 //! - `needs` adds what an essential name or a need says, `conflicts` what an entry of Conflicts or Breaks says.
 //! - `exclusion` tells that of some places one at most is in; by it `versions` adds that a name stands once.
-//! - `entries` and `rivals` add what all entries of the places in play say: those that few packages may meet, and the others.
+//! - `entries` and `rivals` add what all entries of the places in play say: those that hit few packages, and the others.
 //! - `groups` adds each constraint of a list in a group of its own.
 #![tactic(auto)]
 

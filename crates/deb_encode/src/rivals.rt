@@ -1,4 +1,4 @@
-//! Entries that very many packages may meet: each atom is told once, with all the places that keep out what meets it.
+//! Entries that hit many packages: each atom is told once, with all the places that keep out what meets it.
 
 ghost use Rattle.std.specs.Prelude.{◌≡◌, ℕ, ◌<◌, ◌≤◌, ◌&&◌, ◌==◌, true, None, All, IfOk, OnOk, length};
 ghost use Rattle.deb_relation.specs.AtomView.{atom_view};
@@ -53,7 +53,7 @@ impl Rivals {
     }
 }
 
-/// Adds the entries of a place that very many packages may meet.
+/// Adds the entries of a place that hit many packages.
 fn push_wide(index: &Index, place: u32, entries: &mut Vec<Entry>) -> Result<(), AllocError>
     requires { place < length index.now.packages }
     ensures { OnOk result (AddsWide index.now (λ q. q == place) entries.old.items entries.new.items) }
@@ -66,7 +66,7 @@ fn push_wide(index: &Index, place: u32, entries: &mut Vec<Entry>) -> Result<(), 
     Ok(())
 }
 
-/// Adds the entries of these places that very many packages may meet.
+/// Adds the entries of these places that hit many packages.
 fn gather_wide(play: &Play<'_>, places: &[u32], entries: &mut Vec<Entry>) -> Result<(), AllocError>
     requires { All (λ q. q < length play.now.index.now.packages) places.now }
     ensures { OnOk result (AddsWide play.now.index.now (members_of places.now) entries.old.items entries.new.items) }
@@ -173,7 +173,7 @@ impl Encoder<'_> {
         Ok(())
     }
 
-    /// Adds what the places in play keep out by entries of Conflicts and Breaks that very many packages may meet. The error is want of
+    /// Adds what the places in play keep out by entries of Conflicts and Breaks that hit many packages. The error is want of
     /// memory.
     ///
     /// `rivals` are buffers.

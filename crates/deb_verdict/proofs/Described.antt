@@ -15,7 +15,7 @@ use Rattle.deb_health.specs.Health.{IsHealthy}
 use Rattle.deb_encode.specs.declared.encoder.Encoder.{Encoder}
 use Rattle.deb_encode.specs.declared.play.Play.{Play}
 use Rattle.deb_encode.specs.Encoders.{IsSame, Tells}
-use Rattle.deb_encode.specs.Standings.{has_row, HasOneVersion, MeetsNarrow}
+use Rattle.deb_encode.specs.Standings.{is_narrow, HasOneVersion, MeetsNarrow}
 use Rattle.deb_verdict.proofs.Healthy.{MeetsNeeds, MeetsEntries, MeetsPlace}
 use Rattle.deb_verdict.specs.declared.gather.Candidates.{Candidates}
 use Rattle.deb_verdict.specs.Gathering.{IsGathered}
@@ -71,7 +71,7 @@ module _ (index : IndexView) (forced candidates : List ℕ) where
   Narrow vars = (q : ℕ) → places_in_play (members_of forced) candidates q ≡ true → meaning_of_narrow index forced candidates q vars
 
   abbrev Wide : NumberSet → Type 0
-  Wide vars = (q : ℕ) → places_in_play (members_of forced) candidates q ≡ true → (j : ℕ) → j < length (aparts_at index q) → has_row index q j ≡ false → Holds index (placed forced candidates vars) (Apart q j)
+  Wide vars = (q : ℕ) → places_in_play (members_of forced) candidates q ≡ true → (j : ℕ) → j < length (aparts_at index q) → is_narrow index q j ≡ false → Holds index (placed forced candidates vars) (Apart q j)
 
   abbrev Versions : NumberSet → Type 0
   Versions vars = (q : ℕ) → places_in_play (members_of forced) candidates q ≡ true → HasOneVersion index (placed forced candidates vars) q
@@ -80,7 +80,7 @@ module _ (index : IndexView) (forced candidates : List ℕ) where
   entries_say : (vars : NumberSet) → ((Narrow vars × Wide vars) ↔ Entries vars)
   entries_say vars = (
     λ all q in_play j less.
-        elim (cases_Bool (has_row index q j)) [
+        elim (cases_Bool (is_narrow index q j)) [
           | inl short ↦ all.0 q in_play j less short
           | inr long ↦ all.1 q in_play j less long
         ],
@@ -151,7 +151,7 @@ abbrev NarrowOf : Play → NumberSet → Type 0
 NarrowOf play set = (q : ℕ) → places_in_play (members_of play.forced.now) play.candidates.now q ≡ true → MeetsNarrow play.index.now set q
 
 abbrev WideOf : Play → NumberSet → Type 0
-WideOf play set = (q : ℕ) → places_in_play (members_of play.forced.now) play.candidates.now q ≡ true → (j : ℕ) → j < length (aparts_at play.index.now q) → has_row play.index.now q j ≡ false → Holds play.index.now set (Apart q j)
+WideOf play set = (q : ℕ) → places_in_play (members_of play.forced.now) play.candidates.now q ≡ true → (j : ℕ) → j < length (aparts_at play.index.now q) → is_narrow play.index.now q j ≡ false → Holds play.index.now set (Apart q j)
 
 abbrev VersionsOf : Play → NumberSet → Type 0
 VersionsOf play set = (q : ℕ) → places_in_play (members_of play.forced.now) play.candidates.now q ≡ true → HasOneVersion play.index.now set q
