@@ -1,19 +1,25 @@
 -- What an index looks up by place: how it grows by a package, and what stands at a place.
-use Rattle.std.proofs.Common.{◌≡◌, ◌<◌, ◌≤◌, ◌+◌, ℕ, List, [], ◌∷◌, ◌++◌, map, length, take, get_or, sum_by, Option, None, Result, Ok, Err, OnOk, refl, sym, ap, ◌∙◌, append_assoc, arith}
+use Rattle.std.proofs.Common.{◌≡◌, ◌<◌, ◌≤◌, ◌+◌, ℕ, List, [], ◌∷◌, ◌++◌, map, length, take, drop, get_or, sum_by, Option, None, Result, Ok, Err, IfOk, OnOk, refl, sym, ap, ◌∙◌, append_assoc, arith}
 use Rattle.std.specs.List.{flat_map}
-use Rattle.std.proofs.lemmas.List.{get_or-map, length-append, length-map, map-append, take_more}
+use Rattle.std.proofs.lemmas.List.{drop-map, get_or-map, length-append, length-map, map-append, take_more}
+use Rattle.std.proofs.lemmas.Grind.{flat_map-append}
 use Rattle.std.proofs.lemmas.List.Concat.{length-flat_map}
+use Rattle.std.proofs.lemmas.List.Sums.{sum_by-append}
 use Rattle.deb_index.specs.declared.links.Links.{Links}
 use Rattle.deb_index.specs.declared.links.Start.{Start}
 use Rattle.deb_index.specs.Packages.{IndexView, PackageView, aparts, aparts_at, apart_at, need_at, needs, needs_at, no_atom, no_package}
-use Rattle.deb_index.specs.Tables.{asked_count}
+use Rattle.deb_index.specs.Tables.{asked_count, asked_limit}
 use Rattle.deb_index.specs.Rows.{answer_row, hit_row}
-use Rattle.deb_index.specs.Links.{IsLinked, starts_from}
-use Rattle.deb_index.proofs.PartLemmas.{flat-at, flat-push, flat-within, start-at, starts-length, starts-none, starts-push, sum-less, sum-more}
+use Rattle.deb_index.specs.Links.{AreJoined, CanFollow, IsLinked, behind, starts_from}
+use Rattle.deb_index.proofs.PartLemmas.{flat-at, flat-push, flat-within, start-at, starts-joined, starts-length, starts-none, starts-push, sum-less, sum-more, sum-take}
 
 pub on-ok : {A E : Type 0} {P Q : Type 0} (r : Result A E) → (P → Q) → OnOk r P → OnOk r Q
 on-ok (Ok x) f h = f h
 on-ok (Err e) f h = tt
+
+pub if-ok : {A E : Type 0} {P Q : A → Type 0} (r : Result A E) → ((x : A) → P x → Q x) → IfOk r P → IfOk r Q
+if-ok (Ok x) f h = f x h
+if-ok (Err e) f h = tt
 
 -- one row more, of the next element
 pub rows-more : {A B : Type 0} (f : A → B) (front : List B) (xs : List A) (n : ℕ) (d : A) → n < length xs → (front ++ map f (take n xs)) ++ f (get_or xs n d) ∷ [] ≡ front ++ map f (take (n + 1) xs)
@@ -114,16 +120,96 @@ module _ (index : IndexView) where
         let few = rows-few apart_count entry_rows entries-count packages p l.entries (l.entries ++ entry_rows p) k.entries refl asked_count (λ q. omega arith) in
         omega (arith, few, length-append l.entries (entry_rows p), entries-count p)
 
+-- where a package's rows begin
+module _ (part : Start → ℕ) (count : PackageView → ℕ) where
+  module _ (packages : List PackageView) (starts : List Start) (are : map part starts ≡ starts_from count 0 packages) where
+    parts-long : length starts ≡ length packages + 1
+    parts-long = sym (length-map starts part) ∙ ap length are ∙ starts-length count packages
+
+    part-at : (i : ℕ) (d : Start) → i < length starts → part (get_or starts i d) ≡ sum_by count (take i packages)
+    part-at i d inside = sym (get_or-map part starts i d 0 inside) ∙ ap (λ ns. get_or ns i 0) are ∙ start-at count i packages (omega (arith, parts-long))
+
+  -- the same where they stand behind those of other packages
+  module _ (front back : List PackageView) (fs bs both : List Start) (a : ℕ) (to : Start → Start) (moves : (s : Start) → part (to s) ≡ a + part s) (stand : a ≡ sum_by count front)
+      (f : map part fs ≡ starts_from count 0 front) (b : map part bs ≡ starts_from count 0 back) (joined : both ≡ fs ++ map to (drop 1 bs)) where
+    moved : (ss : List Start) → map part (map to ss) ≡ map (λ m. a + m) (map part ss)
+    moved [] = refl
+    moved (s ∷ ss) = λ i. moves s i ∷ moved ss i
+
+    parts-joined : map part both ≡ starts_from count 0 (front ++ back)
+    parts-joined =
+        ap (map part) joined ∙ map-append part fs (map to (drop 1 bs))
+        ∙ (λ i. f i ++ (moved (drop 1 bs) ∙ ap (map (λ m. a + m)) (sym (drop-map part 1 bs) ∙ ap (drop 1) b)) i)
+        ∙ sym (starts-joined count a front back stand)
+
+-- the rows of some packages stand behind those of others
+module _ (index : IndexView) (front back : List PackageView) (f b : Links) (fk : IsLinked index front f) (bk : IsLinked index back b) where
+  few-groups : length f.groups + length b.groups ≤ sum_by asked_count (front ++ back)
+  few-groups = omega (
+    arith,
+    ap length fk.groups,
+    rows-length need_count (group_rows index) (groups-count index) front,
+    ap length bk.groups,
+    rows-length need_count (group_rows index) (groups-count index) back,
+    sum-less need_count asked_count (λ p. omega arith) front,
+    sum-less need_count asked_count (λ p. omega arith) back,
+    sum_by-append asked_count front back,
+  )
+
+  few-entries : length f.entries + length b.entries ≤ sum_by asked_count (front ++ back)
+  few-entries = omega (
+    arith,
+    ap length fk.entries,
+    rows-length apart_count (entry_rows index) (entries-count index) front,
+    ap length bk.entries,
+    rows-length apart_count (entry_rows index) (entries-count index) back,
+    sum-less apart_count asked_count (λ p. omega arith) front,
+    sum-less apart_count asked_count (λ p. omega arith) back,
+    sum_by-append asked_count front back,
+  )
+
+  pub can-follow : sum_by asked_count (front ++ back) ≤ asked_limit → CanFollow f b
+  can-follow few = record {
+    some = omega (arith, parts-long group_of need_count back b.starts.items bk.group_starts);
+    begun = λ i d inside. (
+      omega (
+        arith,
+        part-at group_of need_count back b.starts.items bk.group_starts i d inside,
+        sum-take need_count i back,
+        ap length bk.groups,
+        rows-length need_count (group_rows index) (groups-count index) back,
+      ),
+      omega (
+        arith,
+        part-at entry_of apart_count back b.starts.items bk.entry_starts i d inside,
+        sum-take apart_count i back,
+        ap length bk.entries,
+        rows-length apart_count (entry_rows index) (entries-count index) back,
+      ),
+    );
+    groups = omega (arith, few, few-groups);
+    entries = omega (arith, few, few-entries);
+  }
+
+  pub linked-both : (both : Links) → AreJoined f b both → IsLinked index (front ++ back) both
+  linked-both both j = record {
+    group_starts = parts-joined group_of need_count front back f.starts.items b.starts.items both.starts.items (length f.groups) (behind f) (λ s. refl)
+        (ap length fk.groups ∙ rows-length need_count (group_rows index) (groups-count index) front) fk.group_starts bk.group_starts j.starts;
+    entry_starts = parts-joined entry_of apart_count front back f.starts.items b.starts.items both.starts.items (length f.entries) (behind f) (λ s. refl)
+        (ap length fk.entries ∙ rows-length apart_count (entry_rows index) (entries-count index) front) fk.entry_starts bk.entry_starts j.starts;
+    groups = j.groups ∙ (λ i. fk.groups i ++ bk.groups i) ∙ sym (flat_map-append (group_rows index) front back);
+    entries = j.entries ∙ (λ i. fk.entries i ++ bk.entries i) ∙ sym (flat_map-append (entry_rows index) front back);
+  }
+
 module _ (index : IndexView) (l : Links) (k : IsLinked index index.packages l) where
   pub starts-long : length l.starts.items ≡ length index.packages + 1
-  starts-long = sym (length-map l.starts.items group_of) ∙ ap length k.group_starts ∙ starts-length need_count index.packages
+  starts-long = parts-long group_of need_count index.packages l.starts.items k.group_starts
 
-  -- where a package's rows begin
   begins : (part : Start → ℕ) (count : PackageView → ℕ) → map part l.starts.items ≡ starts_from count 0 index.packages
       → (i : ℕ) (s : Start) → i ≤ length index.packages → s ≡ get_or l.starts.items i s → part s ≡ sum_by count (take i index.packages)
   begins part count are i s less at =
       let inside : i < length l.starts.items = omega (arith, starts-long) in
-      ap part at ∙ sym (get_or-map part l.starts.items i s 0 inside) ∙ ap (λ ns. get_or ns i 0) are ∙ start-at count i index.packages less
+      ap part at ∙ part-at part count index.packages l.starts.items are i s inside
 
   pub group-start : (i : ℕ) (s : Start) → i ≤ length index.packages → s ≡ get_or l.starts.items i s → s.group ≡ sum_by need_count (take i index.packages)
   group-start = begins group_of need_count k.group_starts

@@ -1,8 +1,8 @@
 -- Rows by their numbers in a store.
-use Rattle.std.proofs.Common.{◌≡◌, ◌<◌, ℕ, List, [], ◌∷◌, ◌++◌, length, get_or, Option, None, All, refl, ap, ◌∙◌}
+use Rattle.std.proofs.Common.{◌≡◌, ◌<◌, ◌≤◌, ◌+◌, ℕ, List, [], ◌∷◌, ◌++◌, length, map, get_or, Option, None, All, refl, ap, ◌∙◌, arith}
 use Rattle.std.proofs.Math.Seq.{get_or-append_seam}
-use Rattle.std.proofs.lemmas.List.{get_or_append_left, map-append}
-use Rattle.std.proofs.lemmas.List.Elements.{All-head, All-tail}
+use Rattle.std.proofs.lemmas.List.{get_or-append-add, get_or_append_left, length-append, length-map, map-append}
+use Rattle.std.proofs.lemmas.List.Elements.{All-append, All-head, All-map, All-tail}
 use Rattle.deb_index.specs.Rows.{rows_by}
 
 abbrev Row : Type 0
@@ -21,3 +21,21 @@ rows-new store numbers stored row n last = map-append (λ m. get_or (store ++ ro
   where
     at : get_or (store ++ row ∷ []) n None ≡ row
     at = ap (λ m. get_or (store ++ row ∷ []) m None) last ∙ get_or-append_seam store row [] None
+
+-- a store stands behind another, and so do the numbers of its rows
+module _ (store more : List Row) (numbers others : List ℕ) (stored : All (λ n. n < length store) numbers) (before : ℕ) (e : before ≡ length store) where
+  same-behind : (ns : List ℕ) → rows_by (store ++ more) (map (λ n. before + n) ns) ≡ rows_by more ns
+  same-behind [] = refl
+  same-behind (n ∷ ns) = λ i. (ap (λ m. get_or (store ++ more) (m + n) None) e ∙ get_or-append-add store more n None) i ∷ same-behind ns i
+
+  pub rows-two : rows_by (store ++ more) (numbers ++ map (λ n. before + n) others) ≡ rows_by store numbers ++ rows_by more others
+  rows-two = map-append (λ m. get_or (store ++ more) m None) numbers (map (λ n. before + n) others) ∙ (λ i. store-longer store more numbers stored i ++ same-behind others i)
+
+  pub still-stored : All (λ n. n < length more) others → All (λ n. n < length (store ++ more)) (numbers ++ map (λ n. before + n) others)
+  still-stored inside =
+      All-append (λ n. n < length (store ++ more)) numbers (map (λ n. before + n) others)
+      (λ k d less. omega (arith, stored k d less, length-append store more))
+      (All-map (λ n. n < length (store ++ more)) (λ n. before + n) others (λ k d less. omega (arith, e, inside k d less, length-append store more)))
+
+  pub still-few : length store ≤ length numbers → length more ≤ length others → length (store ++ more) ≤ length (numbers ++ map (λ n. before + n) others)
+  still-few h k = omega (arith, h, k, length-append store more, length-append numbers (map (λ n. before + n) others), length-map others (λ n. before + n))

@@ -54,7 +54,14 @@ pub record IsBuilt (index : IndexView) (numbers : List ℕ) (names : Names) (lat
   pub named : IsNaming index.packages [] names
   pub known : IsKnown index.packages (map key_view later)
 
--- an index that is whole: all names, their numbers, the essential ones, and the rows
+-- an index that lacks its rows: all names, their numbers, and the essential ones
+pub record IsNamed (index : IndexView) (numbers : List ℕ) (names : Names) (essential : List ℕ) : Type 0 where
+  pub counts : IsCounted index
+  pub numbered : AreNumbers index.packages numbers
+  pub named : IsNaming index.packages (provided_places index.arch index.packages) names
+  pub essentials : essential ≡ essential_names index
+
+-- an index that is whole: the same, and the rows
 pub record IsWhole (index : IndexView) (numbers : List ℕ) (names : Names) (essential : List ℕ) (links : Links) : Type 0 where
   pub counts : IsCounted index
   pub numbered : AreNumbers index.packages numbers

@@ -1,12 +1,13 @@
 -- What is looked up by place: the rows of a package's groups and entries.
-use Rattle.std.specs.Prelude.{◌≡◌, ◌+◌, ℕ, List, [], ◌∷◌, map, length, sum_by, take}
-use Rattle.std.specs.List.{flat_map}
+use Rattle.std.specs.Prelude.{◌≡◌, ◌<◌, ◌≤◌, ◌+◌, ◌^◌, ℕ, List, [], ◌∷◌, ◌++◌, map, length, sum_by, take, drop}
+use Rattle.std.specs.List.{All, flat_map}
 use Rattle.deb_index.specs.declared.links.Linker.{Linker}
 use Rattle.deb_index.specs.declared.links.Links.{Links}
+use Rattle.deb_index.specs.declared.links.Start.{Start}
 use Rattle.deb_index.specs.declared.meets.Role.TheVariants.{Alternative, Entry}
 use Rattle.deb_index.specs.Packages.{PackageView, IndexView, aparts, essential_names, needs}
 use Rattle.deb_index.specs.Rows.{answer_row, hit_row}
-use Rattle.deb_index.specs.Tables.{asked_count}
+use Rattle.deb_index.specs.Tables.{asked_count, asked_limit}
 
 -- where the part of each element begins if all parts stand behind each other, and at last where they end
 unfoldable pub starts_from : {A : Type 0} → (A → ℕ) → ℕ → List A → List ℕ
@@ -34,3 +35,32 @@ pub record IsLinking (index : IndexView) (packages : List PackageView) (l : Link
   pub entry_index : l.entries.index ≡ index
   pub entry_role : l.entries.role ≡ Entry
   pub linked : IsLinked index packages (links_of l)
+
+-- ---- by ranges of places
+
+-- a place is the first of a range, and another the first behind it; the packages do not ask for too much
+pub record IsRange (index : IndexView) (from to : ℕ) : Type 0 where
+  pub order : from ≤ to
+  pub within : to ≤ length index.packages
+  pub few_asked : sum_by asked_count index.packages ≤ asked_limit
+
+-- the packages in a range
+abbrev pub packages_in : IndexView → ℕ → ℕ → List PackageView
+packages_in index from to = drop from (take to index.packages)
+
+-- where the rows of a package begin, once these rows stand before them
+abbrev pub behind : Links → Start → Start
+behind front s = record { group = length front.groups + s.group; entry = length front.entries + s.entry }
+
+-- rows, and others behind them
+pub record AreJoined (front back both : Links) : Type 0 where
+  pub starts : both.starts.items ≡ front.starts.items ++ map (behind front) (drop 1 back.starts.items)
+  pub groups : both.groups ≡ front.groups ++ back.groups
+  pub entries : both.entries ≡ front.entries ++ back.entries
+
+-- rows may stand behind others: 32 bits have room for the number of each
+pub record CanFollow (front back : Links) : Type 0 where
+  pub some : 0 < length back.starts.items
+  pub begun : All (λ s. (s.group ≤ length back.groups) × (s.entry ≤ length back.entries)) back.starts.items
+  pub groups : length front.groups + length back.groups < 2 ^ 32
+  pub entries : length front.entries + length back.entries < 2 ^ 32

@@ -11,13 +11,11 @@ ghost use Rattle.deb_index.specs.Reading.{byte_limit, collected, continued, read
 ghost use Rattle.deb_index.specs.Tables.{HasRoom, asked_count};
 
 use crate::error::IndexError;
-use crate::index::Index;
 use crate::limits::STANZA_LIMIT;
-use crate::links::Links;
-use crate::lookup::Lookup;
 use crate::names::Names;
 use crate::package::{Package, Reading, next_reading};
 use crate::parts::{Part, Parted};
+use crate::unlinked::Unlinked;
 use deb_control::Reader;
 use indexmap::IndexSet;
 use std::alloc::{AllocError, Global};
@@ -295,8 +293,8 @@ impl Builder {
         self
     }
 
-    /// The index of what was read.
-    pub(crate) fn finish(self, alloc: Global) -> Result<Index, AllocError>
+    /// The index of what was read, which lacks its rows.
+    pub(crate) fn finish(self, alloc: Global) -> Result<Unlinked, AllocError>
         ensures { IfOk result (λ index. index ≡ self) }
     {
         let essential = self.essential_names(alloc)?;
@@ -314,8 +312,7 @@ impl Builder {
         } = self;
         drop(later);
         names.add_provided(alloc, &arch, &packages)?;
-        let links = Links::of(alloc, &Lookup::new(&arch, &packages, &names))?;
-        Ok(Index {
+        Ok(Unlinked {
             arch,
             with_essential,
             stanzas,
@@ -326,7 +323,6 @@ impl Builder {
             numbers,
             names,
             essential,
-            links,
         })
     }
 

@@ -10,7 +10,7 @@
 //!   rows of one role while they are made; `links`: the row of each group and of each entry, made once.
 //! - `index`: the index of a text, or of a text and a background: its packages and their names.
 //! - `answering`: which packages meet what is asked for; `constraint`: its constraints, and where each stands.
-//! - `parts`: a text in parts, which several workers read side by side.
+//! - `parts`: a text in parts, which several workers read side by side; `unlinked`: an index that lacks its rows, which they make side by side.
 //! - `builder`: an index while it is read, stanza by stanza and part by part; `read` makes an index by it, and `pieces` one whose text comes in pieces.
 //! - `laws`: what a background adds, and that the limits are those of the definitions.
 #![tactic(auto)]
@@ -34,6 +34,7 @@ mod pieces;
 mod read;
 mod role_rows;
 mod rows;
+mod unlinked;
 
 pub use constraint::Constraint;
 pub use error::{BothError, IndexError, RelField};

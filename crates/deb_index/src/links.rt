@@ -1,5 +1,7 @@
 //! The rows of places for the groups and entries of the packages, by place.
-ghost use Rattle.std.specs.Prelude.{◌≡◌, ◌<◌, ◌≤◌, ◌+◌, [], IfOk, OnOk, length, sum_by, take};
+ghost use Rattle.std.specs.Prelude.{◌≡◌, ◌<◌, ◌≤◌, ◌++◌, ◌∷◌, List, [], IfOk, OnOk, length, sum_by};
+ghost use Rattle.deb_index.specs.Packages.{PackageView, package_at};
+ghost use Rattle.deb_index.specs.Links.{AreJoined, CanFollow, IsLinked, IsLinking, IsRange, links_of, packages_in};
 ghost use Rattle.deb_index.specs.Tables.{asked_count, asked_limit};
 
 use crate::lookup::Lookup;
@@ -25,20 +27,53 @@ pub(crate) struct Links {
 }
 
 impl Links {
-    ghost use Rattle.deb_index.specs.Links.{IsLinked};
-
-    pub(crate) fn of(alloc: Global, lookup: &Lookup) -> Result<Links, AllocError>
-        ensures { IfOk result (λ l. IsLinked lookup.now lookup.now.packages l) }
+    /// The rows of the packages in a range of places.
+    pub(crate) fn of<'t>(
+        alloc: Global,
+        lookup: &'t Lookup<'t>,
+        from: u32,
+        to: u32,
+    ) -> Result<Links, AllocError>
+        requires { IsRange lookup.now from to }
+        ensures { IfOk result (λ l. IsLinked lookup.now (packages_in lookup.now from to) l) }
     {
-        let mut linker = Linker::new(alloc, lookup)?;
-        for place in 0..lookup.len() {
+        let mut linker = Linker::new(alloc, lookup, to - from)?;
+        for place in from..to {
             linker.add(lookup, place)?;
         }
         Ok(linker.finish())
     }
+
+    /// These rows, and behind them those of more packages.
+    pub(crate) fn followed_by(self, more: &Links) -> Result<Links, AllocError>
+        requires { CanFollow self more.now }
+        ensures { IfOk result (AreJoined self more.now) }
+    {
+        let Links {
+            mut starts,
+            groups,
+            entries,
+        } = self;
+        let group = groups.len() as u32;
+        let entry = entries.len() as u32;
+        // The first one is the last that stands already: where the rows so far end.
+        for start in &more.starts[1..] {
+            starts.push(Start {
+                group: group + start.group,
+                entry: entry + start.entry,
+            })?;
+        }
+        let groups = groups.followed_by(&more.groups)?;
+        let entries = entries.followed_by(&more.entries)?;
+        Ok(Links {
+            starts,
+            groups,
+            entries,
+        })
+    }
 }
 
-// The same for the packages so far, while the rows are made.
+// The same for the packages of a range so far, while the rows are made.
 #[derive(Drop)]
 struct Linker<'t> {
     starts: Vec<Start>,
@@ -47,26 +82,26 @@ struct Linker<'t> {
 }
 
 impl<'t> Linker<'t> {
-    ghost use Rattle.deb_index.specs.Links.{IsLinking, links_of};
-
-    fn new(alloc: Global, lookup: &'t Lookup<'t>) -> Result<Linker<'t>, AllocError>
+    // No packages yet, of so many that are to come.
+    fn new(alloc: Global, lookup: &'t Lookup<'t>, packages: u32) -> Result<Linker<'t>, AllocError>
         ensures { IfOk result (λ l. IsLinking lookup.now [] l) }
     {
         let mut starts = Vec::new(alloc);
         starts.push(Start { group: 0, entry: 0 })?;
         Ok(Linker {
             starts,
-            groups: RoleRows::new(alloc, lookup, Role::Alternative)?,
-            entries: RoleRows::new(alloc, lookup, Role::Entry)?,
+            groups: RoleRows::new(alloc, lookup, Role::Alternative, packages)?,
+            entries: RoleRows::new(alloc, lookup, Role::Entry, packages)?,
         })
     }
 
-    // Adds the package at the next place.
+    // Adds the package at a place behind those so far.
     fn add(&mut self, lookup: &'t Lookup<'t>, place: u32) -> Result<(), AllocError>
         requires within { place < length lookup.now.packages }
-        requires few_asked { sum_by asked_count lookup.now.packages ≤ asked_limit }
-        requires linking { IsLinking lookup.now (take place lookup.now.packages) self.old }
-        ensures { OnOk result (IsLinking lookup.now (take (place + 1) lookup.now.packages) self.new) }
+        requires linking { (ps : List PackageView) × IsLinking lookup.now ps self.old
+            × (sum_by asked_count (ps ++ package_at lookup.now place ∷ []) ≤ asked_limit) }
+        ensures { OnOk result ((ps : List PackageView) → IsLinking lookup.now ps self.old
+            → IsLinking lookup.now (ps ++ package_at lookup.now place ∷ []) self.new) }
     {
         let asking = lookup.package(place);
         self.groups.add_groups(asking)?;

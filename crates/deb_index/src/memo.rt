@@ -7,7 +7,7 @@ ghost use Rattle.deb_index.specs.Packages.{IndexView};
 use deb_relation::{Atom, Op, SmallText, Version};
 use std::alloc::{AllocError, Global};
 
-// How many atoms are remembered: a power of two near the number of packages, within these bounds.
+// How many atoms are remembered: a power of two near the number of packages that ask, within these bounds.
 const LEAST_SLOTS: usize = 8192;
 
 const MOST_SLOTS: usize = 131_072;
@@ -102,7 +102,7 @@ fn mark_of(digest: usize) -> u16 {
     (digest >> 48) as u16
 }
 
-// How many atoms are remembered beside so many packages.
+// How many atoms are remembered where so many packages ask.
 fn slot_count(packages: u32) -> usize
     ensures { 0 < result }
 {

@@ -92,7 +92,8 @@ impl PartialIndex {
             Ok(both) => both,
             Err(error) => return Err(in_back(error)),
         };
-        let index = both.finish(alloc)?;
+        let unlinked = both.finish(alloc)?;
+        let index = unlinked.link_on(rt, alloc, workers)?;
         Ok(index)
     }
 }

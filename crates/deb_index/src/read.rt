@@ -7,6 +7,7 @@ use crate::builder::Builder;
 use crate::error::{BothError, IndexError, in_back, in_fore};
 use crate::index::Index;
 use crate::parts::{Parted, in_many, in_one};
+use crate::unlinked::Unlinked;
 use std::alloc::Global;
 use std::thread::Threads;
 
@@ -28,7 +29,8 @@ impl Index {
         let empty = Builder::new(alloc, arch.as_bytes(), essential)?;
         let parted = in_one(alloc, text)?;
         let fore = empty.add_text(alloc, parted)?;
-        let index = fore.end_foreground().finish(alloc)?;
+        let unlinked = fore.end_foreground().finish(alloc)?;
+        let index = unlinked.link(alloc)?;
         Ok(index)
     }
 
@@ -53,7 +55,9 @@ impl Index {
     {
         let fore = in_one(alloc, text)?;
         let back = in_one(alloc, background)?;
-        read_parted(alloc, fore, back, arch, essential)
+        let unlinked = read_parted(alloc, fore, back, arch, essential)?;
+        let index = unlinked.link(alloc)?;
+        Ok(index)
     }
 
     /// `read_both` by so many workers side by side, each on a part of its own of the texts; 0 workers count as 1. What is answered is the
@@ -77,18 +81,20 @@ impl Index {
     {
         let fore = in_many(rt, alloc, arch.as_bytes(), text, workers, least)?;
         let back = in_many(rt, alloc, arch.as_bytes(), background, workers, least)?;
-        read_parted(alloc, fore, back, arch, essential)
+        let unlinked = read_parted(alloc, fore, back, arch, essential)?;
+        let index = unlinked.link_on(rt, alloc, workers)?;
+        Ok(index)
     }
 }
 
-// The index of a text and a background, by their parts.
+// The index of a text and a background, by their parts; it lacks its rows.
 fn read_parted(
     alloc: Global,
     text: Parted,
     background: Parted,
     arch: &str,
     essential: bool,
-) -> Result<Index, BothError>
+) -> Result<Unlinked, BothError>
     requires fore { length text.text.now ≤ byte_limit }
     requires back { length background.text.now ≤ byte_limit }
     requires fore_parts { ArePartsOf arch.now text.text.now text.parts.items }

@@ -39,10 +39,12 @@ impl<'t> RoleRows<'t> {
     ghost use Rattle.deb_index.specs.Roles.{row_as};
     ghost use Rattle.deb_index.specs.Rows.{answer_row, hit_row};
 
+    /// No rows yet; so many packages are to ask.
     pub(crate) fn new(
         alloc: Global,
         lookup: &'t Lookup<'t>,
         role: Role,
+        packages: u32,
     ) -> Result<RoleRows<'t>, AllocError>
         ensures { IfOk result (λ r. r ≡ record { index = lookup.now; role = role; rows = [] }) }
     {
@@ -50,7 +52,7 @@ impl<'t> RoleRows<'t> {
             lookup,
             role,
             rows: Rows::new(alloc),
-            memo: Memo::new(alloc, lookup.len())?,
+            memo: Memo::new(alloc, packages)?,
             found: Vec::new(alloc),
         })
     }

@@ -1,5 +1,6 @@
 //! Rows of places, one behind the other, of which one serves all who ask for the same.
-ghost use Rattle.std.specs.Prelude.{◌≡◌, ◌<◌, ◌^◌, ◌++◌, ◌∷◌, ℕ, List, [], Option, Some, None, OnErr, OnOk, length, slice_index_or};
+ghost use Rattle.std.specs.Prelude.{◌≡◌, ◌<◌, ◌+◌, ◌^◌, ◌++◌, ◌∷◌, ℕ, List, [], Option, Some, None, IfOk, OnErr, OnOk, length, map, slice_index_or};
+ghost use Rattle.std.specs.List.{All};
 ghost use Rattle.std.specs.Option.{option_map};
 
 use std::alloc::{AllocError, Global};
@@ -63,6 +64,19 @@ impl RowStore {
         Ok(())
     }
 
+    // Puts all rows of another store down, in their order.
+    fn append(&mut self, more: &RowStore) -> Result<(), AllocError>
+        ensures { OnOk result (self.new ≡ self.old ++ more.now) }
+    {
+        for number in 0..more.len() {
+            match more.get(number) {
+                Some(row) => self.push(row)?,
+                None => self.leave_out()?,
+            }
+        }
+        Ok(())
+    }
+
     // How many rows were put down or left out.
     fn len(&self) -> usize
         ensures { result ≡ length self.now }
@@ -90,6 +104,17 @@ fn start_of(ends: &[usize], number: usize) -> usize
     ensures { result ≡ slice_index_or (0 ∷ ends.now) number 0 }
 {
     if number == 0 { 0 } else { ends[number - 1] }
+}
+
+// Adds the numbers of rows whose store stands behind so many rows of another.
+fn push_behind(numbers: &mut Vec<u32>, before: u32, more: &[u32]) -> Result<(), AllocError>
+    requires { All (λ n. before + n < 2 ^ 32) more.now }
+    ensures { OnOk result (numbers.new.items ≡ numbers.old.items ++ map (λ n. before + n) more.now) }
+{
+    for number in more {
+        numbers.push(before + *number)?;
+    }
+    Ok(())
 }
 
 /// Rows of places by number. Some are left out. A row that comes again lies there once.
@@ -157,6 +182,20 @@ impl Rows {
         let number = self.numbers[number as usize];
         self.numbers.push(number)?;
         Ok(())
+    }
+
+    /// These rows, and behind them others, in their order.
+    pub(crate) fn followed_by(self, more: &Rows) -> Result<Rows, AllocError>
+        requires { length self + length more.now < 2 ^ 32 }
+        ensures { IfOk result (λ rows. rows ≡ self ++ more.now) }
+    {
+        let Rows {
+            mut numbers,
+            mut store,
+        } = self;
+        push_behind(&mut numbers, store.len() as u32, &more.numbers)?;
+        store.append(&more.store)?;
+        Ok(Rows { numbers, store })
     }
 
     /// How many rows were put down or left out.

@@ -15,18 +15,31 @@ const WORKERS: [u32; 5] = [0, 1, 2, 3, 64];
 
 pub const SEEN: [Part; 4] = [Part::Counts, Part::Foreground, Part::Packages, Part::Names];
 
+const ROWS: [Part; 2] = [Part::AnswerRows, Part::HitRows];
+
+/// With these numbers of workers the parts are what one call without any sees.
+fn expect_same_parts(
+    rt: &(impl Abort + Threads + Sync + AllocGlobal),
+    text: &[u8],
+    background: &[u8],
+    workers: &[u32],
+    parts: &[Part],
+) -> Result<(), Fail> {
+    let wanted = shown_both(rt.alloc(), text, background, true, parts)?;
+    for count in workers {
+        let found = shown_on(rt, text, background, *count, parts)?;
+        assert_eq!(rt; found.as_str(), wanted.as_str());
+    }
+    Ok(())
+}
+
 /// However many workers there are, what is seen is what one call without any sees.
 fn expect_same(
     rt: &(impl Abort + Threads + Sync + AllocGlobal),
     text: &[u8],
     background: &[u8],
 ) -> Result<(), Fail> {
-    let wanted = shown_both(rt.alloc(), text, background, true, &SEEN)?;
-    for workers in WORKERS {
-        let found = shown_on(rt, text, background, workers, &SEEN)?;
-        assert_eq!(rt; found.as_str(), wanted.as_str());
-    }
-    Ok(())
+    expect_same_parts(rt, text, background, &WORKERS, &SEEN)
 }
 
 fn feeds(alloc: Global, count: usize) -> Result<Vec<u8>, AllocError> {
@@ -143,4 +156,35 @@ fn the_first_of_two_faults(rt: HostRuntime) -> Result<(), Fail> {
         expect_fault(&rt, &text, fault);
     }
     Ok(())
+}
+
+/// Packages of which some ask for the one as far from the other end of the text, alone and beside itself, for a name that too many
+/// provide for a row, and for one that a few do.
+fn asking_across(alloc: Global, count: u32) -> Result<String, AllocError> {
+    let mut text = String::new(alloc);
+    for number in 0..count {
+        write!(text, "Package: p{number}\nVersion: 1\nArchitecture: all\n")?;
+        if number % 13 == 0 {
+            text.push_str("Provides: many\n")?;
+        } else if number % 500 == 1 {
+            text.push_str("Provides: few\n")?;
+        }
+        if number % 200 == 0 {
+            let other = count - 1 - number;
+            write!(
+                text,
+                "Depends: p{other}, few, p{other} | few | p{number}, many, few | many\n"
+            )?;
+            write!(text, "Conflicts: p{other}, few, many, few (<< 1)\n")?;
+        }
+        text.push('\n')?;
+    }
+    Ok(text)
+}
+
+/// Each of four workers makes the rows of a thousand packages and more.
+#[test]
+fn rows_of_many_packages(rt: HostRuntime) -> Result<(), Fail> {
+    let text = asking_across(rt.alloc(), 4200)?;
+    expect_same_parts(&rt, text.as_bytes(), b"", &[1, 4], &ROWS)
 }

@@ -1,19 +1,13 @@
-use Rattle.std.proofs.Common.{◌≡◌, ◌∙◌, List, ℕ, [], ap, subst, sym, map}
+use Rattle.std.proofs.Common.{List, ℕ, [], ◌∙◌, ap, subst, sym, map}
 use Rattle.deb_index.specs.declared.package.Package.{Package}
-use Rattle.deb_index.specs.Packages.{IndexView, essential_names, package_view}
-use Rattle.deb_index.specs.Links.{IsLinked}
+use Rattle.deb_index.specs.Packages.{essential_names, package_view}
 use Rattle.deb_index.specs.Names.{IsNaming, provided_places}
-use Rattle.deb_index.specs.Built.{looked_up}
-use Rattle.deb_index.proofs.ViewLemmas.{linked-whole}
 use Rattle.deb_index.proofs.builder.Builder.finish.Goals as goal
 
 pub invariant_of-result : goal.invariant_of-result
 invariant_of-result c =
     let i = c.self.inside in
-    let l = c.in_ok-links.links in
-    let index : IndexView = record { arch = i.arch.items; packages = map package_view i.packages.items; with_essential = i.with_essential; stanzas = i.stanzas; skipped = i.skipped; duplicates = i.duplicates; foreground = i.foreground } in
     let before = subst (λ (ps : List Package). IsNaming (map package_view ps) [] i.names) (sym c.deref-2.ensures.value) c.self.invariant.named in
-    let seen : c.new.result ≡ looked_up index.arch index.packages = c.new.ensures ∙ (λ j. looked_up (c.deref-3.ensures.value j) (map package_view (c.deref-4.ensures.value j))) in
     record {
       counts = c.self.invariant.counts;
       numbered = c.self.invariant.numbered;
@@ -21,5 +15,4 @@ invariant_of-result c =
           subst (λ (w : List ℕ × List Package). IsNaming (map package_view w.1) (provided_places w.0 (map package_view w.1)) c.add_provided.new.self)
           (λ j. (c.deref.ensures.value j, c.deref-2.ensures.value j)) (c.in_ok-add_provided.ensures before);
       essentials = c.in_ok-essential.ensures ∙ ap essential_names (sym c.self.view_is);
-      linked = linked-whole index l (subst (λ (v : IndexView). IsLinked v v.packages l) seen c.in_ok-links.ensures);
     }

@@ -34,4 +34,4 @@ returns-clause-accepted c =
     let is : old ≡ collected c.args.arch.now c.args.essential [] = c.in_ok-empty.ensures ∙ ap (λ (a : List ℕ). collected a c.args.essential []) c.as_bytes.ensures.value in
     let P : List ℕ → List ℕ → Type 0 = λ a bytes. continued old (readings a old.stanzas 0 (stanzas_of bytes)) ≡ Ok new in
     let whole = text-index c.args.arch.now c.args.essential c.args.text.now old new is (subst₂ P (own-arch c.args.arch.now c.args.essential old is) c.in_ok-parted.ensures.text c.in_ok-fore.ensures.accepted) in
-    whole ∙ ap (λ (i : IndexView). Ok i) (sym c.end_foreground.ensures ∙ sym c.in_ok-index.ensures)
+    whole ∙ ap (λ (i : IndexView). Ok i) (sym c.end_foreground.ensures ∙ sym (c.in_ok-index.ensures ∙ c.in_ok-unlinked.ensures))

@@ -40,5 +40,5 @@ returns-clause-accepted g c =
     let whole = c.in-Ok.both in
     let read = subst (λ (bytes : List ℕ). continued mid (readings mid.arch mid.stanzas 0 (stanzas_of bytes)) ≡ Ok whole) c.in_ok-parted.ensures.text c.in-Ok.ensures.accepted in
     let finishes : Finishes old c.args.background.now c.in_ok-index.index = λ arch essential text is.
-    front-index arch essential text old is mid c.end_foreground-fore.ensures c.args.background.now whole read ∙ ap (λ (i : IndexView). Ok i) (sym c.in_ok-index.ensures) in
+    front-index arch essential text old is mid c.end_foreground-fore.ensures c.args.background.now whole read ∙ ap (λ (i : IndexView). Ok i) (sym (c.in_ok-index.ensures ∙ c.in_ok-unlinked.ensures)) in
     subst (λ (f : FrontView). Finishes f c.args.background.now c.in_ok-index.index) c.self.view_is finishes
