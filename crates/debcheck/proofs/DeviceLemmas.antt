@@ -1,6 +1,8 @@
 -- Lemmas on bytes that are known.
 use Rattle.std.proofs.Common.{◌≡◌, ℕ, ◌+◌, ◌<◌, ◌≤◌, List, [], ◌++◌, length, refl, ap, sym, ◌∙◌, append_assoc, append-nil, arith, length-append, IfSome, take, drop, subst, ◌-◌}
-use Rattle.std.proofs.lemmas.List.{take_all, take-append-drop, length-drop, length-take-le}
+use borrow.Rule.Slice.PartMut.{put_mid}
+use Rattle.std.proofs.Math.Seq.{take-append-add, take-take}
+use Rattle.std.proofs.lemmas.List.{take_all, take-append-drop, take-append-le, length-drop, length-take-le}
 use Rattle.std.specs.Prelude.{Option, Some, None}
 use Rattle.std.specs.Io.KnownBytes.{Consumes, Appends, Keeps}
 use Rattle.debcheck.specs.Devices.{AppendsPart}
@@ -67,3 +69,24 @@ in_parts n xs =
     let fits : length (drop n xs) ≤ length xs - n = rw length-drop (omega arith) in
     let rest : take (length xs - n) (drop n xs) ≡ drop n xs = take_all (length xs - n) (drop n xs) fits in
     sym (ap (λ end. take n xs ++ end) rest ∙ take-append-drop n xs)
+
+-- a room with so many bytes more behind those of its front
+filled_more : (room part : List ℕ) (filled size n : ℕ) → filled ≤ length room → n ≤ length part → take (filled + n) (put_mid filled size room part) ≡ take filled room ++ take n part
+filled_more room part filled size n fits held =
+    let whole = put_mid filled size room part in
+    ap (λ count. take (count + n) whole) (sym (length-take-le filled room fits))
+    ∙ take-append-add (take filled room) _ n
+    ∙ ap (λ bytes. take filled room ++ bytes) (take-append-le n part _ held)
+
+-- the same, where the room was made wider before
+pub held_more : (narrow room part held : List ℕ) (filled size n : ℕ) → take (length narrow) room ≡ narrow → take filled narrow ≡ held → filled ≤ length narrow → filled ≤ length room → n ≤ length part
+    → take (filled + n) (put_mid filled size room part) ≡ held ++ take n part
+held_more narrow room part held filled size n kept is within fits more =
+    let front : take filled room ≡ held = sym (take-take filled (length narrow) room within) ∙ ap (take filled) kept ∙ is in
+    filled_more room part filled size n fits more ∙ ap (λ bytes. bytes ++ take n part) front
+
+pub consumes_filled : (a b c : Option (List ℕ)) (room part : List ℕ) (filled size n : ℕ) → Consumes a b (take filled room) → Consumes b c (take n part) → filled ≤ length room → n ≤ length part
+    → Consumes a c (take (filled + n) (put_mid filled size room part))
+consumes_filled a b c room part filled size n h k fits held =
+    let P : List ℕ → Type 0 = λ bytes. Consumes a c bytes in
+    subst P (sym (filled_more room part filled size n fits held)) (consumes_more a b c (take filled room) (take n part) h k)

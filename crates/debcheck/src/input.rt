@@ -1,6 +1,6 @@
-//! Reading to the end, or so many bytes.
+//! Reading to the end, or into a room.
 
-ghost use Rattle.std.specs.Prelude.{◌≡◌, ◌<◌, ◌≤◌, ◌+◌, ◌++◌, ◌^◌, ℕ, List, OnOk, IfOk, IfErr, IfSome, false, true, length};
+ghost use Rattle.std.specs.Prelude.{◌≡◌, ◌<◌, ◌≤◌, ◌+◌, ◌^◌, ℕ, List, OnOk, IfOk, IfErr, IfSome, length, take};
 ghost use Rattle.std.specs.Io.KnownBytes.{Consumes, IsAtEnd};
 ghost use Rattle.debcheck.specs.Run.{FailsAtRead, FailsToRead, ReadsOneOver};
 
@@ -8,47 +8,33 @@ use crate::device::Source;
 use crate::fault::RunFault;
 use std::alloc::Global;
 
-/// How many bytes are asked for at once.
-pub(crate) const STEP: usize = 262_144;
+// How many bytes a buffer has that is read through.
+const STEP: usize = 262_144;
 
-/// Reads so many bytes more behind those that are held, or all that are left where they are fewer; whether there were so many.
+/// Fills a room, or the front of it where fewer bytes are left; how many there were. Each read asks for all of the room that is left.
 ///
-/// `Read` where a read failed, and no other fault then; or `Memory`. The buffer tells how many are asked for at once.
-pub(crate) fn read_more<S: Source>(
-    reader: &mut S,
-    count: usize,
-    buffer: &mut [u8],
-    held: &mut Vec<u8>,
-) -> Result<bool, RunFault>
-    requires count { length held.old.items + count < 2 ^ 64 }
-    requires buffer { 0 < length buffer.old }
-    ensures bytes { OnOk result ((bytes : List ℕ) × Consumes (S.remaining reader.old) (S.remaining reader.new) bytes × (held.new.items ≡ held.old.items ++ bytes)) }
-    ensures full { IfOk result (λ full. full ≡ true → length held.new.items ≡ length held.old.items + count) }
-    ensures end { IfOk result (λ full. full ≡ false → (length held.new.items < length held.old.items + count) × IsAtEnd (S.remaining reader.new)) }
+/// `Read` where a read failed, and no other fault.
+pub(crate) fn fill<S: Source>(reader: &mut S, room: &mut [u8]) -> Result<usize, RunFault>
+    ensures size { length room.new ≡ length room.old }
+    ensures within { IfOk result (λ count. count ≤ length room.old) }
+    ensures bytes { IfOk result (λ count. Consumes (S.remaining reader.old) (S.remaining reader.new) (take count room.new)) }
+    ensures end { IfOk result (λ count. count < length room.old → IsAtEnd (S.remaining reader.new)) }
     ensures mark { OnOk result (S.failed reader.new ≡ S.failed reader.old) }
     ensures refused { IfErr result (FailsAtRead (S.failed reader.old) (S.failed reader.new)) }
 {
-    let wanted = held.len() + count;
-    'reads: while held.len() < wanted {
-        let room = (wanted - held.len()).min(buffer.len());
-        let part = &mut buffer[..room];
-        match reader.read_some(part) {
+    let mut filled = 0;
+    'reads: while filled < room.len() {
+        match reader.read_some(&mut room[filled..]) {
             Err(_) => return Err(RunFault::Read),
-            Ok(0) => return Ok(false),
-            Ok(count) => held.extend_from_slice(&part[..count])?,
+            Ok(0) => return Ok(filled),
+            Ok(count) => filled += count,
         }
     }
-    Ok(true)
+    Ok(filled)
 }
 
-/// Reads to the end and keeps nothing.
-///
-/// `Read` where a read failed, and no other fault then; `TooLong` as soon as one byte more than the limit was read.
-pub(crate) fn skip_rest<S: Source>(
-    reader: &mut S,
-    limit: usize,
-    buffer: &mut [u8],
-) -> Result<(), RunFault>
+// Reads to the end through a buffer, and keeps nothing.
+fn skip_through<S: Source>(reader: &mut S, limit: usize, buffer: &mut [u8]) -> Result<(), RunFault>
     requires limit { limit + 1 < 2 ^ 64 }
     requires buffer { 0 < length buffer.old }
     ensures bytes { OnOk result ((bytes : List ℕ) × Consumes (S.remaining reader.old) (S.remaining reader.new) bytes × (length bytes ≤ limit)) }
@@ -66,6 +52,24 @@ pub(crate) fn skip_rest<S: Source>(
         }
     }
     Err(RunFault::TooLong)
+}
+
+/// Reads to the end and keeps nothing.
+///
+/// `Read` where a read failed, and no other fault then; `TooLong` as soon as one byte more than the limit was read; `Memory`.
+pub(crate) fn skip_rest<S: Source>(
+    alloc: Global,
+    reader: &mut S,
+    limit: usize,
+) -> Result<(), RunFault>
+    requires limit { limit + 1 < 2 ^ 64 }
+    ensures bytes { OnOk result ((bytes : List ℕ) × Consumes (S.remaining reader.old) (S.remaining reader.new) bytes × (length bytes ≤ limit)) }
+    ensures end { OnOk result (IsAtEnd (S.remaining reader.new)) }
+    ensures mark { OnOk result (S.failed reader.new ≡ S.failed reader.old) }
+    ensures refused { IfErr result (FailsToRead (S.remaining reader.old) (S.failed reader.old) (S.failed reader.new) limit) }
+{
+    let mut buffer = vec![in alloc; 0; STEP]?;
+    skip_through(reader, limit, buffer.as_mut_slice())
 }
 
 // Reads to the end through a buffer, which stays.

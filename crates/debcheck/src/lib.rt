@@ -5,10 +5,10 @@
 //! - `line`: what the words of a command line ask for, by the `options` that `clap` reads and the `values` that they take; `other_words`: what
 //!   other programs call them.
 //! - `device`: what a run reads from and writes to; `std_device`: such devices over std's; `recording`: a source that keeps its beginning. `input` reads to
-//!   the end, `output` writes whole texts.
-//! - `pieces`: an index whose text is read piece by piece; `phases`: a run, from bytes to bytes; `since`: one that tells what became of an earlier index;
-//!   `asked`: the places that are asked in it; `strict`: what a strict run takes for a fault of that; `verdicts`: what is found of them for the report,
-//!   with all cores by `later`.
+//!   the end or into a room, `output` writes whole texts.
+//! - `pieces`: an index whose text is read piece by piece, by way of what is `held` of it; `phases`: a run, from bytes to bytes; `since`: one that tells
+//!   what became of an earlier index; `asked`: the places that are asked in it; `strict`: what a strict run takes for a fault of that; `verdicts`: what
+//!   is found of them for the report, with all cores by `later`.
 //! - `fault`: why a run fails, and the line and the status of that.
 //! - `program`: a program, from its words to its exit status, on the `words` of a process, the files that an `opener` opens, one of which
 //!   may have the `names` that are asked, and with its `progress` and `hints` on a screen; `clues`: what is seen for
@@ -20,6 +20,7 @@ mod asked;
 mod clues;
 mod device;
 mod fault;
+mod held;
 mod hints;
 mod input;
 mod later;

@@ -9,7 +9,8 @@ ghost use Rattle.debcheck.specs.Run.{FailsToRead, is_unread};
 
 use crate::device::Source;
 use crate::fault::RunFault;
-use crate::input::{STEP, read_more, skip_rest};
+use crate::held::Held;
+use crate::input::skip_rest;
 use deb_control::cut_behind_blank;
 use deb_index::{BothError, Index, IndexError, PART_SIZE, PartialIndex, TEXT_LIMIT};
 use deb_report::Config;
@@ -68,74 +69,6 @@ fn take_last<R: Threads + Sync>(
     }
 }
 
-// Drops so many of the first bytes that are held. Their memory is kept for the next ones, since what is given back and asked for again costs time.
-fn drop_taken(held: &mut Vec<u8>, taken: usize) -> Result<(), AllocError>
-    requires { taken ≤ length held.old.items }
-    ensures { OnOk result (held.new.items ≡ drop taken held.old.items) }
-{
-    if taken > 0 {
-        let left = held.split_off(taken)?;
-        held.clear();
-        held.extend_from_slice(left.as_slice())?;
-    }
-    Ok(())
-}
-
-// Reads to the end through a buffer, which stays.
-//
-// Where a piece has no empty line in its last quarter, as much again is read before the next try, so that a text without such lines is looked
-// through a few times only. The fault of a stanza is told once the text was read to its end: a failed read goes before it, and so does that
-// the text is too long.
-fn read_to_end<S: Source, R: Threads + Sync>(
-    rt: &R,
-    alloc: Global,
-    config: &Config,
-    reader: &mut S,
-    piece: usize,
-    buffer: &mut [u8],
-) -> Result<TextRead, RunFault>
-    requires piece { 0 < piece }
-    requires buffer { 0 < length buffer.old }
-    ensures end { OnOk result (IsAtEnd (S.remaining reader.new)) }
-    ensures mark { OnOk result (S.failed reader.new ≡ S.failed reader.old) }
-    ensures held { IfOk result (λ read. length read.last.items ≤ byte_limit) }
-    ensures text { IfOk result (λ read. ReadsText (settings_of config.now)
-        (S.remaining reader.old) (S.remaining reader.new) (S.failed reader.old) (S.failed reader.new) read.outcome) }
-    ensures refused { IfErr result (FailsToRead (S.remaining reader.old) (S.failed reader.old) (S.failed reader.new) byte_limit) }
-{
-    let mut front = PartialIndex::new(alloc, config.arch.as_str(), config.essential)?;
-    let mut held = Vec::new(alloc);
-    let mut read = 0;
-    'pieces: loop {
-        let count = piece.max(held.len()).min(TEXT_LIMIT + 1 - read);
-        if !read_more(reader, count, buffer, &mut held)? {
-            let outcome = take_last(rt, alloc, config, front, held.as_slice())?;
-            return Ok(TextRead {
-                outcome,
-                last: held,
-            });
-        }
-        read += count;
-        if read > TEXT_LIMIT {
-            return Err(RunFault::TooLong);
-        }
-        match take_piece(rt, alloc, config, front, held.as_slice()) {
-            Ok((next, taken)) => {
-                front = next;
-                drop_taken(&mut held, taken)?;
-            }
-            Err(IndexError::Memory) => return Err(RunFault::Memory),
-            Err(fault) => {
-                skip_rest(reader, TEXT_LIMIT - read, buffer)?;
-                return Ok(TextRead {
-                    outcome: Err(fault),
-                    last: held,
-                });
-            }
-        }
-    }
-}
-
 /// Reads all that is left in a reader, a piece of at least so many bytes at a time, each of which is taken into the index by the workers side by side
 /// and given back.
 ///
@@ -155,8 +88,40 @@ pub(crate) fn read_text<S: Source, R: Threads + Sync>(
         (S.remaining reader.old) (S.remaining reader.new) (S.failed reader.old) (S.failed reader.new) read.outcome) }
     ensures refused { IfErr result (FailsToRead (S.remaining reader.old) (S.failed reader.old) (S.failed reader.new) byte_limit) }
 {
-    let mut buffer = vec![in alloc; 0; STEP]?;
-    read_to_end(rt, alloc, config, reader, piece, buffer.as_mut_slice())
+    let mut front = PartialIndex::new(alloc, config.arch.as_str(), config.essential)?;
+    let mut held = Held::new(alloc);
+    let mut read = 0;
+    'pieces: loop {
+        // Where no empty line was found, as much again is read before the next try, so that a text without such lines is looked through a few
+        // times only.
+        let count = piece.max(held.len()).min(TEXT_LIMIT + 1 - read);
+        if !held.read_more(reader, count)? {
+            let outcome = take_last(rt, alloc, config, front, held.as_slice())?;
+            return Ok(TextRead {
+                outcome,
+                last: held.into_bytes(),
+            });
+        }
+        read += count;
+        if read > TEXT_LIMIT {
+            return Err(RunFault::TooLong);
+        }
+        match take_piece(rt, alloc, config, front, held.as_slice()) {
+            Ok((next, taken)) => {
+                front = next;
+                held.drop_front(taken);
+            }
+            Err(IndexError::Memory) => return Err(RunFault::Memory),
+            Err(fault) => {
+                // A failed read goes before the fault of a stanza, and so does that the text is too long.
+                skip_rest(alloc, reader, TEXT_LIMIT - read)?;
+                return Ok(TextRead {
+                    outcome: Err(fault),
+                    last: held.into_bytes(),
+                });
+            }
+        }
+    }
 }
 
 /// The index of a text that was read to its end, and of what stands behind it.

@@ -1,6 +1,6 @@
 use Rattle.std.proofs.Common.{◌≡◌, ◌+◌, List, length, ℕ}
 use Rattle.std.specs.Io.KnownBytes.{Consumes}
-use Rattle.debcheck.proofs.input.skip_rest.Given as goal
+use Rattle.debcheck.proofs.input.skip_through.Given as goal
 
 abbrev pub invariant-reads : goal.invariant-reads
 invariant-reads g l = ((bytes : List ℕ) × Consumes (g.S.Source.remaining l.initial.reader) (g.S.Source.remaining l.reader) bytes × (length bytes + l.room ≡ l.limit + 1))
