@@ -1,4 +1,4 @@
-//! The program on an index and an earlier one, with a background behind each, since which no package is newly broken: a document in JSON.
+//! The program on an index, an earlier one and a background, since which some packages are newly broken: a document in JSON with its reasons and causes.
 #![tactic(auto)]
 
 use std::process::ExitCode;
