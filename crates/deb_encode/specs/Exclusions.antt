@@ -31,7 +31,8 @@ pub record AreNumbersOf (candidates places list : List ℕ) : Type 0 where
 pub record AreNamesOf (index : IndexView) (places : NumberSet) (numbers : List ℕ) : Type 0 where
   pub below : All (λ number. number < length (names index)) numbers
   pub among : (number : ℕ) → members_of numbers number ≡ true → (q : ℕ) × (places q ≡ true) × (name_at index number ≡ (package_at index q).name)
-  pub all : (q : ℕ) → places q ≡ true → IsAlone index q ⊎ ((number : ℕ) × (members_of numbers number ≡ true) × (name_at index number ≡ (package_at index q).name))
+  pub all : (q : ℕ) → places q ≡ true → IsAlone index q
+      ⊎ ((number : ℕ) × (members_of numbers number ≡ true) × (name_at index number ≡ (package_at index q).name))
 
 -- the names of these places came to the numbers, but those whose only package stands alone
 abbrev pub AddsNames : IndexView → List ℕ → List ℕ → List ℕ → Type 0
@@ -55,7 +56,8 @@ EntryHolds index set entry = Holds index set (Apart entry.place entry.number)
 pub record AddsWide (index : IndexView) (places : NumberSet) (before after : List Entry) : Type 0 where
   pub wide : All (IsWide index) before → All (IsWide index) after
   pub kept : (entry : Entry) → Contains before entry → Contains after entry
-  pub all : (q : ℕ) → places q ≡ true → IsAlone index q ⊎ ((j : ℕ) → j < length (aparts_at index q) → is_narrow index q j ≡ false → Contains after (record { place = q; number = j }))
+  pub all : (q : ℕ) → places q ≡ true → IsAlone index q
+      ⊎ ((j : ℕ) → j < length (aparts_at index q) → is_narrow index q j ≡ false → Contains after (record { place = q; number = j }))
 
 -- the entry at an index of a list
 abbrev pub entry_at : List Entry → ℕ → Entry
@@ -63,6 +65,7 @@ entry_at entries k = slice_index_or entries k (record { place = 0; number = 0 })
 
 -- entries of one atom that stand together in a list, and the places whose they are
 pub record IsRun (index : IndexView) (entries : List Entry) (start end : ℕ) (owners : List ℕ) : Type 0 where
-  pub one_atom : (k : ℕ) → start ≤ k → k < end → apart_at index (entry_at entries k).place (entry_at entries k).number ≡ apart_at index (entry_at entries start).place (entry_at entries start).number
+  pub one_atom : (k : ℕ) → start ≤ k → k < end
+      → apart_at index (entry_at entries k).place (entry_at entries k).number ≡ apart_at index (entry_at entries start).place (entry_at entries start).number
   pub owned : (k : ℕ) → start ≤ k → k < end → members_of owners (entry_at entries k).place ≡ true
   pub only : (q : ℕ) → members_of owners q ≡ true → (k : ℕ) × (start ≤ k) × (k < end) × ((entry_at entries k).place ≡ q)

@@ -18,7 +18,8 @@ pub fn causes_have_reasons()
 /// those of all but the last one none does. Each has to be mended: as long as one cause is whole none does, whatever else is taken out that is no
 /// need that some package of the index meets.
 pub fn all_causes()
-    ensures mended { (index : IndexView) (p : ℕ) (cores : List (List ℕ)) → AreCoresWithout index p nothing cores → Admits index p (without (causes_at index cores) all_of) }
+    ensures mended { (index : IndexView) (p : ℕ) (cores : List (List ℕ)) → AreCoresWithout index p nothing cores
+        → Admits index p (without (causes_at index cores) all_of) }
     ensures unmended { (index : IndexView) (p : ℕ) (cores : List (List ℕ)) (last : List ℕ) → AreCoresWithout index p nothing (cores ++ last ∷ [])
         → AdmitsNone index p (without (causes_at index cores) all_of) }
     ensures each { (index : IndexView) (p : ℕ) (cores : List (List ℕ)) (i : ℕ) (out : NumberSet) → AreCoresWithout index p nothing cores → i < length cores
@@ -30,6 +31,7 @@ pub fn all_causes()
 /// A package has one list of cores, which begins with its first core, and is empty where some healthy set has the package.
 pub fn one_list_of_cores()
     ensures one { (index : IndexView) (p : ℕ) (a b : List (List Constraint)) → AreCores index p a → AreCores index p b → a ≡ b }
-    ensures first { (index : IndexView) (p : ℕ) (core : List Constraint) (later : List (List Constraint)) → AreCores index p (core ∷ later) → IsFirstCore index p core }
+    ensures first { (index : IndexView) (p : ℕ) (core : List Constraint) (later : List (List Constraint)) → AreCores index p (core ∷ later)
+        → IsFirstCore index p core }
     ensures none { (index : IndexView) (p : ℕ) (cores : List (List Constraint)) → IsInstallable index p → AreCores index p cores → cores ≡ [] }
 {}

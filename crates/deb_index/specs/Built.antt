@@ -16,7 +16,8 @@ use Rattle.deb_index.specs.Tables.{IsSmall, asked_count, asked_limit}
 -- what contracts see of what is kept
 abbrev pub index_of_parts : List ℕ → List Package → Bool → ℕ → ℕ → ℕ → ℕ → IndexView
 index_of_parts arch packages with_essential stanzas skipped duplicates foreground =
-    record { arch = arch; packages = map package_view packages; with_essential = with_essential; stanzas = stanzas; skipped = skipped; duplicates = duplicates; foreground = foreground }
+    record { arch = arch; packages = map package_view packages; with_essential = with_essential; stanzas = stanzas; skipped = skipped; duplicates = duplicates;
+        foreground = foreground }
 
 -- what tells packages apart: the name and the text of the version
 abbrev pub package_key : PackageView → List ℕ × List ℕ
@@ -30,7 +31,8 @@ same_key k l = bytes_eq k.0 l.0 && bytes_eq k.1 l.1
 
 -- a package is known by the version of the first package of its name, or by the key of a later one
 abbrev pub is_known : List PackageView → List (List ℕ × List ℕ) → PackageView → Bool
-is_known packages later p = option_map_or (λ q. bytes_eq q.version p.version) (find (is_named p.name) packages) false || list_any (same_key (package_key p)) later
+is_known packages later p = option_map_or (λ q. bytes_eq q.version p.version) (find (is_named p.name) packages) false
+    || list_any (same_key (package_key p)) later
 
 abbrev pub IsKnown : List PackageView → List (List ℕ × List ℕ) → Type 0
 IsKnown packages later = (p : PackageView) → list_any (λ q. same_package q p) packages ≡ is_known packages later p

@@ -1,5 +1,6 @@
 -- What the stanzas of a text, or of a text and a background behind it, read as: the index that they make, or the first fault.
-use Rattle.std.specs.Prelude.{◌≡◌, ◌≢◌, ℕ, ◌+◌, ◌-◌, Bool, true, false, ◌&&◌, ◌||◌, nat_lt, List, [], ◌∷◌, ◌++◌, length, filter_map, Option, Some, None, Result, Ok, Err, if◌then◌else◌, codes, unwrap_or}
+use Rattle.std.specs.Prelude.{◌≡◌, ◌≢◌, ℕ, ◌+◌, ◌-◌, Bool, true, false, ◌&&◌, ◌||◌, nat_lt, List, []}
+use Rattle.std.specs.Prelude.{◌∷◌, ◌++◌, length, filter_map, Option, Some, None, Result, Ok, Err, if◌then◌else◌, codes, unwrap_or}
 use Rattle.std.specs.List.{list_all, list_any, fold}
 use Rattle.std.specs.Option.{option_map_or, is_none}
 use Rattle.std.specs.Str.{bytes_eq}
@@ -14,7 +15,8 @@ use Rattle.deb_relation.specs.declared.bound.Op.TheVariants.{Lt, Le, Eq, Ge, Gt}
 use Rattle.deb_relation.specs.Relationship.{AtomText, atoms_of, groups_of, is_name}
 use Rattle.deb_relation.specs.VersionText.{fault_of}
 use Rattle.deb_index.specs.declared.error.IndexError.{IndexError}
-use Rattle.deb_index.specs.declared.error.IndexError.TheVariants.{BadLine, RepeatedField, MissingField, BadName, BadVersion, BadRelation, TooManyStanzas, Memory}
+use Rattle.deb_index.specs.declared.error.IndexError.TheVariants.{BadLine, RepeatedField, MissingField, BadName}
+use Rattle.deb_index.specs.declared.error.IndexError.TheVariants.{BadVersion, BadRelation, TooManyStanzas, Memory}
 use Rattle.deb_index.specs.declared.error.BothError.{BothError}
 use Rattle.deb_index.specs.declared.error.BothError.TheVariants.{Fore, Back}
 use Rattle.deb_index.specs.declared.error.RelField.{RelField}
@@ -141,7 +143,8 @@ package_of n fields head = do
   conflicts ← atoms_in n fields Conflicts
   breaks ← atoms_in n fields Breaks
   provides ← provides_in n fields
-  Ok (record { name = head.name; version = head.version; architecture = head.architecture; essential = is_marked fields; multi_arch_allowed = is_allowed fields; pre_depends = pre_depends; depends = depends; conflicts = conflicts; breaks = breaks; provides = provides })
+  Ok (record { name = head.name; version = head.version; architecture = head.architecture; essential = is_marked fields; multi_arch_allowed = is_allowed fields;
+      pre_depends = pre_depends; depends = depends; conflicts = conflicts; breaks = breaks; provides = provides })
 
 -- whether a stanza counts for an architecture
 abbrev pub is_for : List ℕ → List ℕ → Bool
@@ -199,7 +202,8 @@ kept read = filter_map (λ (r : Option PackageView). r) read
 unfoldable pub collected : List ℕ → Bool → List (Option PackageView) → IndexView
 collected arch with_essential read =
     let packages = first_of_each same_package (kept read) in
-    record { arch = arch; packages = packages; with_essential = with_essential; stanzas = length read; skipped = length read - length (kept read); duplicates = length (kept read) - length packages; foreground = 0 }
+    record { arch = arch; packages = packages; with_essential = with_essential; stanzas = length read; skipped = length read - length (kept read);
+        duplicates = length (kept read) - length packages; foreground = 0 }
 
 -- all packages are the foreground's
 abbrev pub with_foreground : IndexView → IndexView

@@ -23,7 +23,8 @@ usable_as Entry arch q atom = is_usable arch atom.qualifier
 
 -- by the entry of its Provides with a number, where that provides the name
 abbrev pub provides_as : Role → List ℕ → PackageView → ℕ → AtomText → Bool
-provides_as role arch q number atom = option_map_or (λ entry. usable_as role arch q atom && meets_bound (provided_version entry) atom.bound) (slice_get q.provides number) false
+provides_as role arch q number atom = option_map_or (λ entry. usable_as role arch q atom && meets_bound (provided_version entry) atom.bound)
+    (slice_get q.provides number) false
 
 abbrev pub provides_as_at : Role → IndexView → ℕ × ℕ → AtomText → Bool
 provides_as_at role index e atom = option_map_or (λ q. provides_as role index.arch q e.1 atom) (slice_get index.packages e.0) false

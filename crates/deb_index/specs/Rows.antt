@@ -1,5 +1,6 @@
 -- Rows of places: those that meet a group or an entry, where few packages come into question.
-use Rattle.std.specs.Prelude.{◌≡◌, ◌≤◌, ◌+◌, ◌-◌, ℕ, Bool, nat_le, List, [], ◌∷◌, length, map, slice_index_or, sum_by, take, drop, Option, Some, None, if◌then◌else◌}
+use Rattle.std.specs.Prelude.{◌≡◌, ◌≤◌, ◌+◌, ◌-◌, ℕ, Bool, nat_le, List, [], ◌∷◌}
+use Rattle.std.specs.Prelude.{length, map, slice_index_or, sum_by, take, drop, Option, Some, None, if◌then◌else◌}
 use Rattle.deb_relation.specs.Relationship.{AtomText}
 use Rattle.deb_index.specs.Packages.{IndexView, places_of}
 use Rattle.deb_index.specs.Meets.{group_satisfiers, provided_at, satisfiers}

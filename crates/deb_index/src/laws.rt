@@ -12,11 +12,14 @@ pub fn background()
     ensures empty { (text arch : List ℕ) (with_essential : Bool) → index_of_both text [] arch with_essential ≡ in_fore (index_of text arch with_essential) }
 
     // The text's packages are the foreground, at the places that they have in its own index.
-    ensures count { (text background arch : List ℕ) (with_essential : Bool) (fore both : IndexView) → index_of text arch with_essential ≡ Ok fore → index_of_both text background arch with_essential ≡ Ok both → both.foreground ≡ length fore.packages }
-    ensures front { (text background arch : List ℕ) (with_essential : Bool) (fore both : IndexView) → index_of text arch with_essential ≡ Ok fore → index_of_both text background arch with_essential ≡ Ok both → take both.foreground both.packages ≡ fore.packages }
+    ensures count { (text background arch : List ℕ) (with_essential : Bool) (fore both : IndexView) → index_of text arch with_essential ≡ Ok fore
+        → index_of_both text background arch with_essential ≡ Ok both → both.foreground ≡ length fore.packages }
+    ensures front { (text background arch : List ℕ) (with_essential : Bool) (fore both : IndexView) → index_of text arch with_essential ≡ Ok fore
+        → index_of_both text background arch with_essential ≡ Ok both → take both.foreground both.packages ≡ fore.packages }
 
     // No two packages, of whichever text, have one name and version text.
-    ensures distinct { (text background arch : List ℕ) (with_essential : Bool) (both : IndexView) → index_of_both text background arch with_essential ≡ Ok both → AllPairs (λ p q. same_package p q ≡ false) both.packages }
+    ensures distinct { (text background arch : List ℕ) (with_essential : Bool) (both : IndexView) → index_of_both text background arch with_essential ≡ Ok both
+        → AllPairs (λ p q. same_package p q ≡ false) both.packages }
 {}
 
 /// The limits are those of the definitions.

@@ -10,11 +10,15 @@ ghost use Rattle.deb_health.specs.Verdicts.{IsFirstInstallation, IsFirstCore};
 
 /// What lies outside of the closure of a package plays no part in its verdict.
 pub fn closure()
-    ensures cut { (index : IndexView) (p : ℕ) (members set positions : NumberSet) → IsClosure index p members → MeetsAt index set positions → MeetsAt index (cut set members) positions }
+    ensures cut { (index : IndexView) (p : ℕ) (members set positions : NumberSet) → IsClosure index p members → MeetsAt index set positions
+        → MeetsAt index (cut set members) positions }
     ensures contained { (index : IndexView) (p : ℕ) (members set : NumberSet) → IsClosure index p members → set p ≡ true → cut set members p ≡ true }
-    ensures kept { (index : IndexView) (p : ℕ) (members positions : NumberSet) → IsClosure index p members → (Admits index p (cut positions (kept index members)) ↔ Admits index p positions) }
-    ensures set { (index : IndexView) (p : ℕ) (members set : NumberSet) → IsClosure index p members → IsFirst (IsInstallation index p) set → IsWithin set members }
-    ensures core { (index : IndexView) (p : ℕ) (members positions : NumberSet) → IsClosure index p members → IsFirst (AdmitsNone index p) positions → IsWithin positions (kept index members) }
+    ensures kept { (index : IndexView) (p : ℕ) (members positions : NumberSet) → IsClosure index p members
+        → (Admits index p (cut positions (kept index members)) ↔ Admits index p positions) }
+    ensures set { (index : IndexView) (p : ℕ) (members set : NumberSet) → IsClosure index p members → IsFirst (IsInstallation index p) set
+        → IsWithin set members }
+    ensures core { (index : IndexView) (p : ℕ) (members positions : NumberSet) → IsClosure index p members → IsFirst (AdmitsNone index p) positions
+        → IsWithin positions (kept index members) }
 {}
 
 /// A package has at most one closure, one first healthy set and one first core.

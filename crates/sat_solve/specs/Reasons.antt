@@ -1,5 +1,6 @@
 -- Why variables have their values: what steps and conflicts rest on.
-use Rattle.std.specs.Prelude.{◌≡◌, ℕ, ◌<◌, ◌≤◌, ◌==◌, Bool, true, false, Vec, Option, Some, None, is_some, List, [], ◌∷◌, ◌⊎◌, Contains, length, take, ◌+◌, ◌*◌, ◌-◌, slice_range, slice_index_or}
+use Rattle.std.specs.Prelude.{◌≡◌, ℕ, ◌<◌, ◌≤◌, ◌==◌, Bool, true, false, Vec, Option, Some, None, is_some}
+use Rattle.std.specs.Prelude.{List, [], ◌∷◌, ◌⊎◌, Contains, length, take, ◌+◌, ◌*◌, ◌-◌, slice_range, slice_index_or}
 use Rattle.std.specs.List.{list_any}
 use Rattle.std.specs.declared.alloc.Global.{Global}
 use Rattle.number_sets.specs.Sets.{NumberSet, members_of}

@@ -7,7 +7,8 @@ ghost use Rattle.std.specs.Prelude.{◌≡◌, ℕ, ◌<◌, ◌≤◌, true, fa
 ghost use Rattle.number_sets.specs.Sets.{NumberSet, members_of};
 ghost use Rattle.sat_solve.specs.Clauses.{AreWithin};
 ghost use Rattle.sat_solve.specs.Trail.{steps_of, IsSound};
-ghost use Rattle.sat_solve.specs.Reasons.{IsSolution, IsMarkedSolution, IsUsed, Backs, AllBack, IsProblem, Refutes, FailsOn, AreReasoned, Picks, named_by, is_seen, variables_of, SeesAll};
+ghost use Rattle.sat_solve.specs.Reasons.{IsSolution, IsMarkedSolution, IsUsed, Backs, AllBack, IsProblem, Refutes};
+ghost use Rattle.sat_solve.specs.Reasons.{FailsOn, AreReasoned, Picks, named_by, is_seen, variables_of, SeesAll};
 
 use crate::clause::Lit;
 use crate::problem::Problem;

@@ -1,6 +1,7 @@
 //! The state of a solve: deciding, forcing, and going back.
 
-ghost use Rattle.std.specs.Prelude.{◌≡◌, ◌≢◌, ℕ, ◌+◌, ◌*◌, ◌-◌, ◌<◌, ◌≤◌, true, false, Some, None, List, [], ◌∷◌, All, length, take, min, IfOk, IfSome, IfNone, OnSome};
+ghost use Rattle.std.specs.Prelude.{◌≡◌, ◌≢◌, ℕ, ◌+◌, ◌*◌, ◌-◌, ◌<◌, ◌≤◌, true, false, Some, None};
+ghost use Rattle.std.specs.Prelude.{List, [], ◌∷◌, All, length, take, min, IfOk, IfSome, IfNone, OnSome};
 ghost use Rattle.number_sets.specs.Sets.{NumberSet, members_of};
 ghost use Rattle.sat_solve.specs.Trail.{value_in, steps_of, IsTrail};
 ghost use Rattle.sat_solve.specs.Reasons.{IsSolution, IsMarkedSolution, IsProblem, Gives, Refutes, Picks, IsReasonFor};
