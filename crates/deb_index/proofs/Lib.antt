@@ -22,6 +22,7 @@ pub mod TakenLemmas
 pub mod ForeseenLemmas
 pub mod PartedLemmas
 pub mod PieceLemmas
+pub mod ReadyLemmas
 pub mod EnumerateLemmas
 pub mod NameLemmas
 pub mod ProvidedLemmas

@@ -102,7 +102,7 @@ turned (Ok first) (Err e) z = refl
 turned (Ok first) (Ok a) (Err e) = refl
 turned (Ok first) (Ok a) (Ok b) = refl
 
-readings-append : (arch : List ℕ) (before n : ℕ) (stanzas others : List (List (List ℕ)))
+pub readings-append : (arch : List ℕ) (before n : ℕ) (stanzas others : List (List (List ℕ)))
     → readings arch before n (stanzas ++ others) ≡ (readings arch before n stanzas >>= λ a. readings arch before (n + length stanzas) others >>= λ b. Ok (a ++ b))
 unfolding readings
 readings-append arch before n [] others =

@@ -6,7 +6,7 @@ ghost use Rattle.std.specs.Str.{bytes_eq};
 ghost use Rattle.deb_control.specs.Stanzas.{stanzas_of};
 ghost use Rattle.deb_index.specs.Packages.{IndexView, essential_names, names, package_view};
 ghost use Rattle.deb_index.specs.Built.{is_marked, key_view, package_key, same_key};
-ghost use Rattle.deb_index.specs.Parts.{ArePartsOf, HasRoomFor, HaveRoom, IsForeseen, part_stanzas};
+ghost use Rattle.deb_index.specs.Parts.{ArePartsOf, HasRoomFor, HaveRoom, IsForeseen, in_lists, part_stanzas};
 ghost use Rattle.deb_index.specs.Reading.{byte_limit, collected, continued, reading_view, readings, same_package, stanza_limit, with_foreground, with_reading};
 ghost use Rattle.deb_index.specs.Tables.{HasRoom, asked_count};
 
@@ -162,6 +162,22 @@ impl Builder {
         }
         let reader = Reader::behind(text, u64::from(self.stanzas - before));
         self.add_stanzas(alloc, before, reader)
+    }
+
+    /// Takes in what stanzas read as, one list after the other.
+    pub(crate) fn add_lists(
+        self,
+        alloc: Global,
+        lists: Vec<Vec<Reading>>,
+    ) -> Result<Builder, AllocError>
+        requires { HaveRoom self (in_lists lists.items) }
+        ensures { IfOk result (λ b. b ≡ fold with_reading self (in_lists lists.items)) }
+    {
+        let mut builder = self;
+        for found in lists {
+            builder = builder.add_readings(alloc, found)?;
+        }
+        Ok(builder)
     }
 
     // Takes in what stanzas read as.

@@ -1,14 +1,20 @@
 //! An index whose text comes in pieces, so that no more than one of them need be held.
 ghost use Rattle.std.specs.Prelude.{◌≡◌, ◌+◌, ◌≤◌, [], IfOk, IfErr, length};
-ghost use Rattle.deb_index.specs.Pieces.{Accepts, FailsBehind, Finishes, IsFrontOf, Refuses};
-ghost use Rattle.deb_index.specs.Reading.{IsBare, byte_limit};
+ghost use Rattle.std.specs.List.{fold};
+ghost use Rattle.std.specs.Thread.{IsSync};
+ghost use Rattle.deb_index.specs.Parts.{ArePartsOf, HaveRoom, in_lists};
+ghost use Rattle.deb_index.specs.Pieces.{Accepts, FailsBehind, Finishes, IsFrontOf, IsWithin, Refuses, front_of};
+ghost use Rattle.deb_index.specs.Reading.{IsBare, byte_limit, with_reading};
 
 use crate::builder::Builder;
 use crate::error::{BothError, IndexError, in_back};
 use crate::index::Index;
-use crate::parts::in_many;
+use crate::limits::STANZA_LIMIT;
+use crate::package::Reading;
+use crate::parts::{Parted, are_read, found_in, in_many};
 use std::alloc::{AllocError, Global};
 use std::marker::Model;
+use std::thread;
 use std::thread::Threads;
 
 /// An index of which a front of its text was read, piece by piece. Each call takes it and gives back one of which more was read.
@@ -16,16 +22,19 @@ use std::thread::Threads;
 pub struct PartialIndex {
     builder: Builder,
     size: usize,
+    // What was read behind that, and is taken in while the next piece is read.
+    ready: Vec<Vec<Reading>>,
 }
 
 impl Model for PartialIndex {
-    ghost use Rattle.deb_index.specs.Pieces.{FrontView, IsWithin};
+    ghost use Rattle.deb_index.specs.Parts.{in_lists};
+    ghost use Rattle.deb_index.specs.Pieces.{FrontView, IsKept, front_of};
 
     ghost Value = { FrontView };
 
-    ghost view = { λ p. record { index = p.builder; size = p.size } };
+    ghost view = { λ p. front_of p.builder (in_lists p.ready.items) p.size };
 
-    ghost invariant = { λ p. IsWithin (record { index = p.builder; size = p.size }) };
+    ghost invariant = { λ p. IsKept p.builder (in_lists p.ready.items) p.size };
 }
 
 impl PartialIndex {
@@ -34,7 +43,11 @@ impl PartialIndex {
         ensures { IfOk result (IsFrontOf arch.now essential []) }
     {
         let builder = Builder::new(alloc, arch.as_bytes(), essential)?;
-        Ok(PartialIndex { builder, size: 0 })
+        Ok(PartialIndex {
+            builder,
+            size: 0,
+            ready: Vec::new(alloc),
+        })
     }
 
     /// How many bytes of the text were read: at most `TEXT_LIMIT`.
@@ -62,12 +75,45 @@ impl PartialIndex {
         ensures accepted { IfOk result (Accepts self piece.now) }
         ensures refused { IfErr result (Refuses self piece.now) }
     {
-        let PartialIndex { builder, size } = self;
-        let parted = in_many(rt, alloc, builder.arch(), piece, workers, least)?;
-        let builder = builder.add_behind(alloc, 0, parted)?;
+        let PartialIndex {
+            builder,
+            size,
+            ready,
+        } = self;
+        let arch = Vec::from_slice(alloc, builder.arch())?;
+        let (taken, read) = add_and_read(rt, alloc, builder, ready, &arch, piece, workers, least);
+        let builder = taken?;
+        let parted = read?;
+        PartialIndex::with_piece(alloc, builder, size, parted)
+    }
+
+    // What was read so far, all of which is taken in, and behind it a piece, which is kept as it was read, if all of it was.
+    fn with_piece(
+        alloc: Global,
+        builder: Builder,
+        size: usize,
+        piece: Parted,
+    ) -> Result<PartialIndex, IndexError>
+        requires parts { ArePartsOf builder.arch piece.text.now piece.parts.items }
+        requires within { IsWithin (front_of builder [] size) }
+        requires short { size + length piece.text.now ≤ byte_limit }
+        ensures accepted { IfOk result (Accepts (front_of builder [] size) piece.entry.text.now) }
+        ensures refused { IfErr result (Refuses (front_of builder [] size) piece.entry.text.now) }
+    {
+        let size = size + piece.text.len();
+        if are_read(&piece.parts, (STANZA_LIMIT - builder.stanzas()) as usize) {
+            let ready = found_in(alloc, piece.parts)?;
+            return Ok(PartialIndex {
+                builder,
+                size,
+                ready,
+            });
+        }
+        let builder = builder.add_behind(alloc, 0, piece)?;
         Ok(PartialIndex {
             builder,
-            size: size + piece.len(),
+            size,
+            ready: Vec::new(alloc),
         })
     }
 
@@ -85,7 +131,12 @@ impl PartialIndex {
         ensures refused { IfErr result (FailsBehind self background.now) }
         ensures bare { IfErr result IsBare }
     {
-        let PartialIndex { builder, size: _ } = self;
+        let PartialIndex {
+            builder,
+            size: _,
+            ready,
+        } = self;
+        let builder = builder.add_lists(alloc, ready)?;
         let fore = builder.end_foreground();
         let parted = in_many(rt, alloc, fore.arch(), background, workers, least)?;
         let both = match fore.add_text(alloc, parted) {
@@ -96,4 +147,41 @@ impl PartialIndex {
         let index = unlinked.link_on(rt, alloc, workers)?;
         Ok(index)
     }
+}
+
+// Takes in what was read so far, while the others read a text in parts. Where nothing is to be taken in, or there are fewer than three workers, all
+// of them read.
+fn add_and_read<'a, R: Threads + Sync>(
+    rt: &R,
+    alloc: Global,
+    builder: Builder,
+    ready: Vec<Vec<Reading>>,
+    arch: &[u8],
+    text: &'a [u8],
+    workers: u32,
+    least: usize,
+) -> (Result<Builder, AllocError>, Result<Parted<'a>, AllocError>)
+    requires { HaveRoom builder (in_lists ready.items) }
+    ensures taken { IfOk result.0 (λ b. b ≡ fold with_reading builder (in_lists ready.items)) }
+    ensures text { IfOk result.1 (λ parted. parted.text.now ≡ text.now) }
+    ensures parts { IfOk result.1 (λ parted. ArePartsOf arch.now text.now parted.parts.items) }
+{
+    if workers < 3 || ready.is_empty() {
+        let taken = builder.add_lists(alloc, ready);
+        let read = in_many(rt, alloc, arch, text, workers, least);
+        return (taken, read);
+    }
+    let others = workers - 1;
+    thread::join(
+        rt,
+        move || -> Result<Builder, AllocError>
+            requires { HaveRoom builder (in_lists ready.items) }
+            ensures { IfOk result (λ b. b ≡ fold with_reading builder (in_lists ready.items)) }
+        { builder.add_lists(alloc, ready) },
+        move || -> Result<Parted, AllocError>
+            requires { IsSync R.row }
+            ensures text { IfOk result (λ parted. parted.text.now ≡ text.entry.now) }
+            ensures parts { IfOk result (λ parted. ArePartsOf arch.entry.now text.entry.now parted.parts.items) }
+        { in_many(rt, alloc, arch, text, others, least) },
+    )
 }

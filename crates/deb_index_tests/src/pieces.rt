@@ -11,6 +11,9 @@ use std::process::Abort;
 use std::test::Fail;
 use std::thread::Threads;
 
+/// One worker; too few for one to take in while the others read; and as many as can be told, and as are needed at least, for that.
+const WORKERS: [u32; 4] = [1, 2, 3, 64];
+
 /// Wherever a text is cut, what is seen is what one call on the whole of it sees.
 fn expect_same(
     rt: &(impl Abort + Threads + Sync + AllocGlobal),
@@ -20,8 +23,10 @@ fn expect_same(
     let wanted = shown_both(rt.alloc(), text, background, true, &SEEN)?;
     for least in 0..text.len() + 1 {
         let pieces = in_pieces(rt.alloc(), text, least)?;
-        let found = shown_in_pieces(rt, &pieces, background, 2, &SEEN)?;
-        assert_eq!(rt; found.as_str(), wanted.as_str());
+        for workers in WORKERS {
+            let found = shown_in_pieces(rt, &pieces, background, workers, &SEEN)?;
+            assert_eq!(rt; found.as_str(), wanted.as_str());
+        }
     }
     Ok(())
 }
@@ -57,15 +62,17 @@ fn duplicates_in_all_pieces(rt: HostRuntime) -> Result<(), Fail> {
     let text = copies(rt.alloc(), 20)?;
     let pieces = in_pieces(rt.alloc(), &text, 0)?;
     assert!(rt; pieces.len() == 20);
-    let found = shown_in_pieces(&rt, &pieces, &text, 1, &SEEN)?;
-    assert_eq!(rt;
-        found.as_str(),
-        "packages 1, stanzas 40, skipped 0, duplicates 39
+    for workers in WORKERS {
+        let found = shown_in_pieces(&rt, &pieces, &text, workers, &SEEN)?;
+        assert_eq!(rt;
+            found.as_str(),
+            "packages 1, stanzas 40, skipped 0, duplicates 39
 foreground 1
 0: a 1 all, name 0, versions [0], marked false
 name 0: a, places [0]
 "
-    );
+        );
+    }
     Ok(())
 }
 
@@ -77,8 +84,10 @@ fn expect_fault(
 ) -> Result<(), Fail> {
     for least in 0..text.len() + 1 {
         let pieces = in_pieces(rt.alloc(), text, least)?;
-        let found = read_in_pieces(rt, &pieces, b" x", 1).err();
-        assert!(rt; found == Some(fault));
+        for workers in WORKERS {
+            let found = read_in_pieces(rt, &pieces, b" x", workers).err();
+            assert!(rt; found == Some(fault));
+        }
     }
     Ok(())
 }
@@ -111,7 +120,7 @@ fn the_first_of_two_faults(rt: HostRuntime) -> Result<(), Fail> {
 fn a_fault_of_the_background(rt: HostRuntime) -> Result<(), Fail> {
     let pieces = in_pieces(rt.alloc(), VERSIONED, 0)?;
     for (background, fault) in REFUSED {
-        let found = read_in_pieces(&rt, &pieces, background, 1).err();
+        let found = read_in_pieces(&rt, &pieces, background, 3).err();
         assert!(rt; found == Some(BothError::Back(fault)));
     }
     Ok(())

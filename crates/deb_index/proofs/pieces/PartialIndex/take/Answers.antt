@@ -1,36 +1,49 @@
-use Rattle.std.proofs.Common.{◌≡◌, ◌≢◌, ◌+◌, ◌-◌, ℕ, List, Ok, Err, ap, subst, length, refl, arith}
-use Rattle.std.proofs.lemmas.Result.{err_from_is_err_and}
-use Rattle.deb_control.specs.Stanzas.{stanzas_of}
-use Rattle.deb_index.specs.Pieces.{Accepts, FrontView, Refuses}
-use Rattle.deb_index.specs.Reading.{continued, readings}
-use Rattle.deb_index.proofs.PieceLemmas.{front-fault, front-more, stays-within}
-use Rattle.deb_index.proofs.TakenLemmas.{Taken, taken}
+use Rattle.std.proofs.Common.{◌≡◌, ◌∙◌, rules, ℕ, [], List, IfOk, IfErr, ap, sym, subst, subst₂, length, arith}
+use Rattle.std.specs.List.{fold}
+use Rattle.deb_index.specs.Packages.{IndexView}
+use Rattle.deb_index.specs.Parts.{ArePartsOf, in_lists}
+use Rattle.deb_index.specs.Pieces.{Accepts, FrontView, IsWithin, Refuses, front_of}
+use Rattle.deb_index.specs.Reading.{with_reading}
+use Rattle.deb_index.proofs.ReadyLemmas.{arch-after}
 use Rattle.deb_index.proofs.pieces.PartialIndex.take.Goals as goal
 
-pub invariant_of-result : goal.invariant_of-result
-invariant_of-result g c =
-    let old : FrontView = record { index = c.self.inside.builder; size = c.self.inside.size } in
-    let new = c.in_ok-builder.builder in
-    let next : FrontView = record { index = new; size = c.self.inside.size + length c.args.piece.now } in
-    let read = subst (λ (bytes : List ℕ). continued old.index (readings old.index.arch 0 (old.index.stanzas - 0) (stanzas_of bytes)) ≡ Ok new) c.in_ok-parted.ensures.text c.in_ok-builder.ensures.accepted in
-    let t : Taken old.index (stanzas_of c.args.piece.now) new = taken old.index.arch 0 (old.index.stanzas - 0) (stanzas_of c.args.piece.now) old.index new read (omega arith) in
-    stays-within old next c.args.piece.now c.self.invariant t refl (omega (arith, ap (λ (f : FrontView). f.size) c.self.view_is, c.requires.short))
+pub with_piece-requires-clause-parts : goal.with_piece-requires-clause-parts
+with_piece-requires-clause-parts g c =
+    let old = c.self.inside.builder in
+    let ready = in_lists c.self.inside.ready.items in
+    let parted = c.in_ok-parted.parted in
+    let taken : c.in_ok-builder.builder ≡ fold with_reading old ready = search rules in
+    let text : parted.text.now ≡ c.args.piece.now = search rules in
+    let parts : ArePartsOf c.in_ok-arch.arch.items c.args.piece.now parted.parts.items = search rules in
+    let arch = c.in_ok-arch.ensures.items ∙ c.arch.ensures ∙ sym (ap (λ (v : IndexView). v.arch) taken ∙ arch-after old ready) in
+    subst₂ (λ (a bytes : List ℕ). ArePartsOf a bytes parted.parts.items) arch (sym text) parts
 
-pub returns-in_err-builder-clause-refused : goal.returns-in_err-builder-clause-refused
-returns-in_err-builder-clause-refused g c =
-    let old : FrontView = record { index = c.self.inside.builder; size = c.self.inside.size } in
-    let e = c.in_err-builder.field-0.0 in
-    let p = err_from_is_err_and c.from_residual-in_err-builder.result c.from_residual-in_err-builder.ensures.1 in
-    let fault : e ≢ _ → continued old.index (readings old.index.arch 0 (old.index.stanzas - 0) (stanzas_of c.args.piece.now)) ≡ Err e =
-    λ other. subst (λ (bytes : List ℕ). continued old.index (readings old.index.arch 0 (old.index.stanzas - 0) (stanzas_of bytes)) ≡ Err e) c.in_ok-parted.ensures.text (c.in_err-builder.ensures.refused other) in
-    let refuses : Refuses old c.args.piece.now e = λ other arch essential text more closed is ends. front-fault arch essential text old is c.args.piece.now more e closed ends (fault other) in
-    rw (p.1, p.2) (subst (λ (f : FrontView). Refuses f c.args.piece.now e) c.self.view_is refuses)
+pub with_piece-requires-clause-within : goal.with_piece-requires-clause-within
+with_piece-requires-clause-within g c =
+    let old = c.self.inside.builder in
+    let ready = in_lists c.self.inside.ready.items in
+    let taken : c.in_ok-builder.builder ≡ fold with_reading old ready = search rules in
+    subst (λ (v : IndexView). IsWithin (front_of v [] c.self.inside.size)) (sym taken) c.self.invariant.within
+
+pub with_piece-requires-clause-short : goal.with_piece-requires-clause-short
+with_piece-requires-clause-short g c =
+    let text : c.in_ok-parted.parted.text.now ≡ c.args.piece.now = search rules in
+    omega (arith, ap (λ (bytes : List ℕ). length bytes) text, ap (λ (f : FrontView). f.size) c.self.view_is, c.requires.short)
 
 pub returns-clause-accepted : goal.returns-clause-accepted
 returns-clause-accepted g c =
-    let old : FrontView = record { index = c.self.inside.builder; size = c.self.inside.size } in
-    let new = c.in_ok-builder.builder in
-    let next : FrontView = record { index = new; size = c.self.inside.size + length c.args.piece.now } in
-    let read = subst (λ (bytes : List ℕ). continued old.index (readings old.index.arch 0 (old.index.stanzas - 0) (stanzas_of bytes)) ≡ Ok new) c.in_ok-parted.ensures.text c.in_ok-builder.ensures.accepted in
-    let accepts : Accepts old c.args.piece.now next = λ arch essential text closed is. front-more arch essential text old is c.args.piece.now next closed read refl in
-    subst (λ (f : FrontView). Accepts f c.args.piece.now next) c.self.view_is accepts
+    let old = c.self.inside.builder in
+    let ready = in_lists c.self.inside.ready.items in
+    let taken : c.in_ok-builder.builder ≡ fold with_reading old ready = search rules in
+    let text : c.in_ok-parted.parted.text.now ≡ c.args.piece.now = search rules in
+    let front = ap (λ (v : IndexView). front_of v [] c.self.inside.size) taken ∙ c.self.view_is in
+    subst₂ (λ (f : FrontView) (bytes : List ℕ). IfOk c.with_piece.result (Accepts f bytes)) front text c.with_piece.ensures.accepted
+
+pub returns-clause-refused : goal.returns-clause-refused
+returns-clause-refused g c =
+    let old = c.self.inside.builder in
+    let ready = in_lists c.self.inside.ready.items in
+    let taken : c.in_ok-builder.builder ≡ fold with_reading old ready = search rules in
+    let text : c.in_ok-parted.parted.text.now ≡ c.args.piece.now = search rules in
+    let front = ap (λ (v : IndexView). front_of v [] c.self.inside.size) taken ∙ c.self.view_is in
+    subst₂ (λ (f : FrontView) (bytes : List ℕ). IfErr c.with_piece.result (Refuses f bytes)) front text c.with_piece.ensures.refused
