@@ -1,4 +1,5 @@
-//! An index whose text comes in pieces, so that no more than one of them need be held.
+//! An index whose text comes in pieces, so that no more than one of them need be held. What the stanzas of a piece read as is kept until the next
+//! piece comes: one worker takes it in while the others read that.
 ghost use Rattle.std.specs.Prelude.{◌≡◌, ◌+◌, ◌≤◌, [], IfOk, IfErr, length};
 ghost use Rattle.std.specs.List.{fold};
 ghost use Rattle.std.specs.Thread.{IsSync};

@@ -1,9 +1,10 @@
 //! As many stanzas as may be, and one more.
 
 use crate::faults::fault_of;
+use crate::reading::read_in_pieces;
 use crate::showing::{Part, expect_shown};
 use crate::texts::{COPY, copies};
-use deb_index::{IndexError, STANZA_LIMIT};
+use deb_index::{BothError, IndexError, STANZA_LIMIT};
 use std::test::Fail;
 
 #[test]
@@ -27,5 +28,15 @@ fn a_stanza_too_many(rt: HostRuntime) -> Result<(), Fail> {
         let fault = fault_of(rt.alloc(), &text);
         assert!(rt; fault == Some(IndexError::TooManyStanzas { stanza: 4_194_305 }));
     }
+    Ok(())
+}
+
+#[test]
+fn a_stanza_too_many_in_pieces(rt: HostRuntime) -> Result<(), Fail> {
+    let text = copies(rt.alloc(), STANZA_LIMIT / 4)?;
+    let piece = text.as_slice();
+    let found = read_in_pieces(&rt, &[piece, piece, piece, piece, COPY], b"", 3).err();
+    let fault = IndexError::TooManyStanzas { stanza: 4_194_305 };
+    assert!(rt; found == Some(BothError::Fore(fault)));
     Ok(())
 }
