@@ -1,15 +1,15 @@
 -- What a stanza adds to an index while it is read.
-use Rattle.std.proofs.Common.{◌≡◌, ◌≤◌, ◌<◌, ◌+◌, ℕ, false, cond, List, [], ◌∷◌, ◌++◌, map, length, sum_by, Some, refl, sym, ap, ◌∙◌, subst, arith}
+use Rattle.std.proofs.Common.{◌≡◌, ◌≤◌, ◌<◌, ◌+◌, ℕ, false, cond, List, [], ◌∷◌, ◌++◌, map, Some, refl, sym, ap, ◌∙◌, subst, subst₂, arith}
 use Rattle.std.specs.List.{list_any, AllByRecursion}
 use Rattle.std.proofs.lemmas.List.{length-append, map-append}
 use Rattle.std.proofs.lemmas.List.Sums.{sum_by_push}
-use Rattle.deb_index.specs.declared.builder.PackageKey.{PackageKey}
-use Rattle.deb_index.specs.declared.names.Names.{Names}
+use Rattle.deb_index.specs.declared.draft.PackageKey.{PackageKey}
+use Rattle.deb_index.specs.declared.draft.Draft.{Draft}
 use Rattle.deb_index.specs.Packages.{IndexView, PackageView, is_named}
 use Rattle.deb_index.specs.Reading.{same_package, stanza_limit, with_reading}
 use Rattle.deb_index.specs.Tables.{HasRoom, IsSmall, asked_count, asked_limit, number_in}
 use Rattle.deb_index.specs.Names.{AreNumbers, IsNaming, name_texts}
-use Rattle.deb_index.specs.Built.{IsBuilt, IsKnown, key_view, package_key, same_key}
+use Rattle.deb_index.specs.Built.{IsBuilt, IsCounted, IsKnown, draft_view, key_view, package_key, same_key}
 use Rattle.deb_index.proofs.FirstLemmas.{any-map}
 use Rattle.deb_index.proofs.KeyLemmas.{known-push}
 use Rattle.deb_index.proofs.NameLemmas.{numbers-push, only-packages}
@@ -31,22 +31,24 @@ pub adds-package : (index : IndexView) (p : PackageView) → list_any (λ q. sam
 adds-package index p there = sym (rw there refl)
 
 -- one package more
-module _ (old : IndexView) (numbers : List ℕ) (names : Names) (later : List PackageKey) (b : IsBuilt old numbers names later) (p : PackageView) where
-  pub built-push : (packages : List PackageView) (more : Names) (keys : List PackageKey) (n : ℕ) → packages ≡ old.packages ++ p ∷ [] → old.stanzas < stanza_limit → HasRoom old (Some p)
-      → IsNaming (old.packages ++ p ∷ []) [] more → number_in p.name (name_texts more) ≡ Some n → map key_view keys ≡ map key_view later ++ cond (list_any (is_named p.name) old.packages) (package_key p ∷ []) []
-      → IsBuilt (record old { packages = packages; stanzas = old.stanzas + 1 }) (numbers ++ n ∷ []) more keys
-  built-push packages more keys n longer few room named number kept = record {
-    counts = record {
-      counted = omega (arith, b.counts.counted, long);
-      front = omega (arith, b.counts.front, long);
-      few = omega (arith, few);
-      small = subst (AllByRecursion IsSmall) (sym longer) (all-push IsSmall old.packages p b.counts.small room.0);
-      few_asked = subst (λ m. m ≤ asked_limit) (sym (ap (sum_by asked_count) longer ∙ sum_by_push asked_count old.packages p)) room.1;
-    };
-    numbered = subst (λ ps. AreNumbers ps (numbers ++ n ∷ [])) (sym longer) (numbers-push old.packages numbers p n b.numbered (ap (number_in p.name) (sym (only-packages named)) ∙ number));
-    named = subst (λ ps. IsNaming ps [] more) (sym longer) named;
-    known = subst (λ ps. IsKnown ps (map key_view keys)) (sym longer) (subst (IsKnown (old.packages ++ p ∷ [])) (sym kept) (known-push old.packages (map key_view later) p b.known));
-  }
-    where
-      long : length packages ≡ length old.packages + 1
-      long = ap length longer ∙ length-append old.packages (p ∷ [])
+module _ (old : Draft) (b : IsBuilt old) (p : PackageView) where
+  pub built-push : (new : Draft) (n : ℕ) → draft_view new ≡ record (draft_view old) { packages = (draft_view old).packages ++ p ∷ []; stanzas = old.catalog.stanzas + 1 }
+      → old.catalog.stanzas < stanza_limit → HasRoom (draft_view old) (Some p) → IsNaming ((draft_view old).packages ++ p ∷ []) [] new.catalog.names
+      → new.catalog.numbers.items ≡ old.catalog.numbers.items ++ n ∷ [] → number_in p.name (name_texts new.catalog.names) ≡ Some n
+      → map key_view new.later.keys ≡ map key_view old.later.keys ++ cond (list_any (is_named p.name) (draft_view old).packages) (package_key p ∷ []) [] → IsBuilt new
+  built-push new n same few room named numbers number kept =
+      let packages = (draft_view old).packages in
+      let longer = ap (λ (v : IndexView). v.packages) same in
+      let long = length-append packages (p ∷ []) in
+      record {
+        counts = subst IsCounted (sym same) (record {
+          counted = omega (arith, b.counts.counted, long);
+          front = omega (arith, b.counts.front, long);
+          few = omega (arith, few);
+          small = all-push IsSmall packages p b.counts.small room.0;
+          few_asked = subst (λ m. m ≤ asked_limit) (sym (sum_by_push asked_count packages p)) room.1;
+        });
+        numbered = subst₂ AreNumbers (sym longer) (sym numbers) (numbers-push packages old.catalog.numbers.items p n b.numbered (ap (number_in p.name) (sym (only-packages named)) ∙ number));
+        named = subst (λ ps. IsNaming ps [] new.catalog.names) (sym longer) named;
+        known = subst₂ IsKnown (sym longer) (sym kept) (known-push packages (map key_view old.later.keys) p b.known);
+      }

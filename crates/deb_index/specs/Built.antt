@@ -3,21 +3,31 @@ use Rattle.std.specs.Prelude.{◌≡◌, ◌≤◌, ◌+◌, ℕ, Bool, false, �
 use Rattle.std.specs.Option.{option_map_or}
 use Rattle.std.specs.List.{list_any, AllByRecursion}
 use Rattle.std.specs.Str.{bytes_eq}
-use Rattle.deb_index.specs.declared.builder.PackageKey.{PackageKey}
+use Rattle.deb_index.specs.declared.draft.PackageKey.{PackageKey}
+use Rattle.deb_index.specs.declared.catalog.Catalog.{Catalog}
+use Rattle.deb_index.specs.declared.draft.Draft.{Draft}
 use Rattle.deb_index.specs.declared.links.Links.{Links}
 use Rattle.deb_index.specs.declared.names.Names.{Names}
-use Rattle.deb_index.specs.declared.package.Package.{Package}
 use Rattle.deb_index.specs.Packages.{PackageView, IndexView, essential_names, is_named, package_view}
 use Rattle.deb_index.specs.Reading.{same_package, stanza_limit}
 use Rattle.deb_index.specs.Links.{IsLinked}
 use Rattle.deb_index.specs.Names.{AreNumbers, IsNaming, provided_places}
 use Rattle.deb_index.specs.Tables.{IsSmall, asked_count, asked_limit}
 
--- what contracts see of what is kept
-abbrev pub index_of_parts : List ℕ → List Package → Bool → ℕ → ℕ → ℕ → ℕ → IndexView
-index_of_parts arch packages with_essential stanzas skipped duplicates foreground =
-    record { arch = arch; packages = map package_view packages; with_essential = with_essential; stanzas = stanzas; skipped = skipped; duplicates = duplicates;
-        foreground = foreground }
+-- what contracts see of a catalog
+abbrev pub catalog_view : Catalog → IndexView
+catalog_view c = record {
+  arch = c.arch.items;
+  packages = map package_view c.packages.items;
+  with_essential = c.with_essential;
+  stanzas = c.stanzas;
+  skipped = c.skipped;
+  duplicates = c.duplicates;
+  foreground = c.foreground;
+}
+
+abbrev pub draft_view : Draft → IndexView
+draft_view d = catalog_view d.catalog
 
 -- what tells packages apart: the name and the text of the version
 abbrev pub package_key : PackageView → List ℕ × List ℕ
@@ -31,8 +41,7 @@ same_key k l = bytes_eq k.0 l.0 && bytes_eq k.1 l.1
 
 -- a package is known by the version of the first package of its name, or by the key of a later one
 abbrev pub is_known : List PackageView → List (List ℕ × List ℕ) → PackageView → Bool
-is_known packages later p = option_map_or (λ q. bytes_eq q.version p.version) (find (is_named p.name) packages) false
-    || list_any (same_key (package_key p)) later
+is_known packages later p = option_map_or (λ q. bytes_eq q.version p.version) (find (is_named p.name) packages) false || list_any (same_key (package_key p)) later
 
 abbrev pub IsKnown : List PackageView → List (List ℕ × List ℕ) → Type 0
 IsKnown packages later = (p : PackageView) → list_any (λ q. same_package q p) packages ≡ is_known packages later p
@@ -50,26 +59,26 @@ pub record IsCounted (index : IndexView) : Type 0 where
   pub few_asked : sum_by asked_count index.packages ≤ asked_limit
 
 -- an index while it is read: the names of its packages, their numbers, and the keys of the packages that are not the first of their name
-pub record IsBuilt (index : IndexView) (numbers : List ℕ) (names : Names) (later : List PackageKey) : Type 0 where
-  pub counts : IsCounted index
-  pub numbered : AreNumbers index.packages numbers
-  pub named : IsNaming index.packages [] names
-  pub known : IsKnown index.packages (map key_view later)
+pub record IsBuilt (d : Draft) : Type 0 where
+  pub counts : IsCounted (draft_view d)
+  pub numbered : AreNumbers (draft_view d).packages d.catalog.numbers.items
+  pub named : IsNaming (draft_view d).packages [] d.catalog.names
+  pub known : IsKnown (draft_view d).packages (map key_view d.later.keys)
 
 -- an index that lacks its rows: all names, their numbers, and the essential ones
-pub record IsNamed (index : IndexView) (numbers : List ℕ) (names : Names) (essential : List ℕ) : Type 0 where
-  pub counts : IsCounted index
-  pub numbered : AreNumbers index.packages numbers
-  pub named : IsNaming index.packages (provided_places index.arch index.packages) names
-  pub essentials : essential ≡ essential_names index
+pub record IsNamed (c : Catalog) (essential : List ℕ) : Type 0 where
+  pub counts : IsCounted (catalog_view c)
+  pub numbered : AreNumbers (catalog_view c).packages c.numbers.items
+  pub named : IsNaming (catalog_view c).packages (provided_places (catalog_view c).arch (catalog_view c).packages) c.names
+  pub essentials : essential ≡ essential_names (catalog_view c)
 
 -- an index that is whole: the same, and the rows
-pub record IsWhole (index : IndexView) (numbers : List ℕ) (names : Names) (essential : List ℕ) (links : Links) : Type 0 where
-  pub counts : IsCounted index
-  pub numbered : AreNumbers index.packages numbers
-  pub named : IsNaming index.packages (provided_places index.arch index.packages) names
-  pub essentials : essential ≡ essential_names index
-  pub linked : IsLinked index index.packages links
+pub record IsWhole (c : Catalog) (essential : List ℕ) (links : Links) : Type 0 where
+  pub counts : IsCounted (catalog_view c)
+  pub numbered : AreNumbers (catalog_view c).packages c.numbers.items
+  pub named : IsNaming (catalog_view c).packages (provided_places (catalog_view c).arch (catalog_view c).packages) c.names
+  pub essentials : essential ≡ essential_names (catalog_view c)
+  pub linked : IsLinked (catalog_view c) (catalog_view c).packages links
 
 -- an index of which nothing but the architecture and the packages is asked
 abbrev pub looked_up : List ℕ → List PackageView → IndexView

@@ -255,3 +255,7 @@ with_reading index (Some p) =
 -- an index, continued with what is read
 abbrev pub continued : IndexView → Result (List (Option PackageView)) IndexError → Result IndexView IndexError
 continued index read = read >>= λ rest. Ok (fold with_reading index rest)
+
+-- an index, continued with stanzas behind its own; so many of these stood in an earlier text
+abbrev pub read_behind : IndexView → ℕ → List (List (List ℕ)) → Result IndexView IndexError
+read_behind index before stanzas = continued index (readings index.arch before (index.stanzas - before) stanzas)

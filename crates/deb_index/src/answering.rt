@@ -22,7 +22,7 @@ impl Index {
         requires { place < length self.now.packages }
         ensures { result ≡ meets_at self.now place (atom_view atom.now) }
     {
-        self.package(place).meets(&self.arch, atom)
+        self.package(place).meets(&self.catalog.arch, atom)
     }
 
     /// Whether the package at a place meets an atom as an alternative of Pre-Depends or Depends: it meets the atom, by its
@@ -32,14 +32,18 @@ impl Index {
         requires { place < length self.now.packages }
         ensures { result ≡ meets_need_at self.now place (atom_view atom.now) }
     {
-        self.package(place).meets_need(&self.arch, atom)
+        self.package(place).meets_need(&self.catalog.arch, atom)
     }
 
     // What places are looked up in.
     fn lookup(&self) -> Lookup
         ensures { result ≡ looked_up self.now.arch self.now.packages }
     {
-        Lookup::new(&self.arch, &self.packages, &self.names)
+        Lookup::new(
+            &self.catalog.arch,
+            &self.catalog.packages,
+            &self.catalog.names,
+        )
     }
 
     /// The places of the packages that meet an alternative of a group as `meets_need` tells, rising, each once. There is such

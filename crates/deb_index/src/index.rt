@@ -7,8 +7,8 @@ ghost use Rattle.deb_index.specs.Reading.{stanza_limit};
 ghost use Rattle.deb_index.specs.Meets.{provided_at};
 ghost use Rattle.deb_index.specs.Tables.{asked_count, asked_limit};
 
+use crate::catalog::Catalog;
 use crate::links::Links;
-use crate::names::Names;
 use crate::package::Package;
 use deb_relation::Atom;
 use std::marker::Model;
@@ -18,32 +18,22 @@ use std::marker::Model;
 /// they first occur.
 #[derive(Drop)]
 pub struct Index {
-    pub(crate) arch: Vec<u8>,
-    pub(crate) with_essential: bool,
-    pub(crate) stanzas: u32,
-    pub(crate) skipped: u32,
-    pub(crate) duplicates: u32,
-    pub(crate) foreground: u32,
-    // The number of each package's name.
-    pub(crate) numbers: Vec<u32>,
-    pub(crate) names: Names,
+    pub(crate) links: Links,
     // The numbers of the essential names.
     pub(crate) essential: Vec<u32>,
-    pub(crate) links: Links,
-    // Given back last: at a larger piece that came back behind its many small ones, the allocator would go through all of them.
-    pub(crate) packages: Vec<Package>,
+    // Given back last, and in it the packages.
+    pub(crate) catalog: Catalog,
 }
 
 impl Model for Index {
     ghost use Rattle.deb_index.specs.Packages.{IndexView};
-    ghost use Rattle.deb_index.specs.Built.{IsWhole, index_of_parts};
+    ghost use Rattle.deb_index.specs.Built.{IsWhole, catalog_view};
 
     ghost Value = { IndexView };
 
-    ghost view = { λ i. index_of_parts i.arch.items i.packages.items i.with_essential i.stanzas i.skipped i.duplicates i.foreground };
+    ghost view = { λ i. catalog_view i.catalog };
 
-    ghost invariant = { λ i. IsWhole (index_of_parts i.arch.items i.packages.items i.with_essential i.stanzas i.skipped i.duplicates i.foreground)
-        i.numbers.items i.names i.essential.items i.links };
+    ghost invariant = { λ i. IsWhole i.catalog i.essential.items i.links };
 }
 
 impl Index {
@@ -52,7 +42,7 @@ impl Index {
         ensures value { result ≡ self.now.foreground }
         ensures front { self.now.foreground ≤ length self.now.packages }
     {
-        self.foreground
+        self.catalog.foreground
     }
 
     /// How many packages there are: at most `STANZA_LIMIT`, the most stanzas that the texts may have. Together they have at most
@@ -62,35 +52,35 @@ impl Index {
         ensures few { length self.now.packages ≤ stanza_limit }
         ensures few_asked { sum_by asked_count self.now.packages ≤ asked_limit }
     {
-        self.packages.len() as u32
+        self.catalog.packages.len() as u32
     }
 
     /// The architecture that the index was read for.
     pub fn arch(&self) -> &[u8]
         ensures { result.now ≡ self.now.arch }
     {
-        &self.arch
+        &self.catalog.arch
     }
 
     /// How many stanzas the text and the background have: at most `STANZA_LIMIT`.
     pub fn stanzas(&self) -> u32
         ensures { result ≡ self.now.stanzas }
     {
-        self.stanzas
+        self.catalog.stanzas
     }
 
     /// How many stanzas of both are passed over, since their architecture is neither the index's nor `all`.
     pub fn skipped(&self) -> u32
         ensures { result ≡ self.now.skipped }
     {
-        self.skipped
+        self.catalog.skipped
     }
 
     /// How many stanzas of both have the name and the version text of an earlier one that was kept, and are left out.
     pub fn duplicates(&self) -> u32
         ensures { result ≡ self.now.duplicates }
     {
-        self.duplicates
+        self.catalog.duplicates
     }
 
     /// The package at a place, which is below `len`.
@@ -98,7 +88,7 @@ impl Index {
         requires { place < length self.now.packages }
         ensures { package_view result.now ≡ package_at self.now place }
     {
-        &self.packages[place as usize]
+        &self.catalog.packages[place as usize]
     }
 
     /// How many groups the package at a place needs: those of Pre-Depends and of Depends (Debian Policy 7.2).
@@ -143,7 +133,7 @@ impl Index {
     pub fn name_count(&self) -> u32
         ensures { result ≡ length (names self.now) }
     {
-        self.names.front as u32
+        self.catalog.names.front as u32
     }
 
     /// The name with a number, which is below `name_count`.
@@ -151,15 +141,15 @@ impl Index {
         requires { number < length (names self.now) }
         ensures { result.now ≡ name_at self.now number }
     {
-        self.names.text(number as usize)
+        self.catalog.names.text(number as usize)
     }
 
     /// The number of a name; `None` where no package has it. Names are compared byte by byte (Debian Policy 5.6.7).
     pub fn name_number(&self, name: &[u8]) -> Option<u32>
         ensures { result ≡ position (bytes_eq name.now) (names self.now) }
     {
-        match self.names.number(name) {
-            Some(number) if number < self.names.front => Some(number as u32),
+        match self.catalog.names.number(name) {
+            Some(number) if number < self.catalog.names.front => Some(number as u32),
             _ => None,
         }
     }
@@ -170,14 +160,14 @@ impl Index {
         ensures within { result < length (names self.now) }
         ensures name { name_at self.now result ≡ (package_at self.now place).name }
     {
-        self.numbers[place as usize]
+        self.catalog.numbers[place as usize]
     }
 
     /// The places of a name's packages, rising: none for an unknown name.
     pub fn places_of(&self, name: &[u8]) -> &[u32]
         ensures { result.now ≡ places_of self.now name.now }
     {
-        self.names.candidates(name).named
+        self.catalog.names.candidates(name).named
     }
 
     /// The places of the packages of the name with a number, rising; the number is below `name_count`.
@@ -185,7 +175,7 @@ impl Index {
         requires { number < length (names self.now) }
         ensures { result.now ≡ places_of self.now (name_at self.now number) }
     {
-        self.names.places(number as usize)
+        self.catalog.names.places(number as usize)
     }
 
     /// The places of all packages that have the name of the package at a place, rising; the place is among them.
@@ -201,7 +191,7 @@ impl Index {
     pub fn provides_of(&self, name: &[u8]) -> &[(u32, u32)]
         ensures { result.now ≡ provided_at self.now name.now }
     {
-        self.names.candidates(name).provided
+        self.catalog.names.candidates(name).provided
     }
 
     /// The numbers of the essential names, rising: a name is essential if some package of it has `Essential: yes`

@@ -8,7 +8,7 @@
 //! - `lookup`: all places that meet an atom, found by the names.
 //! - `rows`: lists of places, one behind the other, of which one serves all who ask for the same; `memo`: which row an atom got; `role_rows`: the
 //!   rows of one role while they are made; `links`: the row of each group and of each entry, made once.
-//! - `index`: the index of a text, or of a text and a background: its packages and their names.
+//! - `catalog`: the packages, with their names and what was counted; `index`: the index of a text, or of a text and a background.
 //! - `answering`: which packages meet what is asked for; `constraint`: its constraints, and where each stands.
 //! - `parts`: a text in parts, which several workers read side by side; `unlinked`: an index that lacks its rows, which they make side by side.
 //! - `builder`: an index while it is read, stanza by stanza and part by part; `read` makes an index by it, and `pieces` one whose text comes in pieces,
@@ -18,7 +18,9 @@
 
 mod answering;
 mod builder;
+mod catalog;
 mod constraint;
+mod draft;
 mod error;
 mod index;
 pub mod laws;

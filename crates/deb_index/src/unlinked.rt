@@ -5,11 +5,10 @@ ghost use Rattle.deb_index.specs.Links.{IsLinked, IsRange, packages_in};
 ghost use Rattle.deb_index.specs.Built.{looked_up};
 ghost use Rattle.deb_index.specs.Tables.{asked_count, asked_limit};
 
+use crate::catalog::Catalog;
 use crate::index::Index;
 use crate::links::Links;
 use crate::lookup::Lookup;
-use crate::names::Names;
-use crate::package::Package;
 use std::alloc::{AllocError, Global};
 use std::marker::Model;
 use std::thread;
@@ -21,30 +20,20 @@ const RANGE_SIZE: u32 = 1024;
 /// The packages of an index, with all their names: all but its rows, which are made last.
 #[derive(Drop)]
 pub(crate) struct Unlinked {
-    pub(crate) arch: Vec<u8>,
-    pub(crate) with_essential: bool,
-    pub(crate) stanzas: u32,
-    pub(crate) skipped: u32,
-    pub(crate) duplicates: u32,
-    pub(crate) foreground: u32,
-    pub(crate) packages: Vec<Package>,
-    // The number of each package's name.
-    pub(crate) numbers: Vec<u32>,
-    pub(crate) names: Names,
+    pub(crate) catalog: Catalog,
     // The numbers of the essential names.
     pub(crate) essential: Vec<u32>,
 }
 
 impl Model for Unlinked {
     ghost use Rattle.deb_index.specs.Packages.{IndexView};
-    ghost use Rattle.deb_index.specs.Built.{IsNamed, index_of_parts};
+    ghost use Rattle.deb_index.specs.Built.{IsNamed, catalog_view};
 
     ghost Value = { IndexView };
 
-    ghost view = { λ u. index_of_parts u.arch.items u.packages.items u.with_essential u.stanzas u.skipped u.duplicates u.foreground };
+    ghost view = { λ u. catalog_view u.catalog };
 
-    ghost invariant = { λ u. IsNamed (index_of_parts u.arch.items u.packages.items u.with_essential u.stanzas u.skipped u.duplicates u.foreground)
-        u.numbers.items u.names u.essential.items };
+    ghost invariant = { λ u. IsNamed u.catalog u.essential.items };
 }
 
 impl Unlinked {
@@ -73,13 +62,17 @@ impl Unlinked {
         ensures value { result ≡ length self.now.packages }
         ensures few_asked { sum_by asked_count self.now.packages ≤ asked_limit }
     {
-        self.packages.len() as u32
+        self.catalog.packages.len() as u32
     }
 
     fn lookup(&self) -> Lookup<'_>
         ensures { result ≡ looked_up self.now.arch self.now.packages }
     {
-        Lookup::new(&self.arch, &self.packages, &self.names)
+        Lookup::new(
+            &self.catalog.arch,
+            &self.catalog.packages,
+            &self.catalog.names,
+        )
     }
 
     // The rows of the packages in a range of places.
@@ -94,30 +87,10 @@ impl Unlinked {
         requires { IsLinked self self.packages links }
         ensures { result ≡ self }
     {
-        let Unlinked {
-            arch,
-            with_essential,
-            stanzas,
-            skipped,
-            duplicates,
-            foreground,
-            packages,
-            numbers,
-            names,
-            essential,
-        } = self;
         Index {
-            arch,
-            with_essential,
-            stanzas,
-            skipped,
-            duplicates,
-            foreground,
-            packages,
-            numbers,
-            names,
-            essential,
             links,
+            essential: self.essential,
+            catalog: self.catalog,
         }
     }
 }

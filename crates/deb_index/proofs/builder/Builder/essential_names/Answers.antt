@@ -4,7 +4,7 @@ use Rattle.std.proofs.Math.Seq.{take-length}
 use Rattle.std.proofs.lemmas.List.{append-nil}
 use Rattle.deb_index.specs.Packages.{IndexView, PackageView, essential_names, is_essential, is_named, names, package_view, places_where}
 use Rattle.deb_index.specs.Names.{IsNaming}
-use Rattle.deb_index.specs.Built.{is_marked}
+use Rattle.deb_index.specs.Built.{catalog_view, is_marked}
 use Rattle.deb_index.proofs.EssentialLemmas.{essential-step, lists-all, places-none}
 use Rattle.deb_index.proofs.NameLemmas.{names-few}
 use Rattle.deb_index.proofs.builder.Builder.essential_names.Goals as goal
@@ -12,10 +12,10 @@ use Rattle.deb_index.proofs.builder.Builder.essential_names.Goals.{then-is_essen
 
 pub returns-then-not-self : goal.returns-then-not-self
 returns-then-not-self c =
-    let i = c.self.inside in
+    let i = c.self.inside.draft.catalog in
     let P : IndexView → Type 0 = λ v. c.new-found.result.items ≡ essential_names v in
     let packages = map package_view i.packages.items in
-    let known = names (record { arch = i.arch.items; packages = packages; with_essential = i.with_essential; stanzas = i.stanzas; skipped = i.skipped; duplicates = i.duplicates; foreground = i.foreground }) in
+    let known = names (catalog_view i) in
     subst P c.self.view_is (c.new-found.ensures.items ∙ sym (ap (λ b. places_where (λ name. b && list_any (λ (p : PackageView). is_named name p && p.essential) packages) known) c.if-not-self.true ∙ places-none known))
 
 pub loop-number-init : goal.loop-number-init
@@ -24,18 +24,17 @@ loop-number-init c = c.new-found.ensures.items
 
 pub overflow_cast-number : goal.overflow_cast-number
 overflow_cast-number c =
-    let i = c.self.inside in
-    let packages = map package_view i.packages.items in
-    let index : IndexView = record { arch = i.arch.items; packages = packages; with_essential = i.with_essential; stanzas = i.stanzas; skipped = i.skipped; duplicates = i.duplicates; foreground = i.foreground } in
+    let i = c.self.inside.draft.catalog in
+    let index = catalog_view i in
     let within : c.loop-number.number < length i.names.lists.items = subst (λ l. c.loop-number.number < length l) c.deref-lists-items.ensures.value c.loop-number-test.true in
     let counts = c.self.invariant.counts in
-    omega (arith, within, lists-all index c.self.invariant.named, names-few packages, counts.counted, counts.few)
+    omega (arith, within, lists-all index c.self.invariant.named, names-few index.packages, counts.counted, counts.few)
 
 pub loop-number-preserved : goal.loop-number-preserved
 loop-number-preserved c =
     let v = c.args.self.now in
     let n = c.loop-number.number in
-    let kept = c.self.inside.names in
+    let kept = c.self.inside.draft.catalog.names in
     let item = c.lists-item.result in
     let named = subst (λ (w : IndexView). IsNaming w.packages [] kept) c.self.view_is c.self.invariant.named in
     let may = subst (λ (w : IndexView). w.with_essential ≡ true) c.self.view_is c.if-not-self.false in
@@ -57,7 +56,7 @@ pub returns : goal.returns
 returns c =
     let v = c.args.self.now in
     let n = c.loop-number.number in
-    let kept = c.self.inside.names in
+    let kept = c.self.inside.draft.catalog.names in
     let named = subst (λ (w : IndexView). IsNaming w.packages [] kept) c.self.view_is c.self.invariant.named in
     let same = ap length c.deref-lists-items.ensures.value in
     let count = lists-all v named in

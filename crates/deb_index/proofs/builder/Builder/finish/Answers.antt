@@ -6,7 +6,7 @@ use Rattle.deb_index.proofs.builder.Builder.finish.Goals as goal
 
 pub invariant_of-result : goal.invariant_of-result
 invariant_of-result c =
-    let i = c.self.inside in
+    let i = c.self.inside.draft.catalog in
     let before = subst (λ (ps : List Package). IsNaming (map package_view ps) [] i.names) (sym c.deref-2.ensures.value) c.self.invariant.named in
     record {
       counts = c.self.invariant.counts;

@@ -7,7 +7,7 @@ use Rattle.deb_index.proofs.builder.Builder.is_marked.Goals as goal
 
 pub returns-in-Some : goal.returns-in-Some
 returns-in-Some c =
-    let packages = c.self.inside.packages.items in
+    let packages = c.self.inside.draft.catalog.packages.items in
     let i = c.args.place in
     let p = c.in-Some.package.now in
     let lookup = c.in-Some.ensures.lookup in
@@ -17,7 +17,7 @@ returns-in-Some c =
 
 pub returns-in-None : goal.returns-in-None
 returns-in-None c =
-    let packages = c.self.inside.packages.items in
+    let packages = c.self.inside.draft.catalog.packages.items in
     let i = c.args.place in
     let lookup = c.in-None.ensures.lookup in
     let P : IndexView → Type 0 = λ v. false ≡ is_marked v i in

@@ -4,13 +4,15 @@ use Rattle.deb_index.specs.Reading.{collected}
 use Rattle.deb_index.proofs.builder.Builder.new.Goals as goal
 
 pub invariant_of-result : goal.invariant_of-result
-invariant_of-result c = rw (c.new.ensures.items, c.new-2.ensures.items, c.new-4.ensures.empty) (record {
-  counts = record { counted = refl; front = omega arith; few = omega arith; small = tt; few_asked = omega arith };
-  numbered = refl;
-  named = c.new-3.ensures;
-  known = λ p. refl;
-})
+invariant_of-result c =
+    let none = c.new-3.ensures.items in
+    record {
+      counts = rw none (record { counted = refl; front = omega arith; few = omega arith; small = tt; few_asked = omega arith });
+      numbered = rw (c.new.ensures.items, none) refl;
+      named = rw none c.new-2.ensures;
+      known = rw (none, c.new-later.ensures.empty) (λ p. refl);
+    }
 
 pub returns : goal.returns
 unfolding collected first_of_each
-returns c = rw (c.in_ok-from_slice.ensures.items, c.new.ensures.items) refl
+returns c = rw (c.in_ok-from_slice.ensures.items, c.new-3.ensures.items) refl

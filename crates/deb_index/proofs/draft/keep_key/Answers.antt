@@ -3,7 +3,7 @@ use Rattle.std.proofs.lemmas.List.{append-nil}
 use Rattle.deb_index.specs.Packages.{package_view}
 use Rattle.deb_index.specs.Built.{key_view, package_key}
 use Rattle.deb_index.proofs.BuiltLemmas.{keys-grow}
-use Rattle.deb_index.proofs.builder.keep_key.Goals as goal
+use Rattle.deb_index.proofs.draft.keep_key.Goals as goal
 
 pub returns-in_ok-insert : goal.returns-in_ok-insert
 returns-in_ok-insert c =

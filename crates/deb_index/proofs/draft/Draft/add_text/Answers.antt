@@ -6,20 +6,22 @@ use Rattle.std.proofs.lemmas.Result.{err_from_is_err_and}
 use Rattle.deb_control.specs.Stanzas.{stanzas_of}
 use Rattle.deb_index.specs.declared.parts.Part.{Part}
 use Rattle.deb_index.specs.Packages.{IndexView}
+use Rattle.deb_index.specs.Built.{draft_view}
 use Rattle.deb_index.specs.Parts.{HasRoomFor, IsForeseen, part_stanzas}
-use Rattle.deb_index.specs.Reading.{byte_limit, continued, readings}
+use Rattle.deb_index.specs.Reading.{byte_limit, continued, read_behind, readings}
 use Rattle.deb_index.proofs.PartedLemmas.{short-parts}
 use Rattle.deb_index.proofs.RoomLemmas.{text-room}
 use Rattle.deb_index.proofs.TakenLemmas.{Taken, part-room, parts-end, parts-fault, parts-more, rest-room, taken}
-use Rattle.deb_index.proofs.builder.Builder.add_behind.Goals as goal
+use Rattle.deb_index.proofs.draft.Draft.add_text.Goals as goal
 
 pub loop-part-init : goal.loop-part-init
 loop-part-init c =
-    let v = c.args.self in
+    let v = draft_view c.args.self.now in
     let gives = c.into_iter-part-iterator.ensures.into_iter_gives in
     let items = into_iter_items c.into_iter-part-iterator.result in
     let whole : flat_map part_stanzas items ≡ stanzas_of c.args.text.text.now = ap (flat_map part_stanzas) gives.0 ∙ c.requires.parts.stanzas in
     record {
+      built = c.requires.built;
       so_far = refl;
       same = refl;
       begun = c.requires.begun;
@@ -32,30 +34,30 @@ loop-part-init c =
 
 -- what the loop has to come to
 whole-is : (v : IndexView) (before : ℕ) (items parts : List Part) (text : List ℕ) → items ≡ parts → flat_map part_stanzas parts ≡ stanzas_of text
-    → continued v (readings v.arch before (v.stanzas - before) (stanzas_of text)) ≡ continued v (readings v.arch before (v.stanzas - before) (flat_map part_stanzas items))
-whole-is v before items parts text same whole = ap (λ stanzas. continued v (readings v.arch before (v.stanzas - before) stanzas)) (sym (ap (flat_map part_stanzas) same ∙ whole))
+    → read_behind v before (stanzas_of text) ≡ read_behind v before (flat_map part_stanzas items)
+whole-is v before items parts text same whole = ap (read_behind v before) (sym (ap (flat_map part_stanzas) same ∙ whole))
 
-pub returns-in_err-builder-clause-refused : goal.returns-in_err-builder-clause-refused
-returns-in_err-builder-clause-refused c =
-    let v = c.args.self in
+pub returns-in_err-add_part-clause-refused : goal.returns-in_err-add_part-clause-refused
+returns-in_err-add_part-clause-refused c =
+    let v = draft_view c.args.self.now in
     let inv = c.loop-part.invariant in
     let part = c.in-Some.part in
-    let n = c.loop-part.builder.stanzas - c.args.before in
-    let e = c.in_err-builder.field-0.0 in
+    let n = c.loop-part.self.catalog.stanzas - c.args.before in
+    let e = c.in_err-add_part.field-0.0 in
     let p = err_from_is_err_and c.from_residual.result c.from_residual.ensures.1 in
     let whole = whole-is v c.args.before (into_iter_items c.into_iter-part-iterator.result) c.args.text.parts.items c.args.text.text.now c.into_iter-part-iterator.ensures.into_iter_gives.0 c.requires.parts.stanzas in
     rw (p.1, p.2)
-    (λ other. whole ∙ parts-fault v.arch c.args.before n _ c.loop-part.builder (into_iter_items c.loop-part.part-iterator) (into_iter_items c.next.new.self) part c.in-Some.ensures.steps.0 inv.so_far e
-    (subst (λ (a : List ℕ). continued c.loop-part.builder (readings a c.args.before n (part_stanzas part)) ≡ Err e) inv.same (c.in_err-builder.ensures.refused other)))
+    (λ other. whole ∙ parts-fault v.arch c.args.before n _ (draft_view c.loop-part.self) (into_iter_items c.loop-part.part-iterator) (into_iter_items c.next.new.self) part c.in-Some.ensures.steps.0 inv.so_far e
+    (subst (λ (a : List ℕ). continued (draft_view c.loop-part.self) (readings a c.args.before n (part_stanzas part)) ≡ Err e) inv.same (c.in_err-add_part.ensures.refused other)))
 
 pub add_part-requires-clause-room : goal.add_part-requires-clause-room
-add_part-requires-clause-room c = part-room c.loop-part.builder (into_iter_items c.loop-part.part-iterator) (into_iter_items c.next.new.self) c.in-Some.part c.in-Some.ensures.steps.0 c.loop-part.invariant.room
+add_part-requires-clause-room c = part-room (draft_view c.loop-part.self) (into_iter_items c.loop-part.part-iterator) (into_iter_items c.next.new.self) c.in-Some.part c.in-Some.ensures.steps.0 c.loop-part.invariant.room
 
 pub loop-part-preserved : goal.loop-part-preserved
 loop-part-preserved c =
-    let v = c.args.self in
-    let old = c.loop-part.builder in
-    let new = c.in_ok-builder.builder in
+    let v = draft_view c.args.self.now in
+    let old = draft_view c.loop-part.self in
+    let new = draft_view c.add_part.new.self in
     let inv = c.loop-part.invariant in
     let part = c.in-Some.part in
     let items = into_iter_items c.loop-part.part-iterator in
@@ -63,11 +65,12 @@ loop-part-preserved c =
     let steps = c.in-Some.ensures.steps in
     let before = c.args.before in
     let n = old.stanzas - before in
-    let read = subst (λ (a : List ℕ). continued old (readings a before n (part_stanzas part)) ≡ Ok new) inv.same c.in_ok-builder.ensures.accepted in
+    let read = subst (λ (a : List ℕ). continued old (readings a before n (part_stanzas part)) ≡ Ok new) inv.same c.in_ok-add_part.ensures.accepted in
     let t : Taken old (part_stanzas part) new = taken v.arch before n (part_stanzas part) old new read (omega (arith, inv.begun)) in
     let short = subst (λ (ps : List Part). AllByRecursion (λ part. length part.text.now ≤ byte_limit) ps) steps.0 inv.short in
     let foreseen = subst (λ (ps : List Part). AllByRecursion (IsForeseen v.arch) ps) steps.0 inv.foreseen in
     record {
+      built = c.in_ok-add_part.ensures.built;
       so_far = parts-more v.arch before n _ old items rest part steps.0 inv.so_far new (new.stanzas - before) read (omega (arith, t.counts, inv.begun));
       same = t.arch ∙ inv.same;
       begun = omega (arith, t.counts, inv.begun);
@@ -80,9 +83,9 @@ loop-part-preserved c =
 
 pub returns-clause-accepted : goal.returns-clause-accepted
 returns-clause-accepted c =
-    let v = c.args.self in
+    let v = draft_view c.args.self.now in
     let inv = c.loop-part.invariant in
     let items = into_iter_items c.loop-part.part-iterator in
     let none = nil_from_length items (sym inv.len ∙ c.in-None.ensures.steps.0) in
     let whole = whole-is v c.args.before (into_iter_items c.into_iter-part-iterator.result) c.args.text.parts.items c.args.text.text.now c.into_iter-part-iterator.ensures.into_iter_gives.0 c.requires.parts.stanzas in
-    whole ∙ parts-end v.arch c.args.before (c.loop-part.builder.stanzas - c.args.before) _ c.loop-part.builder items none inv.so_far
+    whole ∙ parts-end v.arch c.args.before (c.loop-part.self.catalog.stanzas - c.args.before) _ (draft_view c.loop-part.self) items none inv.so_far

@@ -1,0 +1,248 @@
+//! An index while stanzas are taken in.
+ghost use Rattle.std.specs.Prelude.{◌≡◌, ◌≢◌, ◌<◌, ◌≤◌, ◌+◌, ◌-◌, ◌*◌, ◌++◌, ◌∷◌, [], cond, false, Ok, Err, IfOk, IfErr, OnOk, Some};
+ghost use Rattle.std.specs.Prelude.{length, map, position, sum_by};
+ghost use Rattle.std.specs.List.{fold, list_any};
+ghost use Rattle.std.specs.Str.{bytes_eq};
+ghost use Rattle.deb_control.specs.Stanzas.{stanzas_of};
+ghost use Rattle.deb_index.specs.Packages.{names, package_view};
+ghost use Rattle.deb_index.specs.Built.{key_view, package_key, same_key};
+ghost use Rattle.deb_index.specs.Parts.{ArePartsOf, HasRoomFor, HaveRoom, IsForeseen, in_lists, part_stanzas};
+ghost use Rattle.deb_index.specs.Reading.{byte_limit, read_behind, reading_view, same_package, stanza_limit, with_reading};
+ghost use Rattle.deb_index.specs.Tables.{HasRoom, asked_count};
+
+use crate::catalog::Catalog;
+use crate::error::IndexError;
+use crate::limits::STANZA_LIMIT;
+use crate::package::{Package, Reading, next_reading};
+use crate::parts::{Part, Parted};
+use deb_control::Reader;
+use indexmap::IndexSet;
+use std::alloc::{AllocError, Global};
+
+/// What tells packages apart: the name and the text of the version.
+#[derive(PartialEq, Eq, Hash, Drop)]
+pub(crate) struct PackageKey {
+    pub(crate) name: Vec<u8>,
+    pub(crate) version: Vec<u8>,
+}
+
+impl PackageKey {
+    pub(crate) fn of(alloc: Global, candidate: &Package) -> Result<PackageKey, AllocError>
+        ensures { IfOk result (λ k. key_view k ≡ package_key (package_view candidate.now)) }
+    {
+        Ok(PackageKey {
+            name: Vec::from_slice(alloc, candidate.name.as_slice())?,
+            version: Vec::from_slice(alloc, candidate.version.text())?,
+        })
+    }
+}
+
+// Keeps the key of a package whose name is there already.
+fn keep_key(
+    alloc: Global,
+    is_later: bool,
+    candidate: &Package,
+    later: &mut IndexSet<PackageKey>,
+) -> Result<(), AllocError>
+    requires { list_any (same_key (package_key (package_view candidate.now))) (map key_view later.old.keys) ≡ false }
+    ensures { OnOk result (map key_view later.new.keys ≡ map key_view later.old.keys ++ cond is_later (package_key (package_view candidate.now) ∷ []) []) }
+{
+    if is_later {
+        later.insert(PackageKey::of(alloc, candidate)?)?;
+    }
+    Ok(())
+}
+
+/// The packages so far, and what they are known by. Where memory is refused, it may be left half filled.
+#[derive(Drop)]
+pub(crate) struct Draft {
+    pub(crate) catalog: Catalog,
+    // The keys of the packages that are not the first of their name.
+    pub(crate) later: IndexSet<PackageKey>,
+}
+
+impl Draft {
+    ghost use Rattle.deb_index.specs.Built.{IsBuilt, draft_view};
+
+    /// Takes in the stanzas of a text, or of a piece of it, part by part; so many stanzas stood in an earlier text.
+    pub(crate) fn add_text(
+        &mut self,
+        alloc: Global,
+        before: u32,
+        text: Parted,
+    ) -> Result<(), IndexError>
+        requires built { IsBuilt self.old }
+        requires parts { ArePartsOf (draft_view self.old).arch text.text.now text.parts.items }
+        requires begun { before ≤ self.old.catalog.stanzas }
+        requires short { length text.text.now ≤ byte_limit }
+        requires few { self.old.catalog.stanzas ≤ stanza_limit }
+        requires room { sum_by asked_count (draft_view self.old).packages ≤ byte_limit + 1 + 4 * self.old.catalog.stanzas }
+        ensures built { OnOk result (IsBuilt self.new) }
+        ensures accepted { OnOk result (read_behind (draft_view self.old) before (stanzas_of text.entry.text.now) ≡ Ok (draft_view self.new)) }
+        ensures refused { IfErr result (λ e. e ≢ IndexError.Memory → read_behind (draft_view self.old) before (stanzas_of text.entry.text.now) ≡ Err e) }
+    {
+        for part in text.parts {
+            self.add_part(alloc, before, part)?;
+        }
+        Ok(())
+    }
+
+    // Takes in a part of a text; so many stanzas stood in an earlier text. What was read beforehand is taken over, where there are not too
+    // many stanzas then; else the part is read here.
+    fn add_part(&mut self, alloc: Global, before: u32, part: Part) -> Result<(), IndexError>
+        requires built { IsBuilt self.old }
+        requires begun { before ≤ self.old.catalog.stanzas }
+        requires few { self.old.catalog.stanzas ≤ stanza_limit }
+        requires short { length part.text.now ≤ byte_limit }
+        requires foreseen { IsForeseen (draft_view self.old).arch part }
+        requires room { HasRoomFor (draft_view self.old) (part_stanzas part) }
+        ensures built { OnOk result (IsBuilt self.new) }
+        ensures accepted { OnOk result (read_behind (draft_view self.old) before (part_stanzas part.entry) ≡ Ok (draft_view self.new)) }
+        ensures refused { IfErr result (λ e. e ≢ IndexError.Memory → read_behind (draft_view self.old) before (part_stanzas part.entry) ≡ Err e) }
+    {
+        let Part { text, found } = part;
+        if let Some(found) = found {
+            if found.len() <= (STANZA_LIMIT - self.catalog.stanzas) as usize {
+                self.add_readings(alloc, found)?;
+                return Ok(());
+            }
+        }
+        let reader = Reader::behind(text, u64::from(self.catalog.stanzas - before));
+        self.add_stanzas(alloc, before, reader)
+    }
+
+    /// Takes in what stanzas read as, one list after the other.
+    pub(crate) fn add_lists(
+        &mut self,
+        alloc: Global,
+        lists: Vec<Vec<Reading>>,
+    ) -> Result<(), AllocError>
+        requires built { IsBuilt self.old }
+        requires room { HaveRoom (draft_view self.old) (in_lists lists.items) }
+        ensures built { OnOk result (IsBuilt self.new) }
+        ensures added { OnOk result (draft_view self.new ≡ fold with_reading (draft_view self.old) (in_lists lists.items)) }
+    {
+        for found in lists {
+            self.add_readings(alloc, found)?;
+        }
+        Ok(())
+    }
+
+    // Takes in what stanzas read as.
+    fn add_readings(&mut self, alloc: Global, found: Vec<Reading>) -> Result<(), AllocError>
+        requires built { IsBuilt self.old }
+        requires room { HaveRoom (draft_view self.old) (map reading_view found.items) }
+        ensures built { OnOk result (IsBuilt self.new) }
+        ensures added { OnOk result (draft_view self.new ≡ fold with_reading (draft_view self.old) (map reading_view found.items)) }
+    {
+        for reading in found {
+            self.add(alloc, reading)?;
+        }
+        Ok(())
+    }
+
+    // Reads the stanzas that a reader has before it, and takes each in; so many stood in an earlier text.
+    fn add_stanzas(&mut self, alloc: Global, before: u32, reader: Reader) -> Result<(), IndexError>
+        requires built { IsBuilt self.old }
+        requires counts { self.old.catalog.stanzas ≡ before + reader.count }
+        requires few { self.old.catalog.stanzas ≤ stanza_limit }
+        requires room { HasRoomFor (draft_view self.old) reader.stanzas }
+        ensures built { OnOk result (IsBuilt self.new) }
+        ensures accepted { OnOk result (read_behind (draft_view self.old) before reader.entry.stanzas ≡ Ok (draft_view self.new)) }
+        ensures refused { IfErr result (λ e. e ≢ IndexError.Memory → read_behind (draft_view self.old) before reader.entry.stanzas ≡ Err e) }
+    {
+        let mut reader = reader;
+        'stanzas: while let Some(reading) = next_reading(
+            alloc,
+            &self.catalog.arch,
+            before,
+            &mut reader,
+        )? {
+            self.add(alloc, reading)?;
+        }
+        Ok(())
+    }
+
+    // Takes in what the next stanza reads as.
+    fn add(&mut self, alloc: Global, reading: Reading) -> Result<(), AllocError>
+        requires built { IsBuilt self.old }
+        requires few { self.old.catalog.stanzas < stanza_limit }
+        requires room { HasRoom (draft_view self.old) (reading_view reading) }
+        ensures built { OnOk result (IsBuilt self.new) }
+        ensures added { OnOk result (draft_view self.new ≡ with_reading (draft_view self.old) (reading_view reading)) }
+    {
+        match reading {
+            Reading::Skipped => {
+                self.catalog.skipped += 1;
+                self.catalog.stanzas += 1;
+                Ok(())
+            }
+            Reading::Kept(candidate) => self.keep(alloc, candidate),
+        }
+    }
+
+    // Takes in a package, or counts it as a duplicate.
+    fn keep(&mut self, alloc: Global, candidate: Package) -> Result<(), AllocError>
+        requires built { IsBuilt self.old }
+        requires few { self.old.catalog.stanzas < stanza_limit }
+        requires room { HasRoom (draft_view self.old) (Some (package_view candidate)) }
+        ensures built { OnOk result (IsBuilt self.new) }
+        ensures added { OnOk result (draft_view self.new ≡ with_reading (draft_view self.old) (Some (package_view candidate))) }
+    {
+        let known = self.catalog.names.number(candidate.name.as_slice());
+        if self.contains(alloc, known, &candidate)? {
+            self.catalog.duplicates += 1;
+            self.catalog.stanzas += 1;
+            return Ok(());
+        }
+        self.push(alloc, known, candidate)
+    }
+
+    // Whether a package of a candidate's name and version is there. The number is that of the name.
+    fn contains(
+        &self,
+        alloc: Global,
+        known: Option<usize>,
+        candidate: &Package,
+    ) -> Result<bool, AllocError>
+        requires built { IsBuilt self.now }
+        requires known { known ≡ position (bytes_eq (package_view candidate.now).name) (names (draft_view self.now)) }
+        ensures { IfOk result (λ found. found ≡ list_any (λ q. same_package q (package_view candidate.now)) (draft_view self.now).packages) }
+    {
+        let [first, ..] = self.catalog.names.places_known(known) else {
+            return Ok(false);
+        };
+        let version = candidate.version.text();
+        if self.catalog.packages[*first as usize].version.text() == version {
+            return Ok(true);
+        }
+        let key = PackageKey::of(alloc, candidate)?;
+        Ok(self.later.contains(&key))
+    }
+
+    // Puts a package down at the next place. The number is that of its name.
+    fn push(
+        &mut self,
+        alloc: Global,
+        known: Option<usize>,
+        candidate: Package,
+    ) -> Result<(), AllocError>
+        requires built { IsBuilt self.old }
+        requires known { known ≡ position (bytes_eq (package_view candidate).name) (names (draft_view self.old)) }
+        requires apart { list_any (λ q. same_package q (package_view candidate)) (draft_view self.old).packages ≡ false }
+        requires few { self.old.catalog.stanzas < stanza_limit }
+        requires room { HasRoom (draft_view self.old) (Some (package_view candidate)) }
+        ensures built { OnOk result (IsBuilt self.new) }
+        ensures added { OnOk result (draft_view self.new ≡ with_reading (draft_view self.old) (Some (package_view candidate))) }
+    {
+        let place = self.catalog.packages.len();
+        self.catalog.packages.push(candidate)?;
+        let kept = &self.catalog.packages[place];
+        keep_key(alloc, known.is_some(), kept, &mut self.later)?;
+        let name = kept.name.as_slice();
+        let number = self.catalog.names.add(alloc, known, name, place as u32)?;
+        self.catalog.numbers.push(number as u32)?;
+        self.catalog.stanzas += 1;
+        Ok(())
+    }
+}
