@@ -1,19 +1,14 @@
 -- When an entry or a group has a row, and which.
-use Rattle.std.proofs.Common.{◌≡◌, ◌<◌, ◌≤◌, ◌+◌, ℕ, Bool, true, false, not, cond, leb, List, [], ◌∷◌, ◌++◌, map, length, take, get_or, Option, Some, None, refl, sym, ap, ◌∙◌, arith}
+use Rattle.std.proofs.Common.{◌≡◌, ◌<◌, ◌≤◌, ◌+◌, ℕ, Bool, true, false, not, cond, List, [], ◌∷◌, ◌++◌, map, length, take, get_or, Option, Some, None, refl, sym, ap, ◌∙◌, arith}
 use Rattle.std.specs.Prelude.{IfSome, nat_le}
 use Rattle.std.specs.Option.{is_some, option_map}
 use Rattle.std.proofs.lemmas.Bool.{false≢true, lt-leb}
 use Rattle.std.proofs.lemmas.List.{map-append, take-map, take_more}
-use Rattle.std.proofs.lemmas.List.Sums.{sum_by-cons, sum_by_push}
+use Rattle.std.proofs.lemmas.List.Sums.{sum_by_push}
 use Rattle.deb_relation.specs.declared.atom.Atom.{Atom}
 use Rattle.deb_relation.specs.AtomView.{atom_view}
-use Rattle.deb_relation.specs.Relationship.{AtomText}
-use Rattle.deb_index.specs.Packages.{IndexView, places_where}
-use Rattle.deb_index.specs.Meets.{meets_need}
-use Rattle.deb_index.specs.Rows.{answer_row, candidate_count, group_candidates, row_limit}
-use Rattle.deb_index.specs.Roles.{row_as}
-use Rattle.deb_index.specs.declared.meets.Role.TheVariants.{Alternative}
-use Rattle.deb_index.proofs.FoundLemmas.{or-none}
+use Rattle.deb_index.specs.Packages.{IndexView}
+use Rattle.deb_index.specs.Rows.{candidate_count, group_candidates, row_limit}
 use Rattle.deb_index.proofs.PartLemmas.{sum-take}
 
 none-some : (x : List ℕ) → None ≡ Some x → ⊥
@@ -50,12 +45,6 @@ kept true row h = refl
 kept false row h = absurd (false≢true (sym h))
 
 module _ (index : IndexView) where
-  -- a group of one alternative has the row of that
-  pub group-of-one : (atom : AtomText) → answer_row index (atom ∷ []) ≡ row_as Alternative index atom
-  group-of-one atom =
-      let same : group_candidates index (atom ∷ []) ≡ candidate_count index atom = omega (arith, sum_by-cons (candidate_count index) atom []) in
-      λ i. cond (leb (same i) row_limit) (Some (places_where (λ q. or-none (meets_need index.arch q atom) i) index.packages)) None
-
   -- one alternative more
   module _ (atoms : List Atom) (i : ℕ) (a : Atom) (within : i < length atoms) (at : a ≡ get_or atoms i a) where
     more : map atom_view (take (i + 1) atoms) ≡ map atom_view (take i atoms) ++ atom_view a ∷ []

@@ -184,10 +184,6 @@ module _ {T : Type 0} where
       ≡ cond (list_any (λ k. bytes_eq k name) (first_of_each bytes_eq (map (λ (p : List ℕ × T). p.0) pairs))) (first_of_each bytes_eq (map (λ (p : List ℕ × T). p.0) pairs)) (first_of_each bytes_eq (map (λ (p : List ℕ × T). p.0) pairs) ++ name ∷ [])
   keys-push name x pairs = ap (first_of_each bytes_eq) (map-append (λ (p : List ℕ × T). p.0) pairs ((name, x) ∷ [])) ∙ first-push bytes_eq names-chain (map (λ (p : List ℕ × T). p.0) pairs) name
 
-  -- what is under a name that is not there, or is
-  pub table-none : {pairs : List (List ℕ × T)} {ks : List (List ℕ)} {lists : List (List T)} (name : List ℕ) → IsTable pairs ks lists → number_in name ks ≡ None → items_of name pairs ≡ []
-  table-none {pairs} {ks} name t e = no-items name pairs (sym (any-first name (map (λ (p : List ℕ × T). p.0) pairs)) ∙ subst (λ l. list_any (bytes_eq name) l ≡ false) t.names_are (none-any name ks e))
-
   -- one more item under a name that is there
   pub put-there : {pairs : List (List ℕ × T)} {ks : List (List ℕ)} {lists : List (List T)} (name : List ℕ) (x : T) (i : ℕ) → IsTable pairs ks lists → number_in name ks ≡ Some i
       → IsTable (pairs ++ (name, x) ∷ []) ks (set lists i (get_or lists i [] ++ x ∷ []))
@@ -207,19 +203,6 @@ module _ {T : Type 0} where
       found : list_any (λ k. bytes_eq k name) keys ≡ true
       found = any-turned name keys ∙ subst (λ l. list_any (bytes_eq name) l ≡ true) t.names_are (some-any name ks i e)
 
-  -- a first item under a name that is new
-  pub put-new : {pairs : List (List ℕ × T)} {ks : List (List ℕ)} {lists : List (List T)} (name : List ℕ) (x : T) → IsTable pairs ks lists → number_in name ks ≡ None
-      → IsTable (pairs ++ (name, x) ∷ []) (ks ++ name ∷ []) (lists ++ (x ∷ []) ∷ [])
-  put-new {pairs} {ks} {lists} name x t e = record {
-    names_are = ap (λ l. l ++ name ∷ []) t.names_are ∙ sym (keys-push name x pairs ∙ ap (λ c. cond c keys (keys ++ name ∷ [])) (any-turned name keys ∙ subst (λ l. list_any (bytes_eq name) l ≡ false) t.names_are (none-any name ks e)));
-    lists_are = ap (λ (l : List (List T)). l ++ (x ∷ []) ∷ []) (t.lists_are ∙ sym (map-others name (λ k. items_of k pairs) (λ k. items_of k (pairs ++ (name, x) ∷ [])) (items-other name x pairs) ks (none-any name ks e)))
-        ∙ ap (λ (v : List T). map (λ k. items_of k (pairs ++ (name, x) ∷ [])) ks ++ v ∷ []) (sym (items-same name x pairs ∙ ap (λ (v : List T). v ++ x ∷ []) (table-none name t e)))
-        ∙ sym (map-append (λ k. items_of k (pairs ++ (name, x) ∷ [])) ks (name ∷ []));
-  }
-    where
-      keys : List (List ℕ)
-      keys = first_of_each bytes_eq (map (λ (p : List ℕ × T). p.0) pairs)
-
   -- the same over lists that are seen through a view
   module _ {V : Type 0} (items : V → List T) where
     listed-at : {pairs : List (List ℕ × T)} {ks : List (List ℕ)} (vs : List V) (name : List ℕ) (i : ℕ) → IsTable pairs ks (map items vs) → number_in name ks ≡ Some i → i < length vs
@@ -229,12 +212,3 @@ module _ {T : Type 0} where
         → IsTable (pairs ++ (name, x) ∷ []) ks (map items (set vs i new))
     put-at {pairs} {ks} vs name x i old new t e at put = subst (λ l. IsTable (pairs ++ (name, x) ∷ []) ks l)
         (ap (λ v. set (map items vs) i (v ++ x ∷ [])) (get_or-map items vs i old [] (listed-at vs name i t e) ∙ ap items (sym at)) ∙ ap (λ v. set (map items vs) i v) (sym put) ∙ sym (map-set items vs i new)) (put-there name x i t e)
-
-    pub put-first : {K : Type 0} (bytes : K → List ℕ) {pairs : List (List ℕ × T)} (keys : List K) (vs : List V) (name : List ℕ) (x : T) (key : K) (v : V)
-        → IsTable pairs (map bytes keys) (map items vs) → number_in name (map bytes keys) ≡ None → bytes key ≡ name → items v ≡ x ∷ []
-        → IsTable (pairs ++ (name, x) ∷ []) (map bytes (cond (list_any (λ k. bytes_eq (bytes key) (bytes k)) keys) keys (keys ++ key ∷ []))) (map items (vs ++ v ∷ []))
-    put-first bytes {pairs} keys vs name x key v t e same one =
-        let longer = sym (texts-grow bytes keys key name same e) in
-        let put : IsTable (pairs ++ (name, x) ∷ []) (map bytes keys ++ name ∷ []) (map items vs ++ (x ∷ []) ∷ []) = put-new name x t e in
-        subst (λ l. IsTable (pairs ++ (name, x) ∷ []) l (map items (vs ++ v ∷ []))) longer
-        (subst (λ l. IsTable (pairs ++ (name, x) ∷ []) (map bytes keys ++ name ∷ []) l) (ap (λ w. map items vs ++ w ∷ []) (sym one) ∙ sym (map-append items vs (v ∷ []))) put)

@@ -1,11 +1,11 @@
 //! An index while it is read.
-ghost use Rattle.std.specs.Prelude.{◌≡◌, ◌≢◌, ◌≤◌, ◌+◌, ◌-◌, ◌*◌, [], Ok, Err, IfOk, IfErr, length, sum_by};
+ghost use Rattle.std.specs.Prelude.{◌≡◌, ◌≢◌, ◌≤◌, ◌+◌, ◌*◌, [], Ok, Err, IfOk, IfErr, length, sum_by};
 ghost use Rattle.std.specs.List.{fold, list_any};
 ghost use Rattle.deb_control.specs.Stanzas.{stanzas_of};
 ghost use Rattle.deb_index.specs.Packages.{essential_names};
 ghost use Rattle.deb_index.specs.Built.{is_marked};
 ghost use Rattle.deb_index.specs.Parts.{ArePartsOf, HaveRoom, in_lists};
-ghost use Rattle.deb_index.specs.Reading.{byte_limit, collected, continued, readings, stanza_limit, with_foreground, with_reading};
+ghost use Rattle.deb_index.specs.Reading.{byte_limit, collected, continued, read_behind, readings, stanza_limit, with_foreground, with_reading};
 ghost use Rattle.deb_index.specs.Tables.{asked_count};
 
 use crate::catalog::Catalog;
@@ -68,7 +68,8 @@ impl Builder {
         requires few { self.stanzas ≤ stanza_limit }
         requires room { sum_by asked_count self.packages ≤ byte_limit + 1 + 4 * self.stanzas }
         ensures accepted { IfOk result (λ b. continued self (readings self.arch self.stanzas 0 (stanzas_of text.entry.text.now)) ≡ Ok b) }
-        ensures refused { IfErr result (λ e. e ≢ IndexError.Memory → continued self (readings self.arch self.stanzas 0 (stanzas_of text.entry.text.now)) ≡ Err e) }
+        ensures refused { IfErr result (λ e. e ≢ IndexError.Memory
+            → continued self (readings self.arch self.stanzas 0 (stanzas_of text.entry.text.now)) ≡ Err e) }
     {
         let before = self.stanzas();
         self.add_behind(alloc, before, text)
@@ -86,8 +87,8 @@ impl Builder {
         requires short { length text.text.now ≤ byte_limit }
         requires few { self.stanzas ≤ stanza_limit }
         requires room { sum_by asked_count self.packages ≤ byte_limit + 1 + 4 * self.stanzas }
-        ensures accepted { IfOk result (λ b. continued self (readings self.arch before (self.stanzas - before) (stanzas_of text.entry.text.now)) ≡ Ok b) }
-        ensures refused { IfErr result (λ e. e ≢ IndexError.Memory → continued self (readings self.arch before (self.stanzas - before) (stanzas_of text.entry.text.now)) ≡ Err e) }
+        ensures accepted { IfOk result (λ b. read_behind self before (stanzas_of text.entry.text.now) ≡ Ok b) }
+        ensures refused { IfErr result (λ e. e ≢ IndexError.Memory → read_behind self before (stanzas_of text.entry.text.now) ≡ Err e) }
     {
         self.draft.add_text(alloc, before, text)?;
         Ok(self)

@@ -1,6 +1,6 @@
 //! An index while stanzas are taken in.
-ghost use Rattle.std.specs.Prelude.{◌≡◌, ◌≢◌, ◌<◌, ◌≤◌, ◌+◌, ◌-◌, ◌*◌, ◌++◌, ◌∷◌, [], cond, false, Ok, Err, IfOk, IfErr, OnOk, Some};
-ghost use Rattle.std.specs.Prelude.{length, map, position, sum_by};
+ghost use Rattle.std.specs.Prelude.{◌≡◌, ◌≢◌, ◌<◌, ◌≤◌, ◌+◌, ◌*◌, ◌++◌, ◌∷◌, [], false, Ok, Err, IfOk, IfErr, OnOk, Some};
+ghost use Rattle.std.specs.Prelude.{cond, length, map, position, sum_by};
 ghost use Rattle.std.specs.List.{fold, list_any};
 ghost use Rattle.std.specs.Str.{bytes_eq};
 ghost use Rattle.deb_control.specs.Stanzas.{stanzas_of};

@@ -18,8 +18,8 @@ pub fn background()
         → index_of_both text background arch with_essential ≡ Ok both → take both.foreground both.packages ≡ fore.packages }
 
     // No two packages, of whichever text, have one name and version text.
-    ensures distinct { (text background arch : List ℕ) (with_essential : Bool) (both : IndexView) → index_of_both text background arch with_essential ≡ Ok both
-        → AllPairs (λ p q. same_package p q ≡ false) both.packages }
+    ensures distinct { (text background arch : List ℕ) (with_essential : Bool) (both : IndexView)
+        → index_of_both text background arch with_essential ≡ Ok both → AllPairs (λ p q. same_package p q ≡ false) both.packages }
 {}
 
 /// The limits are those of the definitions.

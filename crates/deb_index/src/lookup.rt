@@ -179,7 +179,8 @@ impl<'a> Lookup<'a> {
         places: &[u32],
         found: &mut Vec<u32>,
     ) -> Result<(), AllocError>
-        ensures { OnOk result ((q : ℕ) → is_in found.new.items q ≡ (is_in found.old.items q || (is_in places.now q && meets_as_at role self.now q (atom_view atom.now)))) }
+        ensures { OnOk result ((q : ℕ)
+            → is_in found.new.items q ≡ (is_in found.old.items q || (is_in places.now q && meets_as_at role self.now q (atom_view atom.now)))) }
     {
         for place in places {
             self.add_place(role, atom, *place, found)?;
@@ -196,7 +197,8 @@ impl<'a> Lookup<'a> {
         found: &mut Vec<u32>,
     ) -> Result<(), AllocError>
         ensures { OnOk result ((q : ℕ)
-            → is_in found.new.items q ≡ (is_in found.old.items q || list_any (λ e. e.0 == q && provides_as_at role self.now e (atom_view atom.now)) entries.now)) }
+            → is_in found.new.items q
+            ≡ (is_in found.old.items q || list_any (λ e. e.0 == q && provides_as_at role self.now e (atom_view atom.now)) entries.now)) }
     {
         for entry in entries {
             self.add_provider(role, atom, *entry, found)?;
