@@ -13,7 +13,7 @@ use Rattle.debcheck.specs.Strict.{hint_of}
 use Rattle.debcheck.specs.declared.fault.RunFault.{RunFault}
 use Rattle.debcheck.specs.declared.fault.RunFault.TheVariants as run_fault
 use Rattle.debcheck.specs.declared.hints.Clue.{Clue}
-use Rattle.debcheck.specs.declared.hints.Clue.TheVariants.{Unopened, Likely, Line}
+use Rattle.debcheck.specs.declared.hints.Clue.TheVariants.{Likely, Line}
 
 -- a run ended with a report, or with a fault of this input
 unfoldable pub is_in_question : Result Summary RunFault → Input → Bool
@@ -36,31 +36,26 @@ pub record Files : Type 0 where
 abbrev pub files_of : Config → Files
 files_of config = record { bg = option_map string_bytes config.bg; since = option_map string_bytes config.since; names = option_map string_bytes config.only_file }
 
--- the name of an input's file, where it has one
-unfoldable pub name_of : Files → Input → Option Text
-name_of files input.Index = None
-name_of files input.Background = files.bg
-name_of files input.Earlier = files.since
-name_of files input.Names = files.names
-
 -- the line on a run that has a report
 unfoldable pub run_hint_text : Summary → Option (List ℕ)
 run_hint_text summary = option_map run_hint_line (run_hint summary.stanzas summary.skipped summary.asked)
 
--- the line on an input's file that isn't opened
-unfoldable pub unopened_text : Input → Option Text → Option (List ℕ)
-unopened_text input None = None
-unopened_text input (Some name) = file_hint_line input name
+-- the line on an input's file that can't be opened or read, where it has a name
+unfoldable pub unread_text : Input → Option Text → Option (List ℕ)
+unread_text input None = None
+unread_text input (Some name) = file_hint_line input name
 
--- the line on a run without a report, where nothing was seen of its inputs
-unfoldable pub fault_hint_text : RunFault → Option (List ℕ)
-fault_hint_text (run_fault.Slipped slip) = Some (run_hint_line (hint_of slip))
-fault_hint_text fault = None
+-- the line on a run without a report, where nothing was seen of its inputs: by its fault
+unfoldable pub fault_hint_text : Files → RunFault → Option (List ℕ)
+fault_hint_text files run_fault.BackgroundRead = unread_text input.Background files.bg
+fault_hint_text files run_fault.EarlierRead = unread_text input.Earlier files.since
+fault_hint_text files run_fault.NamesRead = unread_text input.Names files.names
+fault_hint_text files (run_fault.Slipped slip) = Some (run_hint_line (hint_of slip))
+fault_hint_text files fault = None
 
 -- the line that is told after a run, where something looks like a slip, by the files that it names
 unfoldable pub hint_text : Files → Result Summary RunFault → Option Clue → Option (List ℕ)
 hint_text files outcome (Some (Line line)) = Some line.items
 hint_text files outcome (Some (Likely input hint)) = Some (hint_line input hint)
-hint_text files (Ok summary) clue = run_hint_text summary
-hint_text files (Err fault) (Some (Unopened input)) = unopened_text input (name_of files input)
-hint_text files (Err fault) None = fault_hint_text fault
+hint_text files (Ok summary) None = run_hint_text summary
+hint_text files (Err fault) None = fault_hint_text files fault

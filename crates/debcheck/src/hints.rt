@@ -1,7 +1,7 @@
 //! What looks like a slip after a run, told on a terminal.
 
-ghost use Rattle.std.specs.Prelude.{◌≡◌, IfOk, option_map};
-ghost use Rattle.debcheck.specs.Hints.{clue_after, fault_hint_text, files_of, hint_text, is_in_question, name_of, run_hint_text};
+ghost use Rattle.std.specs.Prelude.{◌≡◌, IfOk, option_map, string_bytes};
+ghost use Rattle.debcheck.specs.Hints.{clue_after, fault_hint_text, files_of, hint_text, is_in_question, run_hint_text, unread_text};
 
 use crate::fault::RunFault;
 use crate::strict;
@@ -13,8 +13,6 @@ use std::io::{IsTerminal, Write};
 /// What was seen of an input that a run couldn't use.
 #[derive(Drop)]
 pub(crate) enum Clue {
-    /// Its file can't be opened.
-    Unopened(Input),
     /// By its first bytes this is likely wrong with it.
     Likely(Input, Hint),
     /// This line tells it.
@@ -54,23 +52,6 @@ pub(crate) fn note(
     }
 }
 
-// The name of an input's file, where it has one.
-#[tactic(auto, unfolding(crate::specs::Hints::name_of))]
-fn name_of(config: &Config, input: Input) -> Option<&str>
-    ensures { option_map (λ name. name.now) result ≡ name_of (files_of config.now) input }
-{
-    let name = match input {
-        Input::Index => return None,
-        Input::Background => &config.bg,
-        Input::Earlier => &config.since,
-        Input::Names => &config.only_file,
-    };
-    match name {
-        Some(name) => Some(name.as_str()),
-        None => None,
-    }
-}
-
 // The line on a run that has a report.
 #[tactic(auto, unfolding(crate::specs::Hints::run_hint_text))]
 fn run_hint_text(alloc: Global, summary: &Summary) -> Result<Option<Vec<u8>>, AllocError>
@@ -82,12 +63,34 @@ fn run_hint_text(alloc: Global, summary: &Summary) -> Result<Option<Vec<u8>>, Al
     }
 }
 
+// The line on an input's file that can't be opened or read.
+#[tactic(auto, unfolding(crate::specs::Hints::unread_text))]
+fn unread_text(
+    alloc: Global,
+    input: Input,
+    name: &Option<String>,
+) -> Result<Option<Vec<u8>>, AllocError>
+    ensures { IfOk result (λ line. option_map (λ text. text.items) line ≡ unread_text input (option_map string_bytes name.now)) }
+{
+    match name {
+        Some(name) => file_hint_line(alloc, input, name.as_str().as_bytes()),
+        None => Ok(None),
+    }
+}
+
 // The line on a run without a report, where nothing was seen of its inputs.
 #[tactic(auto, unfolding(crate::specs::Hints::fault_hint_text))]
-fn fault_hint_text(alloc: Global, fault: &RunFault) -> Result<Option<Vec<u8>>, AllocError>
-    ensures { IfOk result (λ line. option_map (λ text. text.items) line ≡ fault_hint_text fault.now) }
+fn fault_hint_text(
+    alloc: Global,
+    config: &Config,
+    fault: &RunFault,
+) -> Result<Option<Vec<u8>>, AllocError>
+    ensures { IfOk result (λ line. option_map (λ text. text.items) line ≡ fault_hint_text (files_of config.now) fault.now) }
 {
     match fault {
+        RunFault::BackgroundRead => unread_text(alloc, Input::Background, &config.bg),
+        RunFault::EarlierRead => unread_text(alloc, Input::Earlier, &config.since),
+        RunFault::NamesRead => unread_text(alloc, Input::Names, &config.only_file),
         RunFault::Slipped(slip) => {
             let line = run_hint_line(strict::hint_of(*slip));
             Ok(Some(Vec::from_slice(alloc, line)?))
@@ -97,7 +100,7 @@ fn fault_hint_text(alloc: Global, fault: &RunFault) -> Result<Option<Vec<u8>>, A
 }
 
 // The line that tells what looks like a slip, where something does.
-#[tactic(auto, unfolding(crate::specs::Hints::hint_text, crate::specs::Hints::unopened_text))]
+#[tactic(auto, unfolding(crate::specs::Hints::hint_text))]
 fn hint_text(
     alloc: Global,
     config: &Config,
@@ -109,12 +112,8 @@ fn hint_text(
     match (outcome, clue) {
         (_, Some(Clue::Line(line))) => Ok(Some(line)),
         (_, Some(Clue::Likely(input, hint))) => Ok(Some(hint_line(alloc, input, hint)?)),
-        (Ok(summary), _) => run_hint_text(alloc, summary),
-        (Err(_), Some(Clue::Unopened(input))) => match name_of(config, input) {
-            Some(name) => file_hint_line(alloc, input, name.as_bytes()),
-            None => Ok(None),
-        },
-        (Err(fault), None) => fault_hint_text(alloc, fault),
+        (Ok(summary), None) => run_hint_text(alloc, summary),
+        (Err(fault), None) => fault_hint_text(alloc, config, fault),
     }
 }
 

@@ -116,10 +116,7 @@ fn run_behind<
             outcome
         }
         Err(OpenFault::Memory) => Err(RunFault::Memory),
-        Err(OpenFault::Unopened) => {
-            *clue = Some(Clue::Unopened(Input::Earlier));
-            Err(RunFault::EarlierRead)
-        }
+        Err(OpenFault::Unopened) => Err(RunFault::EarlierRead),
     }
 }
 
@@ -161,20 +158,12 @@ fn open_and_run<O: Opener, S: Source, K: Sink, G: Gate + Sync, R: Threads + Sync
             outcome
         }
         Err(OpenFault::Memory) => Err(RunFault::Memory),
-        Err(OpenFault::Unopened) => {
-            *clue = Some(Clue::Unopened(Input::Background));
-            Err(RunFault::BackgroundRead)
-        }
+        Err(OpenFault::Unopened) => Err(RunFault::BackgroundRead),
     }
 }
 
 // Takes the names that are asked out of the file that has them, where the words name one.
-fn take_names<O: Opener>(
-    alloc: Global,
-    files: &O,
-    config: &mut Config,
-    clue: &mut Option<Clue>,
-) -> Result<(), RunFault>
+fn take_names<O: Opener>(alloc: Global, files: &O, config: &mut Config) -> Result<(), RunFault>
     ensures taken { OnOk result (TakesNames (O.named files.now) (option_map string_bytes config.old.only_file)
         (settings_of config.old) (settings_of config.new)) }
     ensures refused { IfErr result (FailsToTake (O.named files.now) (option_map string_bytes config.old.only_file)) }
@@ -192,10 +181,7 @@ fn take_names<O: Opener>(
             Ok(())
         }
         Err(OpenFault::Memory) => Err(RunFault::Memory),
-        Err(OpenFault::Unopened) => {
-            *clue = Some(Clue::Unopened(Input::Names));
-            Err(RunFault::NamesRead)
-        }
+        Err(OpenFault::Unopened) => Err(RunFault::NamesRead),
     }
 }
 
@@ -218,7 +204,7 @@ fn name_and_run<O: Opener, S: Source, K: Sink, G: Gate + Sync, R: Threads + Sync
         (input (S.remaining reader.old) (S.failed reader.new)) (S.remaining reader.new)
         (written (K.contents output.old) (K.contents output.new) (K.failed output.new) (K.flushed output.new)) result }
 {
-    match take_names(rt.alloc(), files, config, clue) {
+    match take_names(rt.alloc(), files, config) {
         Ok(()) => open_and_run(rt, config, files, reader, output, gate, clue),
         Err(fault) => Err(fault),
     }

@@ -114,10 +114,10 @@ option_name Names = Some (codes "--checkonly @")
 abbrev pub is_control : ℕ → Bool
 is_control b = nat_lt b 32 || b == 127 || b == 194
 
--- the line that tells of a file that isn't opened, by its name and by the option that names it
-unfoldable pub unopened_line : List ℕ → List ℕ → List ℕ
-unopened_line name option = codes "hint: " ++ option ++ name ++ codes ": no file that can be read stands there\n"
+-- the line that tells of a file that can't be opened or read, by its name and by the option that names it
+unfoldable pub unread_line : List ℕ → List ℕ → List ℕ
+unread_line name option = codes "hint: " ++ option ++ name ++ codes ": no file that can be read stands there\n"
 
 -- the same of an input's file, where it has one; nothing is told of a name that may have control characters
 unfoldable pub file_hint_line : Input → List ℕ → Option (List ℕ)
-file_hint_line input name = if list_any is_control name then None else option_map (unopened_line name) (option_name input)
+file_hint_line input name = if list_any is_control name then None else option_map (unread_line name) (option_name input)

@@ -1,9 +1,9 @@
-//! The line that tells of a file that isn't opened.
+//! The line that tells of a file that can't be opened or read.
 
 ghost use Rattle.std.specs.Prelude.{◌≡◌, IfOk, option_map};
 ghost use Rattle.std.specs.List.{list_any};
 ghost use Rattle.std.specs.Option.{option_copied};
-ghost use Rattle.input_hints.specs.Texts.{file_hint_line, is_control, option_name, unopened_line};
+ghost use Rattle.input_hints.specs.Texts.{file_hint_line, is_control, option_name, unread_line};
 
 use crate::line::Input;
 use std::alloc::{AllocError, Global};
@@ -28,9 +28,9 @@ fn has_control(name: &[u8]) -> bool
     name.iter().any(|b| *b < 32 || *b == 127 || *b == 194)
 }
 
-#[tactic(auto, unfolding(crate::specs::Texts::unopened_line))]
-fn unopened_line(alloc: Global, option: &[u8], name: &[u8]) -> Result<Vec<u8>, AllocError>
-    ensures { IfOk result (λ line. line.items ≡ unopened_line name.now option.now) }
+#[tactic(auto, unfolding(crate::specs::Texts::unread_line))]
+fn unread_line(alloc: Global, option: &[u8], name: &[u8]) -> Result<Vec<u8>, AllocError>
+    ensures { IfOk result (λ line. line.items ≡ unread_line name.now option.now) }
 {
     let mut line = Vec::from_slice(alloc, b"hint: ")?;
     line.extend_from_slice(option)?;
@@ -39,8 +39,8 @@ fn unopened_line(alloc: Global, option: &[u8], name: &[u8]) -> Result<Vec<u8>, A
     Ok(line)
 }
 
-/// The line that tells that an input's file, of this name, can't be opened, with LF. None where the name may have control characters, and none of
-/// the index, which has no name.
+/// The line that tells that an input's file, of this name, can't be opened or read, with LF. None where the name may have control characters, and
+/// none of the index, which has no name.
 ///
 /// `AllocError` where there is no memory for it.
 #[tactic(auto, unfolding(crate::specs::Texts::file_hint_line))]
@@ -55,7 +55,7 @@ pub fn file_hint_line(
         return Ok(None);
     }
     match option_name(input) {
-        Some(option) => Ok(Some(unopened_line(alloc, option, name)?)),
+        Some(option) => Ok(Some(unread_line(alloc, option, name)?)),
         None => Ok(None),
     }
 }

@@ -9,7 +9,7 @@
 //! - `field`: the lines of a field in one stanza; `stanza`: the package of a stanza, and the line that tells it;
 //! - `architecture`: the one that most stanzas are of, and the line that tells it;
 //! - `run`: what the numbers of a run tell;
-//! - `line`: the lines that tell it; `file`: that of a file that isn't opened; `name`: those of a name that is asked in vain.
+//! - `line`: the lines that tell it; `file`: that of a file that can't be opened or read; `name`: those of a name that is asked in vain.
 #![tactic(auto)]
 
 mod architecture;

@@ -76,6 +76,34 @@ const FAULTS: [Case; 9] = [
     },
 ];
 
+/// Files that are opened, as a folder is, and whose reading fails. What was read of them tells nothing.
+const UNREAD: [Case; 4] = [
+    Case {
+        words: "|--arch|amd64|--bg|others",
+        index: INDEX,
+        file: Some(b""),
+        hint: b"hint: --bg others: no file that can be read stands there\n",
+    },
+    Case {
+        words: "|--arch|amd64|--since|others",
+        index: INDEX,
+        file: Some(b""),
+        hint: b"hint: --since others: no file that can be read stands there\n",
+    },
+    Case {
+        words: "|--arch|amd64|--checkonly|@others",
+        index: INDEX,
+        file: Some(b""),
+        hint: b"hint: --checkonly @others: no file that can be read stands there\n",
+    },
+    Case {
+        words: "|--arch|amd64|--since|others|--bg|others",
+        index: INDEX,
+        file: Some(b"\x1f\x8b"),
+        hint: b"hint: --bg others: no file that can be read stands there\n",
+    },
+];
+
 /// A stanza without a fault, and one whose version is none.
 const FAULTY: &[u8] = b"Package: good
 Version: 1
@@ -323,6 +351,7 @@ struct Left {
 fn left_by(
     rt: &(impl Threads + Sync + AllocGlobal),
     case: &Case,
+    files: &Cabinet<'_>,
     words: &str,
     is_terminal: bool,
 ) -> Result<Left, AllocError> {
@@ -332,7 +361,7 @@ fn left_by(
     let ended = run_program(
         &clock_of(rt, 0),
         Ok(words_in(alloc, words)?),
-        &Cabinet::new("others", case.file, OpenFault::Unopened),
+        files,
         &mut Recording::new(source_of(case.index, 11)),
         Beside::new(&screen, sink_of(alloc, 50, 0, false)),
         &mut errors,
@@ -356,8 +385,12 @@ fn expect_same(rt: &impl Abort, left: &Left, other: &Left) {
 
 /// But for the line that the index is read, the hint alone is on the screen, behind all else; and where that is no terminal, or quiet is asked for, it
 /// isn't there, and all else is as it was.
-fn expect_case(rt: &(impl Abort + Threads + Sync + AllocGlobal), case: &Case) -> Result<(), Fail> {
-    let told = left_by(rt, case, case.words, true)?;
+fn expect_case_on(
+    rt: &(impl Abort + Threads + Sync + AllocGlobal),
+    case: &Case,
+    files: &Cabinet<'_>,
+) -> Result<(), Fail> {
+    let told = left_by(rt, case, files, case.words, true)?;
     assert_eq!(rt;
         told.lines,
         [
@@ -368,20 +401,35 @@ fn expect_case(rt: &(impl Abort + Threads + Sync + AllocGlobal), case: &Case) ->
         case.words
     );
     assert_eq!(rt; told.crowded, [0, 0]);
-    let unseen = left_by(rt, case, case.words, false)?;
+    let unseen = left_by(rt, case, files, case.words, false)?;
     assert_eq!(rt; unseen.lines, [0, 0]);
     expect_same(rt, &told, &unseen);
     let words = format!(in rt.alloc(); "{}|--quiet", case.words)?;
-    let quiet = left_by(rt, case, words.as_str(), true)?;
+    let quiet = left_by(rt, case, files, words.as_str(), true)?;
     assert_eq!(rt; quiet.lines, [0, 0]);
     expect_same(rt, &told, &quiet);
     Ok(())
+}
+
+fn expect_case(rt: &(impl Abort + Threads + Sync + AllocGlobal), case: &Case) -> Result<(), Fail> {
+    let files = Cabinet::new("others", case.file, OpenFault::Unopened);
+    expect_case_on(rt, case, &files)
 }
 
 #[test]
 fn of_faults(rt: HostRuntime) -> Result<(), Fail> {
     for case in &FAULTS {
         expect_case(&rt, case)?;
+    }
+    Ok(())
+}
+
+#[test]
+fn of_files_whose_reading_fails(rt: HostRuntime) -> Result<(), Fail> {
+    for case in &UNREAD {
+        let mut files = Cabinet::new("others", case.file, OpenFault::Unopened);
+        files.torn = true;
+        expect_case_on(&rt, case, &files)?;
     }
     Ok(())
 }
