@@ -187,7 +187,7 @@ fn only_file(alloc: Global, matches: &ArgMatches<'_>) -> Result<Option<String>, 
         return Ok(None);
     };
     match file_in(list) {
-        Some(file) => Ok(Some(String::from_str(alloc, file)?)),
+        Some(name) => Ok(Some(String::from_str(alloc, name)?)),
         None => Ok(None),
     }
 }
