@@ -7,7 +7,7 @@ use Rattle.deb_index.specs.declared.constraint.Constraint.TheVariants.{Essential
 use Rattle.deb_index.specs.Packages.{IndexView, need_at, package_at}
 use Rattle.deb_report.specs.Causes.{CauseView, hits_of}
 use Rattle.deb_report.specs.Near.{NearMissView, near_misses, similar_names}
-use Rattle.deb_report.specs.Report.{constraint_line, group_field, group_text, label_of, line, place_line, titled}
+use Rattle.deb_report.specs.Report.{asked_text, constraint_line, group_field, group_text, label_of, line, place_line, titled}
 
 -- lines under a title, where there are some
 unfoldable pub titled_if : {A : Type 0} → List ℕ → (A → List ℕ) → List A → List ℕ
@@ -23,7 +23,7 @@ wrong_line index (Only name) = constraint_line index (Only name)
 -- who needs it
 unfoldable pub needed_line : IndexView → Constraint → List ℕ
 needed_line index (Need place number) = let deb = package_at index place in
-    codes "   - " ++ label_of deb ++ codes " " ++ group_field deb number ++ codes ": " ++ group_text (need_at index place number) ++ codes "\n"
+    codes "   - " ++ asked_text deb (group_field deb number) (need_at index place number) ++ codes "\n"
 needed_line index constraint = constraint_line index constraint
 
 -- what a package provides, where it comes near by that alone

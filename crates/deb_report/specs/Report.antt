@@ -67,10 +67,14 @@ reason_of index (Need place number) = let group = need_at index place number in 
 reason_of index (Apart place number) = let deb = package_at index place in OfRelation (codes "conflict") deb (entry_field deb number) (apart_at index place number ∷ [])
 reason_of index (Only name) = OfName (codes "versions") (name_at index name)
 
--- its line
+-- what a package asks for
+unfoldable pub asked_text : PackageView → List ℕ → List AtomText → List ℕ
+asked_text deb field relation = label_of deb ++ codes " " ++ field ++ codes ": " ++ group_text relation
+
+-- the line of a reason
 unfoldable pub reason_line : ReasonView → List ℕ
 reason_line (OfName kind name) = codes "   - " ++ kind ++ codes ": " ++ name ++ codes "\n"
-reason_line (OfRelation kind deb field relation) = codes "   - " ++ kind ++ codes ": " ++ label_of deb ++ codes " " ++ field ++ codes ": " ++ group_text relation ++ codes "\n"
+reason_line (OfRelation kind deb field relation) = codes "   - " ++ kind ++ codes ": " ++ asked_text deb field relation ++ codes "\n"
 
 -- the line of a constraint
 abbrev pub constraint_line : IndexView → Constraint → List ℕ

@@ -8,12 +8,12 @@ use Rattle.deb_relation.specs.Relationship.{AtomText}
 use Rattle.deb_index.specs.declared.constraint.Constraint.{Constraint}
 use Rattle.deb_index.specs.declared.constraint.Constraint.TheVariants.{Essential, Need, Apart, Only}
 use Rattle.deb_index.specs.Meets.{group_satisfiers, satisfiers}
-use Rattle.deb_index.specs.Packages.{IndexView, PackageView, apart_at, name_at, need_at, package_at, places_of}
+use Rattle.deb_index.specs.Packages.{IndexView, apart_at, name_at, need_at, package_at, places_of}
 use Rattle.deb_report.specs.declared.walk.Step.{Step}
 use Rattle.deb_report.specs.declared.walk.Step.TheVariants.{Begin, Meet, Tell}
 use Rattle.deb_report.specs.CauseLines.{provides_text}
 use Rattle.deb_report.specs.Near.{NearMissView, alternatives, near_miss_at, near_misses, similar_names}
-use Rattle.deb_report.specs.Report.{entry_field, group_field, group_text, is_missing, label_of, titled}
+use Rattle.deb_report.specs.Report.{asked_text, entry_field, group_field, is_missing, label_of, titled}
 
 -- ---- packages of a walk
 
@@ -153,10 +153,6 @@ missing_text misses names = codes " missing" ++ present_text misses ++ similar_t
 -- what an entry hits
 unfoldable pub hits_text : IndexView → List ℕ → List ℕ → List ℕ
 hits_text index told places = if length places == 0 then [] else codes " hits " ++ seen_texts index told places
-
--- what a package asks for
-unfoldable pub asked_text : PackageView → List ℕ → List AtomText → List ℕ
-asked_text deb field relation = label_of deb ++ codes " " ++ field ++ codes ": " ++ group_text relation
 
 -- how a need ends
 unfoldable pub need_ending : IndexView → List ℕ → Constraint → List AtomText → List ℕ

@@ -40,8 +40,7 @@ impl<'p, 'i> Print<Constraint> for WrongJson<'p, 'i> {
             Constraint::Need(place, number) => {
                 push_text(out, "{", "kind", b"missing")?;
                 push_relation(out, self.json.index.need(place, number))?;
-                out.extend_from_slice(b"}")?;
-                Ok(())
+                out.extend_from_slice(b"}")
             }
             Constraint::Essential(_) | Constraint::Apart(_, _) | Constraint::Only(_) => {
                 self.json.push_constraint(out, *constraint)
@@ -69,8 +68,7 @@ impl<'p, 'i> Print<Constraint> for NeededJson<'p, 'i> {
                 push_package(out, "{", deb)?;
                 push_text(out, ",", "field", group_field(deb, number).as_bytes())?;
                 push_relation(out, self.json.index.need(place, number))?;
-                out.extend_from_slice(b"}")?;
-                Ok(())
+                out.extend_from_slice(b"}")
             }
             Constraint::Essential(_) | Constraint::Apart(_, _) | Constraint::Only(_) => {
                 self.json.push_constraint(out, *constraint)
@@ -121,8 +119,7 @@ impl<'p, 'i> CauseJson<'p, 'i> {
         let constraints = cause.constraints.as_slice();
         push_array(out, ",", "reasons", &WrongJson { json }, constraints, "]")?;
         let needs = cause.needs.as_slice();
-        push_array(out, ",", "needed-by", &NeededJson { json }, needs, "]")?;
-        Ok(())
+        push_array(out, ",", "needed-by", &NeededJson { json }, needs, "]")
     }
 
     /// Adds the members with the packages that stand in the way.
@@ -137,8 +134,7 @@ impl<'p, 'i> CauseJson<'p, 'i> {
         let json = self.json;
         let hits = hits_of(json.alloc, json.index, cause.constraints.as_slice())?;
         push_array(out, ",", "hits", json, hits.as_slice(), "]")?;
-        push_array(out, ",", "versions", json, cause.versions.as_slice(), "]")?;
-        Ok(())
+        push_array(out, ",", "versions", json, cause.versions.as_slice(), "]")
     }
 
     /// Adds the member with the near misses.

@@ -13,7 +13,7 @@ ghost use Rattle.deb_report.specs.Stems.{AreSought};
 use crate::gathered::Cause;
 use crate::hits::hits_of;
 use crate::line_parts::{
-    IndexLines, push_count, push_line, push_package, push_provides, push_titled,
+    IndexLines, push_asked, push_count, push_line, push_package, push_provides, push_titled,
 };
 use crate::near::{NearMiss, near_misses};
 use crate::print::{Print, push_all};
@@ -83,14 +83,10 @@ impl<'p, 'i> Print<Constraint> for NeededLines<'p, 'i> {
         match *constraint {
             Constraint::Need(place, number) => {
                 let deb = self.lines.index.package(place);
+                let field = group_field(deb, number).as_bytes();
                 out.extend_from_slice(b"   - ")?;
-                push_package(out, deb)?;
-                out.extend_from_slice(b" ")?;
-                out.extend_from_slice(group_field(deb, number).as_bytes())?;
-                out.extend_from_slice(b": ")?;
-                push_group(out, self.lines.index.need(place, number))?;
-                out.extend_from_slice(b"\n")?;
-                Ok(())
+                push_asked(out, deb, field, self.lines.index.need(place, number))?;
+                out.extend_from_slice(b"\n")
             }
             Constraint::Essential(_) | Constraint::Apart(_, _) | Constraint::Only(_) => {
                 self.lines.print(out, constraint)
@@ -113,8 +109,7 @@ impl<'m> Print<NearMiss<'m>> for NearLines {
         out.extend_from_slice(b"   - ")?;
         push_package(out, miss.deb)?;
         push_provides(out, miss.provides.as_slice())?;
-        out.extend_from_slice(b"\n")?;
-        Ok(())
+        out.extend_from_slice(b"\n")
     }
 }
 
@@ -186,8 +181,7 @@ impl<'p, 'i> CauseLines<'p, 'i> {
         let lines = self.lines;
         let hits = hits_of(lines.alloc, lines.index, cause.constraints.as_slice())?;
         push_titled_if(out, "  hits:", lines, hits.as_slice())?;
-        push_titled_if(out, "  versions:", lines, cause.versions.as_slice())?;
-        Ok(())
+        push_titled_if(out, "  versions:", lines, cause.versions.as_slice())
     }
 
     /// Adds the near misses.
@@ -246,9 +240,9 @@ pub(crate) fn push_causes(
     ensures { OnOk result (out.new.items ≡ out.old.items
         ++ causes_text lines.now.index.now (Some (map cause_view causes.now))) }
 {
+    push_count(lines.alloc, out, "causes: ", causes.len())?;
     let similar = similar_to_causes(lines.alloc, lines.index, causes)?;
     let printer = CauseLines { lines, similar };
-    push_count(lines.alloc, out, "causes: ", causes.len())?;
     push_all(out, &printer, causes)?;
     Ok(())
 }

@@ -46,8 +46,7 @@ impl<'i> Print<Constraint> for Json<'i> {
         if self.telling.config.why {
             push_why(&self.parts, out, *constraint)?;
         }
-        out.extend_from_slice(b"}")?;
-        Ok(())
+        out.extend_from_slice(b"}")
     }
 }
 
@@ -160,8 +159,7 @@ impl<'i, 'b> Print<&'b BrokenPackage> for Json<'i> {
     #[tactic(auto, unfolding(crate::specs::Json::broken_json))]
     fn print(&self, out: &mut Vec<u8>, deb: &&'b BrokenPackage) -> Result<(), AllocError> {
         push_label(out, "{", deb.name.as_slice(), deb.version.as_slice())?;
-        out.extend_from_slice(b"}")?;
-        Ok(())
+        out.extend_from_slice(b"}")
     }
 }
 
@@ -243,8 +241,7 @@ impl<'i> Json<'i> {
         if let Some(causes) = &content.causes {
             push_causes(&self.parts, out, causes.as_slice())?;
         }
-        out.extend_from_slice(b"}")?;
-        Ok(())
+        out.extend_from_slice(b"}")
     }
 }
 

@@ -37,8 +37,7 @@ pub(crate) fn push_label(
     ensures { OnOk result (out.new.items ≡ out.old.items ++ lead.now ++ label_members name.now version.now) }
 {
     push_text(out, lead, "package", name)?;
-    push_text(out, ",", "version", version)?;
-    Ok(())
+    push_text(out, ",", "version", version)
 }
 
 /// Adds the members that tell a package.
@@ -64,8 +63,7 @@ impl<'i> Print<u32> for IndexJson<'i> {
     #[tactic(auto, unfolding(crate::specs::Json::place_json))]
     fn print(&self, out: &mut Vec<u8>, place: &u32) -> Result<(), AllocError> {
         push_package(out, "{", self.index.package(*place))?;
-        out.extend_from_slice(b"}")?;
-        Ok(())
+        out.extend_from_slice(b"}")
     }
 }
 
@@ -77,8 +75,7 @@ pub(crate) fn push_relation(out: &mut Vec<u8>, relation: &[Atom]) -> Result<(), 
     push_title(out, ",", "relation")?;
     out.extend_from_slice(b"\"")?;
     push_group(out, relation)?;
-    out.extend_from_slice(b"\"")?;
-    Ok(())
+    out.extend_from_slice(b"\"")
 }
 
 /// Adds what is told of a relation of a package, up to the end of its object.
@@ -95,8 +92,7 @@ fn push_of_package(
     push_text(out, "{", "kind", kind)?;
     push_package(out, ",", deb)?;
     push_text(out, ",", "field", field)?;
-    push_relation(out, relation)?;
-    Ok(())
+    push_relation(out, relation)
 }
 
 /// Adds what is told of a constraint, up to the end of its object.
@@ -131,8 +127,7 @@ impl<'i> IndexJson<'i> {
     {
         let reason = reason_of(self.alloc, self.index, constraint)?;
         push_front(out, &reason)?;
-        out.extend_from_slice(b"}")?;
-        Ok(())
+        out.extend_from_slice(b"}")
     }
 }
 
@@ -145,8 +140,7 @@ impl<'i, 'm> Print<&'m Atom> for IndexJson<'i> {
     fn print(&self, out: &mut Vec<u8>, atom: &&'m Atom) -> Result<(), AllocError> {
         out.extend_from_slice(b"\"")?;
         atom.append_to(out)?;
-        out.extend_from_slice(b"\"")?;
-        Ok(())
+        out.extend_from_slice(b"\"")
     }
 }
 
@@ -161,8 +155,7 @@ impl<'i, 'm> Print<NearMiss<'m>> for IndexJson<'i> {
         if !miss.provides.is_empty() {
             self.push_provides(out, miss.provides.as_slice())?;
         }
-        out.extend_from_slice(b"}")?;
-        Ok(())
+        out.extend_from_slice(b"}")
     }
 }
 

@@ -4,7 +4,7 @@ ghost use Rattle.std.specs.Prelude.{◌≡◌, ◌++◌, ◌<◌, All, OnOk, cod
 ghost use Rattle.std.specs.Char.{digit_char};
 ghost use Rattle.deb_report.specs.Json.{array, escaped, escaped_byte, listed, member, quoted};
 
-use crate::print::{Print, push_joined};
+use crate::print::{Print, push_joined, push_texts};
 use std::alloc::{AllocError, Global};
 
 /// The letter of a digit below 16.
@@ -50,21 +50,14 @@ fn push_escaped(out: &mut Vec<u8>, text: &[u8]) -> Result<(), AllocError>
 pub(crate) fn push_quoted(out: &mut Vec<u8>, text: &[u8]) -> Result<(), AllocError>
     ensures { OnOk result (out.new.items ≡ out.old.items ++ quoted text.now) }
 {
-    out.extend_from_slice(b"\"")?;
-    out.extend_from_slice(text)?;
-    out.extend_from_slice(b"\"")?;
-    Ok(())
+    push_texts(out, &[b"\"", text, b"\""])
 }
 
 /// Adds what stands before the value of a member: the brace of its object or a comma, and the title.
 pub(crate) fn push_title(out: &mut Vec<u8>, lead: &str, title: &str) -> Result<(), AllocError>
     ensures { OnOk result (out.new.items ≡ out.old.items ++ lead.now ++ codes "\"" ++ title.now ++ codes "\":") }
 {
-    out.extend_from_slice(lead.as_bytes())?;
-    out.extend_from_slice(b"\"")?;
-    out.extend_from_slice(title.as_bytes())?;
-    out.extend_from_slice(b"\":")?;
-    Ok(())
+    push_texts(out, &[lead.as_bytes(), b"\"", title.as_bytes(), b"\":"])
 }
 
 /// Adds a member that is a text. No byte of it needs an escape.
@@ -78,8 +71,7 @@ pub(crate) fn push_text(
     ensures { OnOk result (out.new.items ≡ out.old.items ++ lead.now ++ member title.now (quoted text.now)) }
 {
     push_title(out, lead, title)?;
-    push_quoted(out, text)?;
-    Ok(())
+    push_quoted(out, text)
 }
 
 /// Adds a member that is any text.
@@ -95,8 +87,7 @@ pub(crate) fn push_any_text(
     push_title(out, lead, title)?;
     out.extend_from_slice(b"\"")?;
     push_escaped(out, text)?;
-    out.extend_from_slice(b"\"")?;
-    Ok(())
+    out.extend_from_slice(b"\"")
 }
 
 /// Adds a member that is a number.
@@ -111,8 +102,7 @@ pub(crate) fn push_number(
     ensures { OnOk result (out.new.items ≡ out.old.items ++ lead.now ++ member title.now (decimal number)) }
 {
     push_title(out, lead, title)?;
-    out.extend_from_slice(number.to_string(alloc)?.as_str().as_bytes())?;
-    Ok(())
+    out.extend_from_slice(number.to_string(alloc)?.as_str().as_bytes())
 }
 
 /// Adds an array.
@@ -127,8 +117,7 @@ pub(crate) fn push_list<T, P: Print<T>>(
 {
     out.extend_from_slice(b"[")?;
     push_joined(out, ",", printer, elements)?;
-    out.extend_from_slice(b"]")?;
-    Ok(())
+    out.extend_from_slice(b"]")
 }
 
 /// Adds a member that is an array, which ends in `end`.
@@ -147,6 +136,5 @@ pub(crate) fn push_array<T, P: Print<T>>(
     push_title(out, lead, title)?;
     out.extend_from_slice(b"[")?;
     push_joined(out, ",", printer, elements)?;
-    out.extend_from_slice(end.as_bytes())?;
-    Ok(())
+    out.extend_from_slice(end.as_bytes())
 }

@@ -7,10 +7,10 @@ ghost use Rattle.deb_relation.specs.Relationship.{printed};
 ghost use Rattle.deb_index.specs.Constraints.{IsOfIndex};
 ghost use Rattle.deb_index.specs.Packages.{package_view};
 ghost use Rattle.deb_report.specs.CauseLines.{provides_text};
-ghost use Rattle.deb_report.specs.Report.{OfName, OfRelation, constraint_line, label_of, label_text, line, place_line, reason_line, titled};
+ghost use Rattle.deb_report.specs.Report.{OfName, OfRelation, asked_text, constraint_line, label_of, label_text, line, place_line, reason_line, titled};
 ghost use Rattle.deb_report.specs.Told.{reason_view};
 
-use crate::print::{Plainly, Print, push_all, push_joined};
+use crate::print::{Plainly, Print, push_all, push_joined, push_texts};
 use crate::reasons::{Reason, push_group, reason_of};
 use deb_index::{Constraint, Index, Package};
 use deb_relation::Atom;
@@ -21,10 +21,7 @@ use std::alloc::{AllocError, Global};
 pub(crate) fn push_line(out: &mut Vec<u8>, title: &str, text: &[u8]) -> Result<(), AllocError>
     ensures { OnOk result (out.new.items ≡ out.old.items ++ line title.now text.now) }
 {
-    out.extend_from_slice(title.as_bytes())?;
-    out.extend_from_slice(text)?;
-    out.extend_from_slice(b"\n")?;
-    Ok(())
+    push_texts(out, &[title.as_bytes(), text, b"\n"])
 }
 
 /// Adds a line of a title and a number.
@@ -36,8 +33,7 @@ pub(crate) fn push_count(
 ) -> Result<(), AllocError>
     ensures { OnOk result (out.new.items ≡ out.old.items ++ line title.now (decimal count)) }
 {
-    push_line(out, title, count.to_string(alloc)?.as_str().as_bytes())?;
-    Ok(())
+    push_line(out, title, count.to_string(alloc)?.as_str().as_bytes())
 }
 
 /// Adds the lines of elements under a title.
@@ -51,8 +47,7 @@ pub(crate) fn push_titled<T, P: Print<T>>(
     ensures { OnOk result (out.new.items ≡ out.old.items ++ titled title.now (flat_map (P.text printer.now) elements.now)) }
 {
     push_line(out, title, b"")?;
-    push_all(out, printer, elements)?;
-    Ok(())
+    push_all(out, printer, elements)
 }
 
 /// Adds a name and a version.
@@ -60,10 +55,7 @@ pub(crate) fn push_titled<T, P: Print<T>>(
 pub(crate) fn push_label(out: &mut Vec<u8>, name: &[u8], version: &[u8]) -> Result<(), AllocError>
     ensures { OnOk result (out.new.items ≡ out.old.items ++ label_text name.now version.now) }
 {
-    out.extend_from_slice(name)?;
-    out.extend_from_slice(b" ")?;
-    out.extend_from_slice(version)?;
-    Ok(())
+    push_texts(out, &[name, b" ", version])
 }
 
 /// Adds a package's name and version.
@@ -110,8 +102,7 @@ impl<'i> Print<u32> for IndexLines<'i> {
     fn print(&self, out: &mut Vec<u8>, place: &u32) -> Result<(), AllocError> {
         out.extend_from_slice(b"   - ")?;
         push_package(out, self.index.package(*place))?;
-        out.extend_from_slice(b"\n")?;
-        Ok(())
+        out.extend_from_slice(b"\n")
     }
 }
 
@@ -120,12 +111,22 @@ impl<'i> Print<u32> for IndexLines<'i> {
 fn push_of_name(out: &mut Vec<u8>, kind: &[u8], name: &[u8]) -> Result<(), AllocError>
     ensures { OnOk result (out.new.items ≡ out.old.items ++ reason_line (OfName kind.now name.now)) }
 {
-    out.extend_from_slice(b"   - ")?;
-    out.extend_from_slice(kind)?;
-    out.extend_from_slice(b": ")?;
-    out.extend_from_slice(name)?;
-    out.extend_from_slice(b"\n")?;
-    Ok(())
+    push_texts(out, &[b"   - ", kind, b": ", name, b"\n"])
+}
+
+/// Adds what a package asks for.
+#[tactic(auto, unfolding(crate::specs::Report::asked_text))]
+pub(crate) fn push_asked(
+    out: &mut Vec<u8>,
+    deb: &Package,
+    field: &[u8],
+    relation: &[Atom],
+) -> Result<(), AllocError>
+    ensures { OnOk result (out.new.items ≡ out.old.items ++ asked_text (package_view deb.now) field.now (map atom_view relation.now)) }
+{
+    push_package(out, deb)?;
+    push_texts(out, &[b" ", field, b": "])?;
+    push_group(out, relation)
 }
 
 /// Adds the line of a relation of a package.
@@ -139,16 +140,9 @@ fn push_of_package(
 ) -> Result<(), AllocError>
     ensures { OnOk result (out.new.items ≡ out.old.items ++ reason_line (OfRelation kind.now (package_view deb.now) field.now (map atom_view relation.now))) }
 {
-    out.extend_from_slice(b"   - ")?;
-    out.extend_from_slice(kind)?;
-    out.extend_from_slice(b": ")?;
-    push_package(out, deb)?;
-    out.extend_from_slice(b" ")?;
-    out.extend_from_slice(field)?;
-    out.extend_from_slice(b": ")?;
-    push_group(out, relation)?;
-    out.extend_from_slice(b"\n")?;
-    Ok(())
+    push_texts(out, &[b"   - ", kind, b": "])?;
+    push_asked(out, deb, field, relation)?;
+    out.extend_from_slice(b"\n")
 }
 
 /// Adds the line of a reason.

@@ -19,7 +19,7 @@ use crate::broken::BrokenPackage;
 use crate::cause_lines::push_causes;
 use crate::content::Content;
 use crate::line_parts::{IndexLines, push_label, push_line, push_titled};
-use crate::print::{Print, push_all};
+use crate::print::{Print, push_all, push_texts};
 use crate::shown::{Shown, status_text};
 use crate::similar::Similar;
 use crate::sought::similar_to_walks;
@@ -153,11 +153,8 @@ impl<'i> Print<Number> for Lines<'i> {
     #[tactic(auto, unfolding(crate::specs::Report::number_line))]
     fn print(&self, out: &mut Vec<u8>, number: &Number) -> Result<(), AllocError> {
         let digits = number.number.to_string(self.parts.alloc)?;
-        out.extend_from_slice(number.title.as_bytes())?;
-        out.extend_from_slice(b": ")?;
-        out.extend_from_slice(digits.as_str().as_bytes())?;
-        out.extend_from_slice(b"\n")?;
-        Ok(())
+        let digits = digits.as_str().as_bytes();
+        push_texts(out, &[number.title.as_bytes(), b": ", digits, b"\n"])
     }
 }
 
@@ -170,8 +167,7 @@ impl<'i, 'b> Print<&'b BrokenPackage> for Lines<'i> {
     fn print(&self, out: &mut Vec<u8>, deb: &&'b BrokenPackage) -> Result<(), AllocError> {
         out.extend_from_slice(b" - ")?;
         push_label(out, deb.name.as_slice(), deb.version.as_slice())?;
-        out.extend_from_slice(b"\n")?;
-        Ok(())
+        out.extend_from_slice(b"\n")
     }
 }
 

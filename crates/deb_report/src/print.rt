@@ -53,6 +53,16 @@ pub(crate) fn push_all<T, P: Print<T>>(
     push_joined(out, "", printer, elements)
 }
 
+/// Adds texts.
+pub(crate) fn push_texts(out: &mut Vec<u8>, texts: &[&[u8]]) -> Result<(), AllocError>
+    ensures { OnOk result (out.new.items ≡ out.old.items ++ flat_map (λ text. text.now) texts.now) }
+{
+    for text in texts {
+        out.extend_from_slice(text)?;
+    }
+    Ok(())
+}
+
 /// Atoms as a control file has them.
 #[derive(Drop)]
 pub(crate) struct Plainly;
@@ -63,8 +73,7 @@ impl Print<Atom> for Plainly {
     ghost text = { λ _ atom. printed (atom_view atom) };
 
     fn print(&self, out: &mut Vec<u8>, atom: &Atom) -> Result<(), AllocError> {
-        atom.append_to(out)?;
-        Ok(())
+        atom.append_to(out)
     }
 }
 
@@ -74,7 +83,6 @@ impl<'i> Print<&'i Atom> for Plainly {
     ghost text = { λ _ atom. printed (atom_view atom.now) };
 
     fn print(&self, out: &mut Vec<u8>, atom: &&'i Atom) -> Result<(), AllocError> {
-        atom.append_to(out)?;
-        Ok(())
+        atom.append_to(out)
     }
 }

@@ -80,8 +80,7 @@ pub(crate) fn put_stem(out: &mut Vec<u8>, name: &[u8]) -> Result<(), AllocError>
         out.push(b'-')?;
         rest = others;
     }
-    push_word(out, rest)?;
-    Ok(())
+    push_word(out, rest)
 }
 
 /// Adds a text to a set, and says whether the set didn't have it.

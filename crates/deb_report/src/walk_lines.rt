@@ -12,14 +12,14 @@ ghost use Rattle.deb_report.specs.Near.{near_misses, near_view, similar_names};
 ghost use Rattle.deb_report.specs.Similar.{FitsWalk, IsSimilarOf, stems_in};
 ghost use Rattle.deb_report.specs.Stems.{AreSought};
 ghost use Rattle.deb_report.specs.Walk.{IsStepOf, are_told, brought, own_steps, step_limit, steps_behind, told_behind, walk_text};
-ghost use Rattle.deb_report.specs.Walk.{above_text, asked_text, constraint_text, hits_text, lead, missing_text, near_text, need_ending, present_text};
+ghost use Rattle.deb_report.specs.Walk.{above_text, constraint_text, hits_text, lead, missing_text, near_text, need_ending, present_text};
 ghost use Rattle.deb_report.specs.Walk.{package_line, package_text, seen_text, seen_texts, similar_text, step_text, walk_lines};
 
-use crate::line_parts::{push_line, push_package, push_provides};
+use crate::line_parts::{push_asked, push_line, push_package, push_provides};
 use crate::near::{NearMiss, answer_at, near_misses};
 use crate::own::OwnTable;
 use crate::place_set::PlaceSet;
-use crate::print::{Print, push_joined};
+use crate::print::{Print, push_joined, push_texts};
 use crate::reasons::{entry_field, group_field, is_missing, push_group};
 use crate::similar::Similar;
 use crate::walk::{
@@ -39,8 +39,7 @@ fn push_lead(out: &mut Vec<u8>, depth: u32) -> Result<(), AllocError>
     for _ in 0..depth {
         out.extend_from_slice(b"  ")?;
     }
-    out.extend_from_slice(b"   - ")?;
-    Ok(())
+    out.extend_from_slice(b"   - ")
 }
 
 /// Adds the mark of what was told already.
@@ -69,8 +68,7 @@ impl<'t> Print<u32> for Seen<'t> {
     #[tactic(auto, unfolding(crate::specs::Walk::seen_text))]
     fn print(&self, out: &mut Vec<u8>, place: &u32) -> Result<(), AllocError> {
         push_package(out, self.index.package(*place))?;
-        push_above(out, self.told.contains(*place))?;
-        Ok(())
+        push_above(out, self.told.contains(*place))
     }
 }
 
@@ -86,8 +84,7 @@ impl<'m> Print<NearMiss<'m>> for InLine {
     #[tactic(auto, unfolding(crate::specs::Walk::near_text))]
     fn print(&self, out: &mut Vec<u8>, miss: &NearMiss<'m>) -> Result<(), AllocError> {
         push_package(out, miss.deb)?;
-        push_provides(out, miss.provides.as_slice())?;
-        Ok(())
+        push_provides(out, miss.provides.as_slice())
     }
 }
 
@@ -117,8 +114,7 @@ impl<'n> Print<&'n [u8]> for InLine {
     ghost text = { λ _ name. name.now };
 
     fn print(&self, out: &mut Vec<u8>, name: &&'n [u8]) -> Result<(), AllocError> {
-        out.extend_from_slice(name)?;
-        Ok(())
+        out.extend_from_slice(name)
     }
 }
 
@@ -173,24 +169,6 @@ fn push_hits(
     Ok(())
 }
 
-/// Adds what a package asks for.
-#[tactic(auto, unfolding(crate::specs::Walk::asked_text))]
-fn push_asked(
-    out: &mut Vec<u8>,
-    deb: &Package,
-    field: &str,
-    relation: &[Atom],
-) -> Result<(), AllocError>
-    ensures { OnOk result (out.new.items ≡ out.old.items ++ asked_text (package_view deb.now) field.now (map atom_view relation.now)) }
-{
-    push_package(out, deb)?;
-    out.extend_from_slice(b" ")?;
-    out.extend_from_slice(field.as_bytes())?;
-    out.extend_from_slice(b": ")?;
-    push_group(out, relation)?;
-    Ok(())
-}
-
 /// Adds the line of a package.
 #[tactic(auto, unfolding(crate::specs::Walk::package_line))]
 fn push_package_line(
@@ -208,8 +186,7 @@ fn push_package_line(
     push_package(out, index.package(place))?;
     push_provides(out, entries)?;
     push_above(out, told)?;
-    out.extend_from_slice(b"\n")?;
-    Ok(())
+    out.extend_from_slice(b"\n")
 }
 
 /// A walk through a core, and the packages that come in it.
@@ -271,8 +248,7 @@ impl<'i> Walk<'i> {
     {
         out.extend_from_slice(b" missing")?;
         self.push_near_to(out, need)?;
-        self.push_similar_to(out, need)?;
-        Ok(())
+        self.push_similar_to(out, need)
     }
 
     /// Adds how a need ends.
@@ -309,8 +285,7 @@ impl<'i> Walk<'i> {
         ensures { OnOk result (out.new.items ≡
             out.old.items ++ constraint_text self.now.index.now (members_of self.now.coming.now) told.now (Constraint.Essential name)) }
     {
-        out.extend_from_slice(b"essential: ")?;
-        out.extend_from_slice(self.index.name_text(name))?;
+        push_texts(out, &[b"essential: ", self.index.name_text(name)])?;
         self.push_told(out, told, Constraint::Essential(name))?;
         Ok(())
     }
@@ -332,11 +307,10 @@ impl<'i> Walk<'i> {
         push_asked(
             out,
             deb,
-            group_field(deb, number),
+            group_field(deb, number).as_bytes(),
             self.index.need(place, number),
         )?;
-        self.push_need_ending(out, told, place, number)?;
-        Ok(())
+        self.push_need_ending(out, told, place, number)
     }
 
     /// Adds an entry.
@@ -355,9 +329,13 @@ impl<'i> Walk<'i> {
         let deb = self.index.package(place);
         let entry = self.index.apart(place, number);
         let hits = hits_in(self.alloc, self.index, self.coming, place, number)?;
-        push_asked(out, deb, entry_field(deb, number), slice::from_ref(entry))?;
-        push_hits(out, self.index, told, hits.as_slice())?;
-        Ok(())
+        push_asked(
+            out,
+            deb,
+            entry_field(deb, number).as_bytes(),
+            slice::from_ref(entry),
+        )?;
+        push_hits(out, self.index, told, hits.as_slice())
     }
 
     /// Adds the versions of a name.
@@ -369,8 +347,7 @@ impl<'i> Walk<'i> {
     {
         let versions = versions_coming(self.alloc, self.index, self.coming, name)?;
         out.extend_from_slice(b"versions: ")?;
-        push_seen(out, self.index, told, versions.as_slice())?;
-        Ok(())
+        push_seen(out, self.index, told, versions.as_slice())
     }
 
     /// Adds what the core says.
@@ -503,21 +480,37 @@ impl<'i> Walk<'i> {
     }
 
     /// Goes these steps and all that follow from them, one after the other.
-    fn go_all(&self, out: &mut Vec<u8>, stack: &mut Vec<Step>) -> Result<(), AllocError>
+    fn go_all(
+        &self,
+        out: &mut Vec<u8>,
+        told: &mut PlaceSet,
+        stack: &mut Vec<Step>,
+    ) -> Result<(), AllocError>
         requires core { All (FitsWalk self.now.index.now self.now.similar.now) self.now.core.now }
         requires steps { All (IsStepOf self.now.index.now (FitsWalk self.now.index.now self.now.similar.now)) (reverse stack.old.items) }
         ensures { OnOk result (out.new.items ≡
-            out.old.items ++ walk_text step_limit self.now.index.now self.now.core.now (members_of self.now.coming.now) [] (reverse stack.old.items)) }
+            out.old.items ++ walk_text step_limit self.now.index.now self.now.core.now (members_of self.now.coming.now) told.old (reverse stack.old.items)) }
     {
-        let mut told = PlaceSet::new(self.alloc);
         for _ in 0..u64::MAX {
             let Some(step) = stack.pop() else {
                 return Ok(());
             };
-            let behind = self.go(out, &mut told, step)?;
+            let behind = self.go(out, told, step)?;
             put_before(stack, behind)?;
         }
         Ok(())
+    }
+
+    /// Goes the steps of a walk, of which nothing is told yet.
+    fn go_from(&self, out: &mut Vec<u8>, steps: Vec<Step>) -> Result<(), AllocError>
+        requires core { All (FitsWalk self.now.index.now self.now.similar.now) self.now.core.now }
+        requires steps { All (IsStepOf self.now.index.now (FitsWalk self.now.index.now self.now.similar.now)) steps.items }
+        ensures { OnOk result (out.new.items ≡
+            out.old.items ++ walk_text step_limit self.now.index.now self.now.core.now (members_of self.now.coming.now) [] steps.items) }
+    {
+        let mut stack = Vec::new(self.alloc);
+        put_before(&mut stack, steps)?;
+        self.go_all(out, &mut PlaceSet::new(self.alloc), &mut stack)
     }
 }
 
@@ -538,6 +531,8 @@ pub(crate) fn push_walk(
     requires core { All (FitsWalk index.now similar.now) core.now }
     ensures { OnOk result (out.new.items ≡ out.old.items ++ walk_lines index.now place core.now) }
 {
+    push_line(out, "  why:", b"")?;
+    let first = first_steps(alloc, core, place)?;
     let coming = comers(alloc, index, place, core)?;
     let table = OwnTable::new(alloc, core)?;
     let walk = Walk {
@@ -547,8 +542,5 @@ pub(crate) fn push_walk(
         coming: &coming,
         similar,
     };
-    let mut stack = Vec::new(alloc);
-    put_before(&mut stack, first_steps(alloc, core, place)?)?;
-    push_line(out, "  why:", b"")?;
-    walk.go_all(out, &mut stack)
+    walk.go_from(out, first)
 }

@@ -34,8 +34,7 @@ impl Print<Atom> for Quoted {
     fn print(&self, out: &mut Vec<u8>, atom: &Atom) -> Result<(), AllocError> {
         out.extend_from_slice(b"\"")?;
         atom.append_to(out)?;
-        out.extend_from_slice(b"\"")?;
-        Ok(())
+        out.extend_from_slice(b"\"")
     }
 }
 
@@ -72,8 +71,7 @@ fn push_met(
         ++ member (codes "met-by") (array near_json (answers_to json.now.index.now (Constraint.Need place number)))) }
 {
     let answers = answers_to(json.alloc, json.index, Constraint::Need(place, number))?;
-    push_answers(json, out, answers.as_slice())?;
-    Ok(())
+    push_answers(json, out, answers.as_slice())
 }
 
 /// Adds where a walk goes on from a need.
@@ -108,8 +106,7 @@ fn push_hits(
 {
     let entry = Constraint::Apart(place, number);
     let hits = hits_of(json.alloc, json.index, slice::from_ref(&entry))?;
-    push_array(out, ",", "hits", json, hits.as_slice(), "]")?;
-    Ok(())
+    push_array(out, ",", "hits", json, hits.as_slice(), "]")
 }
 
 /// Adds the versions of a name.
@@ -125,8 +122,7 @@ fn push_versions(json: &IndexJson<'_>, out: &mut Vec<u8>, name: u32) -> Result<(
         json,
         json.index.places_named(name),
         "]",
-    )?;
-    Ok(())
+    )
 }
 
 /// Adds where a walk goes on from a constraint.

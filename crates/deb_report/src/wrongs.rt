@@ -5,7 +5,7 @@ ghost use Rattle.deb_index.specs.Constraints.{IsOfIndex};
 ghost use Rattle.deb_index.specs.Tables.{number_in};
 ghost use Rattle.deb_health.specs.Causes.{cause_in, is_final};
 ghost use Rattle.deb_report.specs.Causes.{says};
-ghost use Rattle.deb_report.specs.Numbering.{Grows, IsFront, texts_of};
+ghost use Rattle.deb_report.specs.Numbering.{Grows, IsFront, texts_of, with_text};
 ghost use Rattle.deb_report.specs.Said.{number_said};
 
 use crate::numbering::Numbering;
@@ -41,11 +41,7 @@ fn push_bytes(text: &mut Vec<u32>, bytes: &[u8]) -> Result<(), AllocError>
 
 /// What a constraint says is wrong.
 #[tactic(auto, unfolding(crate::specs::Causes::says))]
-pub(crate) fn says_of(
-    alloc: Global,
-    index: &Index,
-    constraint: Constraint,
-) -> Result<Vec<u32>, AllocError>
+fn says_of(alloc: Global, index: &Index, constraint: Constraint) -> Result<Vec<u32>, AllocError>
     requires { IsOfIndex index.now constraint }
     ensures { IfOk result (λ text. text.items ≡ says index.now constraint) }
 {
@@ -64,6 +60,21 @@ pub(crate) fn says_of(
     Ok(text)
 }
 
+/// The number of what a constraint says.
+pub(crate) fn number_of(
+    alloc: Global,
+    index: &Index,
+    constraint: Constraint,
+    said: &mut Numbering,
+) -> Result<u32, AllocError>
+    requires { IsOfIndex index.now constraint }
+    ensures texts { OnOk result (texts_of said.new ≡ with_text (texts_of said.old) (says index.now constraint)) }
+    ensures number { IfOk result (λ number. number_in (says index.now constraint) (texts_of said.new) ≡ Some number) }
+{
+    let text = says_of(alloc, index, constraint)?;
+    said.number(alloc, text.as_slice())
+}
+
 /// The numbers of what the final constraints of a core say, in their order.
 fn numbers_said(
     alloc: Global,
@@ -79,8 +90,7 @@ fn numbers_said(
     let mut numbers = Vec::new(alloc);
     for constraint in core {
         if is_final(alloc, index, *constraint)? {
-            let text = says_of(alloc, index, *constraint)?;
-            let number = said.number(alloc, text.as_slice())?;
+            let number = number_of(alloc, index, *constraint, said)?;
             numbers.push(number)?;
         }
     }

@@ -1,4 +1,3 @@
-use Rattle.std.proofs.Common.{◌≡◌, ◌∙◌, ◌++◌, append-nil, ap, reverse}
 use Rattle.std.proofs.lemmas.List.Elements.{All-same, All-weaker}
 use Rattle.deb_index.specs.declared.constraint.Constraint.{Constraint}
 use Rattle.deb_index.specs.Constraints.{IsOfIndex}
@@ -12,13 +11,10 @@ comers-requires c =
     let index = c.args.index.now in
     All-weaker (FitsWalk index c.args.similar.now) (IsOfIndex index) (λ (one : Constraint) fits. fits.of_index) c.args.core.now c.requires.core
 
-pub go_all-requires-clause-steps : goal.go_all-requires-clause-steps
-go_all-requires-clause-steps c =
+pub go_from-requires-clause-steps : goal.go_from-requires-clause-steps
+go_from-requires-clause-steps c =
     let index = c.args.index.now in
     let core = c.args.core.now in
-    let first = first_steps core c.args.place in
     let fits = FitsWalk index c.args.similar.now in
-    let same : reverse c.put_before.new.stack.items ≡ first =
-    c.in_ok-put_before.ensures ∙ ap (λ steps. steps ++ reverse c.new-stack.result.items) c.in_ok-first_steps.ensures ∙ ap (λ old. first ++ reverse old) c.new-stack.ensures.items ∙ append-nil first in
-    All-same (IsStepOf index fits) (reverse c.put_before.new.stack.items) first same
+    All-same (IsStepOf index fits) c.in_ok-first.first.items (first_steps core c.args.place) c.in_ok-first.ensures
     (first-within index fits core c.args.place c.requires.place (λ (one : Constraint) it. it.of_index) c.requires.core)

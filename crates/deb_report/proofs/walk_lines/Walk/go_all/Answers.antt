@@ -1,4 +1,4 @@
-use Rattle.std.proofs.Common.{◌≡◌, ◌++◌, [], None, arith, length, reverse, rules}
+use Rattle.std.proofs.Common.{◌≡◌, ◌++◌, None, arith, length, reverse, rules}
 use Rattle.number_sets.specs.Sets.{members_of}
 use Rattle.deb_report.specs.Similar.{FitsWalk}
 use Rattle.deb_report.specs.Walk.{step_limit, walk_text}
@@ -18,7 +18,7 @@ loop-preserved c =
     let next = c.put_before.new.stack.items in
     let steps = c.in_ok-behind.behind.items in (
       left-within index (FitsWalk index c.args.self.now.similar.now) core c.loop.told stack popped next steps c.in-Some.step c.in-Some.ensures.items c.in_ok-put_before.ensures c.in_ok-behind.ensures.steps c.requires.core c.loop.invariant.0,
-      gone index core coming c.loop.told c.go.new.told step_limit c.loop.counter c.loop.out.items c.go.new.out.items (c.args.out.now.items ++ walk_text step_limit index core coming [] (reverse c.args.stack.now.items))
+      gone index core coming c.loop.told c.go.new.told step_limit c.loop.counter c.loop.out.items c.go.new.out.items (c.args.out.now.items ++ walk_text step_limit index core coming c.args.told.now (reverse c.args.stack.now.items))
           stack popped next steps c.in-Some.step c.loop-test.true c.in-Some.ensures.items c.in_ok-behind.ensures.text c.in_ok-behind.ensures.told c.in_ok-put_before.ensures c.in_ok-behind.ensures.steps
           c.loop.invariant.1,
     )

@@ -5,4 +5,4 @@ use Rattle.deb_report.proofs.walk_lines.Walk.push_essential.Goals as goal
 pub returns : goal.returns
 unfolding constraint_text
 returns c =
-    rw (c.in_ok-push_told.ensures, c.in_ok-extend_from_slice-2.ensures.items, c.in_ok-extend_from_slice.ensures.items, c.name_text.ensures) (simp append_assoc)
+    rw (c.in_ok-push_told.ensures, c.in_ok-push_texts.ensures, c.name_text.ensures) (simp append_assoc)
