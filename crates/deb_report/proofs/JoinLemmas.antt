@@ -22,11 +22,6 @@ unfolding titled_if
 titled_map title text f [] = refl
 titled_map title text f (x ∷ xs) = ap₂ (λ (count : ℕ) (lines : List ℕ). if count == 0 then [] else titled title lines) (length-map (x ∷ xs) f) (lines_map text f (x ∷ xs))
 
--- without a separator
-pub joined_none : {A : Type 0} (text : A → List ℕ) (xs : List A) → join_by text [] xs ≡ flat_map text xs
-joined_none text [] = refl
-joined_none text (x ∷ xs) = refl
-
 -- texts behind one another
 pub in-order : (out first : List ℕ) (others : List (List ℕ)) → fold (λ text one. text ++ one) (out ++ first) others ≡ out ++ fold (λ text one. text ++ one) first others
 in-order out first [] = refl

@@ -1,11 +1,11 @@
 -- Marks on the names of an index.
-use Rattle.std.proofs.Common.{◌≡◌, ℕ, ◌+◌, ◌<◌, Bool, true, false, not, ◌&&◌, ◌||◌, List, [], ◌∷◌, All, Option, Some, None, length, get_or, set, take, map, replicate, refl, sym, ap, ap₂, ◌∙◌, inl, inr, arith}
+use Rattle.std.proofs.Common.{◌≡◌, ℕ, ◌+◌, ◌<◌, Bool, true, false, not, ◌&&◌, ◌||◌, List, [], ◌∷◌, All, Option, Some, None, length, get_or, set, take, map, refl, sym, ap, ap₂, ◌∙◌, inl, inr, arith}
 use Rattle.std.specs.Prelude.{position}
 use Rattle.std.specs.List.{AllPairs, filter, list_any}
 use Rattle.std.specs.Option.{option_map_or}
 use Rattle.std.specs.Str.{bytes_eq}
 use Rattle.std.proofs.lemmas.Bool.{both_ways, cases_eq, cases_order, false_from_ne_true, not-true, or_from, or_right}
-use Rattle.std.proofs.lemmas.List.{get_or-replicate, get_or-set_other, get_or-set_same, length-replicate, length-set, take_more}
+use Rattle.std.proofs.lemmas.List.{get_or-set_other, get_or-set_same, length-set, take_more}
 use Rattle.std.proofs.lemmas.List.Elements.{All-head, All-tail, All-weaker, filter_passes}
 use Rattle.std.proofs.lemmas.List.Folds.{list_any-append, list_any_at}
 use Rattle.std.proofs.lemmas.List.Kept.{AllPairs-cons, AllPairs-filter}
@@ -124,15 +124,6 @@ module _ (index : IndexView) where
       ∙ list_any-append test (take i places) (get_or places i 0 ∷ [])
       ∙ ap (λ last. has_named index (take i places) other || last)
       (or-false (test (get_or places i 0)) ∙ ap test is ∙ names-turned other (package_at index p).name ∙ ap (λ text. bytes_eq text other) (sym named))
-
-  -- none is marked yet
-  pub fresh-marks : (test : List ℕ → Bool) (marks : List Bool) (count : ℕ) → marks ≡ replicate count false → count ≡ length (names index) → ((name : List ℕ) → test name ≡ false) → AreMarks index test marks
-  fresh-marks test marks count fresh size none = (
-    ap length fresh ∙ length-replicate count false ∙ size,
-    λ n inside.
-        let within : n < count = omega arith in
-        ap (λ xs. get_or xs n false) fresh ∙ get_or-replicate count n false false within ∙ sym (none (name_at index n)),
-  )
 
   -- the marks of asked names and of broken ones tell what is mended
   pub mended-tells : (asked broken : List ℕ) (marks others : List Bool) (name : List ℕ) → AreMarks index (has_named index asked) marks → AreMarks index (has_named index broken) others

@@ -1,6 +1,5 @@
 -- What no block and no cause tells of verdicts doesn't change a report.
-use Rattle.std.proofs.Common.{◌≡◌, ℕ, ◌+◌, Bool, true, false, cond, not, ◌&&◌, ◌||◌, List, [], ◌∷◌, ◌++◌, length, map, filter, codes, fold, refl, sym, ap, ap₂, ◌∙◌, Option, Some, inl, inr}
-use mathlib.Core.Path.{fun_ext}
+use Rattle.std.proofs.Common.{◌≡◌, ℕ, ◌+◌, Bool, true, false, cond, not, ◌&&◌, List, [], ◌∷◌, ◌++◌, length, map, filter, codes, fold, refl, sym, ap, ap₂, ◌∙◌, Some, inl, inr}
 use Rattle.std.specs.List.{flat_map, join_by}
 use Rattle.std.proofs.lemmas.Bool.{cases_Bool, true≢false, false≢true}
 use Rattle.std.proofs.lemmas.List.{length-map}
@@ -12,14 +11,13 @@ use Rattle.deb_report.specs.declared.config.Format.TheVariants.{Json, Text}
 use Rattle.deb_report.specs.declared.config.Show.{Show}
 use Rattle.deb_report.specs.declared.config.Show.TheVariants.{All, Failures, Successes}
 use Rattle.deb_report.specs.CauseLines.{causes_text}
-use Rattle.deb_report.specs.Causes.{CauseView}
 use Rattle.deb_report.specs.Content.{ContentView, causes_if, content_of, content_since}
-use Rattle.deb_report.specs.Json.{block_json, causes_json, escaped, explanation_json, head_json, json_text, list_json, member, number_json, object, quoted, tall_array, told_json}
-use Rattle.deb_report.specs.Lines.{block_of, explanation, lines_text, list_lines}
-use Rattle.deb_report.specs.Report.{TellingView, broken_ones, is_broken, is_shown, line, number_line, numbers_of, shown_of, status_of, summary_of, telling_of, titled, without_set}
-use Rattle.deb_report.specs.Settings.{Settings, shows_installable, shows_sets, tells_all_causes}
+use Rattle.deb_report.specs.Json.{block_json, causes_json, escaped, head_json, json_text, list_json, member, number_json, object, quoted, tall_array}
+use Rattle.deb_report.specs.Lines.{block_of, lines_text, list_lines}
+use Rattle.deb_report.specs.Report.{TellingView, broken_ones, is_broken, is_shown, line, number_line, numbers_of, shown_of, status_of, summary_of, telling_of, titled}
+use Rattle.deb_report.specs.Settings.{Settings}
 use Rattle.deb_report.specs.Since.{BrokenView, amends_of, broken_at, broken_of, has_named, is_gone, news_of, summary_since, was_broken}
-use Rattle.deb_report.specs.Written.{text_in, written_report, written_since, written_told}
+use Rattle.deb_report.specs.Written.{text_in, written_since, written_told}
 use Rattle.deb_report.proofs.JoinLemmas.{joined_map, lines_map}
 
 -- a change of verdicts that leaves their statuses, what is explained in a block, and what causes are found in
@@ -212,83 +210,3 @@ since_unchanged settings change leaves index asked verdicts later before =
 pub summary_since_unchanged : (settings : Settings) (change : VerdictView → VerdictView) → LeavesTold settings.explain Failures settings.causes change
     → (index : IndexView) (asked : List ℕ) (verdicts : List VerdictView) (before : List BrokenView) → summary_since index asked (map change verdicts) before ≡ summary_since index asked verdicts before
 summary_since_unchanged settings change leaves index asked verdicts before = since_alike change leaves.status asked verdicts index before
-
--- ---- sets
-
-set_status : (verdict : VerdictView) → is_broken (without_set verdict) ≡ is_broken verdict
-set_status (Found places) = refl
-set_status (Blocked core) = refl
-
-set_shown : (explain : Bool) (show : Show) → (explain && shows_installable show) ≡ false → (verdict : VerdictView) → (explain && is_shown show verdict) ≡ true → without_set verdict ≡ verdict
-set_shown explain show hidden (Blocked core) told = refl
-set_shown true All hidden (Found places) told = absurd (true≢false hidden)
-set_shown true Failures hidden (Found places) told = absurd (false≢true told)
-set_shown true Successes hidden (Found places) told = absurd (true≢false hidden)
-set_shown false show hidden (Found places) told = absurd (false≢true told)
-
-set_caused : (causes : Bool) (verdict : VerdictView) → causes ≡ true → is_broken verdict ≡ true → without_set verdict ≡ verdict
-set_caused causes (Found places) told broken = absurd (false≢true broken)
-set_caused causes (Blocked core) told broken = refl
-
--- where no block tells a set that was found, the report is the same whatever the sets
-pub sets_unshown : (settings : Settings) (index : IndexView) (asked : List ℕ) (verdicts : List VerdictView) (later : List (List (List Constraint))) → shows_sets settings ≡ false
-    → written_told settings index asked (map without_set verdicts) later ≡ written_told settings index asked verdicts later
-sets_unshown settings index asked verdicts later hidden =
-    report_unchanged settings without_set (record { status = set_status; shown = set_shown settings.explain settings.show hidden; caused = set_caused settings.causes }) index asked verdicts later
-
-pub summary_without_sets : (index : IndexView) (asked : List ℕ) (verdicts : List VerdictView) → summary_of index asked (map without_set verdicts) ≡ summary_of index asked verdicts
-summary_without_sets index asked verdicts = summary_alike without_set set_status asked verdicts index
-
--- ---- the cores behind the first
-
-left_untold : (a b : Bool) → (a || b) ≡ false → a ≡ false
-left_untold false b neither = refl
-left_untold true b neither = absurd (true≢false neither)
-
-right_untold : (a b : Bool) → (a || b) ≡ false → b ≡ false
-right_untold false b neither = neither
-right_untold true b neither = absurd (true≢false neither)
-
-module _ (settings : Settings) (untold : tells_all_causes settings ≡ false) (index : IndexView) (later : List (List (List Constraint))) where
-  reasons_untold : settings.all_reasons ≡ false
-  reasons_untold = right_untold settings.causes settings.all_reasons untold
-
-  block_alone : (since : Bool) (one : ℕ × VerdictView) → block_of index (telling_of settings since later) one ≡ block_of index (telling_of settings since []) one
-  unfolding block_of explanation
-  block_alone since (place, Found places) = refl
-  block_alone since (place, Blocked core) = rw reasons_untold refl
-
-  object_alone : (since : Bool) (one : ℕ × VerdictView) → block_json index (telling_of settings since later) one ≡ block_json index (telling_of settings since []) one
-  unfolding block_json explanation_json told_json
-  object_alone since (place, Found places) = refl
-  object_alone since (place, Blocked core) = rw reasons_untold refl
-
-  text_alone : (format : Format) (since : Bool) (content : ContentView) → text_in format index (telling_of settings since later) content ≡ text_in format index (telling_of settings since []) content
-  unfolding lines_text json_text
-  text_alone Text since content =
-      ap (λ (block : ℕ × VerdictView → List ℕ). line (codes "architecture: ") index.arch ++ titled (codes "report:") (flat_map block content.blocks)
-      ++ flat_map number_line content.numbers ++ flat_map list_lines content.lists ++ causes_text index content.causes)
-      (fun_ext (block_alone since))
-  text_alone Json since content =
-      ap (λ (block : ℕ × VerdictView → List ℕ). object (head_json (telling_of settings since []).options ++ (member (codes "architecture") (quoted (escaped index.arch))
-      ∷ member (codes "report") (tall_array block content.blocks)
-      ∷ map number_json content.numbers ++ map list_json content.lists ++ causes_json index content.causes)) ++ codes "\n")
-      (fun_ext (object_alone since))
-
-  causes_alone : (broken : List (ℕ × VerdictView)) → causes_if settings.causes index later broken ≡ causes_if settings.causes index [] broken
-  causes_alone broken = rw (left_untold settings.causes settings.all_reasons untold) refl
-
-  -- where a report tells neither all reasons nor causes, it is that of the verdicts alone
-  pub later_unread : (asked : List ℕ) (verdicts : List VerdictView) → written_told settings index asked verdicts later ≡ written_report settings index asked verdicts
-  later_unread asked verdicts =
-      ap (λ (causes : Option (List CauseView)). text_in settings.format index (telling_of settings false later) (record (content_of settings index asked verdicts []) { causes = causes }))
-      (causes_alone (broken_ones asked verdicts))
-      ∙ text_alone settings.format false (content_of settings index asked verdicts [])
-
-  -- and so is one since an earlier index
-  pub later_unread_since : (asked : List ℕ) (verdicts : List VerdictView) (before : List BrokenView)
-      → written_since settings index asked verdicts later before ≡ written_since settings index asked verdicts [] before
-  later_unread_since asked verdicts before =
-      ap (λ (causes : Option (List CauseView)). text_in settings.format index (telling_of settings true later) (record (content_since settings index asked verdicts [] before) { causes = causes }))
-      (causes_alone (news_of index asked verdicts before))
-      ∙ text_alone settings.format true (content_since settings index asked verdicts [] before)

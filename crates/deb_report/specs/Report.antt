@@ -87,11 +87,6 @@ abbrev pub is_broken : VerdictView → Bool
 is_broken (Found places) = false
 is_broken (Blocked constraints) = true
 
--- the verdict without the set that was found
-abbrev pub without_set : VerdictView → VerdictView
-without_set (Found places) = Found []
-without_set (Blocked constraints) = Blocked constraints
-
 -- whether a package with this verdict has a block
 abbrev pub is_shown : Show → VerdictView → Bool
 is_shown All verdict = true
