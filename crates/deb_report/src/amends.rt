@@ -8,7 +8,7 @@ ghost use Rattle.deb_report.specs.Told.{IsAskedOf, amends_view, shown_view};
 use crate::asked::is_unknown;
 use crate::broken::BrokenPackage;
 use crate::marks::marks_at;
-use crate::shown::Shown;
+use crate::shown::{Shown, places_of};
 use deb_index::Index;
 use std::alloc::{AllocError, Global};
 
@@ -17,17 +17,6 @@ use std::alloc::{AllocError, Global};
 pub(crate) struct Amends<'b> {
     pub(crate) title: &'static str,
     pub(crate) packages: Vec<&'b BrokenPackage>,
-}
-
-/// The places of asked packages.
-fn places_of(alloc: Global, shown: &[Shown<'_>]) -> Result<Vec<u32>, AllocError>
-    ensures { IfOk result (λ places. places.items ≡ map (λ one. one.0) (map shown_view shown.now)) }
-{
-    let mut places = Vec::new(alloc);
-    for one in shown {
-        places.push(one.place)?;
-    }
-    Ok(places)
 }
 
 /// Marks on the names of asked packages.

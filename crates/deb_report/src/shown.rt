@@ -70,3 +70,14 @@ pub(crate) fn shown_of<'v>(
     }
     Ok(shown)
 }
+
+/// The places of asked packages.
+pub(crate) fn places_of(alloc: Global, shown: &[Shown<'_>]) -> Result<Vec<u32>, AllocError>
+    ensures { IfOk result (λ places. places.items ≡ map (λ one. one.0) (map shown_view shown.now)) }
+{
+    let mut places = Vec::new(alloc);
+    for one in shown {
+        places.push(one.place)?;
+    }
+    Ok(places)
+}

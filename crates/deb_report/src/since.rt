@@ -9,7 +9,7 @@ ghost use Rattle.deb_report.specs.Told.{IsAskedOf, shown_view};
 use crate::broken::BrokenPackage;
 use crate::config::Show;
 use crate::marks::marks_of;
-use crate::shown::{Shown, shown_of};
+use crate::shown::{Shown, places_of, shown_of};
 use deb_health::Verdict;
 use deb_index::Index;
 use std::alloc::{AllocError, Global};
@@ -66,11 +66,7 @@ pub fn newly_broken(
         newly_broken index.now asked.now (map verdict_view verdicts.now) (map broken_view before.now)) }
 {
     let failures = shown_of(alloc, asked, verdicts, Show::Failures)?;
-    let found = news_of(alloc, index, failures.as_slice(), before)?;
-    let news = found.as_slice();
-    let mut places = Vec::with_capacity(alloc, news.len())?;
-    for one in news {
-        places.push(one.place)?;
-    }
+    let news = news_of(alloc, index, failures.as_slice(), before)?;
+    let places = places_of(alloc, news.as_slice())?;
     Ok(places)
 }

@@ -1,12 +1,9 @@
-use Rattle.std.proofs.Common.{◌≡◌, ◌∙◌, ℕ, ap, arith, filter, map, sym, take}
-use Rattle.std.proofs.lemmas.List.{take_all}
+use Rattle.std.proofs.Common.{◌≡◌, ◌∙◌, ℕ, ap, filter, map}
 use Rattle.deb_health.specs.Verdicts.{VerdictView, verdict_view}
 use Rattle.deb_report.specs.declared.config.Show.TheVariants.{Failures}
-use Rattle.deb_report.specs.declared.shown.Shown.{Shown}
 use Rattle.deb_report.specs.Report.{broken_ones}
 use Rattle.deb_report.specs.Since.{broken_view, is_news, news_of}
 use Rattle.deb_report.specs.Told.{shown_view}
-use Rattle.deb_report.proofs.ListLemmas.{map-twice}
 use Rattle.deb_report.proofs.ReportLemmas.{shown-within}
 use Rattle.deb_report.proofs.since.newly_broken.Goals as goal
 
@@ -19,8 +16,6 @@ pub returns : goal.returns
 unfolding news_of
 returns c =
     let test = is_news c.args.index.now (map broken_view c.args.before.now) in
-    let news = c.as_slice-news.result.now in
-    let all : take c.loop-one.one-index news ≡ news = take_all _ _ (omega arith) in
     let are : map shown_view c.as_slice.result.now ≡ broken_ones c.args.asked.now (map verdict_view c.args.verdicts.now) = ap (map shown_view) c.as_slice.ensures.value ∙ c.in_ok-failures.ensures in
-    c.loop-one.invariant ∙ ap (map (λ (one : Shown). one.place)) all ∙ sym (map-twice (λ (one : ℕ × VerdictView). one.0) shown_view news)
-    ∙ ap (map (λ (one : ℕ × VerdictView). one.0)) (ap (map shown_view) c.as_slice-news.ensures.value ∙ c.in_ok-found.ensures ∙ ap (filter test) are)
+    c.in_ok-places.ensures
+    ∙ ap (map (λ (one : ℕ × VerdictView). one.0)) (ap (map shown_view) c.as_slice-2.ensures.value ∙ c.in_ok-news.ensures ∙ ap (filter test) are)

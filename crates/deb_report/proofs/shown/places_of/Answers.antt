@@ -4,7 +4,7 @@ use Rattle.deb_health.specs.Verdicts.{VerdictView}
 use Rattle.deb_report.specs.declared.shown.Shown.{Shown}
 use Rattle.deb_report.specs.Told.{shown_view}
 use Rattle.deb_report.proofs.ListLemmas.{map-twice}
-use Rattle.deb_report.proofs.amends.places_of.Goals as goal
+use Rattle.deb_report.proofs.shown.places_of.Goals as goal
 
 pub returns : goal.returns
 returns c =
