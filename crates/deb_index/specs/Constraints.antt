@@ -19,7 +19,7 @@ constraints_at index p = map (λ j. Need p j) (below (length (needs_at index p))
 unfoldable pub constraints_of : IndexView → List Constraint
 constraints_of index =
     map (λ n. Essential n) (essential_names index) ++ flat_map (constraints_at index) (below (length index.packages))
-        ++ map (λ n. Only n) (below (length (names index)))
+    ++ map (λ n. Only n) (below (length (names index)))
 
 -- the constraint speaks of names, packages, groups and entries that the index has
 abbrev pub IsOfIndex : IndexView → Constraint → Type 0

@@ -52,8 +52,18 @@ aparts p = p.conflicts ++ p.breaks
 
 -- the package at a place; past the last place one without anything
 abbrev pub no_package : PackageView
-no_package = record { name = []; version = []; architecture = []; essential = false; multi_arch_allowed = false; pre_depends = []; depends = []; conflicts = [];
-    breaks = []; provides = [] }
+no_package = record {
+  name = [];
+  version = [];
+  architecture = [];
+  essential = false;
+  multi_arch_allowed = false;
+  pre_depends = [];
+  depends = [];
+  conflicts = [];
+  breaks = [];
+  provides = [];
+}
 
 abbrev pub package_at : IndexView → ℕ → PackageView
 package_at index place = slice_index_or index.packages place no_package

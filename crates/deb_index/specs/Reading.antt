@@ -143,8 +143,18 @@ package_of n fields head = do
   conflicts ← atoms_in n fields Conflicts
   breaks ← atoms_in n fields Breaks
   provides ← provides_in n fields
-  Ok (record { name = head.name; version = head.version; architecture = head.architecture; essential = is_marked fields; multi_arch_allowed = is_allowed fields;
-      pre_depends = pre_depends; depends = depends; conflicts = conflicts; breaks = breaks; provides = provides })
+  Ok (record {
+    name = head.name;
+    version = head.version;
+    architecture = head.architecture;
+    essential = is_marked fields;
+    multi_arch_allowed = is_allowed fields;
+    pre_depends = pre_depends;
+    depends = depends;
+    conflicts = conflicts;
+    breaks = breaks;
+    provides = provides;
+  })
 
 -- whether a stanza counts for an architecture
 abbrev pub is_for : List ℕ → List ℕ → Bool
@@ -202,8 +212,15 @@ kept read = filter_map (λ (r : Option PackageView). r) read
 unfoldable pub collected : List ℕ → Bool → List (Option PackageView) → IndexView
 collected arch with_essential read =
     let packages = first_of_each same_package (kept read) in
-    record { arch = arch; packages = packages; with_essential = with_essential; stanzas = length read; skipped = length read - length (kept read);
-        duplicates = length (kept read) - length packages; foreground = 0 }
+    record {
+      arch = arch;
+      packages = packages;
+      with_essential = with_essential;
+      stanzas = length read;
+      skipped = length read - length (kept read);
+      duplicates = length (kept read) - length packages;
+      foreground = 0;
+    }
 
 -- all packages are the foreground's
 abbrev pub with_foreground : IndexView → IndexView
