@@ -3,7 +3,7 @@
 //! Such a set has the package, a base set, and a way from need to need, each with one answer. Its last place lacks one need alone, so that is
 //! needed; with its answer the set lacks what that answer lacks.
 
-ghost use Rattle.std.specs.Prelude.{◌≡◌, ℕ, ◌<◌, true, IfOk, IfSome, OnOk, length};
+ghost use Rattle.std.specs.Prelude.{◌≡◌, ◌≢◌, ℕ, ◌<◌, true, IfOk, IfSome, OnOk, length};
 ghost use Rattle.std.specs.List.Sorted.{IsStrictlyIncreasing};
 ghost use Rattle.deb_index.specs.declared.constraint.Constraint.TheVariants.{Need};
 ghost use Rattle.deb_index.specs.Packages.{needs_at};
@@ -22,34 +22,23 @@ use crate::rows::Places;
 use number_sets::sort_once;
 use std::alloc::{AllocError, Global};
 
-/// The first need of a place that the part asks for and the set doesn't answer.
-fn first_open<P: Places>(part: &Part<'_>, set: &P, place: u32) -> Option<u32>
+/// The one need of a place that the part asks for and the set doesn't answer. `None` where it answers all, or lacks several.
+fn only_open<P: Places>(part: &Part<'_>, set: &P, place: u32) -> Option<u32>
     requires { place < length part.now.index.now.packages }
     ensures { IfSome result (λ number. (number < length (needs_at part.now.index.now place))
-        × ((j : ℕ) → j < number → MeetsAsked part.now (P.members set.now) (Need place j))) }
+        × ((j : ℕ) → j < length (needs_at part.now.index.now place) → j ≢ number → MeetsAsked part.now (P.members set.now) (Need place j))) }
 {
+    let mut open = None;
     for number in 0..part.index.need_count(place) {
-        if !meets_need(part, set, place, number) {
-            return Some(number);
+        if meets_need(part, set, place, number) {
+            continue;
         }
-    }
-    None
-}
-
-/// Whether the set answers each need of a place behind this one, where the part asks for it.
-fn meets_later<P: Places>(part: &Part<'_>, set: &P, place: u32, number: u32) -> bool
-    requires place { place < length part.now.index.now.packages }
-    requires number { number < length (needs_at part.now.index.now place) }
-    ensures { result ≡ true → (j : ℕ) → number < j → j < length (needs_at part.now.index.now place)
-        → MeetsAsked part.now (P.members set.now) (Need place j) }
-{
-    let count = part.index.need_count(place);
-    for later in number + 1..count {
-        if !meets_need(part, set, place, later) {
-            return false;
+        if open.is_some() {
+            return None;
         }
+        open = Some(number);
     }
-    true
+    open
 }
 
 /// The one need that a place lacks in a set, where the part asks for it and all else that it asks of the place is met.
@@ -57,11 +46,8 @@ fn lacking_need<P: Places>(part: &Part<'_>, set: &P, place: u32) -> Option<u32>
     requires { place < length part.now.index.now.packages }
     ensures { IfSome result (λ number. (number < length (needs_at part.now.index.now place)) × LacksOne part.now (P.members set.now) place number) }
 {
-    let number = first_open(part, set, place)?;
-    if !meets_later(part, set, place, number) || !meets_aparts(part, set, place) {
-        return None;
-    }
-    if !stands_once(part, set, place) {
+    let number = only_open(part, set, place)?;
+    if !meets_aparts(part, set, place) || !stands_once(part, set, place) {
         return None;
     }
     Some(number)
