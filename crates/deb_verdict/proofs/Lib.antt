@@ -1,6 +1,6 @@
 pub mod Answered
 pub mod BaseLemmas
-pub mod CandidateLemmas
+pub mod BearerLemmas
 pub mod CauseSteps
 pub mod CoresExist
 pub mod Cutting

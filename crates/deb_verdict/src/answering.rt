@@ -1,5 +1,5 @@
-//! Whether a set answers a need: by its row, or, where it has too many answers for one, by the first candidates of its alternatives. None of the
-//! many others are looked at.
+//! Whether a set answers a need: by its row, or, where it has too many answers for one, by the first bearers of its alternatives' names. None of
+//! the many others are looked at.
 
 ghost use Rattle.std.specs.Prelude.{◌≡◌, ℕ, ◌<◌, true, All, IfSome, length};
 ghost use Rattle.std.specs.List.{list_any};
@@ -17,11 +17,11 @@ use number_sets::SparseSet;
 /// Of a need so many alternatives are looked at.
 pub(crate) const ALTERNATIVES: usize = 64;
 
-/// Of an alternative so many candidates are looked at: as many as a row is made from.
-pub(crate) const CANDIDATES: usize = 256;
+/// Of an alternative's name so many bearers are looked at: as many as a row is made from.
+pub(crate) const BEARERS: usize = 256;
 
-/// A candidate of an alternative: a place of its name or, behind these, one that provides it.
-pub(crate) fn candidate(named: &[u32], provided: &[(u32, u32)], number: usize) -> Option<u32>
+/// A bearer of a name: a place that has it or, behind these, one that provides it.
+pub(crate) fn bearer(named: &[u32], provided: &[(u32, u32)], number: usize) -> Option<u32>
     ensures { (count : ℕ) → All (λ place. place < count) named.now → All (λ entry. entry.0 < count) provided.now → IfSome result (λ place. place < count) }
 {
     if number < named.len() {
@@ -31,14 +31,14 @@ pub(crate) fn candidate(named: &[u32], provided: &[(u32, u32)], number: usize) -
     Some(entry.0)
 }
 
-/// Whether a candidate that is in meets an alternative.
-fn has_candidate<P: Places>(index: &Index, set: &P, atom: &Atom) -> bool
+/// Whether a bearer of its name that is in meets an alternative.
+fn has_bearer<P: Places>(index: &Index, set: &P, atom: &Atom) -> bool
     ensures { result ≡ true → list_any (P.members set.now) (need_satisfiers index.now (atom_view atom.now)) ≡ true }
 {
     let named = index.places_of(atom.name.as_slice());
     let provided = index.provides_of(atom.name.as_slice());
-    for number in 0..CANDIDATES {
-        let Some(place) = candidate(named, provided, number) else {
+    for number in 0..BEARERS {
+        let Some(place) = bearer(named, provided, number) else {
             return false;
         };
         if set.has(place) && index.meets_need(place, atom) {
@@ -48,7 +48,7 @@ fn has_candidate<P: Places>(index: &Index, set: &P, atom: &Atom) -> bool
     false
 }
 
-/// Whether a candidate that is in answers a need.
+/// Whether a bearer of an alternative's name that is in answers a need.
 pub(crate) fn has_answer<P: Places>(index: &Index, set: &P, place: u32, number: u32) -> bool
     requires place { place < length index.now.packages }
     requires number { number < length (needs_at index.now place) }
@@ -56,14 +56,14 @@ pub(crate) fn has_answer<P: Places>(index: &Index, set: &P, place: u32, number: 
 {
     let alternatives = index.need(place, number);
     for tried in 0..alternatives.len().min(ALTERNATIVES) {
-        if has_candidate(index, set, &alternatives[tried]) {
+        if has_bearer(index, set, &alternatives[tried]) {
             return true;
         }
     }
     false
 }
 
-/// Whether a place that is in answers a need. `false`, too, where there is no row and none of the first candidates does.
+/// Whether a place that is in answers a need. `false`, too, where there is no row and none of the first bearers does.
 pub(crate) fn is_answered<P: Places>(index: &Index, set: &P, place: u32, number: u32) -> bool
     requires place { place < length index.now.packages }
     requires number { number < length (needs_at index.now place) }

@@ -14,13 +14,13 @@ use deb_index::Index;
 use number_sets::sort_once;
 use std::alloc::{AllocError, Global};
 
-/// How many candidates there are, which are places of the index.
-pub(crate) fn count_of(index: &Index, candidates: &[u32]) -> u32
-    requires within { All (λ q. q < length index.now.packages) candidates.now }
-    requires rising { IsStrictlyIncreasing candidates.now }
-    ensures { result ≡ length candidates.now }
+/// How many places these are, all of the index.
+pub(crate) fn count_of(index: &Index, places: &[u32]) -> u32
+    requires within { All (λ q. q < length index.now.packages) places.now }
+    requires rising { IsStrictlyIncreasing places.now }
+    ensures { result ≡ length places.now }
 {
-    let count = candidates.len();
+    let count = places.len();
     let packages = index.len();
     prove!(count <= packages as usize);
     count as u32

@@ -4,7 +4,7 @@
 ghost use Rattle.std.specs.Prelude.{◌≡◌, [], ◌<◌, All, OnOk, length, take};
 ghost use Rattle.deb_index.specs.Packages.{aparts_at, needs_at};
 
-use crate::answering::{ALTERNATIVES, CANDIDATES, candidate, has_answer};
+use crate::answering::{ALTERNATIVES, BEARERS, bearer, has_answer};
 use crate::rows::{FEW, has_any, stands_apart};
 use deb_index::Index;
 use deb_relation::Atom;
@@ -209,8 +209,8 @@ impl Installation {
         Ok(false)
     }
 
-    /// Puts in the first candidate of an alternative that meets it and fits. `false` where none of those that are looked at does.
-    fn take_candidate(
+    /// Puts in the first bearer of an alternative's name that meets it and fits. `false` where none of those that are looked at does.
+    fn take_bearer(
         &mut self,
         index: &Index,
         hopeless: &SparseSet,
@@ -221,8 +221,8 @@ impl Installation {
     {
         let named = index.places_of(atom.name.as_slice());
         let provided = index.provides_of(atom.name.as_slice());
-        for number in 0..CANDIDATES {
-            let Some(place) = candidate(named, provided, number) else {
+        for number in 0..BEARERS {
+            let Some(place) = bearer(named, provided, number) else {
                 return Ok(false);
             };
             if index.meets_need(place, atom) && self.fits(index, hopeless, place)? {
@@ -233,7 +233,7 @@ impl Installation {
         Ok(false)
     }
 
-    /// Puts in a candidate that answers a need, where none is in. `false` where none of those that are looked at fits.
+    /// Puts in a bearer of an alternative's name that answers a need, where none is in. `false` where none of those that are looked at fits.
     fn take_any(
         &mut self,
         index: &Index,
@@ -251,7 +251,7 @@ impl Installation {
         }
         let alternatives = index.need(place, number);
         for tried in 0..alternatives.len().min(ALTERNATIVES) {
-            if self.take_candidate(index, hopeless, &alternatives[tried])? {
+            if self.take_bearer(index, hopeless, &alternatives[tried])? {
                 return Ok(true);
             }
         }

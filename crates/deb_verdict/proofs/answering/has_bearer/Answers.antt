@@ -1,11 +1,11 @@
 use Rattle.std.proofs.Common.{◌∙◌, sym}
 use Rattle.deb_relation.specs.AtomView.{atom_view}
-use Rattle.deb_verdict.proofs.CandidateLemmas.{candidate_is_place, met_by_one}
-use Rattle.deb_verdict.proofs.answering.has_candidate.Goals as goal
+use Rattle.deb_verdict.proofs.BearerLemmas.{bearer_is_place, met_by_one}
+use Rattle.deb_verdict.proofs.answering.has_bearer.Goals as goal
 
 pub meets_need-requires : goal.meets_need-requires
 meets_need-requires g c =
-    candidate_is_place c.args.index.now c.as_slice.result.now c.as_slice-2.result.now c.places_of-named.result.now c.provides_of-provided.result.now c.in-Some.place
+    bearer_is_place c.args.index.now c.as_slice.result.now c.as_slice-2.result.now c.places_of-named.result.now c.provides_of-provided.result.now c.in-Some.place
     c.places_of-named.ensures c.provides_of-provided.ensures c.in-Some.ensures
 
 pub returns-then-meets_need : goal.returns-then-meets_need

@@ -1,4 +1,4 @@
--- Candidates of needs: they are places, and one that meets an alternative answers the need.
+-- Bearers of names: they are places, and one that meets an alternative answers the need.
 use Rattle.std.proofs.Common.{◌≡◌, ℕ, ◌+◌, ◌<◌, Bool, true, List, [], ◌∷◌, length, map, get_or, All, sym, ap, ◌∙◌, arith}
 use Rattle.std.specs.List.{list_any, enumerate_from, flat_map}
 use Rattle.std.proofs.lemmas.List.Elements.{All-nil, All-map, All-append, All-same, All-weaker}
@@ -34,10 +34,10 @@ provided_below index name =
     All-weaker (λ (entry : ℕ × ℕ). entry.0 < 0 + length index.packages) (λ (entry : ℕ × ℕ). entry.0 < length index.packages) (λ entry below. omega (arith, below))
     (provided_at index name) (pairs_below (is_providing index.arch name) 0 index.packages)
 
--- a candidate is a place
-pub candidate_is_place : (index : IndexView) (name also named : List ℕ) (provided : List (ℕ × ℕ)) (found : ℕ) → named ≡ places_of index name → provided ≡ provided_at index also
+-- a bearer is a place
+pub bearer_is_place : (index : IndexView) (name also named : List ℕ) (provided : List (ℕ × ℕ)) (found : ℕ) → named ≡ places_of index name → provided ≡ provided_at index also
     → ((count : ℕ) → All (λ place. place < count) named → All (λ entry. entry.0 < count) provided → found < count) → found < length index.packages
-candidate_is_place index name also named provided found named_is provided_is within =
+bearer_is_place index name also named provided found named_is provided_is within =
     within (length index.packages)
     (All-same (λ place. place < length index.packages) named (places_of index name) named_is (named_below index name))
     (All-same (λ (entry : ℕ × ℕ). entry.0 < length index.packages) provided (provided_at index also) provided_is (provided_below index also))
