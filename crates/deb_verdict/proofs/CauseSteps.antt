@@ -89,13 +89,6 @@ pub record AreFound (index : IndexView) (p : ℕ) (out : NumberSet) (cores : Lis
   pub stand_there : map (map (slice_get (constraints_of index))) positions ≡ map (map Some) cores
 
 module _ (index : IndexView) (p : ℕ) where
-  pub none_found : AreFound index p nothing []
-  none_found = record {
-    positions = [];
-    further = λ later cores. cores;
-    stand_there = refl;
-  }
-
   module _ (out after : NumberSet) (core : List ℕ) (first : IsFirstWithout index p out core) (taken : (k : ℕ) → after k ≡ either out (cause_at index core) k) where
     -- one core more
     pub one_found : (constraints : List Constraint) (cores : List (List Constraint)) → map (slice_get (constraints_of index)) core ≡ map Some constraints

@@ -106,6 +106,32 @@ fn is_blocked(
     )
 }
 
+/// The cores of a package, as `cores_in` has them, by its formula.
+fn cores_by(
+    alloc: Global,
+    workspace: &mut Workspace,
+    groundwork: &Groundwork<'_>,
+    p: u32,
+    formula: &mut Option<CoreFormula>,
+) -> Result<Vec<Vec<Constraint>>, AllocError>
+    requires place { p < length groundwork.now.index.now.packages }
+    requires formula { ForSome formula.old (Tells groundwork.now.index.now p) }
+    ensures cores { IfOk result (λ cores. AreCores groundwork.now.index.now p (map (λ core. core.items) cores.items)) }
+    ensures within { IfOk result (λ cores. All (λ core. All (IsOfIndex groundwork.now.index.now) core.items) cores.items) }
+{
+    let index = groundwork.index;
+    let mut cores = Vec::new(alloc);
+    let mut out = Vec::new(alloc);
+    while is_blocked(alloc, workspace, groundwork, p, &out, formula)? {
+        let positions = first_positions(alloc, workspace, groundwork, p, &out, formula)?;
+        take_out(index, &positions, &mut workspace.found, &mut out)?;
+        let mut core = Vec::new(alloc);
+        list_constraints(index, &positions, &mut core)?;
+        cores.push(core)?;
+    }
+    Ok(cores)
+}
+
 /// The cores whose causes are all causes of the package at a place of the index of a groundwork: none where some healthy set has the package.
 /// The first is its first core; the next is the first core of the constraints without those of the causes so far, as long as no set with the
 /// package meets what is left. Each core is in the order of the index's list.
@@ -122,18 +148,5 @@ pub fn cores_in(
     ensures cores { IfOk result (λ cores. AreCores groundwork.now.index.now p (map (λ core. core.items) cores.items)) }
     ensures within { IfOk result (λ cores. All (λ core. All (IsOfIndex groundwork.now.index.now) core.items) cores.items) }
 {
-    let index = groundwork.index;
-    let mut cores = Vec::new(alloc);
-    let mut out = Vec::new(alloc);
-    let mut formula = None;
-    let mut blocked = is_blocked(alloc, workspace, groundwork, p, &out, &mut formula)?;
-    while blocked {
-        let positions = first_positions(alloc, workspace, groundwork, p, &out, &mut formula)?;
-        let mut core = Vec::new(alloc);
-        list_constraints(index, &positions, &mut core)?;
-        take_out(index, &positions, &mut workspace.found, &mut out)?;
-        cores.push(core)?;
-        blocked = is_blocked(alloc, workspace, groundwork, p, &out, &mut formula)?;
-    }
-    Ok(cores)
+    cores_by(alloc, workspace, groundwork, p, &mut None)
 }

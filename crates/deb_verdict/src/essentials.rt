@@ -17,26 +17,6 @@ use std::alloc::{AllocError, Global};
 /// How many packages are searched for at most.
 const SEARCHES: usize = 8;
 
-/// Puts in a place that no healthy set has.
-fn search_one(
-    alloc: Global,
-    groundwork: &Groundwork<'_>,
-    place: u32,
-    workspace: &mut Workspace,
-    hopeless: &mut SparseSet,
-) -> Result<(), AllocError>
-    requires place { place < length groundwork.now.index.now.packages }
-    requires hopeless { AreHopeless groundwork.now.index.now (members_of hopeless.old) }
-    ensures { OnOk result (AreHopeless groundwork.now.index.now (members_of hopeless.new)) }
-{
-    let found = is_installable_in(alloc, workspace, groundwork, place)?;
-    if found {
-        return Ok(());
-    }
-    hopeless.insert(place)?;
-    Ok(())
-}
-
 /// Puts in those of some packages that no healthy set has.
 fn search_each(
     alloc: Global,
@@ -50,7 +30,11 @@ fn search_each(
     ensures { OnOk result (AreHopeless groundwork.now.index.now (members_of hopeless.new)) }
 {
     for place in places {
-        search_one(alloc, groundwork, *place, workspace, hopeless)?;
+        let found = is_installable_in(alloc, workspace, groundwork, *place)?;
+        if found {
+            continue;
+        }
+        hopeless.insert(*place)?;
     }
     Ok(())
 }
@@ -77,6 +61,25 @@ fn search_name(
 }
 
 /// Puts in packages of essential names that no healthy set has: those of the names that the base set lacks are searched for.
+fn search_names(
+    alloc: Global,
+    groundwork: &Groundwork<'_>,
+    workspace: &mut Workspace,
+    hopeless: &mut SparseSet,
+) -> Result<(), AllocError>
+    requires { AreHopeless groundwork.now.index.now (members_of hopeless.old) }
+    ensures { OnOk result (AreHopeless groundwork.now.index.now (members_of hopeless.new)) }
+{
+    let index = groundwork.index;
+    let mut most = SEARCHES;
+    for name in index.essential_names() {
+        let places = index.places_named(*name);
+        most = search_name(alloc, groundwork, places, most, workspace, hopeless)?;
+    }
+    Ok(())
+}
+
+/// Puts in what `search_names` does, by a workspace of its own.
 fn search_lacked(
     alloc: Global,
     groundwork: &Groundwork<'_>,
@@ -85,14 +88,8 @@ fn search_lacked(
     requires { AreHopeless groundwork.now.index.now (members_of hopeless.old) }
     ensures { OnOk result (AreHopeless groundwork.now.index.now (members_of hopeless.new)) }
 {
-    let index = groundwork.index;
     let mut workspace = Workspace::new(alloc)?;
-    let mut most = SEARCHES;
-    for name in index.essential_names() {
-        let places = index.places_named(*name);
-        most = search_name(alloc, groundwork, places, most, &mut workspace, hopeless)?;
-    }
-    Ok(())
+    search_names(alloc, groundwork, &mut workspace, hopeless)
 }
 
 /// What no healthy set has, as far as it is known with a search for essential names.

@@ -3,7 +3,7 @@ use Rattle.std.proofs.lemmas.List.Elements.{All-same}
 use Rattle.deb_index.specs.Packages.{places_of, name_at}
 use Rattle.deb_encode.proofs.AddSteps.{named_below}
 use Rattle.deb_verdict.proofs.ReachLemmas.{essential_below}
-use Rattle.deb_verdict.proofs.essentials.search_lacked.Goals as goal
+use Rattle.deb_verdict.proofs.essentials.search_names.Goals as goal
 
 pub places_named-places-requires : goal.places_named-places-requires
 places_named-places-requires c =
