@@ -12,7 +12,25 @@ use std::alloc::{AllocError, Global};
 use std::thread;
 use std::thread::Threads;
 
-/// The cores of each place, by one worker in one workspace.
+/// The cores of each place, found in one workspace.
+fn cores_of<F: Finder>(
+    alloc: Global,
+    workspace: &mut Workspace,
+    finder: &F,
+    places: &[u32],
+) -> Result<Vec<Vec<Vec<Constraint>>>, AllocError>
+    requires { All (λ place. place < length (F.index finder.now).packages) places.now }
+    ensures { IfOk result (λ v. AnswersEach (AreFoundCores (F.index finder.now)) places.now v.items) }
+{
+    let mut found = Vec::with_capacity(alloc, places.len())?;
+    for place in places {
+        let cores = finder.cores(alloc, workspace, *place)?;
+        found.push(cores)?;
+    }
+    Ok(found)
+}
+
+/// The cores of each place, by one worker.
 fn find_alone<F: Finder>(
     alloc: Global,
     finder: &F,
@@ -22,12 +40,7 @@ fn find_alone<F: Finder>(
     ensures { IfOk result (λ v. AnswersEach (AreFoundCores (F.index finder.now)) places.now v.items) }
 {
     let mut workspace = Workspace::new(alloc)?;
-    let mut found = Vec::with_capacity(alloc, places.len())?;
-    for place in places {
-        let cores = finder.cores(alloc, &mut workspace, *place)?;
-        found.push(cores)?;
-    }
-    Ok(found)
+    cores_of(alloc, &mut workspace, finder, places)
 }
 
 /// The cores of each place, by so many workers: half of them find those of the first half of the list, the others those of the second.

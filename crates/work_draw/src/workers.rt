@@ -1,5 +1,5 @@
 //! Workers that draw chunks and find their verdicts.
-ghost use Rattle.std.specs.Prelude.{◌≡◌, ◌+◌, ◌<◌, ◌≤◌, true, false, All, IfOk, length};
+ghost use Rattle.std.specs.Prelude.{◌≡◌, ◌+◌, ◌<◌, ◌≤◌, [], true, false, All, IfOk, OnOk, length};
 ghost use Rattle.std.specs.Thread.{IsSync};
 ghost use Rattle.work_draw.specs.Checks.{IsFoundAs, chunk_count};
 ghost use Rattle.work_draw.specs.Pieces.{AreFound, Find, Gains, GainsButLast, GainsInAll, IsReady, after_crew};
@@ -12,6 +12,33 @@ use deb_verdict::{Groundwork, Wanted, Workspace};
 use std::alloc::{AllocError, Global};
 use std::thread;
 use std::thread::Threads;
+
+/// Draws until no number is left, and makes a piece of each, in the order of the draws.
+fn draw_each<F: Finder, G: Gate>(
+    alloc: Global,
+    workspace: &mut Workspace,
+    finder: &F,
+    wanted: Wanted,
+    asked: &[u32],
+    chunk: u32,
+    board: &Board,
+    drawer: &mut Drawer,
+    pieces: &mut Vec<Piece>,
+    gate: &G,
+) -> Result<(), AllocError>
+    requires ready { IsReady (F.index finder.now) asked.now chunk board.now drawer.old 1 }
+    requires empty { pieces.old.items ≡ [] }
+    ensures same { drawer.new ≡ record drawer.old { numbers = drawer.new.numbers; past = drawer.new.past; done = drawer.new.done } }
+    ensures gained { OnOk result ((drawer.new.done ≡ true) × Gains drawer.old.numbers pieces.new.items drawer.new.numbers) }
+    ensures refused { GainsButLast drawer.old.numbers pieces.new.items drawer.new.numbers }
+    ensures found { Find (IsFoundAs wanted (F.index finder.now)) asked.now chunk pieces.new.items }
+{
+    while let Some(number) = board.draw(drawer) {
+        let verdicts = check_chunk(alloc, workspace, finder, wanted, asked, chunk, number, gate)?;
+        pieces.push(Piece { number, verdicts })?;
+    }
+    Ok(())
+}
 
 /// What each worker of a crew runs: as `draw_pieces`, of as much of the verdicts as is wanted.
 fn draw_told<F: Finder, G: Gate>(
@@ -35,27 +62,21 @@ fn draw_told<F: Finder, G: Gate>(
         pieces: Vec::new(alloc),
         refused: true,
     };
-    let Ok(mut workspace) = Workspace::new(alloc) else {
-        return drawn;
-    };
-    while let Some(number) = board.draw(&mut drawn.drawer) {
-        let Ok(verdicts) = check_chunk(
+    if let Ok(mut workspace) = Workspace::new(alloc) {
+        drawn.refused = draw_each(
             alloc,
             &mut workspace,
             finder,
             wanted,
             asked,
             chunk,
-            number,
+            board,
+            &mut drawn.drawer,
+            &mut drawn.pieces,
             gate,
-        ) else {
-            return drawn;
-        };
-        if drawn.pieces.push(Piece { number, verdicts }).is_err() {
-            return drawn;
-        }
+        )
+        .is_err();
     }
-    drawn.refused = false;
     drawn
 }
 

@@ -2,7 +2,7 @@ use Rattle.std.proofs.Common.{â„•, Global, List, Vec, arith, subst, sym, take, â
 use Rattle.deb_index.specs.declared.constraint.Constraint.{Constraint}
 use Rattle.work_draw.specs.Checks.{AnswersEach, AreFoundCores}
 use Rattle.work_draw.proofs.Answered.{AnswersEach_more}
-use Rattle.work_draw.proofs.cores.find_alone.Goals as goal
+use Rattle.work_draw.proofs.cores.cores_of.Goals as goal
 
 pub loop-place-preserved : goal.loop-place-preserved
 loop-place-preserved g c =
