@@ -163,7 +163,7 @@ pub(crate) fn refute_by_formula(
     ensures still { IfOk result (λ refuted. refuted ≡ false → workspace.new.used ≡ workspace.old.used) }
 {
     let described = take_formula(alloc, part.index, p, formula, workspace)?;
-    let refuted = refute_described(alloc, part, p, &described, workspace);
+    let refuted = refute_described(alloc, part, p, &described, workspace)?;
     *formula = Some(described);
-    refuted
+    Ok(refuted)
 }

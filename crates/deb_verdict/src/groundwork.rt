@@ -126,14 +126,14 @@ impl<'a> Groundwork<'a> {
     pub(crate) fn of(alloc: Global, index: &'a Index) -> Result<Groundwork<'a>, AllocError>
         ensures { IfOk result (λ groundwork. groundwork.index.now ≡ index.now) }
     {
-        let alone = mark_alone(alloc, index)?;
         let mut hopeless = find_lacking_places(alloc, index)?;
+        let base = BaseSet::find(alloc, index, &hopeless)?;
         let mut lacking = SparseSet::new(alloc);
         lacking.extend(hopeless.as_slice())?;
         spread_by_essential(index, &mut hopeless)?;
         let forced = force_all(alloc, index)?;
         let met = mark_met(alloc, index, &forced)?;
-        let base = BaseSet::find(alloc, index, &lacking)?;
+        let alone = mark_alone(alloc, index)?;
         Ok(Groundwork {
             index,
             forced,
