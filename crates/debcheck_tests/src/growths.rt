@@ -2,18 +2,14 @@
 
 ghost use Rattle.std.specs.Prelude.{◌≡◌, ◌<◌, ◌≤◌, IfOk, false};
 
-use crate::command_line::asking::{is_plain, read, sides_of};
-use crate::pieces::{TEXT, pieces_of};
-use crate::runs::{EMPTY, run_alone};
+use crate::pieces::{LISTING, TEXT, expect_pieces};
+use crate::runs::{EMPTY, has_written, run_alone};
 use crate::since_runs::{
     BACKGROUND as BEHIND, EARLIER, INDEX as LATER, REPORT, run_on, with_background,
 };
 use crate::tally::Tally;
 use crate::whole_texts::told_by;
-use debcheck::{
-    Config, LineFault, RunFault, Summary, fault_line, line_status, read_all, run, status,
-    write_fault,
-};
+use debcheck::{Config, RunFault, Summary, fault_line, read_all, run, status, write_fault};
 use std::alloc::{AllocError, Global};
 use std::process::Abort;
 use std::test::Fail;
@@ -64,21 +60,17 @@ fn expect_told(
         assert!(rt; !reader.failed);
         return Err(Fail::new("out of memory"));
     }
-    assert_eq!(rt; told, wanted.as_bytes());
-    assert_eq!(rt; reader.reads, reads);
+    assert!(rt;
+        told == wanted.as_bytes() && reader.reads == reads,
+        "{wanted}"
+    );
     Ok(())
 }
 
 /// A text in many pieces.
 #[test]
 fn of_read_pieces(rt: HostRuntime) -> Result<(), Fail> {
-    let config = Config::usual(rt.alloc())?;
-    let mut reader = source_of(TEXT, 11);
-    let outcome = pieces_of(&rt, &config, &mut reader, 1);
-    if matches!(outcome, Err(RunFault::Memory)) {
-        return Err(Fail::new("out of memory"));
-    }
-    assert!(rt; outcome.is_ok_and(|index| index.len() == 4));
+    expect_pieces(&rt, &mut source_of(TEXT, 11), 1, LISTING)?;
     Ok(())
 }
 
@@ -101,24 +93,12 @@ fn expect_report(
     wanted: &[u8],
     code: u8,
 ) -> Result<(), Fail> {
-    match outcome {
-        Ok(_) => {
-            assert_eq!(rt; output.bytes.as_slice(), wanted);
-            assert!(rt; output.flushed);
-            assert_eq!(rt; status(outcome), code);
-            Ok(())
-        }
-        Err(RunFault::Memory) => {
-            assert_eq!(rt; output.calls, 0);
-            assert!(rt; output.bytes.is_empty());
-            assert_eq!(rt; status(outcome), 69);
-            Err(Fail::new("out of memory"))
-        }
-        Err(_) => {
-            assert!(rt; false, "no device failed");
-            Ok(())
-        }
+    if matches!(outcome, Err(RunFault::Memory)) {
+        assert!(rt; output.calls == 0 && output.bytes.is_empty() && status(outcome) == 69);
+        return Err(Fail::new("out of memory"));
     }
+    assert!(rt; has_written(output, outcome, wanted) && status(outcome) == code);
+    Ok(())
 }
 
 /// No text, with a writer that takes one byte a call.
@@ -220,7 +200,7 @@ fn expect_front(
     if status(outcome) != 68 {
         return expect_report(rt, output, outcome, b"no report", 68);
     }
-    assert_eq!(rt; output.bytes.as_slice(), b"arch".as_slice());
+    assert!(rt; output.bytes.as_slice() == b"arch".as_slice());
     Ok(())
 }
 
@@ -289,6 +269,8 @@ fn of_run_with_a_background(rt: HostRuntime) -> Result<(), Fail> {
     expect_background(&rt, &config)
 }
 
+const UNKNOWN_LINE: &[u8] = b"debcheck: unknown package zz\n";
+
 fn unknown_package(alloc: Global) -> Result<RunFault, AllocError> {
     let name = Vec::from_slice(alloc, b"zz")?;
     Ok(RunFault::UnknownAsked { name })
@@ -301,14 +283,9 @@ fn of_fault_line(rt: HostRuntime) -> Result<(), Fail> {
 }
 
 fn expect_line(rt: &(impl Abort + AllocGlobal), fault: &RunFault) -> Result<(), Fail> {
-    match fault_line(rt.alloc(), fault) {
-        Ok(line) => {
-            let wanted = b"debcheck: unknown package zz\n";
-            assert_eq!(rt; line.as_slice(), wanted.as_slice());
-            Ok(())
-        }
-        Err(AllocError) => Err(Fail::new("out of memory")),
-    }
+    let line = fault_line(rt.alloc(), fault)?;
+    assert!(rt; line.as_slice() == UNKNOWN_LINE);
+    Ok(())
 }
 
 /// A fault whose line finds no memory is told as want of memory.
@@ -321,68 +298,10 @@ fn of_write_fault(rt: HostRuntime) -> Result<(), Fail> {
 }
 
 fn expect_errors(rt: &impl Abort, errors: &Held, written: bool) -> Result<(), Fail> {
-    assert!(rt; written);
-    assert!(rt; errors.flushed);
-    if errors.bytes.as_slice() == b"debcheck: unknown package zz\n".as_slice() {
+    assert!(rt; written && errors.flushed);
+    if errors.bytes.as_slice() == UNKNOWN_LINE {
         return Ok(());
     }
-    let wanted = b"debcheck: out of memory\n";
-    assert_eq!(rt; errors.bytes.as_slice(), wanted.as_slice());
+    assert!(rt; errors.bytes.as_slice() == b"debcheck: out of memory\n".as_slice());
     Err(Fail::new("out of memory"))
-}
-
-/// A word for what reading a line comes to.
-fn told_of_line(outcome: &Result<Config, LineFault>) -> &'static str {
-    match outcome {
-        Ok(config) => told_of_config(config),
-        Err(fault) => match line_status(fault) {
-            64 => "refused",
-            69 => "no memory",
-            _ => "no refusal",
-        },
-    }
-}
-
-/// A word for the usual settings for amd64, with or without explanations.
-fn told_of_config(config: &Config) -> &'static str {
-    if !is_plain(config) || config.arch.as_str() != "amd64" {
-        return "other settings";
-    }
-    if config.explain {
-        return "explained";
-    }
-    "taken"
-}
-
-/// The word for what the line comes to.
-fn word_for(alloc: Global, line: &str) -> Result<&'static str, AllocError> {
-    let outcome = read(alloc, line)?;
-    Ok(told_of_line(&outcome))
-}
-
-/// The line comes to what the word says, or memory was refused.
-fn expect_row(rt: &(impl Abort + AllocGlobal), line: &str, wanted: &str) -> Result<(), Fail> {
-    let told = word_for(rt.alloc(), line)?;
-    if told == "no memory" {
-        return Err(Fail::new("out of memory"));
-    }
-    assert_eq!(rt; told, wanted, "{line}");
-    Ok(())
-}
-
-const LINES: &str = "|--arch|amd64 => taken
- => explained
-|--workers|2 => refused
-|--arch|all => refused
-|--arch|amd64|--workers|65 => refused
-|--arch|amd64|--checkonly|a,,b => refused";
-
-/// An architecture alone, no words, and four lines that are refused.
-#[test]
-fn of_read_line(rt: HostRuntime) -> Result<(), Fail> {
-    for row in LINES.lines() {
-        let (line, wanted) = sides_of(row)?;
-        expect_row(&rt, line, wanted)?;
-    }
-    Ok(())
 }

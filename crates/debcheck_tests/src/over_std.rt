@@ -12,25 +12,25 @@ fn reads(alloc: Global, mut inner: Counted<'_>, wanted: &[u8], calls: u32) -> bo
     told_by(&outcome) == wanted && inner.reads == calls
 }
 
+const TEXT: &[u8] = b"sixteen letters.";
+
 /// Sixteen bytes come in one read, and one more tells the end; by five bytes a call they come in four.
 #[test]
 fn a_text_is_read_in_few_reads(rt: HostRuntime) {
-    let alloc = rt.alloc();
-    let text = b"sixteen letters.";
-    let other = ErrorKind::Other;
-    assert!(rt; reads(alloc, reader_of(text, 1000, 0, other), text, 2));
-    assert!(rt; reads(alloc, reader_of(text, 5, 0, other), text, 5));
-    assert!(rt; reads(alloc, reader_of(b"", 5, 0, other), b"", 1));
+    let cases: [(&[u8], usize, u32); 3] = [(TEXT, 1000, 2), (TEXT, 5, 5), (b"", 5, 1)];
+    for (text, step, calls) in cases {
+        let inner = reader_of(text, step, 0, ErrorKind::Other);
+        assert!(rt; reads(rt.alloc(), inner, text, calls));
+    }
 }
 
 /// An interrupted read is one that failed. Nothing is read after it.
 #[test]
 fn each_read_fails_in_turn(rt: HostRuntime) {
-    let alloc = rt.alloc();
-    let text = b"sixteen letters.";
     for kind in [ErrorKind::Other, ErrorKind::Interrupted] {
         for call in 1..=5 {
-            assert!(rt; reads(alloc, reader_of(text, 5, call, kind), b"failed", call));
+            let inner = reader_of(TEXT, 5, call, kind);
+            assert!(rt; reads(rt.alloc(), inner, b"failed", call));
         }
     }
 }
@@ -47,37 +47,30 @@ fn writes(alloc: Global, mut inner: Counting, fine: bool, taken: usize, calls: [
 /// The line has 24 bytes.
 #[test]
 fn a_line_is_written_in_few_writes_and_flushed_once(rt: HostRuntime) {
-    let alloc = rt.alloc();
-    let other = ErrorKind::Other;
-    assert!(rt; writes(alloc, writer_of(1000, 0, false, other), true, 24, [1, 1]));
-    assert!(rt; writes(alloc, writer_of(5, 0, false, other), true, 24, [5, 1]));
+    for (step, calls) in [(1000, [1, 1]), (5, [5, 1])] {
+        let inner = writer_of(step, 0, false, ErrorKind::Other);
+        assert!(rt; writes(rt.alloc(), inner, true, 24, calls));
+    }
 }
+
+/// How many bytes a writer takes at each write, at which it fails, whether it fails at the flush, how many bytes it has then, and its calls.
+const FAILURES: [(usize, u32, bool, usize, [u32; 2]); 7] = [
+    (5, 1, false, 0, [1, 0]),
+    (5, 2, false, 5, [2, 0]),
+    (5, 3, false, 10, [3, 0]),
+    (5, 4, false, 15, [4, 0]),
+    (5, 5, false, 20, [5, 0]),
+    (5, 0, true, 24, [5, 1]),
+    (0, 0, false, 0, [1, 0]),
+];
 
 /// An interrupted write or flush is one that failed. Nothing is written after it.
 #[test]
 fn each_write_and_the_flush_fail_in_turn(rt: HostRuntime) {
-    let alloc = rt.alloc();
     for kind in [ErrorKind::Other, ErrorKind::Interrupted] {
-        for (call, taken) in [(1, 0), (2, 5), (3, 10), (4, 15), (5, 20)] {
-            assert!(rt;
-                writes(
-                    alloc,
-                    writer_of(5, call, false, kind),
-                    false,
-                    taken,
-                    [call, 0]
-                )
-            );
+        for (step, fails_at, flush_fails, taken, calls) in FAILURES {
+            let inner = writer_of(step, fails_at, flush_fails, kind);
+            assert!(rt; writes(rt.alloc(), inner, false, taken, calls));
         }
-        assert!(rt; writes(alloc, writer_of(5, 0, true, kind), false, 24, [5, 1]));
     }
-    assert!(rt;
-        writes(
-            alloc,
-            writer_of(0, 0, false, ErrorKind::Other),
-            false,
-            0,
-            [1, 0]
-        )
-    );
 }

@@ -1,7 +1,6 @@
 //! Words that other programs of this kind take.
 
-use crate::command_line::asking::{fault_of, refuses_each};
-use debcheck::LineFault;
+use crate::asking::{expect_each, is_refusal, told_of};
 use std::process::Abort;
 use std::test::Fail;
 
@@ -29,15 +28,7 @@ const WORDS_OF_OTHERS: &str = "|--arch|amd64|-e => |'-e'|hint: write --explain
 
 #[test]
 fn a_word_of_another_program_is_refused_with_what_to_write(rt: HostRuntime) -> Result<(), Fail> {
-    refuses_each(&rt, WORDS_OF_OTHERS)
-}
-
-/// Whether a refusal has a hint.
-fn has_hint(fault: &LineFault) -> bool {
-    match fault {
-        LineFault::Refused { text } => text.contains("hint: "),
-        _ => true,
-    }
+    expect_each(&rt, WORDS_OF_OTHERS)
 }
 
 /// Lines that are refused, and no program's words are in them.
@@ -49,8 +40,11 @@ const NO_HINTS: [&str; 4] = [
 ];
 
 fn expect_no_hint(rt: &(impl Abort + AllocGlobal), line: &str) -> Result<(), Fail> {
-    let fault = fault_of(rt.alloc(), line)?;
-    assert!(rt; !has_hint(&fault), "{line}");
+    let told = told_of(rt.alloc(), line)?;
+    assert!(rt;
+        is_refusal(&told) && !told.contains("hint: "),
+        "{line}: {told}"
+    );
     Ok(())
 }
 

@@ -2,8 +2,9 @@
 
 ghost use Rattle.std.specs.Io.{WritesAtMost};
 
+use crate::texts::fault_in_words;
 use debcheck::{LineFault, words_of};
-use std::alloc::Global;
+use std::alloc::{AllocError, Global};
 use std::env::{Env, FillError};
 use std::process::Abort;
 use std::test::Fail;
@@ -51,39 +52,51 @@ impl Env for Spoken<'_> {
     }
 }
 
-/// The words behind the program's name are these, with a `|` before each; a refusal is its text.
+/// The words, with a `|` before each; a refusal is its text.
+fn in_words(alloc: Global, words: &Result<Vec<String>, LineFault>) -> Result<String, AllocError> {
+    match words {
+        Ok(words) => in_one_line(alloc, words),
+        Err(fault) => fault_in_words(alloc, fault),
+    }
+}
+
+fn in_one_line(alloc: Global, words: &[String]) -> Result<String, AllocError> {
+    let mut line = String::new(alloc);
+    for word in words {
+        write!(line, "|{word}")?;
+    }
+    Ok(line)
+}
+
+/// The words behind the program's name are these, or are refused so.
 fn expect_words(
     rt: &(impl Abort + AllocGlobal),
     words: &[&[u8]],
     wanted: &str,
 ) -> Result<(), Fail> {
     let alloc = rt.alloc();
-    let spoken = Spoken { alloc, words };
-    let mut line = String::new(alloc);
-    match words_of(&spoken) {
-        Ok(words) => {
-            for word in words.as_slice() {
-                line.push('|')?;
-                line.push_str(word.as_str())?;
-            }
-        }
-        Err(LineFault::Refused { text }) => line.push_str(text.as_str())?,
-        Err(_) => return Err(Fail::new("another fault")),
-    }
-    assert!(rt; line.as_str() == wanted, "{line}");
+    let words = words_of(&Spoken { alloc, words });
+    let told = in_words(alloc, &words)?;
+    assert!(rt; told.as_str() == wanted, "{told}");
     Ok(())
 }
 
 #[test]
 fn the_name_of_the_program_is_no_word(rt: HostRuntime) -> Result<(), Fail> {
-    expect_words(&rt, &[], "")?;
-    expect_words(&rt, &[b"debcheck"], "")?;
-    expect_words(&rt, &[b"debcheck", b"--arch", b"amd64"], "|--arch|amd64")?;
-    expect_words(&rt, &[b"debcheck", b"debcheck", b""], "|debcheck|")
+    let cases: [(&[&[u8]], &str); 4] = [
+        (&[], ""),
+        (&[b"debcheck"], ""),
+        (&[b"debcheck", b"--arch", b"amd64"], "|--arch|amd64"),
+        (&[b"debcheck", b"debcheck", b""], "|debcheck|"),
+    ];
+    for (words, wanted) in cases {
+        expect_words(&rt, words, wanted)?;
+    }
+    Ok(())
 }
 
 #[test]
 fn words_that_are_no_text_are_refused(rt: HostRuntime) -> Result<(), Fail> {
-    let told = "error: a word of the command line isn't UTF-8\n";
+    let told = "status 64, output: , errors: error: a word of the command line isn't UTF-8\n";
     expect_words(&rt, &[b"debcheck", b"--arch", b"\xff"], told)
 }

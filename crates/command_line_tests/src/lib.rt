@@ -1,0 +1,28 @@
+//! Tests of command lines: what their words ask for, and what is said of those that are refused.
+//!
+//! `asking` reads a line, `settings` tells what it asks for in words; `options`, `earlier` and `values` have lines that are taken and lines that are refused, `others`
+//! has words of other programs, `texts` what is written for help, the version and a refusal, `environments` the words of a process, `growths` a test for each call
+//! that can want memory.
+//!
+//! A line is a text with a `|` before each of its words, and so is a list of what a refusal has to say. A table has a row for each line: its text, ` => `, and what is
+//! expected of it.
+#![tactic(auto)]
+
+#[cfg(test)]
+mod asking;
+#[cfg(test)]
+mod earlier;
+#[cfg(test)]
+mod environments;
+#[cfg(test)]
+mod growths;
+#[cfg(test)]
+mod options;
+#[cfg(test)]
+mod others;
+#[cfg(test)]
+mod settings;
+#[cfg(test)]
+mod texts;
+#[cfg(test)]
+mod values;
