@@ -1,5 +1,5 @@
 -- From the phases of a run since an earlier index to the whole run.
-use Rattle.std.proofs.Common.{◌≡◌, ◌∙◌, ◌&&◌, ◌||◌, if◌then◌else◌, ℕ, Bool, true, false, List, [], ◌∷◌, Option, Some, None, Ok, IfSome, ap, ap₂, inl, inr, map, refl, subst, sym}
+use Rattle.std.proofs.Common.{◌≡◌, ◌⊎◌, ◌∙◌, ◌&&◌, ◌||◌, if◌then◌else◌, ℕ, Bool, true, false, List, [], ◌∷◌, Option, Some, None, Result, Ok, Err, IfErr, IfOk, IfSome, IsOkAnd, ap, ap₂, inl, inr, map, refl, subst, sym}
 use Rattle.std.specs.Io.KnownBytes.{Appends}
 use Rattle.std.proofs.lemmas.Bool.{and_parts, cases_Bool, false≢true, or_right}
 use Rattle.deb_index.specs.declared.constraint.Constraint.{Constraint}
@@ -21,10 +21,10 @@ use Rattle.deb_report.proofs.Unshown.{LeavesTold, broken_unchanged, since_unchan
 use Rattle.debcheck.specs.declared.fault.RunFault.{RunFault}
 use Rattle.debcheck.specs.declared.fault.RunFault.TheVariants.{Read, TooLong, BackgroundRead, BackgroundTooLong, EarlierRead, EarlierTooLong, NamesRead, NamesTooLong, BadNameLine, Index, Background, Earlier, UnknownAsked, Slipped, Memory, Write}
 use Rattle.debcheck.specs.Devices.{AppendsPart}
-use Rattle.debcheck.specs.Run.{Fails, FailsToAccept, FailsToIndex, FailsToRead, FailsToReport, HasAsked, HasIndex, IfIndexed, IfTold, Input, IsAsked, IsReadAs, ReadsAs, WritesBy, WritesFrontBy, behind, input}
+use Rattle.debcheck.specs.Run.{Fails, FailsToAccept, FailsToIndex, FailsToRead, FailsToReport, HasAsked, HasIndex, IfIndexed, IfTold, Input, IsAsked, IsReadAs, ReadsAs, WritesBy, WritesFrontBy, behind, input, is_unread}
 use Rattle.debcheck.specs.Since.{FailsEarlier, FailsSince, IsReportAfter, IsReportSince, LeavesSince, TellsReportSince, WereBroken, WritesFrontSince, WritesReportSince, earlier_fault, is_unread_behind, wanted_since}
 use Rattle.debcheck.specs.Standing.{AreFound, TellSame, wanted_at}
-use Rattle.debcheck.proofs.PhaseLemmas.{as-indexed, fails-unwritten, front-added, kept-itself, report-added, told_index, told_weaker}
+use Rattle.debcheck.proofs.PhaseLemmas.{as-indexed, fails-unwritten, front-added, kept-itself, report-added, report-fails, told_index, told_weaker}
 
 -- ---- what is told of verdicts
 
@@ -226,6 +226,35 @@ pub fails-as-alone : (settings : Settings) (text background earlier : Input) (fa
 fails-as-alone settings text background earlier fault h =
     inl (h, λ is. let P : RunFault → Type 0 = λ f. Fails settings text background false f in let failed = (subst P is h).0 in absurd cc)
 
+-- what fails behind the indexes fails as a run, and tells of no read before the earlier one
+pub known-fails : {X : Type 0} (settings : Settings) (text background earlier : Input) (index : IndexView) (before : Result X RunFault) (fault : RunFault) → ReadsAs settings text background index
+    → IfErr before (FailsEarlier settings earlier background) → FailsToReport settings index fault ⊎ (HasAsked settings index × (before ≡ Err fault))
+    → FailsSince settings text background earlier false fault × (is_unread_behind fault ≡ false)
+known-fails settings text background earlier index before fault reads fails (inl h) =
+    (fails-as-alone settings text background earlier fault (report-fails settings text background index fault reads h), asking-behind settings index fault h)
+known-fails {X = X} settings text background earlier index before fault reads fails (inr h) =
+    let P : Result X RunFault → Type 0 = λ r. IfErr r (FailsEarlier settings earlier background) in
+    let cause : FailsEarlier settings earlier background fault = subst P h.1 fails in
+    (inr (as-indexed settings text background index (HasAsked settings) reads h.0, cause), cause.2)
+
+pub unread-before : (fault : RunFault) → is_unread_behind fault ≡ false → is_unread fault ≡ false
+unread-before Read h = h
+unread-before TooLong h = h
+unread-before BackgroundRead h = refl
+unread-before BackgroundTooLong h = refl
+unread-before EarlierRead h = h
+unread-before EarlierTooLong h = h
+unread-before NamesRead h = h
+unread-before NamesTooLong h = h
+unread-before (BadNameLine line) h = h
+unread-before (Index fault) h = h
+unread-before (Background fault) h = h
+unread-before (Earlier fault) h = h
+unread-before (UnknownAsked name) h = h
+unread-before (Slipped slip) h = h
+unread-before Memory h = h
+unread-before Write h = h
+
 -- a run that fails before anything is written, fails so whatever becomes of the writer
 pub since-unwritten : (settings : Settings) (text background earlier : Input) (write_failed : Bool) (fault : RunFault) → FailsSince settings text background earlier false fault
     → FailsSince settings text background earlier write_failed fault
@@ -284,7 +313,7 @@ since_told settings before output summary (Some w) None more broken has = tt
 since_told settings before output summary (Some w) (Some a) None broken has = tt
 since_told settings before output summary (Some w) (Some a) (Some b) broken has = record { before = before; was = broken; has = has }
 
-pub told-since : (settings : Settings) (text background earlier : Input) (index : IndexView) (before : List BrokenView) (output : List ℕ) (summary : Summary)
+told-since : (settings : Settings) (text background earlier : Input) (index : IndexView) (before : List BrokenView) (output : List ℕ) (summary : Summary)
     → ReadsAs settings text background index → IfIndexed settings earlier background (WereBroken settings before) → IsReportAfter before settings index output summary
     → TellsReportSince settings text background earlier output summary
 told-since settings text background earlier index before output summary reads was on = (
@@ -300,6 +329,13 @@ told-since settings text background earlier index before output summary reads wa
       (told_index settings text background (λ view. IsReportAfter before settings view output summary)
       (as-indexed settings text background index (λ view. IsReportAfter before settings view output summary) reads on)),
 )
+
+-- where it is known what was broken
+pub told-known : {X : Type 0} (view : X → List BrokenView) (settings : Settings) (text background earlier : Input) (index : IndexView) (before : Result X RunFault) (output : List ℕ) (summary : Summary)
+    → ReadsAs settings text background index → IfOk before (λ broken. IfIndexed settings earlier background (WereBroken settings (view broken)))
+    → IsOkAnd before (λ broken. IsReportAfter (view broken) settings index output summary) → TellsReportSince settings text background earlier output summary
+told-known view settings text background earlier index (Ok broken) output summary reads was on = told-since settings text background earlier index (view broken) output summary reads was on
+told-known view settings text background earlier index (Err fault) output summary reads was on = absurd on
 
 -- what follows of each text that is told
 each_told : (told : Option (List ℕ)) (P Q : List ℕ → Type 0) → ((bytes : List ℕ) → P bytes → Q bytes) → IfSome told P → IfSome told Q

@@ -1,13 +1,11 @@
 //! A run that tells what became of an earlier index.
 
-ghost use Rattle.std.specs.Prelude.{◌≡◌, ◌≢◌, ◌<◌, ◌≤◌, ◌^◌, All, IfErr, IfOk, None, Ok, OnOk, false, length, map, true};
+ghost use Rattle.std.specs.Prelude.{◌≡◌, ◌≢◌, ◌<◌, ◌≤◌, ◌⊎◌, Err, IfErr, IfOk, IsOkAnd, OnOk, false, length, map, true};
 ghost use Rattle.std.specs.Io.KnownBytes.{IsAtEnd};
 ghost use Rattle.deb_index.specs.Reading.{byte_limit};
-ghost use Rattle.deb_report.specs.Asked.{asked_places};
 ghost use Rattle.deb_report.specs.Settings.{settings_of};
 ghost use Rattle.deb_report.specs.Since.{broken_view};
-ghost use Rattle.debcheck.specs.Run.{FailsToIndex, IfIndexed, Input, IsReadAs, ReadsAs, behind, input, is_unread};
-ghost use Rattle.debcheck.specs.Strict.{slip_of};
+ghost use Rattle.debcheck.specs.Run.{FailsToIndex, FailsToReport, HasAsked, IfIndexed, Input, IsReadAs, ReadsAs, behind, input, is_unread};
 ghost use Rattle.debcheck.specs.Since.{FailsEarlier, FailsSince, IsReportAfter, LeavesSince, TellsReportSince, WereBroken, WritesReportSince, earlier_fault, is_unread_behind, wanted_since};
 
 use crate::asked::ask_noting;
@@ -45,10 +43,11 @@ fn broken_in<G: Gate + Sync, R: Threads + Sync>(
     config: &Config,
     index: &Index,
     gate: &G,
-) -> Result<Vec<BrokenPackage>, AllocError>
+) -> Result<Vec<BrokenPackage>, RunFault>
     requires workers { (0 < config.now.workers) × (config.now.workers ≤ 64) }
     requires chunk { 0 < config.now.chunk }
-    ensures { IfOk result (λ before. WereBroken (settings_of config.now) (map broken_view before.items) index.now) }
+    ensures broken { IfOk result (λ before. WereBroken (settings_of config.now) (map broken_view before.items) index.now) }
+    ensures refused { IfErr result (λ fault. fault ≡ RunFault.Memory) }
 {
     let asked = earlier_places(alloc, index, config)?;
     let asked = asked.as_slice();
@@ -57,7 +56,7 @@ fn broken_in<G: Gate + Sync, R: Threads + Sync>(
         cores: false,
     };
     let verdicts = find_verdicts(rt, alloc, config, statuses, index, asked, gate)?;
-    broken_packages(alloc, index, asked, verdicts.as_slice())
+    Ok(broken_packages(alloc, index, asked, verdicts.as_slice())?)
 }
 
 // The earlier index, of all that is left in the reader and of what stands behind it. What is seen of it is noted.
@@ -110,7 +109,7 @@ fn read_before<E: Source, G: Gate + Sync, R: Threads + Sync>(
         → FailsEarlier (settings_of config.now) (input (E.remaining earlier.old) (E.failed earlier.new)) background fault) }
 {
     match read_earlier(rt, alloc, config, earlier, more, seen) {
-        Ok(index) => Ok(broken_in(rt, alloc, config, &index, gate)?),
+        Ok(index) => broken_in(rt, alloc, config, &index, gate),
         Err(fault) => Err(as_earlier(fault)),
     }
 }
@@ -125,29 +124,34 @@ fn wanted_since(config: &Config) -> Wanted
     }
 }
 
-// Checks the asked places, and makes the report since these packages were broken.
+// Checks the asked places, and makes the report since these packages were broken; where it isn't known which were, the fault of that is told behind
+// those of the asked names. What was seen of the earlier index is noted.
 fn report_after<G: Gate + Sync, R: Threads + Sync>(
     rt: &R,
     alloc: Global,
     config: &Config,
     index: &Index,
-    asked: &[u32],
-    before: &[BrokenPackage],
+    before: Result<Vec<BrokenPackage>, RunFault>,
+    seen: Option<Clue>,
     gate: &G,
-) -> Result<(Vec<u8>, Summary), AllocError>
+    clue: &mut Option<Clue>,
+) -> Result<(Vec<u8>, Summary), RunFault>
     requires workers { (0 < config.now.workers) × (config.now.workers ≤ 64) }
     requires chunk { 0 < config.now.chunk }
-    requires asked { asked_places index.now (settings_of config.now).only ≡ Ok asked.now }
-    requires no_slip { slip_of (settings_of config.now) index.now asked.now ≡ None }
-    requires few { length asked.now < 2 ^ 32 }
-    requires within { All (λ place. place < length index.now.packages) asked.now }
-    ensures { IfOk result (λ r. IsReportAfter (map broken_view before.now) (settings_of config.now) index.now r.0.items r.1) }
+    ensures report { IfOk result (λ r. IsOkAnd before (λ broken.
+        IsReportAfter (map broken_view broken.items) (settings_of config.now) index.now r.0.items r.1)) }
+    ensures refused { IfErr result (λ fault.
+        FailsToReport (settings_of config.now) index.now fault ⊎ (HasAsked (settings_of config.now) index.now × (before ≡ Err fault))) }
 {
+    let asked = ask_noting(alloc, index, config, clue)?;
+    note_seen(clue, seen);
+    let broken = before?;
+    let (asked, before) = (asked.as_slice(), broken.as_slice());
     let wanted = wanted_since(config);
     let found = find_told(rt, alloc, config, wanted, index, asked, before, gate)?;
     let verdicts = found.verdicts.as_slice();
     let later = found.later.as_slice();
-    report_since(alloc, index, asked, verdicts, later, before, config)
+    Ok(report_since(alloc, index, asked, verdicts, later, before, config)?)
 }
 
 // Reads the index, what stands behind it, and the earlier index, and makes the report. The earlier index is given back before the index is
@@ -187,20 +191,9 @@ fn read_since<S: Source, B: Source, E: Source, G: Gate + Sync, R: Threads + Sync
     let more = behind.as_slice();
     let before = read_before(rt, alloc, config, earlier, more, gate, &mut seen);
     let index = index_from(rt, alloc, config, text, behind, clue)?;
-    let asked = ask_noting(alloc, &index, config, clue)?;
-    note_seen(clue, seen);
-    let broken = before?;
-    let told = report_after(
-        rt,
-        alloc,
-        config,
-        &index,
-        asked.as_slice(),
-        broken.as_slice(),
-        gate,
-    )?;
+    let told = report_after(rt, alloc, config, &index, before, seen, gate, clue);
     let_go(index, after);
-    Ok(told)
+    told
 }
 
 // The run since an earlier index, of which is noted what was seen of a text or of a name that it couldn't use.

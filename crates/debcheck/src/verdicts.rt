@@ -167,10 +167,12 @@ fn find_news<G: Gate + Sync, R: Threads + Sync>(
     config: &Config,
     wanted: Wanted,
     index: &Index,
+    groundwork: &Groundwork<'_>,
     asked: &[u32],
     before: &[BrokenPackage],
     gate: &G,
 ) -> Result<Findings, AllocError>
+    requires groundwork { groundwork.now.index.now ≡ index.now }
     requires places { All (λ place. place < length index.now.packages) asked.now }
     requires few { length asked.now < 2 ^ 32 }
     requires workers { (0 < config.now.workers) × (config.now.workers ≤ 64) }
@@ -182,13 +184,12 @@ fn find_news<G: Gate + Sync, R: Threads + Sync>(
     ensures found { IfOk result (λ found. AreFound (settings_of config.now) wanted (map broken_view before.now) index.now asked.now
         (map verdict_view found.verdicts.items) (later_view found.later.items)) }
 {
-    let groundwork = Groundwork::new(alloc, index)?;
     let sets = wanted.sets;
     let statuses = Wanted { sets, cores: false };
-    let found = find_on(rt, alloc, config, statuses, &groundwork, asked, gate)?;
+    let found = find_on(rt, alloc, config, statuses, groundwork, asked, gate)?;
     let news = newly_broken(alloc, index, asked, found.as_slice(), before)?;
     let places = news.as_slice();
-    let broken = find_broken(rt, alloc, config, sets, index, &groundwork, places, gate)?;
+    let broken = find_broken(rt, alloc, config, sets, index, groundwork, places, gate)?;
     let verdicts = with_cores(alloc, asked, found, places, broken.verdicts)?;
     let later = broken.later;
     Ok(Findings { verdicts, later })
@@ -218,7 +219,10 @@ pub(crate) fn find_told<G: Gate + Sync, R: Threads + Sync>(
         (map verdict_view found.verdicts.items) (later_view found.later.items)) }
 {
     if wanted.cores && (config.tells_all_causes() || !before.is_empty()) {
-        return find_news(rt, alloc, config, wanted, index, asked, before, gate);
+        let ground = Groundwork::new(alloc, index)?;
+        return find_news(
+            rt, alloc, config, wanted, index, &ground, asked, before, gate,
+        );
     }
     let verdicts = find_verdicts(rt, alloc, config, wanted, index, asked, gate)?;
     let later = Vec::new(alloc);

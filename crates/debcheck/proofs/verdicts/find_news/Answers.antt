@@ -15,12 +15,12 @@ use Rattle.debcheck.proofs.verdicts.find_news.Goals as goal
 
 pub find_on-requires-clause-places : goal.find_on-requires-clause-places
 find_on-requires-clause-places g c κs within =
-    subst (λ (index : IndexView). All (λ place. place < length index.packages) c.args.asked.now) (sym c.in_ok-groundwork.ensures) c.requires.places
+    subst (λ (index : IndexView). All (λ place. place < length index.packages) c.args.asked.now) (sym c.requires.groundwork) c.requires.places
 
 pub newly_broken-requires-clause-within : goal.newly_broken-requires-clause-within
 newly_broken-requires-clause-within g c =
     rw c.as_slice.ensures.value
-    (subst (λ (index : IndexView). All (SpeaksOf index) (map verdict_view c.in_ok-found.found.items)) c.in_ok-groundwork.ensures c.in_ok-found.ensures.within)
+    (subst (λ (index : IndexView). All (SpeaksOf index) (map verdict_view c.in_ok-found.found.items)) c.requires.groundwork c.in_ok-found.ensures.within)
 
 pub find_broken-requires-clause-places : goal.find_broken-requires-clause-places
 find_broken-requires-clause-places g c κs within =
@@ -31,7 +31,7 @@ pub find_broken-requires-clause-broken : goal.find_broken-requires-clause-broken
 find_broken-requires-clause-broken g c κs within =
     let index = c.args.index.now in
     let asked = c.args.asked.now in
-    let each = subst (λ (view : IndexView). AnswersEach (IsToldVerdict (wanting c.args.wanted.sets false) view) asked (map verdict_view c.in_ok-found.found.items)) c.in_ok-groundwork.ensures c.in_ok-found.ensures.each in
+    let each = subst (λ (view : IndexView). AnswersEach (IsToldVerdict (wanting c.args.wanted.sets false) view) asked (map verdict_view c.in_ok-found.found.items)) c.requires.groundwork c.in_ok-found.ensures.each in
     let told = subst (λ (verdicts : List Verdict). AnswersEach (IsToldVerdict (wanting c.args.wanted.sets false) index) asked (map verdict_view verdicts)) (sym c.as_slice.ensures.value) each in
     rw (c.as_slice-places.ensures.value, c.in_ok-news.ensures) (newly_hopeless index (map broken_view c.args.before.now) c.args.wanted.sets asked (map verdict_view c.as_slice.result.now) told)
 
@@ -51,8 +51,8 @@ returns g c =
     let others = map verdict_view c.in_ok-broken.broken.verdicts.items in
     let later = later_view c.in_ok-broken.broken.later.items in
     let news = newly_broken index asked base before in
-    let each = subst (λ (view : IndexView). AnswersEach (IsToldVerdict (wanting wanted.sets false) view) asked base) c.in_ok-groundwork.ensures c.in_ok-found.ensures.each in
-    let speak = subst (λ (view : IndexView). All (SpeaksOf view) base) c.in_ok-groundwork.ensures c.in_ok-found.ensures.within in
+    let each = subst (λ (view : IndexView). AnswersEach (IsToldVerdict (wanting wanted.sets false) view) asked base) c.requires.groundwork c.in_ok-found.ensures.each in
+    let speak = subst (λ (view : IndexView). All (SpeaksOf view) base) c.requires.groundwork c.in_ok-found.ensures.within in
     let are : c.as_slice-places.result.now ≡ news =
     c.as_slice-places.ensures.value ∙ c.in_ok-news.ensures ∙ ap (λ (verdicts : List Verdict). newly_broken index asked (map verdict_view verdicts) before) c.as_slice.ensures.value
     in
