@@ -1,8 +1,8 @@
 -- Cores that are placed are the later ones of their places.
-use Rattle.std.proofs.Common.{Global, Vec, ◌≡◌, ◌∙◌, ℕ, zero, suc, ◌+◌, ◌<◌, ◌≤◌, ◌==◌, ◌||◌, Bool, true, false, ◌&&◌, List, [], ◌∷◌, ◌++◌, All, Some, ap, ap₂, append_assoc, if◌then◌else◌, drop, get_or, length, map, set, slice_get, refl, subst, sym, take, arith, inl, inr}
+use Rattle.std.proofs.Common.{Global, Vec, ◌≡◌, ◌∙◌, ℕ, zero, suc, ◌+◌, ◌<◌, ◌==◌, ◌||◌, Bool, true, false, ◌&&◌, List, [], ◌∷◌, ◌++◌, All, Some, ap, ap₂, append_assoc, if◌then◌else◌, drop, get_or, length, map, set, slice_get, refl, subst, sym, take, arith, inl, inr}
 use Rattle.std.proofs.lemmas.Bool.{cases_Bool, cases_lt, eq-eqb, eqb-true, false≢true, or_cases, or_left, or_parts, or_right, true≢false}
 use Rattle.std.proofs.lemmas.Grind.{get_or-set_at}
-use Rattle.std.proofs.lemmas.List.{drop-drop, drop_all, drop_more, get_or-set_other, get_or_past, length-map, length-set}
+use Rattle.std.proofs.lemmas.List.{drop-drop, drop_more, get_or-set_other, get_or_past, length-map, length-set}
 use Rattle.std.proofs.lemmas.List.Elements.{All-head, All-map, All-nil, All-set, All-tail, All-weaker}
 use Rattle.deb_index.specs.declared.constraint.Constraint.{Constraint}
 use Rattle.deb_index.specs.Constraints.{IsOfIndex, constraints_of}
@@ -253,13 +253,6 @@ placed_next later (p ∷ ps) (suc i) d one cores below =
 pub placed_none : (later : List Cores) (places : List ℕ) → placed later places [] ≡ later
 placed_none later [] = refl
 placed_none later (p ∷ ps) = refl
-
--- whether a place is the next one behind some
-pub next_at : (places : List ℕ) (count d place : ℕ) → count < length places → is_next place (drop count places) ≡ (get_or places count d == place)
-next_at places count d place below = ap (is_next place) (drop_more places count d below)
-
-pub next_past : (places : List ℕ) (count place : ℕ) → length places ≤ count → is_next place (drop count places) ≡ false
-next_past places count place past = ap (is_next place) (drop_all count places past)
 
 -- ---- the loop that puts verdicts with cores in their places
 

@@ -6,11 +6,7 @@ use Rattle.std.proofs.lemmas.List.{get_or-take, length-map, length-take-le, take
 use Rattle.std.proofs.lemmas.List.Folds.{list_all_at}
 use Rattle.std.proofs.lemmas.List.Sums.{AllPass-from_list_all, prefix_len_is}
 use Rattle.deb_relation.specs.Relationship.{is_name}
-use Rattle.debcheck.specs.declared.fault.RunFault.{RunFault}
-use Rattle.debcheck.specs.declared.fault.RunFault.TheVariants.{Read, TooLong, BackgroundRead, BackgroundTooLong, EarlierRead, EarlierTooLong, NamesRead, NamesTooLong, BadNameLine, Index, Background, Earlier, UnknownAsked, Slipped, Memory, Write}
-use Rattle.debcheck.specs.Names.{FailsToName, ReadsNames, RefusesNames, are_names, bad_line, lines_in}
-use Rattle.debcheck.specs.Run.{Input, IsReadAs}
-use Rattle.debcheck.proofs.PhaseLemmas.{read-as, told_text}
+use Rattle.debcheck.specs.Names.{are_names, bad_line, lines_in}
 
 -- elements that pass, and then one that doesn't
 pub first-failing : {A : Type 0} (p : A → Bool) (xs : List A) (k : ℕ) (d : A) → k < length xs → list_all p (take k xs) ≡ true → p (get_or xs k d) ≡ false → (list_all p xs ≡ false) × (prefix_len p xs ≡ k)
@@ -35,28 +31,3 @@ bad-line text items names k n d f parts within same before bad counted =
     let few : length (take k items) ≡ k = length-take-le k items (omega (arith, within)) in
     let many : length names ≡ k = sym (length-map names f) ∙ ap length same ∙ length-map (take k items) (λ (line : Bor (List ℕ)). line.now) ∙ few in
     rw (← parts) (first.0, rw first.1 (omega (arith, many, counted)))
-
--- bytes that were read, as names
-pub names-read : (source : Input) (bytes : List ℕ) (names : List (List ℕ)) → IsReadAs source bytes → are_names bytes ≡ true → names ≡ lines_in bytes → ReadsNames source names
-names-read source bytes names reads good are =
-    (read-as source bytes reads, told_text source.text bytes (λ (all : List ℕ). (are_names all ≡ true) × (names ≡ lines_in all)) reads.1 (good, are))
-
--- and as none
-pub names-refused : (source : Input) (bytes : List ℕ) (fault : RunFault) → IsReadAs source bytes → RefusesNames bytes fault → FailsToName source fault
-names-refused source bytes Read reads h = absurd h
-names-refused source bytes TooLong reads h = absurd h
-names-refused source bytes BackgroundRead reads h = absurd h
-names-refused source bytes BackgroundTooLong reads h = absurd h
-names-refused source bytes EarlierRead reads h = absurd h
-names-refused source bytes EarlierTooLong reads h = absurd h
-names-refused source bytes NamesRead reads h = absurd h
-names-refused source bytes NamesTooLong reads h = absurd h
-names-refused source bytes (BadNameLine line) reads h =
-    (read-as source bytes reads, told_text source.text bytes (λ (all : List ℕ). RefusesNames all (BadNameLine line)) reads.1 h)
-names-refused source bytes (Index fault) reads h = absurd h
-names-refused source bytes (Background fault) reads h = absurd h
-names-refused source bytes (Earlier fault) reads h = absurd h
-names-refused source bytes (UnknownAsked name) reads h = absurd h
-names-refused source bytes (Slipped slip) reads h = absurd h
-names-refused source bytes Memory reads h = reads.0
-names-refused source bytes Write reads h = absurd h

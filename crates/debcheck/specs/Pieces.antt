@@ -1,5 +1,5 @@
 -- What is read of a text piece by piece, and why it is no index.
-use Rattle.std.specs.Prelude.{◌≡◌, ◌≢◌, ◌⊎◌, ℕ, ◌≤◌, Bool, List, ◌++◌, Option, Result, Ok, Err, length}
+use Rattle.std.specs.Prelude.{◌≡◌, ◌≢◌, ◌⊎◌, ℕ, ◌+◌, ◌<◌, ◌≤◌, Bool, false, true, List, ◌++◌, Option, Result, Ok, Err, length}
 use Rattle.std.specs.Io.KnownBytes.{Consumes, IsAtEnd}
 use Rattle.deb_index.specs.declared.error.IndexError.{IndexError}
 use Rattle.deb_index.specs.declared.error.IndexError.TheVariants as index_error
@@ -22,6 +22,14 @@ pub record ReadsAll (old new : Option (List ℕ)) (before failed : Bool) (bytes 
   pub ends : IsAtEnd new
   pub unfailed : failed ≡ before
   pub within : length bytes ≤ byte_limit
+
+-- what was read stands behind what was held
+abbrev pub HoldsMore : List ℕ → List ℕ → Option (List ℕ) → Option (List ℕ) → Type 0
+HoldsMore held next old new = (bytes : List ℕ) × Consumes old new bytes × (next ≡ held ++ bytes)
+
+-- whether so many bytes more are held; where they are fewer, no more were left
+abbrev pub TellsFull : ℕ → List ℕ → List ℕ → Option (List ℕ) → Bool → Type 0
+TellsFull count held next new full = (full ≡ true → length next ≡ length held + count) × (full ≡ false → (length next < length held + count) × IsAtEnd new)
 
 -- some of it was read: a text that the index so far is of, and behind it what is held
 pub record ReadsFront (settings : Settings) (old new : Option (List ℕ)) (front : FrontView) (held : List ℕ) : Type 0 where

@@ -1,7 +1,7 @@
 //! Bytes that were read and are not yet taken into the index.
 
-ghost use Rattle.std.specs.Prelude.{◌≡◌, ◌<◌, ◌+◌, ◌++◌, ◌^◌, ◌≤◌, ℕ, List, [], IfErr, IfOk, OnOk, drop, false, length, take, true};
-ghost use Rattle.std.specs.Io.KnownBytes.{Consumes, IsAtEnd};
+ghost use Rattle.std.specs.Prelude.{◌≡◌, ◌<◌, ◌+◌, ◌^◌, ◌≤◌, [], IfErr, IfOk, OnOk, drop, length, take};
+ghost use Rattle.debcheck.specs.Pieces.{HoldsMore, TellsFull};
 ghost use Rattle.debcheck.specs.Run.{FailsAtRead};
 
 use crate::device::Source;
@@ -79,9 +79,8 @@ impl Held {
     // `read_more`, in memory that is made at once.
     fn read_part<S: Source>(&mut self, reader: &mut S, count: usize) -> Result<bool, RunFault>
         requires count { length self.old + count < 2 ^ 64 }
-        ensures bytes { OnOk result ((bytes : List ℕ) × Consumes (S.remaining reader.old) (S.remaining reader.new) bytes × (self.new ≡ self.old ++ bytes)) }
-        ensures full { IfOk result (λ full. full ≡ true → length self.new ≡ length self.old + count) }
-        ensures end { IfOk result (λ full. full ≡ false → (length self.new < length self.old + count) × IsAtEnd (S.remaining reader.new)) }
+        ensures bytes { OnOk result (HoldsMore self.old self.new (S.remaining reader.old) (S.remaining reader.new)) }
+        ensures full { IfOk result (TellsFull count self.old self.new (S.remaining reader.new)) }
         ensures mark { OnOk result (S.failed reader.new ≡ S.failed reader.old) }
         ensures refused { IfErr result (FailsAtRead (S.failed reader.old) (S.failed reader.new)) }
     {
@@ -101,9 +100,8 @@ impl Held {
         count: usize,
     ) -> Result<bool, RunFault>
         requires count { length self.old + count < 2 ^ 64 }
-        ensures bytes { OnOk result ((bytes : List ℕ) × Consumes (S.remaining reader.old) (S.remaining reader.new) bytes × (self.new ≡ self.old ++ bytes)) }
-        ensures full { IfOk result (λ full. full ≡ true → length self.new ≡ length self.old + count) }
-        ensures end { IfOk result (λ full. full ≡ false → (length self.new < length self.old + count) × IsAtEnd (S.remaining reader.new)) }
+        ensures bytes { OnOk result (HoldsMore self.old self.new (S.remaining reader.old) (S.remaining reader.new)) }
+        ensures full { IfOk result (TellsFull count self.old self.new (S.remaining reader.new)) }
         ensures mark { OnOk result (S.failed reader.new ≡ S.failed reader.old) }
         ensures refused { IfErr result (FailsAtRead (S.failed reader.old) (S.failed reader.new)) }
     {

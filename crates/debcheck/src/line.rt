@@ -1,12 +1,15 @@
 //! The command line.
 
-ghost use Rattle.std.specs.Prelude.{◌≡◌, ◌<◌, ◌≤◌, ℕ, All, IfOk, IfErr, IfSome, OnErr, OnOk, codes, is_some, map, option_map, string_bytes, true, false, unwrap_or};
+ghost use Rattle.std.specs.Prelude.{◌≡◌, ◌<◌, ◌≤◌, ℕ, All, IfOk, IfErr, IfSome, OnErr, OnOk, codes, is_some, map, option_map, string_bytes, true, false};
+ghost use Rattle.std.specs.Prelude.{unwrap_or};
 ghost use Rattle.std.specs.List.{list_all};
 ghost use Rattle.std.specs.Str.Parse.{digits_value};
 ghost use Rattle.clap.specs.Words.{first_of, kind_of};
 ghost use Rattle.deb_relation.specs.Relationship.{is_name};
 ghost use Rattle.deb_report.specs.Settings.{is_architecture, settings_of};
-ghost use Rattle.debcheck.specs.Line.{Accepts, IsFaultOf, IsRefusal, KeepsOther, RefusesLine, RefusesUnless, TellsFront, TellsLine, asked_by, file_named, format_of, has_good_file, has_good_names, has_good_reasons, has_good_since, has_good_values, is_count, is_set, line_status_of, listed_in, mark_of, names_in, request_of, rows_in, show_of, tells_more_reasons, value_of};
+ghost use Rattle.debcheck.specs.Line.{Accepts, IsFaultOf, IsRefusal, KeepsOther, RefusesLine, RefusesUnless, TellsFront, TellsLine, asked_by, file_named};
+ghost use Rattle.debcheck.specs.Line.{format_of, has_good_file, has_good_names, has_good_reasons, has_good_since, has_good_values, is_count, is_set};
+ghost use Rattle.debcheck.specs.Line.{line_status_of, listed_in, mark_of, names_in, request_of, rows_in, show_of, tells_more_reasons, value_of};
 ghost use Rattle.debcheck.specs.declared.line.LineFault.TheVariants.{Memory};
 
 use crate::device::{DeviceFault, Sink};

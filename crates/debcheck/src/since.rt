@@ -6,7 +6,8 @@ ghost use Rattle.deb_index.specs.Reading.{byte_limit};
 ghost use Rattle.deb_report.specs.Settings.{settings_of};
 ghost use Rattle.deb_report.specs.Since.{broken_view};
 ghost use Rattle.debcheck.specs.Run.{FailsToIndex, FailsToReport, HasAsked, IfIndexed, Input, IsReadAs, ReadsAs, behind, input, is_unread};
-ghost use Rattle.debcheck.specs.Since.{FailsEarlier, FailsSince, IsReportAfter, LeavesSince, TellsReportSince, WereBroken, WritesReportSince, earlier_fault, is_unread_behind, wanted_since};
+ghost use Rattle.debcheck.specs.Since.{FailsEarlier, FailsSince, IsReportAfter, LeavesSince, TellsReportSince, WereBroken, WritesReportSince, earlier_fault};
+ghost use Rattle.debcheck.specs.Since.{is_unread_behind, wanted_since};
 
 use crate::asked::ask_noting;
 use crate::clues::{note_earlier, note_seen, stanzas_before};

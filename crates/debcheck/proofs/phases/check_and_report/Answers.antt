@@ -3,7 +3,6 @@ use Rattle.std.proofs.lemmas.Bool.{or_left}
 use Rattle.deb_report.specs.Asked.{asked_places}
 use Rattle.deb_report.specs.Settings.{settings_of, tells_all_causes}
 use Rattle.deb_report.specs.Told.{later_view}
-use Rattle.deb_report.specs.Written.{written_told}
 use Rattle.deb_health.specs.Verdicts.{verdict_view}
 use Rattle.deb_verdict.specs.declared.wanted.Wanted.{Wanted}
 use Rattle.debcheck.specs.Standing.{AreFound, wanted_by}

@@ -33,7 +33,7 @@ returns-then-read-gt-TEXT_LIMIT-clause-refused g c =
     let bytes = c.in_ok-read_more.ensures.bytes in
     let reads = reads-on (settings_of c.args.config.now) (g.S.Source.remaining c.args.reader.now) (g.S.Source.remaining c.pieces.reader) (g.S.Source.remaining c.read_more.new.reader) c.pieces.front
     c.pieces.held bytes.0 c.read_more.new.self c.pieces.invariant.0 bytes.1 bytes.2 in
-    let full = c.in_ok-read_more.ensures.full c.if-not-branch.false in
+    let full = c.in_ok-read_more.ensures.full.0 c.if-not-branch.false in
     let sum = c.pieces.invariant.1 in
     let over = c.if-read-gt-TEXT_LIMIT.true in
     fails-over (settings_of c.args.config.now) (g.S.Source.remaining c.args.reader.now) (g.S.Source.remaining c.read_more.new.reader) (g.S.Source.failed c.args.reader.now)
@@ -44,7 +44,7 @@ pieces-preserved g c =
     let bytes = c.in_ok-read_more.ensures.bytes in
     let reads = reads-on (settings_of c.args.config.now) (g.S.Source.remaining c.args.reader.now) (g.S.Source.remaining c.pieces.reader) (g.S.Source.remaining c.read_more.new.reader) c.pieces.front
     c.pieces.held bytes.0 c.read_more.new.self c.pieces.invariant.0 bytes.1 bytes.2 in
-    let full = c.in_ok-read_more.ensures.full c.if-not-branch.false in
+    let full = c.in_ok-read_more.ensures.full.0 c.if-not-branch.false in
     let sum = c.pieces.invariant.1 in
     let takes = subst (λ (bytes : List ℕ). TakesPiece (settings_of c.args.config.now) c.pieces.front bytes c.in-Ok.next (drop c.in-Ok.taken bytes)) c.as_slice-in-pieces.ensures.value c.in-Ok.ensures.taken in
     let left = subst (λ (bytes : List ℕ). TakesPiece (settings_of c.args.config.now) c.pieces.front c.read_more.new.self c.in-Ok.next bytes) (sym c.drop_front.ensures) takes in
@@ -58,7 +58,7 @@ returns-in_err-skip_rest-in-Err-clause-refused g c =
     let bytes = c.in_ok-read_more.ensures.bytes in
     let reads = reads-on (settings_of c.args.config.now) (g.S.Source.remaining c.args.reader.now) (g.S.Source.remaining c.pieces.reader) (g.S.Source.remaining c.read_more.new.reader) c.pieces.front
     c.pieces.held bytes.0 c.read_more.new.self c.pieces.invariant.0 bytes.1 bytes.2 in
-    let full = c.in_ok-read_more.ensures.full c.if-not-branch.false in
+    let full = c.in_ok-read_more.ensures.full.0 c.if-not-branch.false in
     let sum = c.pieces.invariant.1 in
     let p = err_from_is_err_and c.from_residual-in_err-skip_rest-in-Err.result c.from_residual-in_err-skip_rest-in-Err.ensures.1 in
     rw (p.1, p.2)
@@ -71,7 +71,7 @@ returns-in-Err-clause-text g c =
     let bytes = c.in_ok-read_more.ensures.bytes in
     let reads = reads-on (settings_of c.args.config.now) (g.S.Source.remaining c.args.reader.now) (g.S.Source.remaining c.pieces.reader) (g.S.Source.remaining c.read_more.new.reader) c.pieces.front
     c.pieces.held bytes.0 c.read_more.new.self c.pieces.invariant.0 bytes.1 bytes.2 in
-    let full = c.in_ok-read_more.ensures.full c.if-not-branch.false in
+    let full = c.in_ok-read_more.ensures.full.0 c.if-not-branch.false in
     let sum = c.pieces.invariant.1 in
     let within : c.pieces.read + c.min-count.result ≤ byte_limit = search rules in
     let rest = c.in_ok-skip_rest-in-Err.ensures.bytes in
