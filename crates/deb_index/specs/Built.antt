@@ -41,7 +41,8 @@ same_key k l = bytes_eq k.0 l.0 && bytes_eq k.1 l.1
 
 -- a package is known by the version of the first package of its name, or by the key of a later one
 abbrev pub is_known : List PackageView → List (List ℕ × List ℕ) → PackageView → Bool
-is_known packages later p = option_map_or (λ q. bytes_eq q.version p.version) (find (is_named p.name) packages) false || list_any (same_key (package_key p)) later
+is_known packages later p = option_map_or (λ q. bytes_eq q.version p.version) (find (is_named p.name) packages) false
+    || list_any (same_key (package_key p)) later
 
 abbrev pub IsKnown : List PackageView → List (List ℕ × List ℕ) → Type 0
 IsKnown packages later = (p : PackageView) → list_any (λ q. same_package q p) packages ≡ is_known packages later p

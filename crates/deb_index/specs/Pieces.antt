@@ -29,16 +29,19 @@ pub record IsFrontOf (arch : List ℕ) (with_essential : Bool) (text : List ℕ)
 
 -- with a piece more it is the index of the text and the piece, where no stanza goes on over the text's end
 abbrev pub Accepts : FrontView → List ℕ → FrontView → Type 0
-Accepts front piece next = (arch : List ℕ) (with_essential : Bool) (text : List ℕ) → IsClosed text → IsFrontOf arch with_essential text front → IsFrontOf arch with_essential (text ++ piece) next
+Accepts front piece next = (arch : List ℕ) (with_essential : Bool) (text : List ℕ) → IsClosed text → IsFrontOf arch with_essential text front
+    → IsFrontOf arch with_essential (text ++ piece) next
 
 -- the fault is that of each text that goes on with the piece, where no stanza goes on over the piece's end, or nothing stands behind it
 abbrev pub Refuses : FrontView → List ℕ → IndexError → Type 0
-Refuses front piece error = error ≢ Memory → (arch : List ℕ) (with_essential : Bool) (text more : List ℕ) → IsClosed text → IsFrontOf arch with_essential text front
+Refuses front piece error = error ≢ Memory → (arch : List ℕ) (with_essential : Bool) (text more : List ℕ) → IsClosed text
+    → IsFrontOf arch with_essential text front
     → IsClosed (text ++ piece) ⊎ (more ≡ []) → index_of (text ++ piece ++ more) arch with_essential ≡ Err error
 
 -- what was read and a background make this index
 abbrev pub Finishes : FrontView → List ℕ → IndexView → Type 0
-Finishes front background index = (arch : List ℕ) (with_essential : Bool) (text : List ℕ) → IsFrontOf arch with_essential text front → index_of_both text background arch with_essential ≡ Ok index
+Finishes front background index = (arch : List ℕ) (with_essential : Bool) (text : List ℕ) → IsFrontOf arch with_essential text front
+    → index_of_both text background arch with_essential ≡ Ok index
 
 -- what was read and a background have this fault
 abbrev pub FailsBehind : FrontView → List ℕ → BothError → Type 0

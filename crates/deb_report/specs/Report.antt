@@ -1,5 +1,6 @@
 -- The report on an index.
-use Rattle.std.specs.Prelude.{ℕ, ◌==◌, ◌-◌, Bool, true, false, not, nat_lt, List, [], ◌∷◌, ◌++◌, Option, None, Some, length, codes, decimal, filter, if◌then◌else◌, count_by, slice_index_or}
+use Rattle.std.specs.Prelude.{ℕ, ◌==◌, ◌-◌, Bool, true, false, not, nat_lt, List, [], ◌∷◌}
+use Rattle.std.specs.Prelude.{◌++◌, Option, None, Some, length, codes, decimal, filter, if◌then◌else◌, count_by, slice_index_or}
 use Rattle.std.specs.List.{flat_map, join_by, list_all, zip}
 use Rattle.deb_relation.specs.Relationship.{AtomText, printed}
 use Rattle.deb_index.specs.declared.constraint.Constraint.{Constraint}
@@ -64,7 +65,8 @@ need_reason missing deb number group = OfRelation (if missing then codes "missin
 unfoldable pub reason_of : IndexView → Constraint → ReasonView
 reason_of index (Essential name) = OfName (codes "essential") (name_at index name)
 reason_of index (Need place number) = let group = need_at index place number in need_reason (is_missing index group) (package_at index place) number group
-reason_of index (Apart place number) = let deb = package_at index place in OfRelation (codes "conflict") deb (entry_field deb number) (apart_at index place number ∷ [])
+reason_of index (Apart place number) = let deb = package_at index place in
+    OfRelation (codes "conflict") deb (entry_field deb number) (apart_at index place number ∷ [])
 reason_of index (Only name) = OfName (codes "versions") (name_at index name)
 
 -- what a package asks for

@@ -1,5 +1,6 @@
 -- What a report depends on.
-use Rattle.std.specs.Prelude.{ℕ, ◌==◌, Bool, false, true, not, ◌&&◌, ◌||◌, List, [], ◌∷◌, ◌++◌, Option, None, codes, if◌then◌else◌, is_some, length, map, string_bytes}
+use Rattle.std.specs.Prelude.{ℕ, ◌==◌, Bool, false, true, not, ◌&&◌, ◌||◌, List, []}
+use Rattle.std.specs.Prelude.{◌∷◌, ◌++◌, Option, None, codes, if◌then◌else◌, is_some, length, map, string_bytes}
 use Rattle.std.specs.Char.{is_ascii_alphanumeric}
 use Rattle.std.specs.List.{list_all}
 use Rattle.std.specs.Option.{option_map}
@@ -83,7 +84,19 @@ options_of settings since = word_if settings.explain (codes "explain")
 
 -- the settings where nothing is said
 abbrev pub usual_settings : Settings
-usual_settings = record { arch = codes "amd64"; explain = true; show = All; essential = true; only = None; background = false; strict = false; causes = false; all_reasons = false; why = false; format = Text }
+usual_settings = record {
+  arch = codes "amd64";
+  explain = true;
+  show = All;
+  essential = true;
+  only = None;
+  background = false;
+  strict = false;
+  causes = false;
+  all_reasons = false;
+  why = false;
+  format = Text;
+}
 
 -- ---- architectures
 

@@ -186,7 +186,8 @@ met_by index constraint place = (near_miss_at index (alternatives index constrai
 unfoldable pub step_text : IndexView → List Constraint → NumberSet → List ℕ → Step → List ℕ
 step_text index core coming told (Begin place) = if members_of told place then [] else package_text index core 0 place []
 step_text index core coming told (Meet depth place constraint) =
-    if members_of told place then package_line index depth place (met_by index constraint place) true else package_text index core depth place (met_by index constraint place)
+    if members_of told place then package_line index depth place (met_by index constraint place) true
+    else package_text index core depth place (met_by index constraint place)
 step_text index core coming told (Tell depth constraint) = lead depth ++ constraint_text index coming told constraint ++ codes "\n"
 
 -- ---- the walk

@@ -19,7 +19,8 @@ text_in Json index telling content = json_text index telling content
 
 -- what is written of the asked places, and of the later cores, by place
 abbrev pub written_told : Settings → IndexView → List ℕ → List VerdictView → List (List (List Constraint)) → List ℕ
-written_told settings index asked verdicts later = text_in settings.format index (telling_of settings false later) (content_of settings index asked verdicts later)
+written_told settings index asked verdicts later = text_in settings.format index (telling_of settings false later)
+    (content_of settings index asked verdicts later)
 
 -- of the verdicts alone
 abbrev pub written_report : Settings → IndexView → List ℕ → List VerdictView → List ℕ
@@ -27,4 +28,5 @@ written_report settings index asked verdicts = written_told settings index asked
 
 -- what is written of them since an earlier index, whose broken packages are given
 abbrev pub written_since : Settings → IndexView → List ℕ → List VerdictView → List (List (List Constraint)) → List BrokenView → List ℕ
-written_since settings index asked verdicts later before = text_in settings.format index (telling_of settings true later) (content_since settings index asked verdicts later before)
+written_since settings index asked verdicts later before = text_in settings.format index (telling_of settings true later)
+    (content_since settings index asked verdicts later before)

@@ -20,4 +20,5 @@ pub record AreNumbered (index : IndexView) (old new : Wrongs) (cores : List (ℕ
   pub said : Grows (said_of old) (said_of new) (flat_map (λ core. map (says index) (cause_in index core.1)) cores)
   pub causes : (texts : List (List ℕ)) → StandOnce texts → IsFront (said_of new) texts
       → Grows (causes_of old) (causes_of new) (map (λ core. key_of index texts (cause_in index core.1)) cores)
-  pub each : (texts keys : List (List ℕ)) → StandOnce texts → IsFront (said_of new) texts → IsFront (causes_of new) keys → All (IsNumbered index texts keys) cores
+  pub each : (texts keys : List (List ℕ)) → StandOnce texts → IsFront (said_of new) texts → IsFront (causes_of new) keys
+      → All (IsNumbered index texts keys) cores

@@ -26,7 +26,8 @@ IsTold index forced candidates place j =
 pub record Gathers (index : IndexView) (forced : NumberSet) (Asked : ℕ → ℕ → Type 0) (before after : Candidates) : Type 0 where
   pub grows : Grows (length index.packages) before.places after.places
   pub keeps : (need : UnmetNeed) → Contains before.unmet.items need → Contains after.unmet.items need
-  pub needs : All (λ need. IsOfIndex index (Need need.place need.number)) before.unmet.items → All (λ need. IsOfIndex index (Need need.place need.number)) after.unmet.items
+  pub needs : All (λ need. IsOfIndex index (Need need.place need.number)) before.unmet.items
+      → All (λ need. IsOfIndex index (Need need.place need.number)) after.unmet.items
   pub told : (place j : ℕ) → j < length (needs_at index place) → Asked place j → IsTold index forced after place j
 
 -- the candidates, rising, are enough beside the forced places, and all needs that these leave open are listed

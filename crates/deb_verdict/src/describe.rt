@@ -19,7 +19,8 @@ use std::alloc::AllocError;
 fn add_needs(encoder: &mut Encoder<'_>, unmet: &[UnmetNeed]) -> Result<(), AllocError>
     requires { All (λ need. IsOfIndex encoder.old.play.index.now (Constraint.Need need.place need.number)) unmet.now }
     ensures same_formula { encoder.new.formula.ghost_name ≡ encoder.old.formula.ghost_name }
-    ensures adds { OnOk result (Tells (λ p set. All (λ need. Holds p.index.now set (Constraint.Need need.place need.number)) unmet.now) encoder.old encoder.new) }
+    ensures adds { OnOk result (Tells (λ p set. All
+        (λ need. Holds p.index.now set (Constraint.Need need.place need.number)) unmet.now) encoder.old encoder.new) }
 {
     for need in unmet {
         encoder.add_need(need.place, need.number)?;

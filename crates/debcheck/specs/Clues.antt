@@ -6,7 +6,8 @@ use Rattle.std.specs.declared.alloc.Global.{Global}
 use Rattle.deb_index.specs.Meets.{provided_at}
 use Rattle.deb_index.specs.Packages.{IndexView, package_at, places_of}
 use Rattle.deb_index.specs.declared.error.IndexError.{IndexError}
-use Rattle.deb_index.specs.declared.error.IndexError.TheVariants.{BadLine, RepeatedField, MissingField, BadName, BadVersion, BadRelation, TooManyStanzas, Memory}
+use Rattle.deb_index.specs.declared.error.IndexError.TheVariants.{BadLine, RepeatedField, MissingField, BadName}
+use Rattle.deb_index.specs.declared.error.IndexError.TheVariants.{BadVersion, BadRelation, TooManyStanzas, Memory}
 use Rattle.input_hints.specs.Runs.{run_hint}
 use Rattle.input_hints.specs.declared.run.RunHint.TheVariants.{OtherArchitectures}
 use Rattle.input_hints.specs.Texts.{background_name_line, provided_name_line, stanza_hint_line}
@@ -42,7 +43,8 @@ refused_text fault before text behind = None
 -- the name of the first package that provides this one
 unfoldable pub provider_of : IndexView → List ℕ → Option (List ℕ)
 provider_of index name =
-    option_and_then (λ entry. if nat_lt entry.0 (length index.packages) then Some (package_at index entry.0).name else None) (slice_get (provided_at index name) 0)
+    option_and_then (λ entry. if nat_lt entry.0 (length index.packages) then Some (package_at index entry.0).name else None)
+    (slice_get (provided_at index name) 0)
 
 -- the line on an asked name that no package of the foreground has: the background has it, or it is provided
 unfoldable pub name_text : IndexView → List ℕ → Option (List ℕ)

@@ -34,7 +34,11 @@ pub record Files : Type 0 where
   pub names : Option Text
 
 abbrev pub files_of : Config → Files
-files_of config = record { bg = option_map string_bytes config.bg; since = option_map string_bytes config.since; names = option_map string_bytes config.only_file }
+files_of config = record {
+  bg = option_map string_bytes config.bg;
+  since = option_map string_bytes config.since;
+  names = option_map string_bytes config.only_file;
+}
 
 -- the line on a run that has a report
 unfoldable pub run_hint_text : Summary → Option (List ℕ)

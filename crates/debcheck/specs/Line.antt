@@ -1,5 +1,6 @@
 -- What a command line asks for.
-use Rattle.std.specs.Prelude.{◌≡◌, ◌≢◌, ◌⊎◌, ℕ, ◌==◌, nat_le, Bool, true, false, not, ◌&&◌, ◌||◌, List, [], ◌∷◌, length, Some, None, codes, if◌then◌else◌, is_some, ◌++◌, Option, string_bytes}
+use Rattle.std.specs.Prelude.{◌≡◌, ◌≢◌, ◌⊎◌, ℕ, ◌==◌, nat_le, Bool, true, false, not, ◌&&◌, ◌||◌}
+use Rattle.std.specs.Prelude.{List, [], ◌∷◌, length, Some, None, codes, if◌then◌else◌, is_some, ◌++◌, Option, string_bytes}
 use Rattle.std.specs.Char.{is_ascii_digit}
 use Rattle.std.specs.List.{list_all, list_any, slice_split}
 use Rattle.std.specs.Option.{option_map, option_map_or, unwrap_or}
@@ -76,7 +77,8 @@ value_rules = record (value_rule (codes "arch")) { required = true }
     ∷ record (value_rule (codes "chunk")) { defaults = codes "64" ∷ [] } ∷ []
 
 abbrev pub other_rules : List Rule
-other_rules = flag_rule (codes "explain") ∷ flag_rule (codes "failures") ∷ flag_rule (codes "successes") ∷ flag_rule (codes "causes") ∷ flag_rule (codes "all-reasons")
+other_rules = flag_rule (codes "explain") ∷ flag_rule (codes "failures") ∷ flag_rule (codes "successes") ∷ flag_rule (codes "causes")
+    ∷ flag_rule (codes "all-reasons")
     ∷ flag_rule (codes "why") ∷ flag_rule (codes "ignore-essential") ∷ flag_rule (codes "strict") ∷ flag_rule (codes "quiet") ∷ help_rule ∷ version_rule ∷ []
 
 -- the program's command with these options, whose words come without the program's name

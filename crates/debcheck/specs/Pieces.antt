@@ -39,7 +39,8 @@ pub record ReadsFront (settings : Settings) (old new : Option (List ℕ)) (front
 
 -- a piece of what is held was taken into the index, and this is left behind it
 abbrev pub TakesPiece : Settings → FrontView → List ℕ → FrontView → List ℕ → Type 0
-TakesPiece settings front held next left = (text : List ℕ) → IsClosedFront settings text front → (piece : List ℕ) × (held ≡ piece ++ left) × IsClosedFront settings (text ++ piece) next
+TakesPiece settings front held next left = (text : List ℕ) → IsClosedFront settings text front → (piece : List ℕ) × (held ≡ piece ++ left)
+    × IsClosedFront settings (text ++ piece) next
 
 -- what is held has a fault, whatever stands behind it
 abbrev pub RefusesPiece : Settings → FrontView → List ℕ → IndexError → Type 0

@@ -102,11 +102,13 @@ unfoldable pub RunsBehind : Settings → Named → Option Text → Input → Inp
 RunsBehind settings files since text background rest output (Ok summary) = (text.failed ≡ false) × (output.failed ≡ false) × (output.flushed ≡ true)
     × ((earlier : Option Input) × IsEarlier files since earlier × WritesAny settings text background earlier output.held output.now summary)
 RunsBehind settings files since text background rest output (Err fault) = IsUnbegun files since run_fault.EarlierRead text rest output fault
-    ⊎ ((earlier : Option Input) × IsEarlier files since earlier × FailsAny settings text background earlier output.failed fault × LeavesAny settings text background earlier output.held output.now fault)
+    ⊎ ((earlier : Option Input) × IsEarlier files since earlier × FailsAny settings text background earlier output.failed fault
+    × LeavesAny settings text background earlier output.held output.now fault)
 
 -- the same, on the background under its name; it is opened before the earlier index
 unfoldable pub Runs : Settings → Named → Option Text → Option Text → Input → Option (List ℕ) → Written → Result Summary RunFault → Type 0
-Runs settings files bg since text rest output outcome = ((fault : RunFault) × (outcome ≡ Err fault) × IsUnbegun files bg run_fault.BackgroundRead text rest output fault)
+Runs settings files bg since text rest output outcome = ((fault : RunFault) × (outcome ≡ Err fault)
+    × IsUnbegun files bg run_fault.BackgroundRead text rest output fault)
     ⊎ ((background : Input) × IsNamed files bg background × RunsBehind settings files since text background rest output outcome)
 
 -- ---- the names that are asked
@@ -134,7 +136,8 @@ RunsNamed names settings files bg since text rest output outcome =
 -- a run under a configuration, the line of its fault, and its exit status
 unfoldable pub RunsTo : Config → Named → Input → Option (List ℕ) → Written → Written → ℕ → Type 0
 RunsTo config files text rest output errors status = (outcome : Result Summary RunFault) × (status ≡ status_of outcome) × TellsOutcome errors outcome
-    × RunsNamed (option_map string_bytes config.only_file) (settings_of config) files (option_map string_bytes config.bg) (option_map string_bytes config.since) text rest output outcome
+    × RunsNamed (option_map string_bytes config.only_file) (settings_of config) files (option_map string_bytes config.bg)
+    (option_map string_bytes config.since) text rest output outcome
 
 -- what comes of a line: a run, or what is said of it, and nothing is read then
 abbrev pub EndsBy : Named → Input → Option (List ℕ) → Written → Written → ℕ → Result Config LineFault → Type 0

@@ -9,7 +9,8 @@ use Rattle.work_draw.specs.Checks.{AnswersEach}
 use Rattle.deb_index.specs.declared.error.BothError.TheVariants.{Back, Fore}
 use Rattle.deb_index.specs.declared.error.IndexError.TheVariants as index_error
 use Rattle.debcheck.specs.declared.fault.RunFault.{RunFault}
-use Rattle.debcheck.specs.declared.fault.RunFault.TheVariants.{Read, TooLong, BackgroundRead, BackgroundTooLong, Index, Background, UnknownAsked, Slipped, Memory, Write}
+use Rattle.debcheck.specs.declared.fault.RunFault.TheVariants.{Read, TooLong, BackgroundRead, BackgroundTooLong, Index}
+use Rattle.debcheck.specs.declared.fault.RunFault.TheVariants.{Background, UnknownAsked, Slipped, Memory, Write}
 use Rattle.deb_report.specs.declared.summary.Summary.{Summary}
 use Rattle.deb_report.specs.Asked.{asked_places}
 use Rattle.debcheck.specs.Devices.{AppendsPart}
@@ -105,7 +106,8 @@ ReadsAs settings text background index = AreRead settings text background
 
 -- both were read, and where the texts are told, this is their report, with its numbers
 abbrev pub TellsReport : Settings → Input → Input → List ℕ → Summary → Type 0
-TellsReport settings text background output summary = AreRead settings text background × IfTold settings text background (λ bytes more. IsReport settings bytes more output summary)
+TellsReport settings text background output summary = AreRead settings text background
+    × IfTold settings text background (λ bytes more. IsReport settings bytes more output summary)
 
 -- what is a report on a text and on the background behind it, with its numbers
 abbrev pub Reports : Type 1
@@ -113,11 +115,13 @@ Reports = List ℕ → List ℕ → List ℕ → Summary → Type 0
 
 -- where the texts are told, such a report on them was added
 abbrev pub WritesBy : Reports → Settings → Input → Input → Option (List ℕ) → Option (List ℕ) → Summary → Type 0
-WritesBy Is settings text background old new summary = IfTold settings text background (λ bytes more. (output : List ℕ) × Is bytes more output summary × Appends old new output)
+WritesBy Is settings text background old new summary = IfTold settings text background (λ bytes more. (output : List ℕ) × Is bytes more output summary
+    × Appends old new output)
 
 -- where the texts are told, the front of such a report was added
 abbrev pub WritesFrontBy : Reports → Settings → Input → Input → Option (List ℕ) → Option (List ℕ) → Type 0
-WritesFrontBy Is settings text background old new = IfTold settings text background (λ bytes more. (output : List ℕ) × (summary : Summary) × Is bytes more output summary × AppendsPart old new output)
+WritesFrontBy Is settings text background old new = IfTold settings text background (λ bytes more. (output : List ℕ) × (summary : Summary)
+    × Is bytes more output summary × AppendsPart old new output)
 
 -- where the texts are told, their report was added
 abbrev pub WritesReport : Settings → Input → Input → Option (List ℕ) → Option (List ℕ) → Summary → Type 0
@@ -157,7 +161,8 @@ FailsToReadBehind source _ = ⊥
 -- why texts that were read are no index: the first has a fault, or it has none, and the one behind it has one; or memory was wanted
 abbrev pub FailsToAccept : Settings → List ℕ → List ℕ → RunFault → Type 0
 FailsToAccept settings bytes more (Index fault) = (fault ≢ index_error.Memory) × (index_of_both bytes more settings.arch settings.essential ≡ Err (Fore fault))
-FailsToAccept settings bytes more (Background fault) = (fault ≢ index_error.Memory) × (index_of_both bytes more settings.arch settings.essential ≡ Err (Back fault))
+FailsToAccept settings bytes more (Background fault) = (fault ≢ index_error.Memory)
+    × (index_of_both bytes more settings.arch settings.essential ≡ Err (Back fault))
 FailsToAccept settings bytes more Memory = Unit {0}
 FailsToAccept settings bytes more _ = ⊥
 

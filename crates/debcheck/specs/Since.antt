@@ -11,8 +11,10 @@ use Rattle.deb_report.specs.Asked.{listed_places}
 use Rattle.deb_report.specs.Since.{BrokenView, broken_of, summary_since}
 use Rattle.deb_report.specs.Written.{written_since}
 use Rattle.debcheck.specs.declared.fault.RunFault.{RunFault}
-use Rattle.debcheck.specs.declared.fault.RunFault.TheVariants.{Read, TooLong, BackgroundRead, BackgroundTooLong, EarlierRead, EarlierTooLong, Index, Earlier, Write}
-use Rattle.debcheck.specs.Run.{Fails, FailsToIndex, HasAsked, HasIndex, IfIndexed, IfTold, Input, IsReportBy, Leaves, WritesBy, WritesFrontBy, WritesReport, is_unread}
+use Rattle.debcheck.specs.declared.fault.RunFault.TheVariants.{Read, TooLong, BackgroundRead, BackgroundTooLong, EarlierRead}
+use Rattle.debcheck.specs.declared.fault.RunFault.TheVariants.{EarlierTooLong, Index, Earlier, Write}
+use Rattle.debcheck.specs.Run.{Fails, FailsToIndex, HasAsked, HasIndex, IfIndexed, IfTold, Input}
+use Rattle.debcheck.specs.Run.{IsReportBy, Leaves, WritesBy, WritesFrontBy, WritesReport, is_unread}
 
 -- ---- the report
 
@@ -41,16 +43,19 @@ pub record IsReportSince (settings : Settings) (earlier text background output :
 
 -- all were read and accepted, each asked name is known, and nothing of it is a fault of a strict run; and where the texts are told, this is their report, with its numbers
 abbrev pub TellsReportSince : Settings → Input → Input → Input → List ℕ → Summary → Type 0
-TellsReportSince settings text background earlier output summary = IfIndexed settings text background (HasAsked settings) × IfIndexed settings earlier background (λ index. Unit {0})
+TellsReportSince settings text background earlier output summary = IfIndexed settings text background (HasAsked settings)
+    × IfIndexed settings earlier background (λ index. Unit {0})
     × IfSome earlier.text (λ was. IfTold settings text background (λ bytes more. IsReportSince settings was bytes more output summary))
 
 -- where the texts are told, their report was added
 abbrev pub WritesReportSince : Settings → Input → Input → Input → Option (List ℕ) → Option (List ℕ) → Summary → Type 0
-WritesReportSince settings text background earlier old new summary = IfSome earlier.text (λ was. WritesBy (IsReportSince settings was) settings text background old new summary)
+WritesReportSince settings text background earlier old new summary = IfSome earlier.text
+    (λ was. WritesBy (IsReportSince settings was) settings text background old new summary)
 
 -- where the texts are told, the front of their report was added
 abbrev pub WritesFrontSince : Settings → Input → Input → Input → Option (List ℕ) → Option (List ℕ) → Type 0
-WritesFrontSince settings text background earlier old new = IfSome earlier.text (λ was. WritesFrontBy (IsReportSince settings was) settings text background old new)
+WritesFrontSince settings text background earlier old new = IfSome earlier.text
+    (λ was. WritesFrontBy (IsReportSince settings was) settings text background old new)
 
 -- ---- why there is no report
 
@@ -69,7 +74,8 @@ is_unread_behind fault = is_unread fault
 
 -- why there is no earlier index, where the background was read: for a reason why a text has none
 abbrev pub FailsEarlier : Settings → Input → Input → RunFault → Type 0
-FailsEarlier settings earlier background fault = (cause : RunFault) × (fault ≡ earlier_fault cause) × (is_unread_behind fault ≡ false) × FailsToIndex settings earlier background cause
+FailsEarlier settings earlier background fault = (cause : RunFault) × (fault ≡ earlier_fault cause) × (is_unread_behind fault ≡ false)
+    × FailsToIndex settings earlier background cause
 
 -- why a run fails: as it fails without an earlier index, and where it is the writer that failed, there is one; or there is an index, each asked name is known, and a strict run has no fault, but there is no earlier index.
 -- Where memory was wanted, no read of the index or of the background had failed

@@ -1,5 +1,6 @@
 -- Verdicts that a report may be made of in the place of the true ones.
-use Rattle.std.specs.Prelude.{◌≡◌, ℕ, ◌==◌, Bool, false, true, not, ◌&&◌, ◌||◌, List, [], ◌∷◌, ◌++◌, All, drop, filter, if◌then◌else◌, length, map, set, slice_index_or, take, zip}
+use Rattle.std.specs.Prelude.{◌≡◌, ℕ, ◌==◌, Bool, false, true, not, ◌&&◌, ◌||◌, List, [], ◌∷◌}
+use Rattle.std.specs.Prelude.{◌++◌, All, drop, filter, if◌then◌else◌, length, map, set, slice_index_or, take, zip}
 use Rattle.deb_index.specs.declared.constraint.Constraint.{Constraint}
 use Rattle.deb_index.specs.Packages.{IndexView}
 use Rattle.deb_health.specs.Verdicts.{Blocked, Found, IsVerdict, SpeaksOf, VerdictView}
@@ -27,11 +28,13 @@ wanted_at wanted index before place = wanting wanted.sets (is_new index before p
 -- two lists of verdicts of asked places are the same, but for what isn't wanted of each place
 abbrev pub TellSame : (ℕ → Wanted) → List ℕ → List VerdictView → List VerdictView → Type 0
 TellSame wanted [] [] [] = Unit {0}
-TellSame wanted (place ∷ asked) (one ∷ told) (other ∷ verdicts) = (as_told (wanted place) one ≡ as_told (wanted place) other) × TellSame wanted asked told verdicts
+TellSame wanted (place ∷ asked) (one ∷ told) (other ∷ verdicts) = (as_told (wanted place) one ≡ as_told (wanted place) other)
+    × TellSame wanted asked told verdicts
 TellSame wanted asked told verdicts = ⊥
 
 -- these and the later cores are what is found of the asked places since these packages were broken, but for what isn't wanted of the verdicts, and for the later cores of a package where one of these has its name
-pub record AreFound (settings : Settings) (wanted : Wanted) (before : List BrokenView) (index : IndexView) (asked : List ℕ) (told : List VerdictView) (later : List (List (List Constraint))) : Type 0 where
+pub record AreFound (settings : Settings) (wanted : Wanted) (before : List BrokenView) (index : IndexView) (asked : List ℕ) (told : List VerdictView)
+    (later : List (List (List Constraint))) : Type 0 where
   pub verdicts : List VerdictView
   pub all_later : List (List (List Constraint))
   pub are_verdicts : AnswersEach (IsVerdict index) asked verdicts
@@ -77,7 +80,8 @@ placed later (place ∷ places) [] = later
 placed later (place ∷ places) (one ∷ cores) = placed (set later place one) places cores
 
 -- these are the verdicts of the places, with sets, where these are wanted, and with cores, beside their later cores, where all causes are told; all are of what the index has
-pub record HaveCores (settings : Settings) (sets : Bool) (index : IndexView) (places : List ℕ) (told : List VerdictView) (later : List (List (List Constraint))) : Type 0 where
+pub record HaveCores (settings : Settings) (sets : Bool) (index : IndexView) (places : List ℕ) (told : List VerdictView)
+    (later : List (List (List Constraint))) : Type 0 where
   pub each : AnswersEach (IsToldVerdict (wanting sets true) index) places told
   pub are_later : AreLater settings index places told later
   pub within : All (SpeaksOf index) told

@@ -35,7 +35,7 @@ GainsInAll before pieces after = (n : ℕ) → times n after ≡ times n before 
 abbrev pub InOrderOfNumber : ℕ → List Piece → List Verdict → Type 0
 InOrderOfNumber total pieces verdicts =
     (ordered : List Piece) × IsPermutation pieces ordered × (numbers_of ordered ≡ range_with_len 0 total)
-        × (verdicts ≡ flat_map (λ p. p.verdicts.items) ordered)
+    × (verdicts ≡ flat_map (λ p. p.verdicts.items) ordered)
 
 -- a drawer in which so many workers' drawers were joined, when they were done
 abbrev pub after_crew : DrawerView → ℕ → ℕ → List ℕ → DrawerView
@@ -45,4 +45,4 @@ after_crew d workers past numbers = record d { numbers = numbers; past = past; s
 abbrev pub IsReady : IndexView → List ℕ → ℕ → BoardView → DrawerView → ℕ → Type 0
 IsReady index asked size board drawer workers =
     (drawer.board ≡ board) × All (λ place. place < length index.packages) asked × (0 < size) × (board.total ≡ chunk_count asked size) × (0 < workers)
-        × (workers ≤ drawer.spare + 1)
+    × (workers ≤ drawer.spare + 1)
