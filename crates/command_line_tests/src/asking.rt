@@ -1,7 +1,7 @@
 //! Reading a line, and what is expected of it.
 
+use crate::faults::fault_in_words;
 use crate::settings::settings_in_words;
-use crate::texts::fault_in_words;
 use debcheck::read_line;
 use std::alloc::{AllocError, Global};
 use std::process::Abort;

@@ -2,7 +2,7 @@
 
 ghost use Rattle.std.specs.Io.{WritesAtMost};
 
-use crate::texts::fault_in_words;
+use crate::faults::fault_in_words;
 use debcheck::{LineFault, words_of};
 use std::alloc::{AllocError, Global};
 use std::env::{Env, FillError};

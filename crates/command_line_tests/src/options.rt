@@ -4,7 +4,8 @@ use crate::asking::{expect_each, refuses_values};
 use std::test::Fail;
 
 const ALL_OPTIONS: &str =
-    "|--checkonly|b,a+1.x_y,b|--ignore-essential|--explain|--failures|--chunk|1000000|--workers=64|--arch|i386|--quiet|--format|json|--bg|main/Packages|--why|--causes|--all-reasons|--strict => \
+    "|--checkonly|b,a+1.x_y,b|--ignore-essential|--explain|--failures|--chunk|1000000|--workers=64|--arch|i386|--quiet|--format|json\
+|--bg|main/Packages|--why|--causes|--all-reasons|--strict => \
 i386, explain, ignore-essential, failures, causes, all-reasons, why, strict, quiet, json, workers 64, chunk 1000000, only b a+1.x_y b, bg main/Packages";
 
 #[test]
