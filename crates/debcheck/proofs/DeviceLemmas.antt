@@ -1,11 +1,10 @@
--- Lemmas on bytes that are known.
+-- Lemmas on bytes that are read.
 use Rattle.std.proofs.Common.{◌≡◌, ℕ, ◌+◌, ◌<◌, ◌≤◌, List, [], ◌++◌, length, refl, ap, sym, ◌∙◌, append_assoc, append-nil, arith, length-append, IfSome, take, drop, subst, ◌-◌}
 use borrow.Rule.Slice.PartMut.{put_mid}
 use Rattle.std.proofs.Math.Seq.{take-append-add, take-take}
 use Rattle.std.proofs.lemmas.List.{take_all, take-append-drop, take-append-le, length-drop, length-take-le}
 use Rattle.std.specs.Prelude.{Option, Some, None}
-use Rattle.std.specs.Io.KnownBytes.{Consumes, Appends, Keeps}
-use Rattle.debcheck.specs.Devices.{AppendsPart}
+use Rattle.std.specs.Io.KnownBytes.{Consumes}
 
 pub consumes_nothing : (a : Option (List ℕ)) → Consumes a a []
 consumes_nothing None = tt
@@ -33,28 +32,6 @@ consumes_count a b c front buf n room limit h sum k held fits =
     let whole : length (front ++ take n buf) ≡ length front + length (take n buf) = length-append front (take n buf) in
     (front ++ take n buf, consumes_more a b c front (take n buf) h k, omega arith)
 
-pub appends_nothing : (a : Option (List ℕ)) → Appends a a []
-appends_nothing None = tt
-appends_nothing (Some xs) = sym (append-nil xs)
-
-pub appends_more : (a b c : Option (List ℕ)) (front part : List ℕ) → Appends a b front → Appends b c part → Appends a c (front ++ part)
-appends_more None b c front part h k = tt
-appends_more (Some xs) None c front part h k = absurd h
-appends_more (Some xs) (Some ys) None front part h k = absurd k
-appends_more (Some xs) (Some ys) (Some zs) front part h k = k ∙ ap (λ held. held ++ part) h ∙ append_assoc xs front part
-
-pub appends_keeps : (a b c : Option (List ℕ)) (front : List ℕ) → Appends a b front → Keeps b c → Appends a c front
-appends_keeps None b c front h k = tt
-appends_keeps (Some xs) None c front h k = absurd h
-appends_keeps (Some xs) (Some ys) None front h k = absurd k
-appends_keeps (Some xs) (Some ys) (Some zs) front h k = k ∙ h
-
--- the front of a text was appended
-pub part_of_appends : (a b : Option (List ℕ)) (bytes front rest : List ℕ) → bytes ≡ front ++ rest → Appends a b front → AppendsPart a b bytes
-part_of_appends None b bytes front rest e h = tt
-part_of_appends (Some xs) None bytes front rest e h = absurd h
-part_of_appends (Some xs) (Some ys) bytes front rest e h = (front, rest, e, h)
-
 -- a last read that gave nothing
 pub consumes_last : (a b c : Option (List ℕ)) (front : List ℕ) (n : ℕ) (buf : List ℕ) → Consumes a b front → n ≡ 0 → Consumes b c (take n buf) → Consumes a c front
 consumes_last a b c front n buf h e k =
@@ -62,13 +39,6 @@ consumes_last a b c front n buf h e k =
     let P : List ℕ → Type 0 = λ part. Consumes b c part in
     let Q : List ℕ → Type 0 = λ bytes. Consumes a c bytes in
     subst Q (append-nil front) (consumes_more a b c front [] h (subst P none k))
-
--- a text is its front and what comes after
-pub in_parts : (n : ℕ) (xs : List ℕ) → xs ≡ take n xs ++ take (length xs - n) (drop n xs)
-in_parts n xs =
-    let fits : length (drop n xs) ≤ length xs - n = rw length-drop (omega arith) in
-    let rest : take (length xs - n) (drop n xs) ≡ drop n xs = take_all (length xs - n) (drop n xs) fits in
-    sym (ap (λ end. take n xs ++ end) rest ∙ take-append-drop n xs)
 
 -- a room with so many bytes more behind those of its front
 filled_more : (room part : List ℕ) (filled size n : ℕ) → filled ≤ length room → n ≤ length part → take (filled + n) (put_mid filled size room part) ≡ take filled room ++ take n part

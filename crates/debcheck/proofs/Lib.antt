@@ -3,8 +3,6 @@ mod DeviceLemmas
 mod FaultLemmas
 mod IndexLemmas
 mod LaterLemmas
-mod LineFacts
-mod LineLemmas
 mod MergeLemmas
 mod NameLemmas
 mod NewsLemmas
@@ -12,7 +10,6 @@ mod OneReport
 mod PhaseLemmas
 mod PieceLemmas
 mod ProgramLemmas
-mod RecordingLemmas
 mod RunLemmas
 mod SinceLemmas
 mod StandingLemmas

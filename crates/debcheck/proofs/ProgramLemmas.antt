@@ -1,20 +1,20 @@
 -- Lemmas on what a program comes to.
 use Rattle.std.proofs.Common.{◌≡◌, ℕ, Bool, true, false, List, Option, Some, None, Result, Ok, Err, IfErr, IfOk, OnErr, OnOk, inl, inr, option_map, refl, string_bytes, subst}
 use Rattle.std.specs.Io.KnownBytes.{Appends}
-use Rattle.clap.specs.Words.{Text}
 use Rattle.deb_report.specs.declared.config.Config.{Config}
 use Rattle.deb_report.specs.declared.summary.Summary.{Summary}
 use Rattle.deb_report.specs.Settings.{Settings, settings_of}
-use Rattle.debcheck.specs.declared.device.DeviceFault.{DeviceFault}
+use Rattle.devices.specs.declared.device.DeviceFault.{DeviceFault}
 use Rattle.debcheck.specs.declared.fault.RunFault.{RunFault}
 use Rattle.debcheck.specs.declared.fault.RunFault.TheVariants as run_fault
-use Rattle.debcheck.specs.declared.line.LineFault.{LineFault}
-use Rattle.debcheck.specs.declared.line.LineFault.TheVariants.{Refused, Help, Memory}
-use Rattle.debcheck.specs.Devices.{AppendsPart}
+use Rattle.command_line.specs.declared.line.LineFault.{LineFault}
+use Rattle.command_line.specs.declared.line.LineFault.TheVariants.{Refused, Help, Memory}
+use Rattle.devices.specs.Devices.{AppendsPart, IsHeld, IsUnopened}
 use Rattle.debcheck.specs.Faults.{status_of, told_line}
-use Rattle.debcheck.specs.Line.{Accepts, KeepsOther, RefusesLine, TellsFront, TellsLine, line_status_of, mark_of}
+use Rattle.command_line.specs.Line.{Accepts, RefusesLine, line_status_of}
+use Rattle.debcheck.specs.LineFaults.{KeepsOther, TellsFront, TellsLine, mark_of}
 use Rattle.debcheck.specs.Names.{FailsToName, ReadsNames}
-use Rattle.debcheck.specs.Program.{Asks, Ends, IsEarlier, IsHeld, IsNamed, IsUnbegun, FailsToTake, IsUnopened, Named, Refuses, Runs, RunsBehind, RunsNamed, RunsTo, TakesNames, TellsFault, TellsOutcome, Written, written}
+use Rattle.debcheck.specs.Program.{Asks, Ends, FailsToTake, IsEarlier, IsNamed, IsUnbegun, Named, Refuses, Runs, RunsBehind, RunsNamed, RunsTo, TakesNames, TellsFault, TellsOutcome, Text, Written, written}
 use Rattle.debcheck.specs.Run.{Fails, Input, Leaves, WritesReport, input}
 use Rattle.debcheck.specs.Since.{FailsSince, LeavesSince, WritesReportSince}
 

@@ -20,7 +20,7 @@ use Rattle.deb_report.proofs.NewsLemmas.{report_by_news, summary_by_news}
 use Rattle.deb_report.proofs.Unshown.{LeavesTold, broken_unchanged, since_unchanged, summary_since_unchanged}
 use Rattle.debcheck.specs.declared.fault.RunFault.{RunFault}
 use Rattle.debcheck.specs.declared.fault.RunFault.TheVariants.{Read, TooLong, BackgroundRead, BackgroundTooLong, EarlierRead, EarlierTooLong, NamesRead, NamesTooLong, BadNameLine, Index, Background, Earlier, UnknownAsked, Slipped, Memory, Write}
-use Rattle.debcheck.specs.Devices.{AppendsPart}
+use Rattle.devices.specs.Devices.{AppendsPart}
 use Rattle.debcheck.specs.Run.{Fails, FailsToAccept, FailsToIndex, FailsToRead, FailsToReport, HasAsked, HasIndex, IfIndexed, IfTold, Input, IsAsked, IsReadAs, ReadsAs, WritesBy, WritesFrontBy, behind, input, is_unread}
 use Rattle.debcheck.specs.Since.{FailsEarlier, FailsSince, IsReportAfter, IsReportSince, LeavesSince, TellsReportSince, WereBroken, WritesFrontSince, WritesReportSince, earlier_fault, is_unread_behind, wanted_since}
 use Rattle.debcheck.specs.Standing.{AreFound, TellSame, wanted_at}

@@ -1,7 +1,6 @@
 -- What is told after a run, where something looks like a slip.
 use Rattle.std.specs.Prelude.{ℕ, Bool, true, false, List, Option, Some, None, Result, Ok, Err, option_map, string_bytes, if◌then◌else◌}
 use Rattle.std.specs.Option.{option_map_or}
-use Rattle.clap.specs.Words.{Text}
 use Rattle.input_hints.specs.declared.line.Input.{Input}
 use Rattle.input_hints.specs.declared.line.Input.TheVariants as input
 use Rattle.input_hints.specs.Beginnings.{hint_of as hint_by}
@@ -29,9 +28,9 @@ clue_after old outcome input front = if is_in_question outcome input then option
 
 -- the files that a configuration names
 pub record Files : Type 0 where
-  pub bg : Option Text
-  pub since : Option Text
-  pub names : Option Text
+  pub bg : Option (List ℕ)
+  pub since : Option (List ℕ)
+  pub names : Option (List ℕ)
 
 abbrev pub files_of : Config → Files
 files_of config = record {
@@ -45,7 +44,7 @@ unfoldable pub run_hint_text : Summary → Option (List ℕ)
 run_hint_text summary = option_map run_hint_line (run_hint summary.stanzas summary.skipped summary.asked)
 
 -- the line on an input's file that can't be opened or read, where it has a name
-unfoldable pub unread_text : Input → Option Text → Option (List ℕ)
+unfoldable pub unread_text : Input → Option (List ℕ) → Option (List ℕ)
 unread_text input None = None
 unread_text input (Some name) = file_hint_line input name
 

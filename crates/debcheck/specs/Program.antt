@@ -1,34 +1,29 @@
 -- What a program comes to, from its words to its exit status.
-use Rattle.std.specs.Prelude.{◌≡◌, ◌≢◌, ◌⊎◌, ℕ, Bool, false, true, List, Option, Some, None, Result, Ok, Err, IfSome, option_map, string_bytes}
+use Rattle.std.specs.Prelude.{◌≡◌, ◌⊎◌, ℕ, Bool, false, true, List, Option, Some, None, Result, Ok, Err, IfSome, option_map, string_bytes}
 use Rattle.std.specs.Io.KnownBytes.{Appends}
-use Rattle.clap.specs.Words.{Text}
 use Rattle.deb_report.specs.declared.config.Config.{Config}
 use Rattle.deb_report.specs.declared.summary.Summary.{Summary}
 use Rattle.deb_report.specs.Settings.{Settings, settings_of}
 use Rattle.debcheck.specs.declared.fault.RunFault.{RunFault}
 use Rattle.debcheck.specs.declared.fault.RunFault.TheVariants as run_fault
-use Rattle.debcheck.specs.declared.line.LineFault.{LineFault}
-use Rattle.debcheck.specs.declared.line.LineFault.TheVariants.{Refused, Help, Memory}
-use Rattle.debcheck.specs.Devices.{AppendsPart}
+use Rattle.command_line.specs.declared.line.LineFault.{LineFault}
+use Rattle.command_line.specs.declared.line.LineFault.TheVariants.{Refused, Help, Memory}
+use Rattle.devices.specs.Devices.{AppendsPart, IsHeld, IsUnopened}
 use Rattle.debcheck.specs.Faults.{fault_line, status_of, told_line}
-use Rattle.debcheck.specs.Line.{Accepts, RefusesLine}
+use Rattle.command_line.specs.Line.{Accepts, RefusesLine}
 use Rattle.debcheck.specs.Names.{FailsToName, ReadsNames}
 use Rattle.debcheck.specs.Run.{Input}
 use Rattle.debcheck.specs.Since.{FailsAny, LeavesAny, WritesAny}
 
 -- ---- files
 
+-- a word, or a name, is its bytes
+abbrev pub Text : Type 0
+Text = List ℕ
+
 -- what is known of names: nothing of a name, or that nothing can be opened there, or the bytes that stand there
 abbrev pub Named : Type 0
 Named = Text → Option (Option (List ℕ))
-
--- an opened file holds these bytes, where it is told what stands under its name
-abbrev pub IsHeld : Option (Option (List ℕ)) → Option (List ℕ) → Type 0
-IsHeld told text = IfSome told (λ held. (held ≢ None) × (text ≡ held))
-
--- nothing can be opened, where it is told what stands under the name
-abbrev pub IsUnopened : Option (Option (List ℕ)) → Type 0
-IsUnopened told = IfSome told (λ held. held ≡ None)
 
 -- the background is what stands under the name of the words, where they name one
 abbrev pub IsNamed : Named → Option Text → Input → Type 0

@@ -13,7 +13,7 @@ use Rattle.debcheck.specs.declared.fault.RunFault.TheVariants.{Read, TooLong, Ba
 use Rattle.debcheck.specs.declared.fault.RunFault.TheVariants.{Background, UnknownAsked, Slipped, Memory, Write}
 use Rattle.deb_report.specs.declared.summary.Summary.{Summary}
 use Rattle.deb_report.specs.Asked.{asked_places}
-use Rattle.debcheck.specs.Devices.{AppendsPart}
+use Rattle.devices.specs.Devices.{AppendsPart}
 use Rattle.deb_report.specs.Report.{summary_of}
 use Rattle.deb_report.specs.Settings.{Settings}
 use Rattle.deb_report.specs.Written.{written_told}

@@ -4,9 +4,9 @@ ghost use Rattle.std.specs.Prelude.{◌≡◌, ◌<◌, ◌+◌, ◌^◌, ◌≤
 ghost use Rattle.debcheck.specs.Pieces.{HoldsMore, TellsFull};
 ghost use Rattle.debcheck.specs.Run.{FailsAtRead};
 
-use crate::device::Source;
 use crate::fault::RunFault;
 use crate::input::fill;
+use devices::Source;
 use std::alloc::{AllocError, Global};
 use std::marker::Model;
 

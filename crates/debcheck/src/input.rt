@@ -4,8 +4,8 @@ ghost use Rattle.std.specs.Prelude.{◌≡◌, ◌<◌, ◌≤◌, ◌+◌, ◌^
 ghost use Rattle.std.specs.Io.KnownBytes.{Consumes, IsAtEnd};
 ghost use Rattle.debcheck.specs.Run.{FailsAtRead, FailsToRead, ReadsOneOver};
 
-use crate::device::Source;
 use crate::fault::RunFault;
+use devices::Source;
 use std::alloc::Global;
 
 // How many bytes a buffer has that is read through.

@@ -5,11 +5,11 @@ ghost use Rattle.deb_index.specs.Reading.{byte_limit};
 ghost use Rattle.debcheck.specs.Names.{FailsToName, ReadsNames, RefusesNames, are_names, lines_in, without_feed};
 ghost use Rattle.debcheck.specs.Run.{input};
 
-use crate::device::Source;
 use crate::fault::RunFault;
 use crate::input::read_all;
 use deb_index::TEXT_LIMIT;
 use deb_relation::is_name;
+use devices::Source;
 use std::alloc::{AllocError, Global};
 
 // The text without a line feed at its end.

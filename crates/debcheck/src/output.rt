@@ -1,33 +1,15 @@
-//! Writing whole texts.
+//! The lines of faults, written.
 
 ghost use Rattle.std.specs.Prelude.{◌≡◌, Bool, IfOk, OnOk, OnErr, true};
 ghost use Rattle.std.specs.Io.KnownBytes.{Appends};
-ghost use Rattle.debcheck.specs.Devices.{AppendsPart};
+ghost use Rattle.devices.specs.Devices.{AppendsPart};
 ghost use Rattle.debcheck.specs.Faults.{told_line};
+ghost use Rattle.debcheck.specs.LineFaults.{KeepsOther, TellsFront, TellsLine, mark_of};
 
-use crate::device::{DeviceFault, Sink};
 use crate::fault::{RunFault, fault_line, memory_line};
+use command_line::LineFault;
+use devices::{DeviceFault, Sink, write_all};
 use std::alloc::Global;
-
-/// Writes all bytes and flushes. `DeviceFault` where the writer failed or took no byte: then a front of them was written.
-pub fn write_all<K: Sink>(writer: &mut K, bytes: &[u8]) -> Result<(), DeviceFault>
-    ensures bytes { OnOk result (Appends (K.contents writer.old) (K.contents writer.new) bytes.now) }
-    ensures flushed { OnOk result (K.flushed writer.new ≡ true) }
-    ensures mark { OnOk result (K.failed writer.new ≡ K.failed writer.old) }
-    ensures part { OnErr result (AppendsPart (K.contents writer.old) (K.contents writer.new) bytes.now) }
-    ensures failed { OnErr result (K.failed writer.new ≡ true) }
-{
-    let mut rest = bytes;
-    while !rest.is_empty() {
-        match writer.write_some(rest) {
-            Err(_) => return Err(DeviceFault),
-            Ok(0) => return Err(DeviceFault),
-            Ok(count) => rest = &rest[count..],
-        }
-    }
-    writer.flush_all()?;
-    Ok(())
-}
 
 /// Writes the line of a fault, flushes, and tells whether it is that line: where there is no memory for it, it is the line of want of memory.
 ///
@@ -51,5 +33,27 @@ pub fn write_fault<K: Sink>(
             write_all(writer, memory_line())?;
             Ok(false)
         }
+    }
+}
+
+/// Writes what there is to say of a line that gives no configuration, and flushes: help to the output, a refusal's text or the line of want of
+/// memory to the errors. Nothing comes to the other device.
+///
+/// `DeviceFault` where the writer failed or took no byte: then a front of the text was written.
+pub fn write_line_fault<K: Sink, E: Sink>(
+    output: &mut K,
+    errors: &mut E,
+    fault: &LineFault,
+) -> Result<(), DeviceFault>
+    ensures told { OnOk result (TellsLine fault.now (K.contents output.old) (K.contents output.new) (E.contents errors.old) (E.contents errors.new)) }
+    ensures flushed { OnOk result (mark_of fault.now (K.flushed output.new) (E.flushed errors.new) ≡ true) }
+    ensures front { OnErr result (TellsFront fault.now (K.contents output.old) (K.contents output.new) (E.contents errors.old) (E.contents errors.new)) }
+    ensures failed { OnErr result (mark_of fault.now (K.failed output.new) (E.failed errors.new) ≡ true) }
+    ensures kept { KeepsOther fault.now (K.contents output.old) (K.contents output.new) (E.contents errors.old) (E.contents errors.new) }
+{
+    match fault {
+        LineFault::Help { text } => write_all(output, text.as_str().as_bytes()),
+        LineFault::Refused { text } => write_all(errors, text.as_str().as_bytes()),
+        LineFault::Memory => write_all(errors, memory_line()),
     }
 }

@@ -9,15 +9,14 @@ ghost use Rattle.debcheck.specs.Run.{WritesReport, behind, input, is_unread};
 
 use crate::asked::ask_noting;
 use crate::clues::{note_read, stanzas_before};
-use crate::device::{Sink, Source};
 use crate::fault::RunFault;
 use crate::hints::Clue;
 use crate::input::read_all;
-use crate::output::write_all;
 use crate::pieces::{PIECE, TextRead, finish, read_text};
 use crate::verdicts::{find_told, wanted_of};
 use deb_index::{BothError, Index, PART_SIZE, TEXT_LIMIT};
 use deb_report::{Config, Summary, report_told, summary_of};
+use devices::{Sink, Source, write_all};
 use std::alloc::Global;
 use std::mem::forget;
 use std::thread::Threads;

@@ -7,13 +7,13 @@ ghost use Rattle.deb_report.specs.Settings.{settings_of};
 ghost use Rattle.debcheck.specs.Pieces.{ComesTo, FailsInPieces, FailsToFinish, MakesIndex, ReadsAll, ReadsText, RefusesPiece, TakesLast, TakesPiece};
 ghost use Rattle.debcheck.specs.Run.{FailsToRead, is_unread};
 
-use crate::device::Source;
 use crate::fault::RunFault;
 use crate::held::Held;
 use crate::input::skip_rest;
 use deb_control::cut_behind_blank;
 use deb_index::{BothError, Index, IndexError, PART_SIZE, PartialIndex, TEXT_LIMIT};
 use deb_report::Config;
+use devices::Source;
 use std::alloc::{AllocError, Global};
 use std::thread::Threads;
 

@@ -11,16 +11,15 @@ ghost use Rattle.debcheck.specs.Since.{is_unread_behind, wanted_since};
 
 use crate::asked::ask_noting;
 use crate::clues::{note_earlier, note_seen, stanzas_before};
-use crate::device::{Sink, Source};
 use crate::fault::RunFault;
 use crate::hints::Clue;
-use crate::output::write_all;
 use crate::phases::{After, index_from, let_go, read_texts};
 use crate::pieces::{PIECE, TextRead, finish, read_text};
 use crate::verdicts::{find_told, find_verdicts};
 use deb_index::Index;
 use deb_report::{BrokenPackage, Config, Summary, broken_packages, earlier_places, report_since};
 use deb_verdict::Wanted;
+use devices::{Sink, Source, write_all};
 use std::alloc::{AllocError, Global};
 use std::thread::Threads;
 use work_draw::Gate;

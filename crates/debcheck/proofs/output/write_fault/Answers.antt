@@ -1,6 +1,6 @@
 use Rattle.std.proofs.Common.{◌∙◌, Bool, true, List, ℕ, OnErr, Result, Ok, Err, subst}
 use Rattle.std.specs.Io.KnownBytes.{Appends}
-use Rattle.debcheck.specs.Devices.{AppendsPart}
+use Rattle.devices.specs.Devices.{AppendsPart}
 use Rattle.debcheck.specs.Faults.{told_line}
 use Rattle.debcheck.proofs.output.write_fault.Goals as goal
 

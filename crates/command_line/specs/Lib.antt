@@ -1,0 +1,2 @@
+pub use Rattle.deb_report.specs.Settings
+pub mod Line

@@ -1,0 +1,14 @@
+//! What a command line asks a run for.
+//!
+//! `words` has the words of a process, and `line` makes of them what is asked: by the `options`, which `clap` reads, and the `values` that these take.
+//! `other_words` tells what programs like this one call them.
+#![tactic(auto)]
+
+mod line;
+mod options;
+mod other_words;
+mod values;
+mod words;
+
+pub use line::{LineFault, VERSION_LINE, line_status, read_line};
+pub use words::words_of;

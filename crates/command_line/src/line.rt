@@ -1,0 +1,349 @@
+//! What the words of a command line ask for.
+
+ghost use Rattle.std.specs.Prelude.{◌≡◌, ◌<◌, ◌≤◌, ℕ, All, IfOk, IfErr, IfSome, OnOk, codes, is_some, map, option_map, string_bytes, true, false};
+ghost use Rattle.std.specs.Prelude.{unwrap_or};
+ghost use Rattle.std.specs.List.{list_all};
+ghost use Rattle.std.specs.Str.Parse.{digits_value};
+ghost use Rattle.clap.specs.Words.{first_of, kind_of};
+ghost use Rattle.deb_relation.specs.Relationship.{is_name};
+ghost use Rattle.deb_report.specs.Settings.{is_architecture, settings_of};
+ghost use Rattle.command_line.specs.Line.{Accepts, IsFaultOf, IsRefusal, RefusesLine, RefusesUnless, asked_by, file_named};
+ghost use Rattle.command_line.specs.Line.{format_of, has_good_file, has_good_names, has_good_reasons, has_good_since, has_good_values, is_count, is_set};
+ghost use Rattle.command_line.specs.Line.{line_status_of, listed_in, names_in, request_of, rows_in, show_of, tells_more_reasons, value_of};
+ghost use Rattle.command_line.specs.declared.line.LineFault.TheVariants.{Memory};
+
+use crate::options::{command, given, is_set, value_of};
+use crate::other_words::advice_in;
+use crate::values::{count_of, file_in, format_of, is_architecture, names_of, wrong_part};
+use clap::ArgMatches;
+use clap::error::ErrorKind;
+use deb_report::{CHUNK_LIMIT, Config, Format, Show};
+use std::alloc::{AllocError, AllocFailed, Global};
+use thiserror::Error;
+
+/// What `--version` writes: the name of the program and its version.
+pub const VERSION_LINE: &str = "debcheck 1.0.0\n";
+
+// The most workers that a run takes, as `work_draw` has it.
+const WORKER_LIMIT: u32 = 64;
+
+// How a refusal names the option for the names that are asked.
+const ONLY: &str = "--checkonly <N1,N2,..>";
+
+/// Why a command line gives no configuration.
+#[derive(Debug, Drop, Error)]
+pub enum LineFault {
+    /// A word or a value isn't of the form that the program takes. The text for standard error says what is wrong and what is allowed.
+    #[error("the command line is refused")]
+    Refused { text: String },
+    /// Help or the version was asked for: the text for standard output.
+    #[error("help or the version was asked for")]
+    Help { text: String },
+    /// Some growth was refused.
+    #[error("out of memory")]
+    Memory,
+}
+
+impl From<AllocError> for LineFault {
+    ghost from_gives = { λ _ e. e ≡ Memory };
+
+    fn from(_e: AllocError) -> LineFault {
+        LineFault::Memory
+    }
+}
+
+impl<T: Drop> From<AllocFailed<T>> for LineFault {
+    ghost from_gives = { λ _ e. e ≡ Memory };
+
+    fn from(_e: AllocFailed<T>) -> LineFault {
+        LineFault::Memory
+    }
+}
+
+/// The exit status where a command line gives no configuration: 64 where it is refused, 0 for help and the version, 69 for want of memory.
+pub fn line_status(fault: &LineFault) -> u8
+    ensures { result ≡ line_status_of fault.now }
+{
+    match fault {
+        LineFault::Refused { .. } => 64,
+        LineFault::Help { .. } => 0,
+        LineFault::Memory => 69,
+    }
+}
+
+// The text of a refused word, with what stands for it here where it is one of other programs.
+fn unknown_text(alloc: Global, error: &clap::Error) -> Result<String, AllocError> {
+    let mut text = error.to_string(alloc)?;
+    if let Some(advice) = advice_in(text.as_str()) {
+        text.push_str("hint: ")?;
+        text.push_str(advice)?;
+        text.push_str("\n")?;
+    }
+    Ok(text)
+}
+
+// What a parse that gives no matches comes to.
+fn fault_from(alloc: Global, error: &clap::Error) -> Result<LineFault, AllocError>
+    ensures { IfOk result (IsFaultOf (kind_of error.now)) }
+{
+    Ok(match error.kind() {
+        ErrorKind::OutOfMemory => LineFault::Memory,
+        ErrorKind::DisplayHelp => LineFault::Help {
+            text: error.to_string(alloc)?,
+        },
+        ErrorKind::DisplayVersion => LineFault::Help {
+            text: String::from_str(alloc, VERSION_LINE)?,
+        },
+        ErrorKind::UnknownArgument => LineFault::Refused {
+            text: unknown_text(alloc, error)?,
+        },
+        _ => LineFault::Refused {
+            text: error.to_string(alloc)?,
+        },
+    })
+}
+
+// The refusal of a value that isn't of its option's form.
+fn refusal(alloc: Global, option: &str, value: &str, allowed: &str) -> Result<LineFault, AllocError>
+    ensures { IfOk result IsRefusal }
+{
+    let text = format!(in alloc;
+        "error: invalid value {value:?} for '{option}': {allowed}\n\nFor more information, try '--help'.\n"
+    )?;
+    Ok(LineFault::Refused { text })
+}
+
+fn architecture(alloc: Global, matches: &ArgMatches<'_>) -> Result<String, LineFault>
+    ensures value { IfOk result (λ arch. string_bytes arch ≡ value_of (codes "arch") (rows_in matches.now)) }
+    ensures good { OnOk result (is_architecture (value_of (codes "arch") (rows_in matches.now)) ≡ true) }
+    ensures refused { IfErr result (RefusesUnless (is_architecture (value_of (codes "arch") (rows_in matches.now)))) }
+{
+    let arch = value_of(matches, "arch");
+    if is_architecture(arch) {
+        return Ok(String::from_str(alloc, arch)?);
+    }
+    let allowed = "one or more letters, digits and -, neither all nor any";
+    Err(refusal(alloc, "--arch <A>", arch, allowed)?)
+}
+
+fn workers(alloc: Global, matches: &ArgMatches<'_>) -> Result<u32, LineFault>
+    ensures value { IfOk result (λ count. count ≡ digits_value 10 (value_of (codes "workers") (rows_in matches.now))) }
+    ensures good { OnOk result (is_count 64 (value_of (codes "workers") (rows_in matches.now)) ≡ true) }
+    ensures refused { IfErr result (RefusesUnless (is_count 64 (value_of (codes "workers") (rows_in matches.now)))) }
+{
+    let value = value_of(matches, "workers");
+    match count_of(value, WORKER_LIMIT) {
+        Some(count) => Ok(count),
+        None => Err(refusal(alloc, "--workers <N>", value, "a number from 1 to 64")?),
+    }
+}
+
+fn chunk(alloc: Global, matches: &ArgMatches<'_>) -> Result<u32, LineFault>
+    ensures value { IfOk result (λ count. count ≡ digits_value 10 (value_of (codes "chunk") (rows_in matches.now))) }
+    ensures good { OnOk result (is_count 1000000 (value_of (codes "chunk") (rows_in matches.now)) ≡ true) }
+    ensures refused { IfErr result (RefusesUnless (is_count 1000000 (value_of (codes "chunk") (rows_in matches.now)))) }
+{
+    let value = value_of(matches, "chunk");
+    match count_of(value, CHUNK_LIMIT) {
+        Some(count) => Ok(count),
+        None => Err(refusal(alloc, "--chunk <K>", value, "a number from 1 to 1000000")?),
+    }
+}
+
+// The names in a list.
+fn listed(alloc: Global, list: &str) -> Result<Vec<Vec<u8>>, LineFault>
+    ensures value { IfOk result (λ names. map (λ name. name.items) names.items ≡ names_in list.now) }
+    ensures good { OnOk result (list_all is_name (names_in list.now) ≡ true) }
+    ensures refused { IfErr result (RefusesUnless (list_all is_name (names_in list.now))) }
+{
+    match names_of(alloc, list)? {
+        Some(names) => Ok(names),
+        None => {
+            let allowed = "package names with commas between them, or @ and the name of a file";
+            Err(refusal(alloc, ONLY, wrong_part(list), allowed)?)
+        }
+    }
+}
+
+fn only(alloc: Global, matches: &ArgMatches<'_>) -> Result<Option<Vec<Vec<u8>>>, LineFault>
+    ensures value { IfOk result (λ only. option_map (λ names. map (λ name. name.items) names.items) only
+        ≡ listed_in (first_of (codes "checkonly") (rows_in matches.now))) }
+    ensures good { OnOk result (has_good_names (rows_in matches.now) ≡ true) }
+    ensures refused { IfErr result (RefusesUnless (has_good_names (rows_in matches.now))) }
+{
+    let Some(list) = given(matches, "checkonly") else {
+        return Ok(None);
+    };
+    match file_in(list) {
+        Some("") => Err(refusal(alloc, ONLY, list, "the name of a file behind @")?),
+        Some(_) => Ok(None),
+        None => Ok(Some(listed(alloc, list)?)),
+    }
+}
+
+// The name of the file that has the names that are asked.
+fn only_file(alloc: Global, matches: &ArgMatches<'_>) -> Result<Option<String>, AllocError>
+    ensures { IfOk result (λ file. option_map string_bytes file ≡ file_named (first_of (codes "checkonly") (rows_in matches.now))) }
+{
+    let Some(list) = given(matches, "checkonly") else {
+        return Ok(None);
+    };
+    match file_in(list) {
+        Some(name) => Ok(Some(String::from_str(alloc, name)?)),
+        None => Ok(None),
+    }
+}
+
+// The name of a file that an option takes; `shown` is the option as a refusal names it.
+fn file(
+    alloc: Global,
+    matches: &ArgMatches<'_>,
+    option: &str,
+    shown: &str,
+) -> Result<Option<String>, LineFault>
+    ensures value { IfOk result (λ file. option_map string_bytes file ≡ first_of option.now (rows_in matches.now)) }
+    ensures good { OnOk result (has_good_file option.now (rows_in matches.now) ≡ true) }
+    ensures refused { IfErr result (RefusesUnless (has_good_file option.now (rows_in matches.now))) }
+{
+    match given(matches, option) {
+        None => Ok(None),
+        Some("") => Err(refusal(alloc, shown, "", "the name of a file")?),
+        Some(file) => Ok(Some(String::from_str(alloc, file)?)),
+    }
+}
+
+// The name of the earlier index's file. With one, packages that can be installed are not asked for.
+fn earlier(alloc: Global, matches: &ArgMatches<'_>) -> Result<Option<String>, LineFault>
+    ensures value { IfOk result (λ file. option_map string_bytes file ≡ first_of (codes "since") (rows_in matches.now)) }
+    ensures good { OnOk result (has_good_since (rows_in matches.now) ≡ true) }
+    ensures refused { IfErr result (RefusesUnless (has_good_since (rows_in matches.now))) }
+{
+    let since = file(alloc, matches, "since", "--since <FILE>")?;
+    if since.is_some() && is_set(matches, "successes") {
+        let text =
+            "error: the argument '--since <FILE>' cannot be used with '--successes'\n\nFor more information, try '--help'.\n";
+        return Err(LineFault::Refused {
+            text: String::from_str(alloc, text)?,
+        });
+    }
+    Ok(since)
+}
+
+fn report_format(alloc: Global, matches: &ArgMatches<'_>) -> Result<Format, LineFault>
+    ensures value { IfOk result (λ f. f ≡ unwrap_or (format_of (value_of (codes "format") (rows_in matches.now))) Format.Text) }
+    ensures good { OnOk result (is_some (format_of (value_of (codes "format") (rows_in matches.now))) ≡ true) }
+    ensures refused { IfErr result (RefusesUnless (is_some (format_of (value_of (codes "format") (rows_in matches.now))))) }
+{
+    let value = value_of(matches, "format");
+    match format_of(value) {
+        Some(form) => Ok(form),
+        None => Err(refusal(alloc, "--format <FORM>", value, "text or json")?),
+    }
+}
+
+// Whether reasons are told beside the first ones, or as they are walked; both mean that blocks explain.
+fn tells_more_reasons(matches: &ArgMatches<'_>) -> bool
+    ensures { result ≡ tells_more_reasons (rows_in matches.now) }
+{
+    is_set(matches, "all-reasons") || is_set(matches, "why")
+}
+
+// The refusal of an option that tells of packages that cannot be installed alone, where those that can be are asked for alone.
+fn untold(alloc: Global, matches: &ArgMatches<'_>) -> Result<LineFault, AllocError>
+    ensures { IfOk result IsRefusal }
+{
+    let option = if is_set(matches, "why") {
+        "--why"
+    } else {
+        "--all-reasons"
+    };
+    let text = format!(in alloc;
+        "error: the argument '{option}' cannot be used with '--successes' unless '--failures' is there, too\n\nFor more information, try '--help'.\n"
+    )?;
+    Ok(LineFault::Refused { text })
+}
+
+// Which packages are shown.
+fn show(alloc: Global, matches: &ArgMatches<'_>) -> Result<Show, LineFault>
+    ensures value { IfOk result (λ shown.
+        shown ≡ show_of (is_set (codes "failures") (rows_in matches.now)) (is_set (codes "successes") (rows_in matches.now))) }
+    ensures good { OnOk result (has_good_reasons (rows_in matches.now) ≡ true) }
+    ensures refused { IfErr result (RefusesUnless (has_good_reasons (rows_in matches.now))) }
+{
+    match (is_set(matches, "failures"), is_set(matches, "successes")) {
+        (true, false) => Ok(Show::Failures),
+        (false, true) if tells_more_reasons(matches) => Err(untold(alloc, matches)?),
+        (false, true) => Ok(Show::Successes),
+        _ => Ok(Show::All),
+    }
+}
+
+// The configuration that the options and their values say.
+fn config_of(alloc: Global, matches: &ArgMatches<'_>) -> Result<Config, LineFault>
+    ensures good { OnOk result (has_good_values (rows_in matches.now) ≡ true) }
+    ensures request { IfOk result (λ config. request_of config ≡ asked_by (rows_in matches.now)) }
+    ensures refused { IfErr result (RefusesUnless (has_good_values (rows_in matches.now))) }
+{
+    Ok(Config {
+        arch: architecture(alloc, matches)?,
+        workers: workers(alloc, matches)?,
+        chunk: chunk(alloc, matches)?,
+        explain: is_set(matches, "explain") || tells_more_reasons(matches),
+        show: show(alloc, matches)?,
+        essential: !is_set(matches, "ignore-essential"),
+        only: only(alloc, matches)?,
+        only_file: only_file(alloc, matches)?,
+        bg: file(alloc, matches, "bg", "--bg <FILE>")?,
+        since: earlier(alloc, matches)?,
+        strict: is_set(matches, "strict"),
+        causes: is_set(matches, "causes"),
+        all_reasons: is_set(matches, "all-reasons"),
+        why: is_set(matches, "why"),
+        format: report_format(alloc, matches)?,
+        quiet: is_set(matches, "quiet"),
+    })
+}
+
+// The configuration that the words ask for.
+fn read_words(alloc: Global, words: &[String]) -> Result<Config, LineFault>
+    ensures accepted { IfOk result (Accepts (map string_bytes words.now)) }
+    ensures refused { IfErr result (RefusesLine (map string_bytes words.now)) }
+    ensures architecture { IfOk result (λ config. is_architecture (string_bytes config.arch) ≡ true) }
+    ensures workers { IfOk result (λ config. (0 < config.workers) × (config.workers ≤ 64)) }
+    ensures chunk { IfOk result (λ config. (0 < config.chunk) × (config.chunk ≤ 1000000)) }
+    ensures only { IfOk result (λ config. IfSome (settings_of config).only (All (λ name. is_name name ≡ true))) }
+{
+    if words.is_empty() {
+        return Ok(Config::usual(alloc)?);
+    }
+    match command(alloc)?.try_get_matches_from(words) {
+        Ok(matches) => config_of(alloc, &matches),
+        Err(error) => Err(fault_from(alloc, &error)?),
+    }
+}
+
+/// The configuration that the words after the program's name ask for. No words mean `Config::usual`.
+///
+/// `--arch A` has to be said: one or more letters, digits and `-`, neither `all` nor `any`. `--workers N` (1 to 64, 4 where it isn't said)
+/// and `--chunk K` (1 to 1,000,000, 64) take decimal digits alone. `--explain` tells sets and reasons, `--failures` and `--successes` say which
+/// packages are shown (all for both or neither), `--ignore-essential` asks for no essential packages, and `--checkonly N1,N2,..` takes
+/// package names with commas between them, or the name of a file behind `@`, which has the names. `--bg FILE` names the file of a background,
+/// and `--since FILE` that of an earlier index, neither of which is empty; beside `--since` there is no `--successes`. `--strict` makes a
+/// fault of an index of which nothing is asked, as `--since` does. `--causes` asks for causes, `--all-reasons` for the reasons of all causes of a
+/// package, and `--why` for reasons as they are walked from it; these two mean `--explain`, too, and beside them there is no `--successes`
+/// without `--failures`. `--format` takes `text` (where it isn't said) or `json`, and `--quiet` asks for no progress and no hints. A value comes
+/// as the next word or after `=`; one that begins with `-` comes after `=`. No option comes twice.
+///
+/// `Help` is the answer to `--help` or `-h`, and to `--version` or `-V` with `VERSION_LINE`, whichever comes first; `Refused` is the answer to
+/// words or values of another form, with a text that says what is wrong, of a list which part of it is, and of a word that a program like this one
+/// takes what to write here. The words are consumed.
+pub fn read_line(alloc: Global, words: Vec<String>) -> Result<Config, LineFault>
+    ensures accepted { IfOk result (Accepts (map string_bytes words.items)) }
+    ensures refused { IfErr result (RefusesLine (map string_bytes words.items)) }
+    ensures architecture { IfOk result (λ config. is_architecture (string_bytes config.arch) ≡ true) }
+    ensures workers { IfOk result (λ config. (0 < config.workers) × (config.workers ≤ 64)) }
+    ensures chunk { IfOk result (λ config. (0 < config.chunk) × (config.chunk ≤ 1000000)) }
+    ensures only { IfOk result (λ config. IfSome (settings_of config).only (All (λ name. is_name name ≡ true))) }
+{
+    read_words(alloc, words.as_slice())
+}

@@ -1,9 +1,0 @@
-use Rattle.std.proofs.Common.{◌≡◌, false, rules}
-use Rattle.deb_report.specs.Settings.{is_excluded}
-use Rattle.debcheck.proofs.LineLemmas.{names-another}
-use Rattle.debcheck.proofs.values.is_architecture.Goals as goal
-
-pub returns-in_default : goal.returns-in_default
-returns-in_default c =
-    let another : is_excluded c.args.text.now ≡ false = names-another c.args.text.now c.in_default.not-empty c.in_default.not-all c.in_default.not-any in
-    rw another (search rules)

@@ -1,0 +1,2 @@
+mod RecordingLemmas
+mod WriteLemmas

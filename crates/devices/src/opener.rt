@@ -1,0 +1,62 @@
+//! What opens the files that a command line names.
+
+ghost use Rattle.std.specs.Prelude.{◌≡◌, ℕ, List, Option, None, IfErr, IfOk, false};
+ghost use Rattle.devices.specs.Devices.{IsHeld, IsUnopened};
+ghost use Rattle.devices.specs.declared.opener.OpenFault.TheVariants.{Unopened};
+
+use crate::device::Source;
+use crate::recording::Recording;
+use crate::std_device::Std;
+use std::fs::{File, Files, OpenFile};
+use std::io;
+use std::io::ErrorKind;
+use thiserror::Error;
+
+/// Why a file is not opened.
+#[derive(Clone, Copy, Debug, Error, PartialEq, Eq)]
+pub enum OpenFault {
+    /// Nothing stands there that may be read.
+    #[error("the file cannot be opened")]
+    Unopened,
+    /// Some growth was refused.
+    #[error("out of memory")]
+    Memory,
+}
+
+/// Opens files by their names. A contract sees, where it is told, what stands under a name: bytes, or nothing that can be opened.
+pub trait Opener {
+    /// What is opened.
+    type File: Source + Drop;
+
+    // What stands under a name, where that is told: its bytes, or nothing that can be opened.
+    ghost named: { Self → List ℕ → Option (Option (List ℕ)) };
+
+    /// Opens what stands under a name, from its beginning. It is none of the standard streams, not even of those that are closed.
+    fn open(&self, name: &str) -> Result<Self::File, OpenFault>
+        ensures unfailed { IfOk result (λ file. Self.File.failed file ≡ false) }
+        ensures opened { IfOk result (λ file. IsHeld (named self.now name.now) (Self.File.remaining file)) }
+        ensures refused { IfErr result (λ fault. fault ≡ Unopened → IsUnopened (named self.now name.now)) };
+}
+
+/// The files of a runtime.
+#[derive(Drop)]
+pub struct Disk<'a, R>(pub &'a R);
+
+// Opens a file for reading. An opened file gets the number of a standard stream that is closed; a copy of it gets none of these three numbers.
+fn open_apart<R: Files>(rt: &R, name: &str) -> io::Result<R::File> {
+    File::open(rt, name)?.try_clone()
+}
+
+impl<R: Files> Opener for Disk<'_, R> {
+    type File = Recording<Std<R::File>>;
+
+    ghost named = { λ _ _. None };
+
+    fn open(&self, name: &str) -> Result<Recording<Std<R::File>>, OpenFault> {
+        match open_apart(self.0, name) {
+            Ok(file) => Ok(Recording::new(Std::new(file))),
+            Err(error) if error.kind() == ErrorKind::OutOfMemory => Err(OpenFault::Memory),
+            Err(_) => Err(OpenFault::Unopened),
+        }
+    }
+}
