@@ -5,11 +5,10 @@ use crate::settings::settings_in_words;
 use debcheck::read_line;
 use std::alloc::{AllocError, Global};
 use std::process::Abort;
-use std::test::Fail;
 use test_devices::words_in;
 
 /// What the line comes to, in words: its settings, or its fault.
-pub fn told_of(alloc: Global, line: &str) -> Result<String, AllocError> {
+fn told_of(alloc: Global, line: &str) -> Result<String, AllocError> {
     let words = words_in(alloc, line)?;
     let outcome = read_line(alloc, words);
     match &outcome {
@@ -19,11 +18,16 @@ pub fn told_of(alloc: Global, line: &str) -> Result<String, AllocError> {
 }
 
 /// Whether these are the words of a refusal: a text for the errors, which is a line or more.
-pub fn is_refusal(told: &str) -> bool {
+fn is_refusal(told: &str) -> bool {
     told.starts_with("status 64, output: , errors: ") && told.ends_with('\n')
 }
 
-pub fn has_parts(told: &str, parts: &str) -> bool {
+/// Whether this is a text for the output, which is a line or more.
+fn is_help(told: &str) -> bool {
+    told.starts_with("status 0, output: ") && told.ends_with("\n, errors: ")
+}
+
+fn has_parts(told: &str, parts: &str) -> bool {
     for part in parts.split('|').skip(1) {
         if !told.contains(part) {
             return false;
@@ -32,49 +36,51 @@ pub fn has_parts(told: &str, parts: &str) -> bool {
     true
 }
 
-/// Whether what is told are these settings, or a refusal with these parts.
+/// Whether what is told is the version, a refusal without a hint, help or a refusal with these parts, or these settings.
 fn is_wanted(told: &str, wanted: &str) -> bool {
-    if wanted.starts_with('|') {
-        return is_refusal(told) && has_parts(told, wanted);
+    match wanted {
+        "version" => told == "status 0, output: debcheck 1.0.0\n, errors: ",
+        "no hint" => is_refusal(told) && !told.contains("hint: "),
+        _ if wanted.starts_with("help|") => is_help(told) && has_parts(told, wanted),
+        _ if wanted.starts_with('|') => is_refusal(told) && has_parts(told, wanted),
+        _ => told == wanted,
     }
-    told == wanted
 }
 
-fn expect_told(rt: &impl Abort, line: &str, told: &str, wanted: &str) -> Result<(), Fail> {
+fn expect_told(rt: &impl Abort, line: &str, told: &str, wanted: &str) -> Result<(), AllocError> {
     if told.starts_with("status 69") {
-        return Err(Fail::new("out of memory"));
+        return Err(AllocError);
     }
     assert!(rt; is_wanted(told, wanted), "{line}: {told}");
     Ok(())
 }
 
-/// The line asks for these settings, or is refused and told these parts.
-pub fn expect_row(rt: &(impl Abort + AllocGlobal), line: &str, wanted: &str) -> Result<(), Fail> {
+/// The line comes to this.
+fn expect_row(rt: &(impl Abort + AllocGlobal), line: &str, wanted: &str) -> Result<(), AllocError> {
     let told = told_of(rt.alloc(), line)?;
     expect_told(rt, line, &told, wanted)
 }
 
 /// Each line of the table comes to what stands on the other side.
-pub fn expect_each(rt: &(impl Abort + AllocGlobal), table: &str) -> Result<(), Fail> {
+pub fn expect_table(rt: &(impl Abort + AllocGlobal), table: &str) -> Result<(), AllocError> {
     for row in table.lines() {
-        let Some((line, wanted)) = row.split_once(" => ") else {
-            return Err(Fail::new("a row has one side"));
-        };
+        let (line, wanted) = row.split_once(" => ").expect(rt, "a row has one side");
         expect_row(rt, line, wanted)?;
     }
     Ok(())
 }
 
-/// The line is refused with each of these values behind it, which have a `/` between them.
-pub fn refuses_values(
-    rt: &(impl Abort + AllocGlobal),
-    line: &str,
-    values: &str,
-    parts: &str,
-) -> Result<(), Fail> {
-    for value in values.split('/') {
-        let line = format!(in rt.alloc(); "{line}{value}")?;
-        expect_row(rt, &line, parts)?;
+/// Each line of these tables.
+pub fn expect_each(rt: &(impl Abort + AllocGlobal), tables: &[&str]) {
+    for table in tables {
+        expect_table(rt, table).expect(rt, "no memory");
     }
-    Ok(())
+}
+
+/// The line comes to the same with each of these values behind it, which have a `/` between them.
+pub fn expect_values(rt: &(impl Abort + AllocGlobal), line: &str, values: &str, wanted: &str) {
+    for value in values.split('/') {
+        let line = format!(in rt.alloc(); "{line}{value}").expect(rt, "no memory");
+        expect_row(rt, &line, wanted).expect(rt, "no memory");
+    }
 }

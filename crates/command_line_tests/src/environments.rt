@@ -7,7 +7,6 @@ use debcheck::{LineFault, words_of};
 use std::alloc::{AllocError, Global};
 use std::env::{Env, FillError};
 use std::process::Abort;
-use std::test::Fail;
 
 /// An environment with these words, the first of which is the program's name.
 #[derive(Drop)]
@@ -69,34 +68,28 @@ fn in_one_line(alloc: Global, words: &[String]) -> Result<String, AllocError> {
 }
 
 /// The words behind the program's name are these, or are refused so.
-fn expect_words(
-    rt: &(impl Abort + AllocGlobal),
-    words: &[&[u8]],
-    wanted: &str,
-) -> Result<(), Fail> {
+fn expect_words(rt: &(impl Abort + AllocGlobal), words: &[&[u8]], wanted: &str) {
     let alloc = rt.alloc();
     let words = words_of(&Spoken { alloc, words });
-    let told = in_words(alloc, &words)?;
+    let told = in_words(alloc, &words).expect(rt, "no memory");
     assert!(rt; told.as_str() == wanted, "{told}");
-    Ok(())
 }
 
+/// Words of a process, and those of its command line; the last are no text, and are refused.
+const WORDS: [(&[&[u8]], &str); 5] = [
+    (&[], ""),
+    (&[b"debcheck"], ""),
+    (&[b"debcheck", b"--arch", b"amd64"], "|--arch|amd64"),
+    (&[b"debcheck", b"debcheck", b""], "|debcheck|"),
+    (
+        &[b"debcheck", b"--arch", b"\xff"],
+        "status 64, output: , errors: error: a word of the command line isn't UTF-8\n",
+    ),
+];
+
 #[test]
-fn the_name_of_the_program_is_no_word(rt: HostRuntime) -> Result<(), Fail> {
-    let cases: [(&[&[u8]], &str); 4] = [
-        (&[], ""),
-        (&[b"debcheck"], ""),
-        (&[b"debcheck", b"--arch", b"amd64"], "|--arch|amd64"),
-        (&[b"debcheck", b"debcheck", b""], "|debcheck|"),
-    ];
-    for (words, wanted) in cases {
-        expect_words(&rt, words, wanted)?;
+fn the_name_of_the_program_is_no_word(rt: HostRuntime) {
+    for (words, wanted) in WORDS {
+        expect_words(&rt, words, wanted);
     }
-    Ok(())
-}
-
-#[test]
-fn words_that_are_no_text_are_refused(rt: HostRuntime) -> Result<(), Fail> {
-    let told = "status 64, output: , errors: error: a word of the command line isn't UTF-8\n";
-    expect_words(&rt, &[b"debcheck", b"--arch", b"\xff"], told)
 }

@@ -1,7 +1,7 @@
 //! A test of the call that can want memory; trials/growths runs it with each growth refused in turn.
 
-use crate::asking::expect_each;
-use std::test::Fail;
+use crate::asking::expect_table;
+use std::alloc::AllocError;
 
 /// An architecture alone, no words, and four lines that are refused.
 const LINES: &str = "|--arch|amd64 => amd64
@@ -12,6 +12,6 @@ const LINES: &str = "|--arch|amd64 => amd64
 |--arch|amd64|--checkonly|a,,b => |error:";
 
 #[test]
-fn of_read_line(rt: HostRuntime) -> Result<(), Fail> {
-    expect_each(&rt, LINES)
+fn of_read_line(rt: HostRuntime) -> Result<(), AllocError> {
+    expect_table(&rt, LINES)
 }

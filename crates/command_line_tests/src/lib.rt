@@ -5,7 +5,7 @@
 //! the version and a refusal, `environments` the words of a process, `growths` a test for each call that can want memory.
 //!
 //! A line is a text with a `|` before each of its words, and so is a list of what a refusal has to say. A table has a row for each line: its text,
-//! ` => `, and what is expected of it.
+//! ` => `, and what is expected of it: settings, the parts of a refusal, `no hint` in one, or `version`.
 #![tactic(auto)]
 
 #[cfg(test)]

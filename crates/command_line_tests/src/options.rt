@@ -1,17 +1,11 @@
 //! Each option, and words that are none.
 
-use crate::asking::{expect_each, refuses_values};
-use std::test::Fail;
+use crate::asking::expect_each;
 
 const ALL_OPTIONS: &str =
     "|--checkonly|b,a+1.x_y,b|--ignore-essential|--explain|--failures|--chunk|1000000|--workers=64|--arch|i386|--quiet|--format|json\
 |--bg|main/Packages|--why|--causes|--all-reasons|--strict => \
 i386, explain, ignore-essential, failures, causes, all-reasons, why, strict, quiet, json, workers 64, chunk 1000000, only b a+1.x_y b, bg main/Packages";
-
-#[test]
-fn a_line_of_all_options(rt: HostRuntime) -> Result<(), Fail> {
-    expect_each(&rt, ALL_OPTIONS)
-}
 
 /// Lines, and the settings that are not the usual ones. An architecture is enough, and no words ask for explanations.
 const ONE_OPTION: &str = " => amd64, explain
@@ -35,11 +29,6 @@ const ONE_OPTION: &str = " => amd64, explain
 |--arch|amd64|--format|json => amd64, json
 |--arch|amd64|--format=text => amd64";
 
-#[test]
-fn each_option_by_itself(rt: HostRuntime) -> Result<(), Fail> {
-    expect_each(&rt, ONE_OPTION)
-}
-
 /// Lines with a background, and some with none or a wrong one.
 const BACKGROUNDS: &str = "|--bg|f|--arch|amd64 => amd64, bg f
 |--bg|-|--arch|amd64 => amd64, bg -
@@ -54,24 +43,6 @@ const BACKGROUNDS: &str = "|--bg|f|--arch|amd64 => amd64, bg f
 |--bg|--arch|amd64 => |--bg
 |--bg|f => |--arch
 |--bg|f|--arch|amd64|--bg|g => |--bg";
-
-#[test]
-fn a_background_is_named_once(rt: HostRuntime) -> Result<(), Fail> {
-    expect_each(&rt, BACKGROUNDS)
-}
-
-/// No value, or two.
-const NO_FORMATS: &str = "|--arch|amd64|--format= => |--format
-|--arch|amd64|--format => |--format
-|--arch|amd64|--format=json|--format=json => |--format";
-
-#[test]
-fn a_report_is_text_or_json(rt: HostRuntime) -> Result<(), Fail> {
-    let values = "/Text/JSON/yaml/text,json/ json/jsonl";
-    let parts = "|--format|text or json|--help";
-    refuses_values(&rt, "|--arch|amd64|--format|", values, parts)?;
-    expect_each(&rt, NO_FORMATS)
-}
 
 /// An option twice, or with a value.
 const NO_VALUES: &str = "|--arch|amd64|--explain|--explain => |--explain
@@ -93,22 +64,12 @@ const NO_VALUES: &str = "|--arch|amd64|--explain|--explain => |--explain
 |--arch|amd64|--quiet|--quiet => |--quiet
 |--arch|amd64|--quiet=yes => |--quiet";
 
-#[test]
-fn an_option_without_a_value_comes_once(rt: HostRuntime) -> Result<(), Fail> {
-    expect_each(&rt, NO_VALUES)
-}
-
 /// Lines that ask for more reasons, and for the packages alone that have none.
 const NO_REASONS: &str =
     "|--arch|amd64|--successes|--all-reasons => |--all-reasons|--successes|--failures|--help
 |--arch|amd64|--why|--successes => |--why|--successes|--failures|--help
 |--arch|amd64|--why|--successes|--all-reasons|--explain => |--why|--successes|--failures|--help
 |--since|f|--arch|amd64|--why|--successes => |--why|--successes";
-
-#[test]
-fn more_reasons_are_of_failures(rt: HostRuntime) -> Result<(), Fail> {
-    expect_each(&rt, NO_REASONS)
-}
 
 /// Lines with a wrong word.
 const OTHER_WORDS: &str = "|--arch|amd64|--frobnicate => |--frobnicate
@@ -130,7 +91,17 @@ const OTHER_WORDS: &str = "|--arch|amd64|--frobnicate => |--frobnicate
 |--format => |--format
 |--arch|amd64|--workers => |--workers";
 
+/// A line of all options, each by itself, a background that is named once, options without a value that come once, more reasons that are of failures, and
+/// other words.
 #[test]
-fn other_words_are_refused(rt: HostRuntime) -> Result<(), Fail> {
-    expect_each(&rt, OTHER_WORDS)
+fn lines_ask_for_settings(rt: HostRuntime) {
+    let tables = [
+        ALL_OPTIONS,
+        ONE_OPTION,
+        BACKGROUNDS,
+        NO_VALUES,
+        NO_REASONS,
+        OTHER_WORDS,
+    ];
+    expect_each(&rt, &tables);
 }

@@ -1,8 +1,6 @@
 //! Words that other programs of this kind take.
 
-use crate::asking::{expect_each, is_refusal, told_of};
-use std::process::Abort;
-use std::test::Fail;
+use crate::asking::expect_each;
 
 /// Lines with such a word, and what is said of it.
 const WORDS_OF_OTHERS: &str = "|--arch|amd64|-e => |'-e'|hint: write --explain
@@ -26,32 +24,13 @@ const WORDS_OF_OTHERS: &str = "|--arch|amd64|-e => |'-e'|hint: write --explain
 |--arch|amd64|--deb-foreign-archs=i386 => |hint: debcheck has no such option
 |--arch|amd64|--dot => |'--dot'|hint: debcheck has no such option";
 
-#[test]
-fn a_word_of_another_program_is_refused_with_what_to_write(rt: HostRuntime) -> Result<(), Fail> {
-    expect_each(&rt, WORDS_OF_OTHERS)
-}
-
 /// Lines that are refused, and no program's words are in them.
-const NO_HINTS: [&str; 4] = [
-    "|--arch|amd64|--frobnicate",
-    "|--arch|amd64|-q",
-    "|--arch|amd64|--explain=yes",
-    "|--arch|all",
-];
-
-fn expect_no_hint(rt: &(impl Abort + AllocGlobal), line: &str) -> Result<(), Fail> {
-    let told = told_of(rt.alloc(), line)?;
-    assert!(rt;
-        is_refusal(&told) && !told.contains("hint: "),
-        "{line}: {told}"
-    );
-    Ok(())
-}
+const NO_HINTS: &str = "|--arch|amd64|--frobnicate => no hint
+|--arch|amd64|-q => no hint
+|--arch|amd64|--explain=yes => no hint
+|--arch|all => no hint";
 
 #[test]
-fn nothing_is_said_of_words_that_are_nobodys(rt: HostRuntime) -> Result<(), Fail> {
-    for line in NO_HINTS {
-        expect_no_hint(&rt, line)?;
-    }
-    Ok(())
+fn a_word_of_another_program_is_refused_with_what_to_write(rt: HostRuntime) {
+    expect_each(&rt, &[WORDS_OF_OTHERS, NO_HINTS]);
 }

@@ -9,7 +9,6 @@ use core_extract::{Question, first_failing, next_of};
 use number_sets::sort_once;
 use std::alloc::{AllocError, Global};
 use std::process::Abort;
-use std::test::Fail;
 
 /// Whether sets have all needed numbers. Each question is counted, and each refutation uses these numbers, and idly all that aren't settled
 /// below one.
@@ -91,35 +90,33 @@ pub fn asked_for(alloc: Global, needed: &[u32], idle: u32) -> Result<Option<u32>
     Ok(None)
 }
 
-/// One question at first, and one for each number that is needed, wherever it stands.
-#[test]
-fn questions_of_exact_refutations(rt: HostRuntime) -> Result<(), Fail> {
-    for (needed, asked) in [
-        ([].as_slice(), 1),
-        (&[0], 2),
-        (&[700], 2),
-        (&[1023], 2),
-        (&[0, 1023], 3),
-        (&[1, 2, 3, 511, 512, 1000], 7),
-    ] {
-        assert_eq!(rt; asked_for(rt.alloc(), needed, 0)?, Some(asked));
-    }
-    Ok(())
+/// Needed numbers, below which number all are used, and how many questions it takes.
+static QUESTIONS: [(&[u32], u32, u32); 9] = [
+    // One question at first, and one for each number that is needed, wherever it stands.
+    (&[], 0, 1),
+    (&[0], 0, 2),
+    (&[700], 0, 2),
+    (&[1023], 0, 2),
+    (&[0, 1023], 0, 3),
+    (&[1, 2, 3, 511, 512, 1000], 0, 7),
+    // Where refutations come in a row, one question takes out 1, 1, 2, 4, 8 numbers and so on. Where that takes out a needed one, it begins again.
+    // 0, 1, 2 to 3, 4 to 7, and so on, to 512 to 1023
+    (&[], 1024, 1 + 11),
+    // 0, 1, 2 to 3 in vain; 2, 3 in vain
+    (&[3], 4, 1 + 3 + 2),
+    // 0, 1, 2 to 3, and so on, 64 to 127 in vain; 64, 65, 66 to 67, and so on, 96 to 127 in vain; 96, 97, 98 to 99, 100 to 103 in vain;
+    // 100 in vain; 101, 102, 103 to 104, and so on, 613 to 1023
+    (&[100], 1024, 1 + 8 + 7 + 4 + 1 + 11),
+];
+
+fn expect_asked(rt: &(impl Abort + AllocGlobal), needed: &[u32], idle: u32, asked: u32) {
+    let found = asked_for(rt.alloc(), needed, idle).expect(rt, "no memory");
+    assert!(rt; found == Some(asked), "{needed:?}, {idle}");
 }
 
-/// Where refutations come in a row, one question takes out 1, 1, 2, 4, 8 numbers and so on. Where that takes out a needed one, it begins again.
 #[test]
-fn questions_of_idle_refutations(rt: HostRuntime) -> Result<(), Fail> {
-    for (needed, idle, asked) in [
-        // 0, 1, 2 to 3, 4 to 7, and so on, to 512 to 1023
-        ([].as_slice(), 1024, 1 + 11),
-        // 0, 1, 2 to 3 in vain; 2, 3 in vain
-        (&[3], 4, 1 + 3 + 2),
-        // 0, 1, 2 to 3, and so on, 64 to 127 in vain; 64, 65, 66 to 67, and so on, 96 to 127 in vain; 96, 97, 98 to 99, 100 to 103 in vain;
-        // 100 in vain; 101, 102, 103 to 104, and so on, 613 to 1023
-        (&[100], 1024, 1 + 8 + 7 + 4 + 1 + 11),
-    ] {
-        assert_eq!(rt; asked_for(rt.alloc(), needed, idle)?, Some(asked));
+fn questions(rt: HostRuntime) {
+    for (needed, idle, asked) in &QUESTIONS {
+        expect_asked(&rt, *needed, *idle, *asked);
     }
-    Ok(())
 }

@@ -1,13 +1,10 @@
 //! A foreground and a background.
 
-use crate::faults::{REFUSED, fault_of_both};
-use crate::reading::{read, read_both};
-use crate::showing::{Part, expect_shown_both, shown, shown_both};
-use crate::texts::{COPY, SPELLED, TWICE, VERSIONED, copies};
-use deb_index::{BothError, IndexError};
-use std::alloc::Global;
+use crate::reading::Texts;
+use crate::showing::{Case, Part, expect_each, expect_shown, shown};
+use crate::texts::{SPELLED, TWICE, VERSIONED};
 use std::process::Abort;
-use std::test::Fail;
+use std::thread::Threads;
 
 pub const NEEDING: &[u8] = b"Package: a
 Version: 1
@@ -27,7 +24,7 @@ Architecture: all
 
 const ONE: &[u8] = b"Package: a\nVersion: 1\nArchitecture: amd64";
 
-const AGAIN: &[u8] = b"Package: a
+pub const AGAIN: &[u8] = b"Package: a
 Version: 1
 Architecture: all
 
@@ -73,18 +70,23 @@ need 0 0: [1, 2]
 need 1 0: []
 ";
 
-#[test]
-fn a_background_that_is_used(rt: HostRuntime) -> Result<(), Fail> {
-    expect_shown_both(&rt, NEEDING, NEEDED, &USED, USED_SHOWN)
-}
+const COUNTS: &[Part] = &[Part::Counts, Part::Foreground];
 
-#[test]
-fn a_duplicate_in_the_background(rt: HostRuntime) -> Result<(), Fail> {
-    expect_shown_both(
-        &rt,
-        ONE,
-        AGAIN,
-        &[
+const ESSENTIALS: &[Part] = &[Part::EssentialNames, Part::Constraints];
+
+const LASTS: &[Part] = &[Part::Counts, Part::Name("last"), Part::AnswerRows];
+
+static CASES: [Case; 13] = [
+    Case {
+        name: "a background that is used",
+        texts: Texts::Both(NEEDING, NEEDED, true),
+        parts: &USED,
+        wanted: USED_SHOWN,
+    },
+    Case {
+        name: "a duplicate in the background",
+        texts: Texts::Both(ONE, AGAIN, true),
+        parts: &[
             Part::Counts,
             Part::Foreground,
             Part::Packages,
@@ -92,7 +94,7 @@ fn a_duplicate_in_the_background(rt: HostRuntime) -> Result<(), Fail> {
             Part::Name("a"),
             Part::Name("zz"),
         ],
-        "packages 2, stanzas 3, skipped 0, duplicates 1
+        wanted: "packages 2, stanzas 3, skipped 0, duplicates 1
 foreground 1
 0: a 1 amd64, name 0, versions [0], marked false
 1: zz 1 all, name 1, versions [1], marked false
@@ -101,198 +103,127 @@ name 1: zz, places [1]
 a: number Some(0), places [0], provided []
 zz: number Some(1), places [1], provided []
 ",
-    )
-}
-
-#[test]
-fn counts_of_both(rt: HostRuntime) -> Result<(), Fail> {
-    let cases: [(&[u8], &[u8], &str); 7] = [
-        (
-            b"",
-            b"",
-            "packages 0, stanzas 0, skipped 0, duplicates 0\nforeground 0\n",
-        ),
-        (
-            ONE,
-            b"",
-            "packages 1, stanzas 1, skipped 0, duplicates 0\nforeground 1\n",
-        ),
-        (
-            b"",
-            AGAIN,
-            "packages 2, stanzas 2, skipped 0, duplicates 0\nforeground 0\n",
-        ),
-        (
-            AGAIN,
-            ONE,
-            "packages 2, stanzas 3, skipped 0, duplicates 1\nforeground 2\n",
-        ),
-        (
-            ONE,
-            SPELLED,
-            "packages 3, stanzas 5, skipped 1, duplicates 1\nforeground 1\n",
-        ),
-        (
-            SPELLED,
-            SPELLED,
-            "packages 2, stanzas 8, skipped 2, duplicates 4\nforeground 2\n",
-        ),
-        (
-            VERSIONED,
-            TWICE,
-            "packages 6, stanzas 6, skipped 0, duplicates 0\nforeground 3\n",
-        ),
-    ];
-    for (text, background, wanted) in cases {
-        expect_shown_both(
-            &rt,
-            text,
-            background,
-            &[Part::Counts, Part::Foreground],
-            wanted,
-        )?;
-    }
-    Ok(())
-}
-
-#[test]
-fn an_essential_name_of_the_background(rt: HostRuntime) -> Result<(), Fail> {
-    for (essential, wanted) in [
-        (
-            true,
-            "essential [1]\n[Essential(1), Apart(0, 0), Only(0), Only(1)]\n",
-        ),
-        (false, "essential []\n[Apart(0, 0), Only(0), Only(1)]\n"),
-    ] {
-        let parts = [Part::EssentialNames, Part::Constraints];
-        let found = shown_both(rt.alloc(), CONFLICTING, BASE, essential, &parts)?;
-        assert_eq!(rt; found.as_str(), wanted);
-    }
-    Ok(())
-}
-
-/// A package of one text asks for a name that those of the other provide.
-#[test]
-fn providers_of_the_other_text(rt: HostRuntime) -> Result<(), Fail> {
-    let parts = [Part::Counts, Part::Name("last"), Part::AnswerRows];
-    expect_shown_both(
-        &rt,
-        TWICE,
-        LAST,
-        &parts,
-        "packages 4, stanzas 4, skipped 0, duplicates 0
+    },
+    Case {
+        name: "counts of no text",
+        texts: Texts::Both(b"", b"", true),
+        parts: COUNTS,
+        wanted: "packages 0, stanzas 0, skipped 0, duplicates 0\nforeground 0\n",
+    },
+    Case {
+        name: "counts without a background",
+        texts: Texts::Both(ONE, b"", true),
+        parts: COUNTS,
+        wanted: "packages 1, stanzas 1, skipped 0, duplicates 0\nforeground 1\n",
+    },
+    Case {
+        name: "counts without a foreground",
+        texts: Texts::Both(b"", AGAIN, true),
+        parts: COUNTS,
+        wanted: "packages 2, stanzas 2, skipped 0, duplicates 0\nforeground 0\n",
+    },
+    Case {
+        name: "counts with a duplicate",
+        texts: Texts::Both(AGAIN, ONE, true),
+        parts: COUNTS,
+        wanted: "packages 2, stanzas 3, skipped 0, duplicates 1\nforeground 2\n",
+    },
+    Case {
+        name: "counts with a duplicate in the background",
+        texts: Texts::Both(ONE, SPELLED, true),
+        parts: COUNTS,
+        wanted: "packages 3, stanzas 5, skipped 1, duplicates 1\nforeground 1\n",
+    },
+    Case {
+        name: "counts of one text twice",
+        texts: Texts::Both(SPELLED, SPELLED, true),
+        parts: COUNTS,
+        wanted: "packages 2, stanzas 8, skipped 2, duplicates 4\nforeground 2\n",
+    },
+    Case {
+        name: "counts of two texts",
+        texts: Texts::Both(VERSIONED, TWICE, true),
+        parts: COUNTS,
+        wanted: "packages 6, stanzas 6, skipped 0, duplicates 0\nforeground 3\n",
+    },
+    Case {
+        name: "an essential name of the background",
+        texts: Texts::Both(CONFLICTING, BASE, true),
+        parts: ESSENTIALS,
+        wanted: "essential [1]\n[Essential(1), Apart(0, 0), Only(0), Only(1)]\n",
+    },
+    Case {
+        name: "an essential name of the background that does not count",
+        texts: Texts::Both(CONFLICTING, BASE, false),
+        parts: ESSENTIALS,
+        wanted: "essential []\n[Apart(0, 0), Only(0), Only(1)]\n",
+    },
+    Case {
+        name: "providers of the foreground",
+        texts: Texts::Both(TWICE, LAST, true),
+        parts: LASTS,
+        wanted: "packages 4, stanzas 4, skipped 0, duplicates 0
 last: number Some(2), places [3], provided []
 need 3 0: [0, 1, 2]
 ",
-    )?;
-    expect_shown_both(
-        &rt,
-        LAST,
-        TWICE,
-        &parts,
-        "packages 4, stanzas 4, skipped 0, duplicates 0
+    },
+    Case {
+        name: "providers of the background",
+        texts: Texts::Both(LAST, TWICE, true),
+        parts: LASTS,
+        wanted: "packages 4, stanzas 4, skipped 0, duplicates 0
 last: number Some(0), places [0], provided []
 need 0 0: [1, 2, 3]
 ",
-    )
-}
+    },
+];
 
-fn len_of(alloc: Global, text: &[u8]) -> Result<u32, IndexError> {
-    let index = read(alloc, text, true)?;
-    let len = index.len();
-    drop(index);
-    Ok(len)
-}
-
-fn foreground_of(alloc: Global, text: &[u8], background: &[u8]) -> Result<u32, BothError> {
-    let index = read_both(alloc, text, background, true)?;
-    let foreground = index.foreground();
-    drop(index);
-    Ok(foreground)
+#[test]
+fn texts_with_backgrounds(rt: HostRuntime) {
+    expect_each(&rt, &CASES);
 }
 
 /// What indexes of the same stanzas have in common.
-const COMMON: [Part; 4] = [Part::Counts, Part::Packages, Part::Names, Part::Constraints];
+static COMMON: [Part; 4] = [Part::Counts, Part::Packages, Part::Names, Part::Constraints];
 
+/// A text and a background have what the whole of them has, and the foreground is all of the text.
 fn expect_cut(
-    rt: &(impl Abort + AllocGlobal),
+    rt: &(impl Abort + Threads + Sync + AllocGlobal),
     text: &[u8],
     background: &[u8],
     whole: &str,
-) -> Result<(), Fail> {
-    expect_shown_both(rt, text, background, &COMMON, whole)?;
-    let foreground = foreground_of(rt.alloc(), text, background)?;
-    assert_eq!(rt; foreground, len_of(rt.alloc(), text)?);
-    Ok(())
+) {
+    let texts = Texts::Both(text, background, true);
+    expect_shown(rt, "cut in two", texts, &COMMON, whole);
+    let alone = shown(rt, Texts::One(text, true), &[Part::All]).expect(rt, "a good text");
+    expect_shown(
+        rt,
+        "the foreground of two",
+        texts,
+        &[Part::Foreground],
+        alone.as_str(),
+    );
 }
 
 /// Wherever a text is cut between two stanzas, its parts have the index of the whole.
-fn expect_cuts(rt: &(impl Abort + AllocGlobal), text: &[u8]) -> Result<(), Fail> {
-    let whole = shown(rt.alloc(), text, true, &COMMON)?;
-    expect_cut(rt, text, b"", &whole)?;
-    expect_cut(rt, b"", text, &whole)?;
+fn expect_cuts(rt: &(impl Abort + Threads + Sync + AllocGlobal), text: &[u8], whole: &str) {
+    expect_cut(rt, text, b"", whole);
+    expect_cut(rt, b"", text, whole);
     let mut is_cut = false;
-    for cut in 1..text.len() {
-        if text[cut - 1] == b'\n' && text[cut] == b'\n' {
-            expect_cut(rt, &text[..cut], &text[cut..], &whole)?;
+    for at in 1..text.len() {
+        let (front, back) = text.split_at(at);
+        if front.ends_with(b"\n") && back.starts_with(b"\n") {
+            expect_cut(rt, front, back, whole);
             is_cut = true;
         }
     }
     assert!(rt; is_cut);
-    Ok(())
 }
 
 #[test]
-fn cut_in_two(rt: HostRuntime) -> Result<(), Fail> {
+fn cut_in_two(rt: HostRuntime) {
     for text in [VERSIONED, SPELLED, TWICE] {
-        expect_cuts(&rt, text)?;
+        let whole = shown(&rt, Texts::One(text, true), &COMMON).expect(&rt, "a good text");
+        expect_cuts(&rt, text, whole.as_str());
     }
-    Ok(())
-}
-
-#[test]
-fn faults_of_both(rt: HostRuntime) {
-    let backgrounds: [&[u8]; 3] = [b"", AGAIN, b" x"];
-    let foregrounds: [&[u8]; 2] = [b"", VERSIONED];
-    for (text, fault) in REFUSED {
-        for background in backgrounds {
-            let found = fault_of_both(rt.alloc(), text, background);
-            assert!(rt; found == Some(BothError::Fore(fault)));
-        }
-        for foreground in foregrounds {
-            let found = fault_of_both(rt.alloc(), foreground, text);
-            assert!(rt; found == Some(BothError::Back(fault)));
-        }
-    }
-}
-
-const NEXT: &[u8] = b"Package: b\nVersion: 1\nArchitecture: all\n";
-
-const NEXT_TWO: &[u8] =
-    b"Package: b\nVersion: 1\nArchitecture: all\n\nPackage: c\nVersion: 1\nArchitecture: all\n";
-
-fn is_too_many(alloc: Global, text: &[u8], background: &[u8], stanza: u64) -> bool {
-    let fault = IndexError::TooManyStanzas { stanza };
-    fault_of_both(alloc, text, background) == Some(BothError::Back(fault))
-}
-
-#[test]
-fn a_stanza_too_many_in_the_background(rt: HostRuntime) -> Result<(), Fail> {
-    let mut text = copies(rt.alloc(), 4_194_303)?;
-    assert!(rt; is_too_many(rt.alloc(), &text, NEXT_TWO, 2));
-    text.extend_from_slice(COPY)?;
-    assert!(rt; is_too_many(rt.alloc(), &text, NEXT, 1));
-    Ok(())
-}
-
-#[test]
-fn as_many_stanzas_as_may_be_in_both(rt: HostRuntime) -> Result<(), Fail> {
-    let text = copies(rt.alloc(), 4_194_303)?;
-    expect_shown_both(
-        &rt,
-        &text,
-        NEXT,
-        &[Part::Counts, Part::Foreground],
-        "packages 2, stanzas 4194304, skipped 0, duplicates 4194302\nforeground 1\n",
-    )
 }

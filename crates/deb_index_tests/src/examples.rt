@@ -1,8 +1,8 @@
 //! Worked examples: what is counted, essential names, constraints, and fields in the order of the list.
 
-use crate::showing::{Part, expect_shown, shown};
+use crate::reading::Texts;
+use crate::showing::{Case, Part, expect_each};
 use crate::texts::SPELLED;
-use std::test::Fail;
 
 const ESSENTIALS: &[u8] = b"Package: x
 Version: 1
@@ -45,12 +45,11 @@ Architecture: all
 Conflicts: base
 ";
 
-#[test]
-fn duplicates_and_skipped(rt: HostRuntime) -> Result<(), Fail> {
-    expect_shown(
-        &rt,
-        SPELLED,
-        &[
+static CASES: [Case; 8] = [
+    Case {
+        name: "duplicates and skipped stanzas",
+        texts: Texts::One(SPELLED, true),
+        parts: &[
             Part::Counts,
             Part::Architecture,
             Part::Packages,
@@ -58,7 +57,7 @@ fn duplicates_and_skipped(rt: HostRuntime) -> Result<(), Fail> {
             Part::Name("a"),
             Part::Name("A"),
         ],
-        "packages 2, stanzas 4, skipped 1, duplicates 1
+        wanted: "packages 2, stanzas 4, skipped 1, duplicates 1
 architecture amd64
 0: a 1.0 amd64, name 0, versions [0, 1], marked false
 1: a 1.00 amd64, name 0, versions [0, 1], marked false
@@ -66,59 +65,58 @@ name 0: a, places [0, 1]
 a: number Some(0), places [0, 1], provided []
 A: number None, places [], provided []
 ",
-    )
-}
-
-#[test]
-fn essential_names(rt: HostRuntime) -> Result<(), Fail> {
-    for (essential, wanted) in [
-        (
-            true,
-            "essential [1]\nbase: number Some(1), places [1, 2], provided []\n",
-        ),
-        (
-            false,
-            "essential []\nbase: number Some(1), places [1, 2], provided []\n",
-        ),
-    ] {
-        let parts = [Part::EssentialNames, Part::Name("base")];
-        let found = shown(rt.alloc(), ESSENTIALS, essential, &parts)?;
-        assert_eq!(rt; found.as_str(), wanted);
-    }
-    Ok(())
-}
-
-#[test]
-fn constraints(rt: HostRuntime) -> Result<(), Fail> {
-    let cases: [(&[u8], bool, &str); 4] = [
-        (LACKING, true, "[Need(0, 0), Need(0, 1), Only(0)]\n"),
-        (
-            BASE,
-            true,
-            "[Essential(0), Apart(1, 0), Only(0), Only(1)]\n",
-        ),
-        (BASE, false, "[Apart(1, 0), Only(0), Only(1)]\n"),
-        (b"", true, "[]\n"),
-    ];
-    for (text, essential, wanted) in cases {
-        let found = shown(rt.alloc(), text, essential, &[Part::Constraints])?;
-        assert_eq!(rt; found.as_str(), wanted);
-    }
-    Ok(())
-}
-
-#[test]
-fn fields_in_order(rt: HostRuntime) -> Result<(), Fail> {
-    expect_shown(
-        &rt,
-        MIXED,
-        &[Part::Groups],
-        "Pre-Depends 2, Depends 1, Conflicts 1, Breaks 1
+    },
+    Case {
+        name: "essential names that count",
+        texts: Texts::One(ESSENTIALS, true),
+        parts: &[Part::EssentialNames, Part::Name("base")],
+        wanted: "essential [1]\nbase: number Some(1), places [1, 2], provided []\n",
+    },
+    Case {
+        name: "essential names that do not count",
+        texts: Texts::One(ESSENTIALS, false),
+        parts: &[Part::EssentialNames, Part::Name("base")],
+        wanted: "essential []\nbase: number Some(1), places [1, 2], provided []\n",
+    },
+    Case {
+        name: "constraints of what is lacking",
+        texts: Texts::One(LACKING, true),
+        parts: &[Part::Constraints],
+        wanted: "[Need(0, 0), Need(0, 1), Only(0)]\n",
+    },
+    Case {
+        name: "constraints with an essential name",
+        texts: Texts::One(BASE, true),
+        parts: &[Part::Constraints],
+        wanted: "[Essential(0), Apart(1, 0), Only(0), Only(1)]\n",
+    },
+    Case {
+        name: "constraints without the essential name",
+        texts: Texts::One(BASE, false),
+        parts: &[Part::Constraints],
+        wanted: "[Apart(1, 0), Only(0), Only(1)]\n",
+    },
+    Case {
+        name: "constraints of no package",
+        texts: Texts::One(b"", true),
+        parts: &[Part::Constraints],
+        wanted: "[]\n",
+    },
+    Case {
+        name: "fields in the order of the list",
+        texts: Texts::One(MIXED, true),
+        parts: &[Part::Groups],
+        wanted: "Pre-Depends 2, Depends 1, Conflicts 1, Breaks 1
 need 0 0: e1
 need 0 1: e2
 need 0 2: d1 d2
 apart 0 0: c1
 apart 0 1: b1
 ",
-    )
+    },
+];
+
+#[test]
+fn worked_examples(rt: HostRuntime) {
+    expect_each(&rt, &CASES);
 }

@@ -2,52 +2,76 @@
 
 use crate::backgrounds::{NEEDED, NEEDING, USED, USED_SHOWN};
 use crate::needs::MARKED;
-use crate::reading::read;
+use crate::reading::{Texts, read};
 use crate::rows::{SHARED, providers};
-use crate::showing::{Part, expect_shown, expect_shown_both, shown_in_pieces, shown_on};
+use crate::showing::{Part, expect_text, shown};
 use crate::texts::VERSIONED;
 use deb_index::{Constraint, Index};
-use deb_relation::{Atom, parse_list};
+use deb_relation::parse_list;
 use std::alloc::{AllocError, Global};
 use std::process::Abort;
 use std::test::Fail;
+use std::thread::Threads;
 
-#[test]
-fn of_read(rt: HostRuntime) -> Result<(), Fail> {
-    expect_shown(
-        &rt,
-        VERSIONED,
-        &[Part::Counts, Part::Packages, Part::Name("bar")],
-        "packages 3, stanzas 3, skipped 0, duplicates 0
+static READ: [Part; 3] = [Part::Counts, Part::Packages, Part::Name("bar")];
+
+const READ_SHOWN: &str = "packages 3, stanzas 3, skipped 0, duplicates 0
 0: foo 1 all, name 0, versions [0], marked false
 1: bar 0.9 all, name 1, versions [1], marked false
 2: bar-plus 1 all, name 2, versions [2], marked false
 bar: number Some(1), places [1], provided [(2, 0)]
-",
-    )
+";
+
+fn expect_read(
+    rt: &(impl Abort + Threads + Sync + AllocGlobal),
+    texts: Texts,
+    parts: &[Part],
+    wanted: &str,
+) -> Result<(), Fail> {
+    let found = shown(rt, texts, parts)?;
+    expect_text(rt, "what was read", found.as_str(), wanted);
+    Ok(())
+}
+
+#[test]
+fn of_read(rt: HostRuntime) -> Result<(), Fail> {
+    expect_read(&rt, Texts::One(VERSIONED, true), &READ, READ_SHOWN)
 }
 
 #[test]
 fn of_read_both(rt: HostRuntime) -> Result<(), Fail> {
-    expect_shown_both(&rt, NEEDING, NEEDED, &USED, USED_SHOWN)
+    let texts = Texts::Both(NEEDING, NEEDED, true);
+    expect_read(&rt, texts, &USED, USED_SHOWN)
 }
 
 /// A thread that can't be started for want of memory is no fault: its part is read by the caller.
 #[test]
 fn of_read_both_on(rt: HostRuntime) -> Result<(), Fail> {
-    let found = shown_on(&rt, NEEDING, NEEDED, 2, &USED)?;
-    assert_eq!(rt; found.as_str(), USED_SHOWN);
-    Ok(())
+    let texts = Texts::Parted(NEEDING, NEEDED, 2);
+    expect_read(&rt, texts, &USED, USED_SHOWN)
 }
 
 #[test]
 fn of_read_in_pieces(rt: HostRuntime) -> Result<(), Fail> {
-    let found = shown_in_pieces(&rt, &[b"\n\n", NEEDING], NEEDED, 2, &USED)?;
-    assert_eq!(rt; found.as_str(), USED_SHOWN);
+    let texts = Texts::Pieces(&[b"\n\n", NEEDING], NEEDED, 2);
+    expect_read(&rt, texts, &USED, USED_SHOWN)
+}
+
+/// How a test ends that went on behind a call that was refused memory.
+fn ended(refused: bool) -> Result<(), Fail> {
+    if refused {
+        return Err(Fail::new("out of memory"));
+    }
     Ok(())
 }
 
-fn met(alloc: Global, index: &Index, atom: &Atom, as_need: bool) -> Result<Vec<u32>, AllocError> {
+fn met(alloc: Global, index: &Index, text: &[u8], as_need: bool) -> Result<Vec<u32>, AllocError> {
+    let Ok(atoms) = parse_list(alloc, text) else {
+        return Err(AllocError);
+    };
+    let [atom] = atoms.as_slice() else {
+        return Ok(Vec::new(alloc));
+    };
     if as_need {
         index.need_satisfiers(alloc, atom)
     } else {
@@ -55,104 +79,77 @@ fn met(alloc: Global, index: &Index, atom: &Atom, as_need: bool) -> Result<Vec<u
     }
 }
 
-/// The call that was refused memory may be made again.
-fn expect_met(
+/// These places meet an atom. The call that was refused memory may be made again; whether it was.
+fn was_refused(
     rt: &(impl Abort + AllocGlobal),
     index: &Index,
-    atom: &Atom,
+    atom: &[u8],
     as_need: bool,
     places: &[u32],
-) -> Result<(), Fail> {
+) -> bool {
     let (found, refused) = match met(rt.alloc(), index, atom, as_need) {
         Ok(found) => (found, false),
-        Err(AllocError) => (met(rt.alloc(), index, atom, as_need)?, true),
+        Err(AllocError) => (
+            met(rt.alloc(), index, atom, as_need).expect(rt, "no memory"),
+            true,
+        ),
     };
     assert!(rt; found.as_slice() == places);
-    if refused {
-        return Err(Fail::new("out of memory"));
-    }
-    Ok(())
-}
-
-fn expect_bounded(rt: &(impl Abort + AllocGlobal), index: &Index) -> Result<(), Fail> {
-    let atoms = parse_list(rt.alloc(), b"bar (>= 1.0), bar")?;
-    assert!(rt; atoms.len() == 2);
-    expect_met(rt, index, &atoms[0], false, &[2])?;
-    expect_met(rt, index, &atoms[1], false, &[1, 2])?;
-    assert!(rt; index.len() == 3);
-    assert!(rt; !index.meets(1, &atoms[0]));
-    Ok(())
+    refused
 }
 
 #[test]
 fn of_satisfiers(rt: HostRuntime) -> Result<(), Fail> {
-    let index = read(rt.alloc(), VERSIONED, true)?;
-    let outcome = expect_bounded(&rt, &index);
+    let index = read(&rt, Texts::One(VERSIONED, true))?;
+    let bounded = was_refused(&rt, &index, b"bar (>= 1.0)", false, &[2]);
+    let refused = was_refused(&rt, &index, b"bar", false, &[1, 2]);
     drop(index);
-    outcome
-}
-
-fn expect_needed(rt: &(impl Abort + AllocGlobal), index: &Index) -> Result<(), Fail> {
-    let atoms = parse_list(rt.alloc(), b"python3:any")?;
-    assert!(rt; atoms.len() == 1);
-    expect_met(rt, index, &atoms[0], true, &[2])
+    ended(bounded || refused)
 }
 
 #[test]
 fn of_need_satisfiers(rt: HostRuntime) -> Result<(), Fail> {
-    let index = read(rt.alloc(), MARKED, true)?;
-    let outcome = expect_needed(&rt, &index);
+    let index = read(&rt, Texts::One(MARKED, true))?;
+    let refused = was_refused(&rt, &index, b"python3:any", true, &[2]);
     drop(index);
-    outcome
+    ended(refused)
 }
 
-fn expect_answers(rt: &(impl Abort + AllocGlobal), index: &Index) -> Result<(), Fail> {
+/// The list that was lent to a call that was refused memory may be lent again; whether it was.
+fn was_refused_answers(rt: &(impl Abort + AllocGlobal), index: &Index) -> bool {
     assert!(rt; index.len() == 263);
     assert!(rt; index.need_count(0) == 5);
     let mut found = Vec::new(rt.alloc());
-    match index.answers(0, 0, &mut found) {
-        Ok(answers) => {
-            assert!(rt; answers.len() == 262);
-            Ok(())
-        }
-        Err(AllocError) => {
-            let again = index.answers(0, 0, &mut found)?;
-            assert!(rt; again.len() == 262);
-            Err(Fail::new("out of memory"))
-        }
-    }
+    let refused = index.answers(0, 0, &mut found).is_err();
+    let answers = index.answers(0, 0, &mut found).expect(rt, "no memory");
+    assert!(rt; answers.len() == 262);
+    refused
 }
 
 #[test]
 fn of_answers(rt: HostRuntime) -> Result<(), Fail> {
-    let text = providers(rt.alloc(), SHARED, 262)?;
-    let index = read(rt.alloc(), &text, true)?;
-    let outcome = expect_answers(&rt, &index);
+    let text = providers(rt.alloc(), SHARED, 262, false)?;
+    let index = read(&rt, Texts::One(text.as_bytes(), true))?;
+    let refused = was_refused_answers(&rt, &index);
     drop(index);
-    outcome
+    ended(refused)
 }
 
-fn expect_constraints(rt: &(impl Abort + AllocGlobal), index: &Index) -> Result<(), Fail> {
+fn was_refused_constraints(rt: &(impl Abort + AllocGlobal), index: &Index) -> bool {
     use Constraint::{Need, Only};
-    let wanted = [Need(0, 0), Need(0, 1), Only(0)];
-    match index.constraints(rt.alloc()) {
-        Ok(found) => {
-            assert!(rt; found.as_slice() == wanted.as_slice());
-            Ok(())
-        }
-        Err(AllocError) => {
-            let again = index.constraints(rt.alloc())?;
-            assert!(rt; again.as_slice() == wanted.as_slice());
-            Err(Fail::new("out of memory"))
-        }
-    }
+    let (found, refused) = match index.constraints(rt.alloc()) {
+        Ok(found) => (found, false),
+        Err(AllocError) => (index.constraints(rt.alloc()).expect(rt, "no memory"), true),
+    };
+    assert!(rt; found.as_slice() == [Need(0, 0), Need(0, 1), Only(0)].as_slice());
+    refused
 }
 
 #[test]
 fn of_constraints(rt: HostRuntime) -> Result<(), Fail> {
     let lacking = b"Package: a\nVersion: 1\nArchitecture: all\nDepends: x, y\n";
-    let index = read(rt.alloc(), lacking, true)?;
-    let outcome = expect_constraints(&rt, &index);
+    let index = read(&rt, Texts::One(lacking, true))?;
+    let refused = was_refused_constraints(&rt, &index);
     drop(index);
-    outcome
+    ended(refused)
 }

@@ -1,7 +1,7 @@
 //! Alternatives with the qualifier `any`, and the mark that they ask for.
 
-use crate::showing::{Part, expect_shown};
-use std::test::Fail;
+use crate::reading::Texts;
+use crate::showing::{Case, Part, expect_each};
 
 const UNMARKED: &[u8] = b"Package: a
 Version: 1
@@ -68,18 +68,83 @@ Conflicts: v:any
 
 const INTERPRETERS: &[&str] = &["python3:any", "python3", "python3:amd64", "n:i386"];
 
-#[test]
-fn an_interpreter_of_any_architecture(rt: HostRuntime) -> Result<(), Fail> {
-    let parts = [
-        Part::Counts,
-        Part::Satisfiers(INTERPRETERS),
-        Part::NeedSatisfiers(INTERPRETERS),
-    ];
-    expect_shown(
-        &rt,
-        UNMARKED,
-        &parts,
-        "packages 4, stanzas 4, skipped 0, duplicates 0
+const INTERPRETER_PARTS: &[Part] = &[
+    Part::Counts,
+    Part::Satisfiers(INTERPRETERS),
+    Part::NeedSatisfiers(INTERPRETERS),
+];
+
+const PROVIDERS: &[&str] = &["v:any", "v", "v:amd64"];
+
+/// A package for each value of the mark.
+const VALUES: &[u8] = b"Multi-Arch: allowed
+Package: a
+Version: 1
+Architecture: all
+
+Multi-Arch: allowed\x20
+Package: b
+Version: 1
+Architecture: all
+
+MULTI-ARCH:\tallowed
+Package: c
+Version: 1
+Architecture: all
+
+Multi-Arch:
+ allowed
+Package: d
+Version: 1
+Architecture: all
+
+Multi-Arch: same
+Package: e
+Version: 1
+Architecture: all
+
+Multi-Arch: foreign
+Package: f
+Version: 1
+Architecture: all
+
+Multi-Arch: Allowed
+Package: g
+Version: 1
+Architecture: all
+
+Multi-Arch: allowed, foreign
+Package: h
+Version: 1
+Architecture: all
+
+Multi-Arch: no
+Package: i
+Version: 1
+Architecture: all
+
+Multi-Arch:
+Package: j
+Version: 1
+Architecture: all
+
+Multi-Arch:\x20
+Package: k
+Version: 1
+Architecture: all
+
+MultiArch: allowed
+Package: l
+Version: 1
+Architecture: all
+";
+
+static CASES: [Case; 4] = [
+    Case {
+        name: "an interpreter without the mark",
+        texts: Texts::One(UNMARKED, true),
+        parts: INTERPRETER_PARTS,
+        wanted: "packages 4, stanzas 4, skipped 0, duplicates 0
 python3:any: [2]
 python3: [2]
 python3:amd64: [2]
@@ -89,12 +154,12 @@ python3 in a group: [2]
 python3:amd64 in a group: [2]
 n:i386 in a group: []
 ",
-    )?;
-    expect_shown(
-        &rt,
-        MARKED,
-        &parts,
-        "packages 4, stanzas 4, skipped 0, duplicates 0
+    },
+    Case {
+        name: "an interpreter of any architecture",
+        texts: Texts::One(MARKED, true),
+        parts: INTERPRETER_PARTS,
+        wanted: "packages 4, stanzas 4, skipped 0, duplicates 0
 python3:any: [2]
 python3: [2]
 python3:amd64: [2]
@@ -104,24 +169,18 @@ python3 in a group: [2]
 python3:amd64 in a group: [2]
 n:i386 in a group: []
 ",
-    )
-}
-
-const PROVIDERS: &[&str] = &["v:any", "v", "v:amd64"];
-
-#[test]
-fn providers_with_and_without_the_mark(rt: HostRuntime) -> Result<(), Fail> {
-    expect_shown(
-        &rt,
-        PROVIDED,
-        &[
+    },
+    Case {
+        name: "providers with and without the mark",
+        texts: Texts::One(PROVIDED, true),
+        parts: &[
             Part::Counts,
             Part::Satisfiers(PROVIDERS),
             Part::NeedSatisfiers(PROVIDERS),
             Part::AnswerRows,
             Part::HitRows,
         ],
-        "packages 4, stanzas 4, skipped 0, duplicates 0
+        wanted: "packages 4, stanzas 4, skipped 0, duplicates 0
 v:any: [1, 2]
 v: [1, 2]
 v:amd64: [1, 2]
@@ -132,33 +191,28 @@ need 0 0: [1]
 need 3 0: [2]
 apart 3 0: [1, 2]
 ",
-    )
-}
+    },
+    Case {
+        name: "values of the mark",
+        texts: Texts::One(VALUES, true),
+        parts: &[Part::Packages],
+        wanted: "0: a 1 all, name 0, versions [0], marked true
+1: b 1 all, name 1, versions [1], marked true
+2: c 1 all, name 2, versions [2], marked true
+3: d 1 all, name 3, versions [3], marked true
+4: e 1 all, name 4, versions [4], marked false
+5: f 1 all, name 5, versions [5], marked false
+6: g 1 all, name 6, versions [6], marked false
+7: h 1 all, name 7, versions [7], marked false
+8: i 1 all, name 8, versions [8], marked false
+9: j 1 all, name 9, versions [9], marked false
+10: k 1 all, name 10, versions [10], marked false
+11: l 1 all, name 11, versions [11], marked false
+",
+    },
+];
 
 #[test]
-fn values_of_the_mark(rt: HostRuntime) -> Result<(), Fail> {
-    for (field, allowed) in [
-        (b"Multi-Arch: allowed".as_slice(), true),
-        (b"Multi-Arch: allowed ", true),
-        (b"MULTI-ARCH:\tallowed", true),
-        (b"Multi-Arch:\n allowed", true),
-        (b"Multi-Arch: same", false),
-        (b"Multi-Arch: foreign", false),
-        (b"Multi-Arch: Allowed", false),
-        (b"Multi-Arch: allowed, foreign", false),
-        (b"Multi-Arch: no", false),
-        (b"Multi-Arch:", false),
-        (b"Multi-Arch: ", false),
-        (b"MultiArch: allowed", false),
-    ] {
-        let wanted = if allowed {
-            "0: v 1 all, name 0, versions [0], marked true\n"
-        } else {
-            "0: v 1 all, name 0, versions [0], marked false\n"
-        };
-        let mut text = Vec::from_slice(rt.alloc(), field)?;
-        text.extend_from_slice(b"\nPackage: v\nVersion: 1\nArchitecture: all\n")?;
-        expect_shown(&rt, &text, &[Part::Packages], wanted)?;
-    }
-    Ok(())
+fn marks_and_what_asks_for_them(rt: HostRuntime) {
+    expect_each(&rt, &CASES);
 }

@@ -3,11 +3,10 @@
 ghost use Rattle.std.specs.Prelude.{◌≡◌, ◌<◌, ◌^◌, length};
 ghost use Rattle.deb_index.specs.Constraints.{constraints_of};
 
-use crate::reading::read;
+use crate::reading::{Texts, read};
 use crate::showing::{Part, expect_shown};
 use deb_index::{Constraint, Index};
 use std::process::Abort;
-use std::test::Fail;
 
 const SEVERAL: &[u8] = b"Package: a
 Version: 1
@@ -72,40 +71,32 @@ fn expect_positions(rt: &impl Abort, index: &Index, constraints: &[Constraint])
     }
 }
 
-fn expect_listed(rt: &(impl Abort + AllocGlobal), index: &Index) -> Result<(), Fail> {
-    let constraints = index.constraints(rt.alloc())?;
-    assert_eq!(rt; constraints.len(), 14);
-    expect_positions(rt, index, &constraints);
-    Ok(())
-}
-
-#[test]
-fn each_constraint_at_its_position(rt: HostRuntime) -> Result<(), Fail> {
-    expect_shown(
-        &rt,
-        SEVERAL,
-        &[Part::Constraints],
-        "[Essential(1), Essential(3), Need(0, 0), Need(0, 1), Need(0, 2), Apart(0, 0), Apart(2, 0), Apart(2, 1), Apart(2, 2), \
+const SEVERAL_SHOWN: &str =
+    "[Essential(1), Essential(3), Need(0, 0), Need(0, 1), Need(0, 2), Apart(0, 0), Apart(2, 0), Apart(2, 1), Apart(2, 2), \
 Need(3, 0), Only(0), Only(1), Only(2), Only(3)]
-",
-    )?;
-    let index = read(rt.alloc(), SEVERAL, true)?;
-    let outcome = expect_listed(&rt, &index);
-    drop(index);
-    outcome
-}
-
-#[test]
-fn names_of_places(rt: HostRuntime) -> Result<(), Fail> {
-    expect_shown(
-        &rt,
-        SEVERAL,
-        &[Part::Packages],
-        "0: a 1 all, name 0, versions [0], marked false
+0: a 1 all, name 0, versions [0], marked false
 1: b 1 all, name 1, versions [1, 3], marked false
 2: c 1 all, name 2, versions [2], marked false
 3: b 2 all, name 1, versions [1, 3], marked false
 4: d 1 all, name 3, versions [4], marked false
-",
-    )
+";
+
+fn expect_listed(rt: &(impl Abort + AllocGlobal), index: &Index) {
+    let constraints = index.constraints(rt.alloc()).expect(rt, "no memory");
+    assert!(rt; constraints.len() == 14);
+    expect_positions(rt, index, &constraints);
+}
+
+#[test]
+fn each_constraint_at_its_position(rt: HostRuntime) {
+    let texts = Texts::One(SEVERAL, true);
+    expect_shown(
+        &rt,
+        "constraints and packages",
+        texts,
+        &[Part::Constraints, Part::Packages],
+        SEVERAL_SHOWN,
+    );
+    let index = read(&rt, texts).expect(&rt, "a good text");
+    expect_listed(&rt, &index);
 }

@@ -1,8 +1,8 @@
 //! The packages that meet an atom, by the tables and by each package asked in turn.
 
-use crate::showing::{Part, expect_shown};
+use crate::reading::Texts;
+use crate::showing::{Case, Part, expect_each};
 use crate::texts::{TWICE, VERSIONED};
-use std::test::Fail;
 
 const UNVERSIONED: &[u8] = b"Package: foo
 Version: 1
@@ -48,100 +48,6 @@ Architecture: all
 Provides: v
 ";
 
-#[test]
-fn versioned_provides(rt: HostRuntime) -> Result<(), Fail> {
-    expect_shown(
-        &rt,
-        VERSIONED,
-        &[Part::Satisfiers(&["bar (>= 1.0)", "bar", "bar (<< 1.0)", "Bar"])],
-        "bar (>= 1.0): [2]
-bar: [1, 2]
-bar (<< 1.0): [1]
-Bar: []
-",
-    )?;
-    expect_shown(
-        &rt,
-        UNVERSIONED,
-        &[Part::Satisfiers(&["bar (>= 1.0)", "bar"])],
-        "bar (>= 1.0): []\nbar: [1, 2]\n",
-    )
-}
-
-#[test]
-fn several_provides(rt: HostRuntime) -> Result<(), Fail> {
-    expect_shown(
-        &rt,
-        TWICE,
-        &[
-            Part::Name("v"),
-            Part::Name("w"),
-            Part::Satisfiers(&[
-                "v",
-                "v:any",
-                "v:amd64 (>> 2)",
-                "v (= 1)",
-                "v (= 2)",
-                "v (= 6)",
-                "v:all",
-                "v:i386",
-                "x",
-                "V",
-            ]),
-        ],
-        "v: number Some(0), places [0, 2], provided [(0, 0), (0, 1), (1, 1), (1, 2)]
-w: number Some(1), places [1], provided []
-v: [0, 1, 2]
-v:any: [0, 1, 2]
-v:amd64 (>> 2): [1, 2]
-v (= 1): [0]
-v (= 2): [0]
-v (= 6): []
-v:all: []
-v:i386: []
-x: [1]
-V: []
-",
-    )
-}
-
-#[test]
-fn provided_twice(rt: HostRuntime) -> Result<(), Fail> {
-    expect_shown(
-        &rt,
-        PROVIDED,
-        &[
-            Part::Name("v"),
-            Part::Name("w"),
-            Part::Satisfiers(&["v", "v (= 1)", "v (= 2)", "v (= 3)", "v:i386"]),
-        ],
-        "v: number Some(0), places [0], provided [(0, 0), (0, 1), (1, 0)]
-w: number Some(1), places [1], provided []
-v: [0, 1]
-v (= 1): [0]
-v (= 2): [0]
-v (= 3): []
-v:i386: []
-",
-    )
-}
-
-#[test]
-fn mail_agents(rt: HostRuntime) -> Result<(), Fail> {
-    expect_shown(
-        &rt,
-        MAIL_AGENTS,
-        &[
-            Part::Name("mail-agent"),
-            Part::Satisfiers(&["mail-agent", "mail-agent (= 1)"]),
-        ],
-        "mail-agent: number None, places [], provided [(0, 0), (1, 0)]
-mail-agent: [0, 1]
-mail-agent (= 1): []
-",
-    )
-}
-
 // One package provides each of these names, some twice, some without a version, and some for another architecture.
 const MANY_NAMES: &[u8] = b"Package: p
 Version: 5
@@ -177,18 +83,95 @@ const NAMES: &[&str] = &[
     "n3:i386",
 ];
 
-#[test]
-fn many_names_of_one_package(rt: HostRuntime) -> Result<(), Fail> {
-    expect_shown(
-        &rt,
-        MANY_NAMES,
-        &[
+static CASES: [Case; 6] = [
+    Case {
+        name: "a version that is provided",
+        texts: Texts::One(VERSIONED, true),
+        parts: &[Part::Satisfiers(&["bar (>= 1.0)", "bar", "bar (<< 1.0)", "Bar"])],
+        wanted: "bar (>= 1.0): [2]
+bar: [1, 2]
+bar (<< 1.0): [1]
+Bar: []
+",
+    },
+    Case {
+        name: "no version is provided",
+        texts: Texts::One(UNVERSIONED, true),
+        parts: &[Part::Satisfiers(&["bar (>= 1.0)", "bar"])],
+        wanted: "bar (>= 1.0): []\nbar: [1, 2]\n",
+    },
+    Case {
+        name: "several provides",
+        texts: Texts::One(TWICE, true),
+        parts: &[
+            Part::Name("v"),
+            Part::Name("w"),
+            Part::Satisfiers(&[
+                "v",
+                "v:any",
+                "v:amd64 (>> 2)",
+                "v (= 1)",
+                "v (= 2)",
+                "v (= 6)",
+                "v:all",
+                "v:i386",
+                "x",
+                "V",
+            ]),
+        ],
+        wanted: "v: number Some(0), places [0, 2], provided [(0, 0), (0, 1), (1, 1), (1, 2)]
+w: number Some(1), places [1], provided []
+v: [0, 1, 2]
+v:any: [0, 1, 2]
+v:amd64 (>> 2): [1, 2]
+v (= 1): [0]
+v (= 2): [0]
+v (= 6): []
+v:all: []
+v:i386: []
+x: [1]
+V: []
+",
+    },
+    Case {
+        name: "a name that is provided twice",
+        texts: Texts::One(PROVIDED, true),
+        parts: &[
+            Part::Name("v"),
+            Part::Name("w"),
+            Part::Satisfiers(&["v", "v (= 1)", "v (= 2)", "v (= 3)", "v:i386"]),
+        ],
+        wanted: "v: number Some(0), places [0], provided [(0, 0), (0, 1), (1, 0)]
+w: number Some(1), places [1], provided []
+v: [0, 1]
+v (= 1): [0]
+v (= 2): [0]
+v (= 3): []
+v:i386: []
+",
+    },
+    Case {
+        name: "mail agents",
+        texts: Texts::One(MAIL_AGENTS, true),
+        parts: &[
+            Part::Name("mail-agent"),
+            Part::Satisfiers(&["mail-agent", "mail-agent (= 1)"]),
+        ],
+        wanted: "mail-agent: number None, places [], provided [(0, 0), (1, 0)]
+mail-agent: [0, 1]
+mail-agent (= 1): []
+",
+    },
+    Case {
+        name: "many names of one package",
+        texts: Texts::One(MANY_NAMES, true),
+        parts: &[
             Part::Name("n1"),
             Part::Satisfiers(NAMES),
             Part::AnswerRows,
             Part::HitRows,
         ],
-        "n1: number Some(1), places [1], provided [(0, 0), (0, 3)]
+        wanted: "n1: number Some(1), places [1], provided [(0, 0), (0, 3)]
 n1 (= 1): [0]
 n1 (= 2): [0]
 n1 (= 3): [1]
@@ -225,5 +208,10 @@ need 0 14: []
 apart 0 0: [0, 1]
 apart 0 1: []
 ",
-    )
+    },
+];
+
+#[test]
+fn satisfiers(rt: HostRuntime) {
+    expect_each(&rt, &CASES);
 }

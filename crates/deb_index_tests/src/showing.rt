@@ -1,14 +1,15 @@
 //! What is to be seen of an index, printed, so that a test compares one text.
 
 ghost use Rattle.std.specs.Prelude.{◌<◌, length};
+ghost use Rattle.deb_index.specs.Packages.{aparts_at, needs_at};
 
-use crate::reading::{read, read_both, read_in_pieces, read_on};
-use deb_index::{Index, Package};
+use crate::reading::{Texts, read};
+use deb_index::{BothError, Index, Package};
 use deb_relation::{Atom, parse_list};
 use std::alloc::{AllocError, Global};
 use std::process::Abort;
+use std::slice::from_ref;
 use std::str::from_utf8;
-use std::test::Fail;
 use std::thread::Threads;
 
 /// A part of what is to be seen of an index.
@@ -18,6 +19,8 @@ pub enum Part {
     Counts,
     /// How many packages are the foreground's.
     Foreground,
+    /// How many packages there are, as those of a foreground.
+    All,
     Architecture,
     /// Each package, with its own architecture, the number of its name, the places of its versions, and its mark.
     Packages,
@@ -122,11 +125,15 @@ fn append_atom_names(out: &mut String, atoms: &[Atom]) -> Result<(), AllocError>
     out.push('\n')
 }
 
+fn append_label(out: &mut String, label: &str, place: u32, number: u32) -> Result<(), AllocError> {
+    write!(out, "{label} {place} {number}:")
+}
+
 fn append_need_names(out: &mut String, index: &Index, place: u32) -> Result<(), AllocError>
     requires { place < length index.now.packages }
 {
     for number in 0..index.need_count(place) {
-        write!(out, "need {place} {number}:")?;
+        append_label(out, "need", place, number)?;
         append_atom_names(out, index.need(place, number))?;
     }
     Ok(())
@@ -136,8 +143,8 @@ fn append_apart_names(out: &mut String, index: &Index, place: u32) -> Result<(),
     requires { place < length index.now.packages }
 {
     for number in 0..index.apart_count(place) {
-        let name = text_of(index.apart(place, number).name.as_slice());
-        write!(out, "apart {place} {number}: {name}\n")?;
+        append_label(out, "apart", place, number)?;
+        append_atom_names(out, from_ref(index.apart(place, number)))?;
     }
     Ok(())
 }
@@ -197,64 +204,128 @@ fn append_row(
     }
 }
 
+fn append_answer_row(
+    out: &mut String,
+    index: &Index,
+    place: u32,
+    number: u32,
+    whole: bool,
+) -> Result<(), AllocError>
+    requires place { place < length index.now.packages }
+    requires number { number < length (needs_at index.now place) }
+{
+    append_label(out, "need", place, number)?;
+    let asked = met_in_turn(*out.allocator(), index, index.need(place, number), true)?;
+    append_row(out, index.answer_row(place, number), whole, &asked)
+}
+
 fn append_answer_rows(out: &mut String, index: &Index, whole: bool) -> Result<(), AllocError> {
     for place in 0..index.len() {
         for number in 0..index.need_count(place) {
-            write!(out, "need {place} {number}:")?;
-            let asked = met_in_turn(*out.allocator(), index, index.need(place, number), true)?;
-            append_row(out, index.answer_row(place, number), whole, &asked)?;
+            append_answer_row(out, index, place, number, whole)?;
         }
     }
     Ok(())
 }
 
+fn append_hit_row(
+    out: &mut String,
+    index: &Index,
+    place: u32,
+    number: u32,
+    whole: bool,
+) -> Result<(), AllocError>
+    requires place { place < length index.now.packages }
+    requires number { number < length (aparts_at index.now place) }
+{
+    append_label(out, "apart", place, number)?;
+    let found = index.satisfiers(*out.allocator(), index.apart(place, number))?;
+    append_row(out, index.hit_row(place, number), whole, &found)
+}
+
 fn append_hit_rows(out: &mut String, index: &Index, whole: bool) -> Result<(), AllocError> {
     for place in 0..index.len() {
         for number in 0..index.apart_count(place) {
-            write!(out, "apart {place} {number}:")?;
-            let found = index.satisfiers(*out.allocator(), index.apart(place, number))?;
-            append_row(out, index.hit_row(place, number), whole, &found)?;
+            append_hit_row(out, index, place, number, whole)?;
+        }
+    }
+    Ok(())
+}
+
+fn append_answer(
+    out: &mut String,
+    index: &Index,
+    place: u32,
+    number: u32,
+    whole: bool,
+    lent: &mut Vec<u32>,
+) -> Result<(), AllocError>
+    requires place { place < length index.now.packages }
+    requires number { number < length (needs_at index.now place) }
+{
+    append_label(out, "answers", place, number)?;
+    let answers = index.answers(place, number, lent)?;
+    let asked = met_in_turn(*out.allocator(), index, index.need(place, number), true)?;
+    append_row(out, Some(answers), whole, &asked)
+}
+
+fn append_answers_by(
+    out: &mut String,
+    index: &Index,
+    whole: bool,
+    lent: &mut Vec<u32>,
+) -> Result<(), AllocError> {
+    for place in 0..index.len() {
+        for number in 0..index.need_count(place) {
+            append_answer(out, index, place, number, whole, lent)?;
         }
     }
     Ok(())
 }
 
 fn append_answers(out: &mut String, index: &Index, whole: bool) -> Result<(), AllocError> {
+    let mut lent = Vec::from_slice(*out.allocator(), &[9, 8])?;
+    append_answers_by(out, index, whole, &mut lent)
+}
+
+fn append_met_atom(
+    out: &mut String,
+    index: &Index,
+    atom: &Atom,
+    as_need: bool,
+) -> Result<(), AllocError> {
     let alloc = *out.allocator();
-    let mut lent = Vec::from_slice(alloc, &[9, 8])?;
-    for place in 0..index.len() {
-        for number in 0..index.need_count(place) {
-            write!(out, "answers {place} {number}:")?;
-            let asked = met_in_turn(alloc, index, index.need(place, number), true)?;
-            let answers = index.answers(place, number, &mut lent)?;
-            append_row(out, Some(answers), whole, &asked)?;
-        }
-    }
-    Ok(())
+    let found = if as_need {
+        index.need_satisfiers(alloc, atom)?
+    } else {
+        index.satisfiers(alloc, atom)?
+    };
+    let asked = met_in_turn(alloc, index, from_ref(atom), as_need)?;
+    append_row(out, Some(&found), true, &asked)
 }
 
 fn append_met(
     out: &mut String,
     index: &Index,
+    text: &str,
+    as_need: bool,
+) -> Result<(), AllocError> {
+    let kind = if as_need { " in a group" } else { "" };
+    write!(out, "{text}{kind}:")?;
+    match parse_list(*out.allocator(), text.as_bytes()) {
+        Ok(list) if list.len() == 1 => append_met_atom(out, index, &list[0], as_need),
+        _ => out.push_str(" no atom\n"),
+    }
+}
+
+fn append_each_met(
+    out: &mut String,
+    index: &Index,
     atoms: &[&'static str],
     as_need: bool,
 ) -> Result<(), AllocError> {
-    let alloc = *out.allocator();
     for text in atoms {
-        let Ok(list) = parse_list(alloc, text.as_bytes()) else {
-            return write!(out, "{text}: no list\n");
-        };
-        for atom in &list {
-            let found = if as_need {
-                index.need_satisfiers(alloc, atom)?
-            } else {
-                index.satisfiers(alloc, atom)?
-            };
-            let kind = if as_need { " in a group" } else { "" };
-            write!(out, "{text}{kind}:")?;
-            let asked = met_in_turn(alloc, index, &list, as_need)?;
-            append_row(out, Some(&found), true, &asked)?;
-        }
+        append_met(out, index, *text, as_need)?;
     }
     Ok(())
 }
@@ -263,6 +334,7 @@ fn append_part(out: &mut String, index: &Index, part: Part) -> Result<(), AllocE
     match part {
         Part::Counts => append_counts(out, index),
         Part::Foreground => write!(out, "foreground {}\n", index.foreground()),
+        Part::All => write!(out, "foreground {}\n", index.len()),
         Part::Architecture => write!(out, "architecture {}\n", text_of(index.arch())),
         Part::Packages => append_packages(out, index),
         Part::Names => append_names(out, index),
@@ -276,8 +348,8 @@ fn append_part(out: &mut String, index: &Index, part: Part) -> Result<(), AllocE
         Part::HitRowEnds => append_hit_rows(out, index, false),
         Part::Answers => append_answers(out, index, true),
         Part::AnswerEnds => append_answers(out, index, false),
-        Part::Satisfiers(atoms) => append_met(out, index, atoms, false),
-        Part::NeedSatisfiers(atoms) => append_met(out, index, atoms, true),
+        Part::Satisfiers(atoms) => append_each_met(out, index, atoms, false),
+        Part::NeedSatisfiers(atoms) => append_each_met(out, index, atoms, true),
     }
 }
 
@@ -289,77 +361,44 @@ fn shown_of(alloc: Global, index: &Index, parts: &[Part]) -> Result<String, Allo
     Ok(out)
 }
 
-/// What is to be seen of a text's index.
-pub fn shown(alloc: Global, text: &[u8], essential: bool, parts: &[Part]) -> Result<String, Fail> {
-    let index = read(alloc, text, essential)?;
-    let out = shown_of(alloc, &index, parts);
-    drop(index);
-    Ok(out?)
-}
-
-/// What is to be seen of the index of a text and a background.
-pub fn shown_both(
-    alloc: Global,
-    text: &[u8],
-    background: &[u8],
-    essential: bool,
-    parts: &[Part],
-) -> Result<String, Fail> {
-    let index = read_both(alloc, text, background, essential)?;
-    let out = shown_of(alloc, &index, parts);
-    drop(index);
-    Ok(out?)
-}
-
-/// What is to be seen of the index of a text and a background that so many workers read, where the essential names count.
-pub fn shown_on(
+/// What is to be seen of the index of texts.
+pub fn shown(
     rt: &(impl Threads + Sync + AllocGlobal),
-    text: &[u8],
-    background: &[u8],
-    workers: u32,
+    texts: Texts,
     parts: &[Part],
-) -> Result<String, Fail> {
-    let index = read_on(rt, text, background, workers)?;
+) -> Result<String, BothError> {
+    let index = read(rt, texts)?;
     let out = shown_of(rt.alloc(), &index, parts);
     drop(index);
     Ok(out?)
 }
 
-/// What is to be seen of the index of a text that comes in pieces, and of a background, where the essential names count.
-pub fn shown_in_pieces(
-    rt: &(impl Threads + Sync + AllocGlobal),
-    pieces: &[&[u8]],
-    background: &[u8],
-    workers: u32,
-    parts: &[Part],
-) -> Result<String, Fail> {
-    let index = read_in_pieces(rt, pieces, background, workers)?;
-    let out = shown_of(rt.alloc(), &index, parts);
-    drop(index);
-    Ok(out?)
+pub fn expect_text(rt: &impl Abort, name: &str, found: &str, wanted: &str) {
+    assert!(rt; found == wanted, "{name}: {found}");
 }
 
-/// The parts of a text's index, where the essential names count, are these.
+/// These parts of what is to be seen of the index of texts are so.
 pub fn expect_shown(
-    rt: &(impl Abort + AllocGlobal),
-    text: &[u8],
+    rt: &(impl Abort + Threads + Sync + AllocGlobal),
+    name: &str,
+    texts: Texts,
     parts: &[Part],
     wanted: &str,
-) -> Result<(), Fail> {
-    let found = shown(rt.alloc(), text, true, parts)?;
-    assert_eq!(rt; found.as_str(), wanted);
-    Ok(())
+) {
+    let found = shown(rt, texts, parts).expect(rt, name);
+    expect_text(rt, name, found.as_str(), wanted);
 }
 
-/// The parts of the index of a text and a background, where the essential names count, are these.
-pub fn expect_shown_both(
-    rt: &(impl Abort + AllocGlobal),
-    text: &[u8],
-    background: &[u8],
-    parts: &[Part],
-    wanted: &str,
-) -> Result<(), Fail> {
-    let found = shown_both(rt.alloc(), text, background, true, parts)?;
-    assert_eq!(rt; found.as_str(), wanted);
-    Ok(())
+/// Texts, parts of what is to be seen of their index, and how these have to be.
+pub struct Case {
+    pub name: &'static str,
+    pub texts: Texts<'static>,
+    pub parts: &'static [Part],
+    pub wanted: &'static str,
+}
+
+pub fn expect_each(rt: &(impl Abort + Threads + Sync + AllocGlobal), cases: &[Case]) {
+    for case in cases {
+        expect_shown(rt, case.name, case.texts, case.parts, case.wanted);
+    }
 }

@@ -1,53 +1,72 @@
 //! Texts that several workers read side by side, each a part of them.
 
 use crate::backgrounds::{NEEDED, NEEDING, USED, USED_SHOWN};
-use crate::faults::REFUSED;
-use crate::reading::read_on;
-use crate::showing::{Part, shown_both, shown_on};
+use crate::reading::Texts;
+use crate::showing::{Part, expect_shown, shown};
 use crate::texts::{SPELLED, TWICE, VERSIONED, copies};
-use deb_index::{BothError, IndexError};
 use std::alloc::{AllocError, Global};
 use std::process::Abort;
-use std::test::Fail;
 use std::thread::Threads;
 
-const WORKERS: [u32; 5] = [0, 1, 2, 3, 64];
+pub static WORKERS: [u32; 5] = [0, 1, 2, 3, 64];
 
 pub const SEEN: [Part; 4] = [Part::Counts, Part::Foreground, Part::Packages, Part::Names];
 
-const ROWS: [Part; 2] = [Part::AnswerRows, Part::HitRows];
+static ROWS: [Part; 2] = [Part::AnswerRows, Part::HitRows];
 
-/// With these numbers of workers the parts are what one call without any sees.
-fn expect_same_parts(
+/// With these numbers of workers the parts are these.
+fn expect_by(
     rt: &(impl Abort + Threads + Sync + AllocGlobal),
     text: &[u8],
     background: &[u8],
     workers: &[u32],
     parts: &[Part],
-) -> Result<(), Fail> {
-    let wanted = shown_both(rt.alloc(), text, background, true, parts)?;
+    wanted: &str,
+) {
     for count in workers {
-        let found = shown_on(rt, text, background, *count, parts)?;
-        assert_eq!(rt; found.as_str(), wanted.as_str());
+        expect_shown(
+            rt,
+            "side by side",
+            Texts::Parted(text, background, *count),
+            parts,
+            wanted,
+        );
     }
-    Ok(())
 }
 
-/// However many workers there are, what is seen is what one call without any sees.
-fn expect_same(
+/// With these numbers of workers the parts are what one call without any sees.
+fn expect_same_by(
     rt: &(impl Abort + Threads + Sync + AllocGlobal),
     text: &[u8],
     background: &[u8],
-) -> Result<(), Fail> {
-    expect_same_parts(rt, text, background, &WORKERS, &SEEN)
+    workers: &[u32],
+    parts: &[Part],
+) {
+    let wanted = shown(rt, Texts::Both(text, background, true), parts).expect(rt, "good texts");
+    expect_by(rt, text, background, workers, parts, wanted.as_str());
 }
 
-fn feeds(alloc: Global, count: usize) -> Result<Vec<u8>, AllocError> {
-    let mut text = Vec::new(alloc);
-    for _ in 0..count {
-        text.push(b'\n')?;
+/// However many workers there are, what is seen is what one call without any sees.
+fn expect_same(rt: &(impl Abort + Threads + Sync + AllocGlobal), text: &[u8], background: &[u8]) {
+    expect_same_by(rt, text, background, &WORKERS, &SEEN);
+}
+
+/// A text with so many line feeds in front of it and so many behind it.
+fn with_feeds(
+    rt: &(impl Abort + AllocGlobal),
+    before: usize,
+    text: &[u8],
+    behind: usize,
+) -> Vec<u8> {
+    let mut out = Vec::new(rt.alloc());
+    for _ in 0..before {
+        out.push(b'\n').expect(rt, "no memory");
     }
-    Ok(text)
+    out.extend_from_slice(text).expect(rt, "no memory");
+    for _ in 0..behind {
+        out.push(b'\n').expect(rt, "no memory");
+    }
+    out
 }
 
 /// The text with so many line feeds in front of it, and with so many behind it.
@@ -55,107 +74,51 @@ fn expect_same_with_feeds(
     rt: &(impl Abort + Threads + Sync + AllocGlobal),
     text: &[u8],
     count: usize,
-) -> Result<(), Fail> {
-    let mut before = feeds(rt.alloc(), count)?;
-    before.extend_from_slice(text)?;
-    expect_same(rt, &before, b"")?;
-    let mut behind = Vec::from_slice(rt.alloc(), text)?;
-    behind.extend_from_slice(&feeds(rt.alloc(), count)?)?;
-    expect_same(rt, &behind, &before)
+) {
+    let before = with_feeds(rt, count, text, 0);
+    expect_same(rt, &before, b"");
+    let behind = with_feeds(rt, 0, text, count);
+    expect_same(rt, &behind, &before);
 }
 
 /// Eight line feeds more move the middle by four bytes, so each empty line is once the first one behind it.
 #[test]
-fn cut_at_each_empty_line(rt: HostRuntime) -> Result<(), Fail> {
+fn cut_at_each_empty_line(rt: HostRuntime) {
     for text in [VERSIONED, SPELLED, TWICE] {
         for eighth in 0..text.len() / 8 + 1 {
-            expect_same_with_feeds(&rt, text, eighth * 8)?;
+            expect_same_with_feeds(&rt, text, eighth * 8);
         }
     }
-    Ok(())
 }
 
+static FEW_LINES: [&[u8]; 6] = [
+    b"",
+    b"\n",
+    b"\n\n\n\n\n\n\n\n",
+    b" \n\t\n\n \n",
+    b"#\n\n#",
+    b"Package: a\nVersion: 1\nArchitecture: all",
+];
+
 #[test]
-fn used_backgrounds(rt: HostRuntime) -> Result<(), Fail> {
-    for workers in WORKERS {
-        let found = shown_on(&rt, NEEDING, NEEDED, workers, &USED)?;
-        assert_eq!(rt; found.as_str(), USED_SHOWN);
+fn texts_of_few_lines(rt: HostRuntime) {
+    for text in &FEW_LINES {
+        expect_same(&rt, *text, b"");
+        expect_same(&rt, b"", *text);
     }
-    Ok(())
 }
 
-#[test]
-fn texts_of_few_lines(rt: HostRuntime) -> Result<(), Fail> {
-    let texts: [&[u8]; 6] = [
-        b"",
-        b"\n",
-        b"\n\n\n\n\n\n\n\n",
-        b" \n\t\n\n \n",
-        b"#\n\n#",
-        b"Package: a\nVersion: 1\nArchitecture: all",
-    ];
-    for text in texts {
-        expect_same(&rt, text, b"")?;
-        expect_same(&rt, b"", text)?;
-    }
-    Ok(())
-}
-
-#[test]
-fn duplicates_in_all_parts(rt: HostRuntime) -> Result<(), Fail> {
-    let text = copies(rt.alloc(), 100)?;
-    for workers in WORKERS {
-        let found = shown_on(&rt, &text, &text, workers, &SEEN)?;
-        assert_eq!(rt;
-            found.as_str(),
-            "packages 1, stanzas 200, skipped 0, duplicates 199
+const DUPLICATES: &str = "packages 1, stanzas 200, skipped 0, duplicates 199
 foreground 1
 0: a 1 all, name 0, versions [0], marked false
 name 0: a, places [0]
-"
-        );
-    }
-    Ok(())
-}
-
-fn expect_fault(rt: &(impl Abort + Threads + Sync + AllocGlobal), text: &[u8], fault: IndexError) {
-    for workers in WORKERS {
-        let fore = read_on(rt, text, b" x", workers).err();
-        assert!(rt; fore == Some(BothError::Fore(fault)));
-        let back = read_on(rt, VERSIONED, text, workers).err();
-        assert!(rt; back == Some(BothError::Back(fault)));
-    }
-}
+";
 
 #[test]
-fn refusals_by_several(rt: HostRuntime) {
-    for (text, fault) in REFUSED {
-        expect_fault(&rt, text, fault);
-    }
-}
-
-const BAD_NAME: &[u8] = b"Package: a!\nVersion: 1\nArchitecture: all\n\n";
-
-/// Stanzas, of which one has a fault, and a later one, too.
-pub fn with_faults(alloc: Global, good: u32) -> Result<Vec<u8>, AllocError> {
-    let mut text = copies(alloc, good)?;
-    text.extend_from_slice(BAD_NAME)?;
-    text.extend_from_slice(&copies(alloc, 7)?)?;
-    text.extend_from_slice(b" x\n\n")?;
-    text.extend_from_slice(&copies(alloc, 7)?)?;
-    Ok(text)
-}
-
-#[test]
-fn the_first_of_two_faults(rt: HostRuntime) -> Result<(), Fail> {
-    for good in 0..20u32 {
-        let text = with_faults(rt.alloc(), good)?;
-        let fault = IndexError::BadName {
-            stanza: u64::from(good) + 1,
-        };
-        expect_fault(&rt, &text, fault);
-    }
-    Ok(())
+fn used_backgrounds_and_duplicates(rt: HostRuntime) {
+    expect_by(&rt, NEEDING, NEEDED, &WORKERS, &USED, USED_SHOWN);
+    let text = copies(&rt, 100);
+    expect_by(&rt, &text, &text, &WORKERS, &SEEN, DUPLICATES);
 }
 
 /// Packages of which some ask for the one as far from the other end of the text, alone and beside itself, for a name that too many
@@ -184,7 +147,7 @@ fn asking_across(alloc: Global, count: u32) -> Result<String, AllocError> {
 
 /// Each of four workers makes the rows of a thousand packages and more.
 #[test]
-fn rows_of_many_packages(rt: HostRuntime) -> Result<(), Fail> {
-    let text = asking_across(rt.alloc(), 4200)?;
-    expect_same_parts(&rt, text.as_bytes(), b"", &[1, 4], &ROWS)
+fn rows_of_many_packages(rt: HostRuntime) {
+    let text = asking_across(rt.alloc(), 4200).expect(&rt, "no memory");
+    expect_same_by(&rt, text.as_bytes(), b"", &[1, 4], &ROWS);
 }

@@ -1,6 +1,6 @@
 //! Texts that several tests read.
 
-use std::alloc::{AllocError, Global};
+use std::process::Abort;
 
 pub const VERSIONED: &[u8] = b"Package: foo
 Version: 1
@@ -52,11 +52,15 @@ Architecture: amd64
 
 pub const COPY: &[u8] = b"Package: a\nVersion: 1\nArchitecture: all\n\n";
 
-/// Copies of one stanza, with an empty line behind each.
-pub fn copies(alloc: Global, count: u32) -> Result<Vec<u8>, AllocError> {
-    let mut text = Vec::new(alloc);
+/// Adds copies of one stanza, with an empty line behind each.
+pub fn add_copies(rt: &impl Abort, text: &mut Vec<u8>, count: u32) {
     for _ in 0..count {
-        text.extend_from_slice(COPY)?;
+        text.extend_from_slice(COPY).expect(rt, "no memory");
     }
-    Ok(text)
+}
+
+pub fn copies(rt: &(impl Abort + AllocGlobal), count: u32) -> Vec<u8> {
+    let mut text = Vec::new(rt.alloc());
+    add_copies(rt, &mut text, count);
+    text
 }

@@ -1,11 +1,9 @@
 //! Tests of the public calls of `deb_relation`.
 //!
-//! `printing` prints groups of atoms. `versions` has versions and bounds, `relations` names, relationship fields and qualifiers, `groups` fields whose
-//! atoms lie in one piece of memory, `texts` texts of any length, `growths` a test for each call that can want memory.
+//! `printing` reads relationship fields and prints them. `versions` has versions and bounds, `relations` names, relationship fields and qualifiers, `texts`
+//! texts of any length. `growths` has a test for each call that can want memory, over all texts that `versions` and `relations` have for it.
 #![tactic(auto)]
 
-#[cfg(test)]
-mod groups;
 #[cfg(test)]
 mod growths;
 #[cfg(test)]

@@ -1,20 +1,17 @@
 //! Texts of any length.
 
 use deb_relation::SmallText;
-use std::alloc::{AllocError, Global};
 use std::process::Abort;
 
-/// Whether a text is kept.
-fn is_kept(alloc: Global, text: &[u8]) -> Result<bool, AllocError> {
-    let copied = SmallText::from_slice(alloc, text)?;
-    Ok(copied.as_slice() == text)
+fn expect_kept(rt: &(impl Abort + AllocGlobal), text: &[u8]) {
+    let copied = SmallText::from_slice(rt.alloc(), text).expect(rt, "no memory");
+    assert!(rt; copied.as_slice() == text);
 }
 
 /// The longest text that lies in the value, and the shortest that does not.
 #[test]
-fn keeps_texts_of_any_length(rt: HostRuntime) -> Result<(), AllocError> {
-    assert!(rt; is_kept(rt.alloc(), b"")?);
-    assert!(rt; is_kept(rt.alloc(), &[b'n'; 30])?);
-    assert!(rt; is_kept(rt.alloc(), &[b'n'; 31])?);
-    Ok(())
+fn keeps_texts_of_any_length(rt: HostRuntime) {
+    expect_kept(&rt, b"");
+    expect_kept(&rt, &[b'n'; 30]);
+    expect_kept(&rt, &[b'n'; 31]);
 }

@@ -4,7 +4,60 @@ use deb_relation::{Op, Version, VersionError, bound_holds};
 use std::alloc::{AllocError, Global};
 use std::cmp::Ordering;
 use std::process::Abort;
-use std::test::Fail;
+
+/// How versions stand to each other; the last ones to themselves.
+static ORDERED: [(&[u8], Ordering, &[u8]); 21] = [
+    (b"1.0", Ordering::Greater, b"1.0~rc1"),
+    (b"1.0~", Ordering::Greater, b"1.0~~"),
+    (b"1.0+", Ordering::Greater, b"1.0a"),
+    (b"1:0", Ordering::Greater, b"99"),
+    (b"1-2-3", Ordering::Greater, b"1-2"),
+    (b"1.a", Ordering::Greater, b"1.Z"),
+    (b"1.10", Ordering::Greater, b"1.9"),
+    (b"1-1", Ordering::Greater, b"1-0+b1"),
+    (
+        b"18446744073709551616",
+        Ordering::Greater,
+        b"18446744073709551615",
+    ),
+    (b"1:0", Ordering::Greater, b"0:18446744073709551616"),
+    (
+        b"1000000000000000000000000000000000000000",
+        Ordering::Greater,
+        b"999999999999999999999999999999999999999",
+    ),
+    (b"1.0", Ordering::Equal, b"1.0-0"),
+    (b"1.0", Ordering::Equal, b"1.00"),
+    (b"1.0", Ordering::Equal, b"0:1.0"),
+    (b"1.a", Ordering::Equal, b"1.a0"),
+    (
+        b"0000000000000000000000000000000000000001",
+        Ordering::Equal,
+        b"1",
+    ),
+    (b"1:2:3", Ordering::Equal, b"1:2:3"),
+    (b"0:1-2-3~x+y", Ordering::Equal, b"0:1-2-3~x+y"),
+    (b"a.b", Ordering::Equal, b"a.b"),
+    (b"-1-2", Ordering::Equal, b"-1-2"),
+    (b"007:1", Ordering::Equal, b"007:1"),
+];
+
+static REFUSED: [(&[u8], VersionError); 14] = [
+    (b"", VersionError::Upstream),
+    (b"1:", VersionError::Upstream),
+    (b"-1", VersionError::Upstream),
+    (b"-", VersionError::Upstream),
+    (b":1", VersionError::Epoch),
+    (b"a:1", VersionError::Epoch),
+    (b"1-2:3", VersionError::Epoch),
+    (b"-:", VersionError::Epoch),
+    (b"1-", VersionError::Revision),
+    (b"1_2-", VersionError::Revision),
+    (b"1_2", VersionError::Character),
+    (b"1:2-3:4", VersionError::Character),
+    (b"1 ", VersionError::Character),
+    (b"1\xc3", VersionError::Character),
+];
 
 /// Whether two versions stand so to each other, compared both ways.
 fn stand(left: &Version, ordering: Ordering, right: &Version) -> bool {
@@ -12,7 +65,7 @@ fn stand(left: &Version, ordering: Ordering, right: &Version) -> bool {
 }
 
 /// Whether two texts are versions, which keep them and stand so to each other.
-pub fn are_ordered(
+fn are_ordered(
     alloc: Global,
     left: &[u8],
     ordering: Ordering,
@@ -23,114 +76,48 @@ pub fn are_ordered(
     Ok(first.text() == left && second.text() == right && stand(&first, ordering, &second))
 }
 
-#[test]
-fn orders_versions(rt: HostRuntime) -> Result<(), Fail> {
-    for (higher, lower) in [
-        (b"1.0".as_slice(), b"1.0~rc1".as_slice()),
-        (b"1.0~", b"1.0~~"),
-        (b"1.0+", b"1.0a"),
-        (b"1:0", b"99"),
-        (b"1-2-3", b"1-2"),
-        (b"1.a", b"1.Z"),
-        (b"1.10", b"1.9"),
-        (b"1-1", b"1-0+b1"),
-        (b"18446744073709551616", b"18446744073709551615"),
-        (b"1:0", b"0:18446744073709551616"),
-        (
-            b"1000000000000000000000000000000000000000",
-            b"999999999999999999999999999999999999999",
-        ),
-    ] {
-        let right = are_ordered(rt.alloc(), higher, Ordering::Greater, lower)?;
-        assert!(rt; right, "{higher:?}");
+fn expect_no_version(rt: &(impl Abort + AllocGlobal), text: &[u8], fault: &VersionError) {
+    match Version::parse(rt.alloc(), text) {
+        Ok(_) => assert!(rt; false, "{text:?} is read"),
+        Err(found) => assert!(rt; found == *fault, "{text:?}"),
+    }
+}
+
+/// Some texts are versions, which stand so to each other, and others are refused, each by its fault.
+///
+/// # Errors
+///
+/// Want of memory.
+pub fn expect_each(rt: &(impl Abort + AllocGlobal)) -> Result<(), VersionError> {
+    for (left, ordering, right) in &ORDERED {
+        let ordered = are_ordered(rt.alloc(), *left, *ordering, *right)?;
+        assert!(rt; ordered, "{left:?}, {right:?}");
+    }
+    for (text, fault) in &REFUSED {
+        expect_no_version(rt, text, fault);
     }
     Ok(())
 }
 
-#[test]
-fn knows_equal_versions(rt: HostRuntime) -> Result<(), Fail> {
-    for (text, other) in [
-        (b"1.0".as_slice(), b"1.0-0".as_slice()),
-        (b"1.0", b"1.00"),
-        (b"1.0", b"0:1.0"),
-        (b"1.a", b"1.a0"),
-        (b"0000000000000000000000000000000000000001", b"1"),
-    ] {
-        let right = are_ordered(rt.alloc(), text, Ordering::Equal, other)?;
-        assert!(rt; right, "{other:?}");
-    }
-    Ok(())
-}
-
-/// Whether nines are above a power of ten of as many digits, which is made of these zeros.
-fn are_above_power(alloc: Global, nines: &[u8], zeros: &mut [u8]) -> Result<bool, VersionError> {
-    if let Some(first) = zeros.first_mut() {
-        *first = b'1';
-    }
-    are_ordered(alloc, nines, Ordering::Greater, zeros)
+fn expect_ordered(rt: &(impl Abort + AllocGlobal), left: &[u8], ordering: Ordering, right: &[u8]) {
+    let ordered = are_ordered(rt.alloc(), left, ordering, right).expect(rt, "versions");
+    assert!(rt; ordered);
 }
 
 fn digits(alloc: Global, digit: u8) -> Result<Vec<u8>, AllocError> {
     vec![in alloc; digit; 100_000]
 }
 
+/// Zeros are none, and nines are above a power of ten of as many digits.
 #[test]
-fn orders_long_numbers(rt: HostRuntime) -> Result<(), Fail> {
-    let nines = digits(rt.alloc(), b'9')?;
-    let mut zeros = digits(rt.alloc(), b'0')?;
-    assert!(rt; are_ordered(rt.alloc(), &zeros, Ordering::Equal, b"0")?);
-    assert!(rt; are_above_power(rt.alloc(), &nines, &mut zeros)?);
-    Ok(())
-}
-
-/// Whether a text is a version, which keeps it.
-pub fn is_kept(alloc: Global, text: &[u8]) -> Result<bool, VersionError> {
-    let version = Version::parse(alloc, text)?;
-    Ok(version.text() == text)
-}
-
-#[test]
-fn reads_versions(rt: HostRuntime) -> Result<(), Fail> {
-    for text in [
-        b"1:2:3".as_slice(),
-        b"0:1-2-3~x+y",
-        b"a.b",
-        b"-1-2",
-        b"007:1",
-    ] {
-        assert!(rt; is_kept(rt.alloc(), text)?, "{text:?}");
+fn orders_long_numbers(rt: HostRuntime) {
+    let nines = digits(rt.alloc(), b'9').expect(&rt, "no memory");
+    let mut zeros = digits(rt.alloc(), b'0').expect(&rt, "no memory");
+    expect_ordered(&rt, &zeros, Ordering::Equal, b"0");
+    if let Some(first) = zeros.first_mut() {
+        *first = b'1';
     }
-    Ok(())
-}
-
-/// Whether a text is no version, by this fault.
-fn is_no_version(alloc: Global, text: &[u8], fault: &VersionError) -> bool {
-    match Version::parse(alloc, text) {
-        Ok(_) => false,
-        Err(found) => found == *fault,
-    }
-}
-
-/// Whether these texts are no versions, each by this fault.
-pub fn are_no_versions(alloc: Global, texts: &[&[u8]], fault: &VersionError) -> bool {
-    for text in texts {
-        if !is_no_version(alloc, text, fault) {
-            return false;
-        }
-    }
-    true
-}
-
-#[test]
-fn refuses_versions(rt: HostRuntime) {
-    let upstream = [b"".as_slice(), b"1:", b"-1", b"-"];
-    assert!(rt; are_no_versions(rt.alloc(), &upstream, &VersionError::Upstream));
-    let epoch = [b":1".as_slice(), b"a:1", b"1-2:3", b"-:"];
-    assert!(rt; are_no_versions(rt.alloc(), &epoch, &VersionError::Epoch));
-    let revision = [b"1-".as_slice(), b"1_2-"];
-    assert!(rt; are_no_versions(rt.alloc(), &revision, &VersionError::Revision));
-    let character = [b"1_2".as_slice(), b"1:2-3:4", b"1 ", b"1\xc3"];
-    assert!(rt; are_no_versions(rt.alloc(), &character, &VersionError::Character));
+    expect_ordered(&rt, &nines, Ordering::Greater, &zeros);
 }
 
 /// Whether a version that is above a bound holds it, and one that is equal, and one that is below.
@@ -156,10 +143,9 @@ fn expect_held(rt: &impl Abort, low: &Version, same: &Version, high: &Version) {
 }
 
 #[test]
-fn holds_bounds(rt: HostRuntime) -> Result<(), Fail> {
-    let low = Version::parse(rt.alloc(), b"1")?;
-    let same = Version::parse(rt.alloc(), b"1-0")?;
-    let high = Version::parse(rt.alloc(), b"1-0.1")?;
+fn holds_bounds(rt: HostRuntime) {
+    let low = Version::parse(rt.alloc(), b"1").expect(&rt, "a version");
+    let same = Version::parse(rt.alloc(), b"1-0").expect(&rt, "a version");
+    let high = Version::parse(rt.alloc(), b"1-0.1").expect(&rt, "a version");
     expect_held(&rt, &low, &same, &high);
-    Ok(())
 }

@@ -1,13 +1,17 @@
 //! What is asked of the index of a text, and what is expected of the answer.
 
-use crate::reporting::{named, report_on};
+ghost use Rattle.std.specs.Prelude.{◌≡◌, ◌^◌, ◌<◌, All, length, map};
+ghost use Rattle.deb_health.specs.Verdicts.{SpeaksOf, verdict_view};
+
+use crate::reporting::{named, news_since, report_since_earlier, report_with_later, verdicts_of};
 use deb_index::Index;
-use deb_report::{AskedFault, Config, Format, Show, asked_places};
+use deb_report::{AskedFault, Config, Format, Show, asked_places, report};
+use deb_verdict::Verdict;
 use std::alloc::{AllocError, AllocGlobal, Global};
 use std::process::Abort;
 use std::test::Fail;
 
-/// What is asked; all else is as usual.
+/// The words that are said; all else is as usual.
 #[derive(Clone, Copy)]
 pub struct Asked<'a> {
     pub explain: bool,
@@ -34,8 +38,50 @@ pub const USUAL: Asked<'static> = Asked {
     format: Format::Text,
 };
 
-pub fn config_of(alloc: Global, asked: &Asked<'_>) -> Result<Config, AllocError> {
-    let mut config = Config::usual(alloc)?;
+/// The call that answers.
+#[derive(Clone, Copy)]
+pub enum Call<'a> {
+    Report,
+    /// With the cores behind the first of the places below a number.
+    Told(u32),
+    /// The report since the index of an earlier text.
+    Since(&'a str),
+    /// The places of what is newly broken since then.
+    News(&'a str),
+}
+
+/// What is expected of an answer.
+#[derive(Clone, Copy)]
+pub enum Wanted<'a> {
+    /// A report of these parts, one behind the other.
+    Whole(&'a [&'a str]),
+    Start(&'a str),
+    End(&'a str),
+    Places(&'a [u32]),
+}
+
+/// What is asked of the index of a text and a background, and what is expected.
+#[derive(Clone, Copy)]
+pub struct Case<'t, 'a, 'w> {
+    pub name: &'t str,
+    pub text: &'t str,
+    pub background: &'t str,
+    pub call: Call<'t>,
+    pub asked: Asked<'a>,
+    pub wanted: Wanted<'w>,
+}
+
+/// The report on no text.
+pub const REPORT: Case = Case {
+    name: "",
+    text: "",
+    background: "",
+    call: Call::Report,
+    asked: USUAL,
+    wanted: Wanted::Whole(&[]),
+};
+
+fn ask(alloc: Global, config: &mut Config, asked: &Asked<'_>) -> Result<(), AllocError> {
     config.explain = asked.explain;
     config.show = asked.show;
     config.essential = asked.essential;
@@ -49,7 +95,7 @@ pub fn config_of(alloc: Global, asked: &Asked<'_>) -> Result<Config, AllocError>
     if let Some(names) = asked.only {
         config.only = Some(named(alloc, names)?);
     }
-    Ok(config)
+    Ok(())
 }
 
 pub fn index_of(alloc: Global, text: &str, background: &str) -> Result<Index, Fail> {
@@ -60,34 +106,8 @@ pub fn index_of(alloc: Global, text: &str, background: &str) -> Result<Index, Fa
     Ok(Index::read_both(alloc, text.as_bytes(), bytes, "amd64", true)?)
 }
 
-/// Makes the index of a text, lends it to what asks of it, and gives the answer.
-///
-/// The index is let go here alone: to let go of one takes a proof at each way out, and its tables are many.
-pub fn on_index<F>(alloc: Global, text: &str, ask: F) -> Result<(), Fail>
-where
-    F: FnOnce(&Index) -> Result<(), Fail> + Drop,
-    requires { F.IsAlwaysCallable ask }
-{
-    on_both(alloc, text, "", ask)
-}
-
-/// The same of the index of a text with a background.
-pub fn on_both<F>(alloc: Global, text: &str, background: &str, ask: F) -> Result<(), Fail>
-where
-    F: FnOnce(&Index) -> Result<(), Fail> + Drop,
-    requires { F.IsAlwaysCallable ask }
-{
-    let index = index_of(alloc, text, background)?;
-    ask(&index)
-}
-
-fn report_for(alloc: Global, index: &Index, asked: &Asked<'_>) -> Result<Vec<u8>, Fail> {
-    let config = config_of(alloc, asked)?;
-    report_on(alloc, index, &config)
-}
-
 /// Whether a text is its parts, one behind the other.
-pub fn is_made_of(text: &[u8], parts: &[&str]) -> bool {
+fn is_made_of(text: &[u8], parts: &[&str]) -> bool {
     let mut rest = text;
     for part in parts {
         match rest.strip_prefix(part.as_bytes()) {
@@ -98,53 +118,83 @@ pub fn is_made_of(text: &[u8], parts: &[&str]) -> bool {
     rest.is_empty()
 }
 
-/// Compares the report on an index with what is expected, whose parts stand one behind the other.
-pub fn expect_report_on(
-    rt: &impl Abort,
-    alloc: Global,
+fn expect_text(rt: &(impl Abort + AllocGlobal), case: &Case, text: &[u8]) {
+    let same = match case.wanted {
+        Wanted::Whole(parts) => is_made_of(text, parts),
+        Wanted::Start(start) => text.starts_with(start.as_bytes()),
+        Wanted::End(end) => text.ends_with(end.as_bytes()),
+        Wanted::Places(_) => false,
+    };
+    let name = case.name;
+    assert!(rt; same, "another report: {name}");
+}
+
+fn expect_news(rt: &(impl Abort + AllocGlobal), case: &Case, places: &[u32]) {
+    let same = match case.wanted {
+        Wanted::Places(wanted) => places == wanted,
+        _ => false,
+    };
+    let name = case.name;
+    assert!(rt; same, "other places: {name}");
+}
+
+/// Has the call answer on asked places, and compares the answer with what is expected.
+fn expect_of(
+    rt: &(impl Abort + AllocGlobal),
     index: &Index,
-    asked: &Asked<'_>,
-    wanted: &[&str],
-) -> Result<(), Fail> {
-    let report = report_for(alloc, index, asked)?;
-    assert!(rt; is_made_of(&report, wanted), "{report:?}");
+    places: &[u32],
+    verdicts: &[Verdict],
+    case: &Case,
+    config: &Config,
+) -> Result<(), Fail>
+    requires few { length places.now < 2 ^ 32 }
+    requires same { length places.now ≡ length verdicts.now }
+    requires within { All (λ place. place < length index.now.packages) places.now }
+    requires speaks { All (SpeaksOf index.now) (map verdict_view verdicts.now) }
+{
+    let alloc = rt.alloc();
+    match case.call {
+        Call::Report => expect_text(rt, case, &report(alloc, index, places, verdicts, config)?),
+        Call::Told(count) => {
+            let told = report_with_later(alloc, index, places, verdicts, count, config)?;
+            expect_text(rt, case, &told);
+        }
+        Call::Since(earlier) => {
+            let told = report_since_earlier(alloc, index, places, verdicts, earlier, config)?;
+            expect_text(rt, case, &told);
+        }
+        Call::News(earlier) => {
+            let news = news_since(alloc, index, places, verdicts, earlier, config)?;
+            expect_news(rt, case, &news);
+        }
+    }
     Ok(())
 }
 
-/// The same of the index of a text.
-pub fn expect_report(
+fn expect_under(
     rt: &(impl Abort + AllocGlobal),
-    text: &str,
-    asked: &Asked<'_>,
-    wanted: &[&str],
-) -> Result<(), Fail> {
-    on_index(rt.alloc(), text, |index| {
-        expect_report_on(rt, rt.alloc(), index, asked, wanted)
-    })
-}
-
-fn expect_end_on(
-    rt: &impl Abort,
-    alloc: Global,
     index: &Index,
-    asked: &Asked<'_>,
-    end: &str,
+    case: &Case,
+    config: &Config,
 ) -> Result<(), Fail> {
-    let report = report_for(alloc, index, asked)?;
-    assert!(rt; report.as_slice().ends_with(end.as_bytes()), "{end}");
-    Ok(())
+    let places = asked_places(rt.alloc(), index, config)?;
+    let places = places.as_slice();
+    let verdicts = verdicts_of(rt.alloc(), index, places)?;
+    expect_of(rt, index, places, verdicts.as_slice(), case, config)
 }
 
-/// Whether the report on the index of a text ends with this.
-pub fn expect_end(
-    rt: &(impl Abort + AllocGlobal),
-    text: &str,
-    asked: &Asked<'_>,
-    end: &str,
-) -> Result<(), Fail> {
-    on_index(rt.alloc(), text, |index| {
-        expect_end_on(rt, rt.alloc(), index, asked, end)
-    })
+fn expect_on(rt: &(impl Abort + AllocGlobal), index: &Index, case: &Case) -> Result<(), Fail> {
+    let mut config = Config::usual(rt.alloc())?;
+    ask(rt.alloc(), &mut config, &case.asked)?;
+    expect_under(rt, index, case, &config)
+}
+
+/// Compares the answer of a case with what it expects.
+///
+/// The index is let go here alone: to let go of one takes a proof at each way out, and its tables are many.
+pub fn expect(rt: &(impl Abort + AllocGlobal), case: &Case) -> Result<(), Fail> {
+    let index = index_of(rt.alloc(), case.text, case.background)?;
+    expect_on(rt, &index, case)
 }
 
 /// The places that are asked, or the name that is unknown.
@@ -154,43 +204,39 @@ pub enum Answer<'a> {
     Unknown(&'a [u8]),
 }
 
-fn is_answer(found: &Result<Vec<u32>, AskedFault>, wanted: Answer<'_>) -> bool {
-    match (found, wanted) {
-        (Ok(places), Answer::Places(wanted)) => places.as_slice() == wanted,
-        (Err(AskedFault::Unknown { name }), Answer::Unknown(wanted)) => name.as_slice() == wanted,
-        _ => false,
-    }
-}
-
-fn places_for(
-    alloc: Global,
-    index: &Index,
-    only: Option<&[&[u8]]>,
-) -> Result<Vec<u32>, AskedFault> {
-    let config = config_of(alloc, &Asked { only, ..USUAL })?;
-    asked_places(alloc, index, &config)
-}
-
 fn expect_answer(
     rt: &impl Abort,
     found: &Result<Vec<u32>, AskedFault>,
     wanted: Answer<'_>,
 ) -> Result<(), Fail> {
-    if let Err(AskedFault::Memory) = found {
-        return Err(Fail::new("out of memory"));
-    }
-    assert!(rt; is_answer(found, wanted));
+    let same = match (found, wanted) {
+        (Err(AskedFault::Memory), _) => return Err(Fail::new("out of memory")),
+        (Ok(places), Answer::Places(wanted)) => places.as_slice() == wanted,
+        (Err(AskedFault::Unknown { name }), Answer::Unknown(wanted)) => name.as_slice() == wanted,
+        _ => false,
+    };
+    assert!(rt; same, "other places");
     Ok(())
 }
 
-/// Compares the places that are asked of an index, or the name that is unknown, with what is expected.
-pub fn expect_places(
-    rt: &impl Abort,
-    alloc: Global,
+fn expect_places_on(
+    rt: &(impl Abort + AllocGlobal),
     index: &Index,
     only: Option<&[&[u8]]>,
     wanted: Answer<'_>,
 ) -> Result<(), Fail> {
-    let found = places_for(alloc, index, only);
-    expect_answer(rt, &found, wanted)
+    let mut config = Config::usual(rt.alloc())?;
+    ask(rt.alloc(), &mut config, &Asked { only, ..USUAL })?;
+    expect_answer(rt, &asked_places(rt.alloc(), index, &config), wanted)
+}
+
+/// Compares the places that are asked of the index of a text, or the name that is unknown, with what is expected.
+pub fn expect_places(
+    rt: &(impl Abort + AllocGlobal),
+    text: &str,
+    only: Option<&[&[u8]]>,
+    wanted: Answer<'_>,
+) -> Result<(), Fail> {
+    let index = index_of(rt.alloc(), text, "")?;
+    expect_places_on(rt, &index, only, wanted)
 }

@@ -1,7 +1,6 @@
 //! The block of causes.
 
-use crate::asking::{Asked, USUAL, expect_end};
-use crate::later::expect_told;
+use crate::asking::{Asked, Call, Case, REPORT, USUAL, Wanted, expect};
 use deb_report::{Format, Show};
 use std::test::Fail;
 
@@ -43,34 +42,17 @@ causes: 1
    - b 1
 ";
 
-#[test]
-fn one_cause_for_whatever_is_shown(rt: HostRuntime) -> Result<(), Fail> {
-    for explain in [true, false] {
-        for show in [Show::All, Show::Failures, Show::Successes] {
-            let asked = Asked {
-                explain,
-                show,
-                ..CAUSES
-            };
-            expect_end(&rt, CHAIN, &asked, CHAIN_CAUSES)?;
-        }
-    }
-    let without = Asked {
-        explain: false,
-        show: Show::Successes,
-        ..USUAL
-    };
-    expect_end(&rt, CHAIN, &without, "asked: 3\nbroken: 2\n")
-}
+/// The causes of the chain are the same whatever is shown.
+const CHAIN_SHOWN: Case = Case {
+    name: "one cause for whatever is shown",
+    text: CHAIN,
+    asked: CAUSES,
+    wanted: Wanted::End(CHAIN_CAUSES),
+    ..REPORT
+};
 
-/// The second of the packages alone, and a package that isn't broken.
-#[test]
-fn only_asked_packages_have_causes(rt: HostRuntime) -> Result<(), Fail> {
-    let two = Asked {
-        only: Some(&[b"b", b"c"]),
-        ..CAUSES
-    };
-    let one_cause = "asked: 2
+/// The second of the packages alone.
+const ONE_CAUSE: &str = "asked: 2
 broken: 1
 causes: 1
  -
@@ -85,18 +67,6 @@ causes: 1
   broken:
    - b 1
 ";
-    expect_end(&rt, CHAIN, &two, one_cause)?;
-    let one = Asked {
-        only: Some(&[b"c"]),
-        ..CAUSES
-    };
-    expect_end(&rt, CHAIN, &one, "asked: 1\nbroken: 0\ncauses: 0\n")
-}
-
-#[test]
-fn no_causes_where_none_is_broken(rt: HostRuntime) -> Result<(), Fail> {
-    expect_end(&rt, "", &CAUSES, "asked: 0\nbroken: 0\ncauses: 0\n")
-}
 
 /// An essential package, one that conflicts with it, one that needs two versions of a name at once, and one of whose alternatives none is
 /// there as it is asked for. The last breaks a package behind it, so that its cause goes first.
@@ -187,11 +157,6 @@ causes: 3
    - p 1
 ";
 
-#[test]
-fn causes_of_each_kind(rt: HostRuntime) -> Result<(), Fail> {
-    expect_end(&rt, KINDS, &CAUSES, KINDS_CAUSES)
-}
-
 const KINDS_JSON: &str = "\"causes\":[
 {\"packages\":2,\"frees\":2,\"reasons\":[{\"kind\":\"missing\",\"relation\":\"n (>= 2) | v (>= 2) | k\"}],\
 \"needed-by\":[{\"package\":\"m\",\"version\":\"1\",\"field\":\"Depends\",\"relation\":\"n (>= 2) | v (>= 2) | k\"}],\
@@ -208,17 +173,8 @@ const KINDS_JSON: &str = "\"causes\":[
 ]}
 ";
 
-#[test]
-fn causes_of_each_kind_in_json(rt: HostRuntime) -> Result<(), Fail> {
-    let json = Asked {
-        format: Format::Json,
-        ..CAUSES
-    };
-    expect_end(&rt, KINDS, &json, KINDS_JSON)
-}
-
 /// Two packages that need the same name, one behind them, and a second name that one of them needs.
-pub const SHARED: &str = "Package: a
+const SHARED: &str = "Package: a
 Version: 1
 Architecture: all
 Depends: x, y
@@ -235,13 +191,13 @@ Depends: b
 ";
 
 /// What is asked where the report has no blocks and ends with the causes.
-pub const CAUSES_ALONE: Asked<'static> = Asked {
+const CAUSES_ALONE: Asked<'static> = Asked {
     show: Show::Successes,
     ..CAUSES
 };
 
 /// The report on them up to the causes.
-pub const SHARED_HEAD: &str = "architecture: amd64
+const SHARED_HEAD: &str = "architecture: amd64
 report:
 stanzas: 3
 skipped: 0
@@ -251,7 +207,7 @@ broken: 3
 ";
 
 /// The causes where all cores of the first are known: to mend one of two causes frees no package that has both.
-pub const SHARED_CAUSES: &str = "causes: 2
+const SHARED_CAUSES: &str = "causes: 2
  -
   packages: 3
   frees: 2
@@ -275,12 +231,6 @@ pub const SHARED_CAUSES: &str = "causes: 2
    - a 1
 ";
 
-#[test]
-fn all_causes_whoever_needs_it(rt: HostRuntime) -> Result<(), Fail> {
-    let wanted = [SHARED_HEAD, SHARED_CAUSES];
-    expect_told(&rt, SHARED, 3, &CAUSES_ALONE, &wanted)
-}
-
 const FIRST_CAUSES: &str = "causes: 2
  -
   packages: 2
@@ -303,24 +253,153 @@ const FIRST_CAUSES: &str = "causes: 2
    - a 1
 ";
 
-/// Where no more is known than the first core of each.
-#[test]
-fn causes_of_first_cores(rt: HostRuntime) -> Result<(), Fail> {
-    let wanted = [SHARED_HEAD, FIRST_CAUSES];
-    expect_told(&rt, SHARED, 0, &CAUSES_ALONE, &wanted)
-}
+/// All causes, whoever needs it.
+pub const SHARED_TOLD: Case = Case {
+    name: "all causes, whoever needs it",
+    text: SHARED,
+    call: Call::Told(3),
+    asked: CAUSES_ALONE,
+    wanted: Wanted::Whole(&[SHARED_HEAD, SHARED_CAUSES]),
+    ..REPORT
+};
 
-/// Causes are told as they are without a walk.
+const CASES: &[Case] = &[
+    Case {
+        asked: Asked {
+            explain: true,
+            show: Show::All,
+            ..CAUSES
+        },
+        ..CHAIN_SHOWN
+    },
+    Case {
+        asked: Asked {
+            explain: true,
+            show: Show::Failures,
+            ..CAUSES
+        },
+        ..CHAIN_SHOWN
+    },
+    Case {
+        asked: Asked {
+            explain: true,
+            show: Show::Successes,
+            ..CAUSES
+        },
+        ..CHAIN_SHOWN
+    },
+    Case {
+        asked: Asked {
+            explain: false,
+            show: Show::All,
+            ..CAUSES
+        },
+        ..CHAIN_SHOWN
+    },
+    Case {
+        asked: Asked {
+            explain: false,
+            show: Show::Failures,
+            ..CAUSES
+        },
+        ..CHAIN_SHOWN
+    },
+    Case {
+        asked: Asked {
+            explain: false,
+            show: Show::Successes,
+            ..CAUSES
+        },
+        ..CHAIN_SHOWN
+    },
+    Case {
+        name: "no causes that are not asked for",
+        text: CHAIN,
+        asked: Asked {
+            explain: false,
+            show: Show::Successes,
+            ..USUAL
+        },
+        wanted: Wanted::End("asked: 3\nbroken: 2\n"),
+        ..REPORT
+    },
+    Case {
+        name: "only asked packages have causes",
+        text: CHAIN,
+        asked: Asked {
+            only: Some(&[b"b", b"c"]),
+            ..CAUSES
+        },
+        wanted: Wanted::End(ONE_CAUSE),
+        ..REPORT
+    },
+    Case {
+        name: "a package that is not broken has no cause",
+        text: CHAIN,
+        asked: Asked {
+            only: Some(&[b"c"]),
+            ..CAUSES
+        },
+        wanted: Wanted::End("asked: 1\nbroken: 0\ncauses: 0\n"),
+        ..REPORT
+    },
+    Case {
+        name: "no causes where none is broken",
+        asked: CAUSES,
+        wanted: Wanted::End("asked: 0\nbroken: 0\ncauses: 0\n"),
+        ..REPORT
+    },
+    Case {
+        name: "causes of each kind",
+        text: KINDS,
+        asked: CAUSES,
+        wanted: Wanted::End(KINDS_CAUSES),
+        ..REPORT
+    },
+    Case {
+        name: "causes of each kind in JSON",
+        text: KINDS,
+        asked: Asked {
+            format: Format::Json,
+            ..CAUSES
+        },
+        wanted: Wanted::End(KINDS_JSON),
+        ..REPORT
+    },
+    SHARED_TOLD,
+    Case {
+        name: "causes of first cores",
+        call: Call::Told(0),
+        wanted: Wanted::Whole(&[SHARED_HEAD, FIRST_CAUSES]),
+        ..SHARED_TOLD
+    },
+    Case {
+        name: "causes beside walks",
+        text: KINDS,
+        asked: Asked {
+            why: true,
+            ..CAUSES
+        },
+        wanted: Wanted::End(KINDS_CAUSES),
+        ..REPORT
+    },
+    Case {
+        name: "causes beside walks in JSON",
+        text: KINDS,
+        asked: Asked {
+            why: true,
+            format: Format::Json,
+            ..CAUSES
+        },
+        wanted: Wanted::End(KINDS_JSON),
+        ..REPORT
+    },
+];
+
 #[test]
-fn causes_beside_walks(rt: HostRuntime) -> Result<(), Fail> {
-    let lines = Asked {
-        why: true,
-        ..CAUSES
-    };
-    expect_end(&rt, KINDS, &lines, KINDS_CAUSES)?;
-    let json = Asked {
-        format: Format::Json,
-        ..lines
-    };
-    expect_end(&rt, KINDS, &json, KINDS_JSON)
+fn causes(rt: HostRuntime) -> Result<(), Fail> {
+    for case in CASES {
+        expect(&rt, case)?;
+    }
+    Ok(())
 }

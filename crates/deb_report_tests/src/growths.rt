@@ -1,18 +1,11 @@
 //! One test for each call that can want memory; trials/growths runs them with each growth refused in turn.
 
-use crate::asking::{
-    Answer, Asked, USUAL, expect_places, expect_report, expect_report_on, on_index,
-};
-use crate::causes::{CAUSES_ALONE, SHARED, SHARED_CAUSES, SHARED_HEAD};
-use crate::later::{ALL_IN_JSON, FIRST_DOCUMENT, MISSING, expect_told};
-use crate::since::{
-    BLOCKS, EARLIER, HEAD, LATER, NUMBERS, ONE_CAUSE, expect_newly_broken, expect_since,
-};
+use crate::asking::{Answer, Asked, Case, REPORT, USUAL, Wanted, expect, expect_places};
+use crate::causes::SHARED_TOLD;
+use crate::later::FIRST_IN_JSON;
+use crate::since::{NEWS, SINCE};
 use crate::why::{EDITOR, EDITOR_REASONS, expect_reasons, expect_walk};
-use deb_index::Index;
 use deb_report::{Config, Format, Show};
-use std::alloc::Global;
-use std::process::Abort;
 use std::test::Fail;
 
 fn is_usual(config: &Config) -> bool {
@@ -61,19 +54,9 @@ Architecture: all
 /// Two of three names, one of them twice, and a name that is unknown.
 #[test]
 fn of_asked_places(rt: HostRuntime) -> Result<(), Fail> {
-    on_index(rt.alloc(), TWO_NEEDED, |index| {
-        let twice: &[&[u8]] = &[b"b", b"a", b"b"];
-        expect_places(&rt, rt.alloc(), index, Some(twice), Answer::Places(&[0, 1]))
-    })?;
-    on_index(rt.alloc(), ONE, |index| {
-        expect_places(
-            &rt,
-            rt.alloc(),
-            index,
-            Some(&[b"zz"]),
-            Answer::Unknown(b"zz"),
-        )
-    })
+    let twice: &[&[u8]] = &[b"b", b"a", b"b"];
+    expect_places(&rt, TWO_NEEDED, Some(twice), Answer::Places(&[0, 1]))?;
+    expect_places(&rt, ONE, Some(&[b"zz"]), Answer::Unknown(b"zz"))
 }
 
 const CHAIN: &str = "Package: a
@@ -143,49 +126,64 @@ const CHAIN_CAUSES: &str = "causes: 1
    - b 1
 ";
 
-/// The package that isn't broken, and the causes of the others.
-#[test]
-fn of_report_with_causes(rt: HostRuntime) -> Result<(), Fail> {
-    let asked = Asked {
+const WITH_CAUSES: Case = Case {
+    name: "the package that is not broken, and the causes of the others",
+    text: CHAIN,
+    asked: Asked {
         show: Show::Successes,
         causes: true,
         ..USUAL
-    };
-    expect_report(
-        &rt,
-        CHAIN,
-        &asked,
-        &[CHAIN_HEAD, CHAIN_OK, CHAIN_TAIL, CHAIN_CAUSES],
-    )
+    },
+    wanted: Wanted::Whole(&[CHAIN_HEAD, CHAIN_OK, CHAIN_TAIL, CHAIN_CAUSES]),
+    ..REPORT
+};
+
+/// The package that isn't broken, and the causes of the others.
+#[test]
+fn of_report_with_causes(rt: HostRuntime) -> Result<(), Fail> {
+    expect(&rt, &WITH_CAUSES)
 }
 
-fn expect_shown(
-    rt: &impl Abort,
-    alloc: Global,
-    index: &Index,
-    show: Show,
-    blocks: &[&str],
-) -> Result<(), Fail> {
-    expect_report_on(rt, alloc, index, &Asked { show, ..USUAL }, blocks)
-}
-
-fn expect_each_shown(rt: &impl Abort, alloc: Global, index: &Index) -> Result<(), Fail> {
-    let failures = [CHAIN_HEAD, CHAIN_BROKEN, CHAIN_TAIL];
-    expect_shown(rt, alloc, index, Show::Failures, &failures)?;
-    let successes = [CHAIN_HEAD, CHAIN_OK, CHAIN_TAIL];
-    expect_shown(rt, alloc, index, Show::Successes, &successes)?;
-    let all = [CHAIN_HEAD, CHAIN_BROKEN, CHAIN_OK, CHAIN_TAIL];
-    expect_shown(rt, alloc, index, Show::All, &all)
-}
+const SHOWN: &[Case] = &[
+    Case {
+        name: "broken packages alone",
+        text: CHAIN,
+        asked: Asked {
+            show: Show::Failures,
+            ..USUAL
+        },
+        wanted: Wanted::Whole(&[CHAIN_HEAD, CHAIN_BROKEN, CHAIN_TAIL]),
+        ..REPORT
+    },
+    Case {
+        name: "the others alone",
+        text: CHAIN,
+        asked: Asked {
+            show: Show::Successes,
+            ..USUAL
+        },
+        wanted: Wanted::Whole(&[CHAIN_HEAD, CHAIN_OK, CHAIN_TAIL]),
+        ..REPORT
+    },
+    Case {
+        name: "all",
+        text: CHAIN,
+        asked: Asked {
+            show: Show::All,
+            ..USUAL
+        },
+        wanted: Wanted::Whole(&[CHAIN_HEAD, CHAIN_BROKEN, CHAIN_OK, CHAIN_TAIL]),
+        ..REPORT
+    },
+];
 
 /// Broken packages alone, the others alone, and all.
 #[test]
 fn of_report(rt: HostRuntime) -> Result<(), Fail> {
-    on_index(
-        rt.alloc(),
-        CHAIN,
-        |index| expect_each_shown(&rt, rt.alloc(), index),
-    )
+    for case in SHOWN {
+        expect(&rt, case)?;
+    }
+    Ok(())
 }
 
 const CHAIN_DOCUMENT: &str = r#"{"architecture":"amd64","report":[
@@ -195,27 +193,33 @@ const CHAIN_DOCUMENT: &str = r#"{"architecture":"amd64","report":[
 ],"stanzas":3,"skipped":0,"duplicates":0,"asked":3,"broken":2}
 "#;
 
+const IN_JSON: Case = Case {
+    name: "all packages, in JSON",
+    text: CHAIN,
+    asked: Asked {
+        format: Format::Json,
+        ..USUAL
+    },
+    wanted: Wanted::Whole(&[CHAIN_DOCUMENT]),
+    ..REPORT
+};
+
 /// All packages, in JSON.
 #[test]
 fn of_json_report(rt: HostRuntime) -> Result<(), Fail> {
-    let asked = Asked {
-        format: Format::Json,
-        ..USUAL
-    };
-    expect_report(&rt, CHAIN, &asked, &[CHAIN_DOCUMENT])
+    expect(&rt, &IN_JSON)
 }
 
 /// All reasons that are known, in JSON.
 #[test]
 fn of_report_told(rt: HostRuntime) -> Result<(), Fail> {
-    expect_told(&rt, MISSING, 1, &ALL_IN_JSON, &FIRST_DOCUMENT)
+    expect(&rt, &FIRST_IN_JSON)
 }
 
 /// All causes that are known.
 #[test]
 fn of_report_told_with_causes(rt: HostRuntime) -> Result<(), Fail> {
-    let wanted = [SHARED_HEAD, SHARED_CAUSES];
-    expect_told(&rt, SHARED, 3, &CAUSES_ALONE, &wanted)
+    expect(&rt, &SHARED_TOLD)
 }
 
 /// A core as it is walked.
@@ -233,18 +237,13 @@ fn of_json_report_with_walk(rt: HostRuntime) -> Result<(), Fail> {
 /// The places of what is newly broken.
 #[test]
 fn of_newly_broken(rt: HostRuntime) -> Result<(), Fail> {
-    expect_newly_broken(&rt, EARLIER, LATER, &USUAL, &[1, 2])
+    expect(&rt, &NEWS)
 }
 
 /// The broken packages of an earlier index, and what became of them, with the causes of what is newly broken.
 #[test]
 fn of_report_since(rt: HostRuntime) -> Result<(), Fail> {
-    let asked = Asked {
-        causes: true,
-        ..USUAL
-    };
-    let wanted = [HEAD, BLOCKS, NUMBERS, ONE_CAUSE];
-    expect_since(&rt, EARLIER, LATER, &asked, &wanted)
+    expect(&rt, &SINCE)
 }
 
 const SINCE_DOCUMENT: &str =
@@ -256,13 +255,19 @@ const SINCE_DOCUMENT: &str =
 ]}
 "#;
 
-/// The same in JSON.
-#[test]
-fn of_json_report_since(rt: HostRuntime) -> Result<(), Fail> {
-    let asked = Asked {
+const SINCE_IN_JSON: Case = Case {
+    name: "since an earlier index, in JSON",
+    asked: Asked {
         causes: true,
         format: Format::Json,
         ..USUAL
-    };
-    expect_since(&rt, EARLIER, LATER, &asked, &[SINCE_DOCUMENT])
+    },
+    wanted: Wanted::Whole(&[SINCE_DOCUMENT]),
+    ..SINCE
+};
+
+/// The same in JSON.
+#[test]
+fn of_json_report_since(rt: HostRuntime) -> Result<(), Fail> {
+    expect(&rt, &SINCE_IN_JSON)
 }

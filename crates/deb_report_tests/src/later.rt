@@ -1,11 +1,7 @@
 //! The cores behind the first, and the words that a document begins with.
 
-use crate::asking::{Asked, USUAL, config_of, expect_report, is_made_of, on_index};
-use crate::reporting::{report_since_on, report_told_on};
-use deb_index::Index;
+use crate::asking::{Asked, Call, Case, REPORT, USUAL, Wanted, expect};
 use deb_report::{Format, Show};
-use std::alloc::{AllocGlobal, Global};
-use std::process::Abort;
 use std::test::Fail;
 
 /// What is asked where all reasons are told.
@@ -15,13 +11,13 @@ const ALL_REASONS: Asked<'static> = Asked {
 };
 
 /// The same in JSON.
-pub const ALL_IN_JSON: Asked<'static> = Asked {
+const ALL_IN_JSON: Asked<'static> = Asked {
     format: Format::Json,
     ..ALL_REASONS
 };
 
 /// Two packages that miss two and three names, and one that can be installed.
-pub const MISSING: &str = "Package: a
+const MISSING: &str = "Package: a
 Version: 1
 Architecture: all
 Depends: x, y
@@ -35,34 +31,6 @@ Package: c
 Version: 1
 Architecture: all
 ";
-
-fn expect_told_on(
-    rt: &impl Abort,
-    alloc: Global,
-    index: &Index,
-    count: u32,
-    asked: &Asked<'_>,
-    wanted: &[&str],
-) -> Result<(), Fail> {
-    assert!(rt; count <= index.len());
-    let config = config_of(alloc, asked)?;
-    let told = report_told_on(alloc, index, count, &config)?;
-    assert!(rt; is_made_of(&told, wanted), "{told:?}");
-    Ok(())
-}
-
-/// Compares the report on the index of a text with what is expected, where the cores behind the first are known of the places below a number.
-pub fn expect_told(
-    rt: &(impl Abort + AllocGlobal),
-    text: &str,
-    count: u32,
-    asked: &Asked<'_>,
-    wanted: &[&str],
-) -> Result<(), Fail> {
-    on_index(rt.alloc(), text, |index| {
-        expect_told_on(rt, rt.alloc(), index, count, asked, wanted)
-    })
-}
 
 const HEAD: &str = "architecture: amd64
 report:
@@ -112,53 +80,18 @@ asked: 3
 broken: 2
 ";
 
-#[test]
-fn later_cores_stand_behind_the_first(rt: HostRuntime) -> Result<(), Fail> {
-    expect_told(
-        &rt,
-        MISSING,
-        3,
-        &ALL_REASONS,
-        &[HEAD, FIRST, FIRST_ALSO, SECOND, SECOND_ALSO, THIRD, TAIL],
-    )
-}
-
-/// A place past the end of the list has none.
-#[test]
-fn later_cores_of_the_first_place_alone(rt: HostRuntime) -> Result<(), Fail> {
-    expect_told(
-        &rt,
-        MISSING,
-        1,
-        &ALL_REASONS,
-        &[HEAD, FIRST, FIRST_ALSO, SECOND, THIRD, TAIL],
-    )
-}
-
-#[test]
-fn later_cores_are_told_where_they_are_asked_for(rt: HostRuntime) -> Result<(), Fail> {
-    let plain = [HEAD, FIRST, SECOND, THIRD, TAIL];
-    expect_told(&rt, MISSING, 3, &USUAL, &plain)?;
-    expect_report(&rt, MISSING, &ALL_REASONS, &plain)
-}
-
-#[test]
-fn later_cores_are_explanations(rt: HostRuntime) -> Result<(), Fail> {
-    let asked = Asked {
-        explain: false,
-        show: Show::Failures,
-        ..ALL_REASONS
-    };
-    let first = FIRST.len() - "  reasons:\n   - missing: a 1 Depends: y\n".len();
-    let second = SECOND.len() - "  reasons:\n   - missing: b 1 Depends: z\n".len();
-    expect_told(
-        &rt,
-        MISSING,
-        3,
-        &asked,
-        &[HEAD, &FIRST[..first], &SECOND[..second], TAIL],
-    )
-}
+/// The blocks without their reasons.
+const SHORT_BLOCKS: &str = " -
+  package: a
+  version: 1
+  architecture: all
+  status: broken
+ -
+  package: b
+  version: 1
+  architecture: all
+  status: broken
+";
 
 const DOCUMENT_HEAD: &str =
     r#"{"format":1,"options":["explain","all-reasons"],"architecture":"amd64","report":[
@@ -178,94 +111,133 @@ const DOCUMENT_TAIL: &str = r#"},
 ],"stanzas":3,"skipped":0,"duplicates":0,"asked":3,"broken":2}
 "#;
 
-#[test]
-fn later_cores_in_json(rt: HostRuntime) -> Result<(), Fail> {
-    let all = [
-        DOCUMENT_HEAD,
-        DOCUMENT_ALSO,
-        DOCUMENT_SECOND,
-        DOCUMENT_SECOND_ALSO,
-        DOCUMENT_TAIL,
-    ];
-    expect_told(&rt, MISSING, 3, &ALL_IN_JSON, &all)
-}
-
-/// The document where the later cores of the first place alone are known.
-pub const FIRST_DOCUMENT: [&str; 5] = [
-    DOCUMENT_HEAD,
-    DOCUMENT_ALSO,
-    DOCUMENT_SECOND,
-    "[]",
-    DOCUMENT_TAIL,
-];
-
-#[test]
-fn later_cores_in_json_of_the_first_place_alone(rt: HostRuntime) -> Result<(), Fail> {
-    expect_told(&rt, MISSING, 1, &ALL_IN_JSON, &FIRST_DOCUMENT)
-}
-
-fn expect_start_on(
-    rt: &impl Abort,
-    alloc: Global,
-    index: &Index,
-    asked: &Asked<'_>,
-    start: &str,
-) -> Result<(), Fail> {
-    let config = config_of(alloc, asked)?;
-    let told = report_since_on(alloc, index, &[], &config)?;
-    assert!(rt; told.0.as_slice().starts_with(start.as_bytes()), "{start}");
-    Ok(())
-}
-
-/// Whether the report since an earlier index without broken packages begins with this.
-fn expect_start(
-    rt: &(impl Abort + AllocGlobal),
-    asked: &Asked<'_>,
-    start: &str,
-) -> Result<(), Fail> {
-    on_index(rt.alloc(), MISSING, |index| {
-        expect_start_on(rt, rt.alloc(), index, asked, start)
-    })
-}
-
 const MANY_WORDS: &str =
     r#"{"format":1,"options":["explain","failures","ignore-essential","checkonly","bg","since","all-reasons","why"],"architecture":"amd64","report":["#;
-
-#[test]
-fn a_document_begins_with_its_words(rt: HostRuntime) -> Result<(), Fail> {
-    let asked = Asked {
-        show: Show::Failures,
-        only: Some(&[b"a"]),
-        essential: false,
-        background: true,
-        why: true,
-        ..ALL_IN_JSON
-    };
-    expect_start(&rt, &asked, MANY_WORDS)
-}
 
 const FEW_WORDS: &str =
     r#"{"format":1,"options":["successes","since","why"],"architecture":"amd64","report":["#;
 
-#[test]
-fn a_document_begins_with_few_words(rt: HostRuntime) -> Result<(), Fail> {
-    let asked = Asked {
-        explain: false,
-        show: Show::Successes,
-        why: true,
-        format: Format::Json,
-        ..USUAL
-    };
-    expect_start(&rt, &asked, FEW_WORDS)
-}
+/// The document where the later cores of the first place alone are known.
+pub const FIRST_IN_JSON: Case = Case {
+    name: "later cores in JSON of the first place alone",
+    text: MISSING,
+    call: Call::Told(1),
+    asked: ALL_IN_JSON,
+    wanted: Wanted::Whole(&[
+        DOCUMENT_HEAD,
+        DOCUMENT_ALSO,
+        DOCUMENT_SECOND,
+        "[]",
+        DOCUMENT_TAIL,
+    ]),
+    ..REPORT
+};
 
-/// Where no new word is said, a document is as it always was.
+const CASES: &[Case] = &[
+    Case {
+        name: "later cores stand behind the first",
+        text: MISSING,
+        call: Call::Told(3),
+        asked: ALL_REASONS,
+        wanted: Wanted::Whole(&[HEAD, FIRST, FIRST_ALSO, SECOND, SECOND_ALSO, THIRD, TAIL]),
+        ..REPORT
+    },
+    Case {
+        name: "a place past the end of the list has no later cores",
+        text: MISSING,
+        call: Call::Told(1),
+        asked: ALL_REASONS,
+        wanted: Wanted::Whole(&[HEAD, FIRST, FIRST_ALSO, SECOND, THIRD, TAIL]),
+        ..REPORT
+    },
+    Case {
+        name: "later cores that are not asked for",
+        text: MISSING,
+        call: Call::Told(3),
+        wanted: Wanted::Whole(&[HEAD, FIRST, SECOND, THIRD, TAIL]),
+        ..REPORT
+    },
+    Case {
+        name: "no later cores are known",
+        text: MISSING,
+        asked: ALL_REASONS,
+        wanted: Wanted::Whole(&[HEAD, FIRST, SECOND, THIRD, TAIL]),
+        ..REPORT
+    },
+    Case {
+        name: "later cores are explanations",
+        text: MISSING,
+        call: Call::Told(3),
+        asked: Asked {
+            explain: false,
+            show: Show::Failures,
+            ..ALL_REASONS
+        },
+        wanted: Wanted::Whole(&[HEAD, SHORT_BLOCKS, TAIL]),
+        ..REPORT
+    },
+    Case {
+        name: "later cores in JSON",
+        text: MISSING,
+        call: Call::Told(3),
+        asked: ALL_IN_JSON,
+        wanted: Wanted::Whole(&[
+            DOCUMENT_HEAD,
+            DOCUMENT_ALSO,
+            DOCUMENT_SECOND,
+            DOCUMENT_SECOND_ALSO,
+            DOCUMENT_TAIL,
+        ]),
+        ..REPORT
+    },
+    FIRST_IN_JSON,
+    Case {
+        name: "a document begins with its words",
+        text: MISSING,
+        call: Call::Since(""),
+        asked: Asked {
+            show: Show::Failures,
+            only: Some(&[b"a"]),
+            essential: false,
+            background: true,
+            why: true,
+            ..ALL_IN_JSON
+        },
+        wanted: Wanted::Start(MANY_WORDS),
+        ..REPORT
+    },
+    Case {
+        name: "a document begins with few words",
+        text: MISSING,
+        call: Call::Since(""),
+        asked: Asked {
+            explain: false,
+            show: Show::Successes,
+            why: true,
+            format: Format::Json,
+            ..USUAL
+        },
+        wanted: Wanted::Start(FEW_WORDS),
+        ..REPORT
+    },
+    Case {
+        name: "where no new word is said, a document is as it always was",
+        text: MISSING,
+        call: Call::Since(""),
+        asked: Asked {
+            background: true,
+            format: Format::Json,
+            ..USUAL
+        },
+        wanted: Wanted::Start(r#"{"architecture":"amd64","report":["#),
+        ..REPORT
+    },
+];
+
 #[test]
-fn a_document_without_words(rt: HostRuntime) -> Result<(), Fail> {
-    let asked = Asked {
-        background: true,
-        format: Format::Json,
-        ..USUAL
-    };
-    expect_start(&rt, &asked, r#"{"architecture":"amd64","report":["#)
+fn later_cores_and_words(rt: HostRuntime) -> Result<(), Fail> {
+    for case in CASES {
+        expect(&rt, case)?;
+    }
+    Ok(())
 }

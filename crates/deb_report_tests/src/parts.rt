@@ -1,9 +1,7 @@
 //! The asked places and the report, each by itself.
 
-use crate::asking::{Answer, Asked, USUAL, expect_places, expect_report, on_index};
-use deb_index::Index;
+use crate::asking::{Answer, Asked, Case, REPORT, USUAL, Wanted, expect, expect_places};
 use deb_report::{Config, Show};
-use std::alloc::Global;
 use std::process::Abort;
 use std::test::Fail;
 
@@ -55,28 +53,23 @@ Architecture: all
 Conflicts: base
 ";
 
-fn expect_rising_places(rt: &impl Abort, alloc: Global, index: &Index) -> Result<(), Fail> {
-    expect_places(
-        rt,
-        alloc,
-        index,
-        None,
-        Answer::Places(&[0, 1, 2, 3, 4, 5, 6]),
-    )?;
-    let twice: &[&[u8]] = &[b"e", b"n", b"a", b"e"];
-    expect_places(rt, alloc, index, Some(twice), Answer::Places(&[0, 1, 2, 6]))?;
-    expect_places(rt, alloc, index, Some(&[]), Answer::Places(&[]))?;
-    let unknown: &[&[u8]] = &[b"a", b"zz", b"b", b"yy"];
-    expect_places(rt, alloc, index, Some(unknown), Answer::Unknown(b"zz"))
-}
+/// Asked names, and the answer to them.
+const PLACES: &[(Option<&[&[u8]]>, Answer<'static>)] = &[
+    (None, Answer::Places(&[0, 1, 2, 3, 4, 5, 6])),
+    (
+        Some(&[b"e", b"n", b"a", b"e"]),
+        Answer::Places(&[0, 1, 2, 6]),
+    ),
+    (Some(&[]), Answer::Places(&[])),
+    (Some(&[b"a", b"zz", b"b", b"yy"]), Answer::Unknown(b"zz")),
+];
 
 #[test]
 fn places_of_names_rise(rt: HostRuntime) -> Result<(), Fail> {
-    on_index(
-        rt.alloc(),
-        RELATED,
-        |index| expect_rising_places(&rt, rt.alloc(), index),
-    )
+    for (only, wanted) in PLACES {
+        expect_places(&rt, RELATED, *only, *wanted)?;
+    }
+    Ok(())
 }
 
 const HEAD: &str = "architecture: amd64\nreport:\n";
@@ -141,30 +134,6 @@ const RELATED_SUCCESSES: &str = " -
 
 const RELATED_TAIL: &str = "stanzas: 7\nskipped: 0\nduplicates: 0\nasked: 7\nbroken: 3\n";
 
-#[test]
-fn failures_or_successes_alone(rt: HostRuntime) -> Result<(), Fail> {
-    let failures = Asked {
-        show: Show::Failures,
-        ..USUAL
-    };
-    expect_report(
-        &rt,
-        RELATED,
-        &failures,
-        &[HEAD, RELATED_FAILURES, RELATED_TAIL],
-    )?;
-    let successes = Asked {
-        show: Show::Successes,
-        ..USUAL
-    };
-    expect_report(
-        &rt,
-        RELATED,
-        &successes,
-        &[HEAD, RELATED_SUCCESSES, RELATED_TAIL],
-    )
-}
-
 const ESSENTIAL_REPORT: &str = "architecture: amd64
 report:
  -
@@ -189,11 +158,6 @@ asked: 2
 broken: 1
 ";
 
-#[test]
-fn essential_names_are_reasons(rt: HostRuntime) -> Result<(), Fail> {
-    expect_report(&rt, ESSENTIAL, &USUAL, &[ESSENTIAL_REPORT])
-}
-
 const SHORT_REPORT: &str = "architecture: amd64
 report:
  -
@@ -208,34 +172,74 @@ asked: 1
 broken: 1
 ";
 
+const CASES: &[Case] = &[
+    Case {
+        name: "failures alone",
+        text: RELATED,
+        asked: Asked {
+            show: Show::Failures,
+            ..USUAL
+        },
+        wanted: Wanted::Whole(&[HEAD, RELATED_FAILURES, RELATED_TAIL]),
+        ..REPORT
+    },
+    Case {
+        name: "successes alone",
+        text: RELATED,
+        asked: Asked {
+            show: Show::Successes,
+            ..USUAL
+        },
+        wanted: Wanted::Whole(&[HEAD, RELATED_SUCCESSES, RELATED_TAIL]),
+        ..REPORT
+    },
+    Case {
+        name: "essential names are reasons",
+        text: ESSENTIAL,
+        wanted: Wanted::Whole(&[ESSENTIAL_REPORT]),
+        ..REPORT
+    },
+    Case {
+        name: "a report without explanations",
+        text: ESSENTIAL,
+        asked: Asked {
+            explain: false,
+            only: Some(&[b"x"]),
+            ..USUAL
+        },
+        wanted: Wanted::Whole(&[SHORT_REPORT]),
+        ..REPORT
+    },
+];
+
 #[test]
-fn a_report_without_explanations(rt: HostRuntime) -> Result<(), Fail> {
-    let asked = Asked {
-        explain: false,
-        only: Some(&[b"x"]),
-        ..USUAL
-    };
-    expect_report(&rt, ESSENTIAL, &asked, &[SHORT_REPORT])
+fn reports(rt: HostRuntime) -> Result<(), Fail> {
+    for case in CASES {
+        expect(&rt, case)?;
+    }
+    Ok(())
 }
 
+/// Whether blocks explain, which packages have one, and whether the sets are told.
+const SETS_TOLD: &[(bool, Show, bool)] = &[
+    (true, Show::All, true),
+    (true, Show::Failures, false),
+    (true, Show::Successes, true),
+    (false, Show::All, false),
+    (false, Show::Failures, false),
+    (false, Show::Successes, false),
+];
+
 fn expect_sets_told(rt: &impl Abort, config: &mut Config) {
-    for (explain, show, wanted) in [
-        (true, Show::All, true),
-        (true, Show::Failures, false),
-        (true, Show::Successes, true),
-        (false, Show::All, false),
-        (false, Show::Failures, false),
-        (false, Show::Successes, false),
-    ] {
-        config.explain = explain;
-        config.show = show;
-        assert_eq!(rt; config.shows_sets(), wanted);
+    for (explain, show, wanted) in SETS_TOLD {
+        config.explain = *explain;
+        config.show = *show;
+        assert!(rt; config.shows_sets() == *wanted, "sets: {explain}, {show:?}");
     }
 }
 
 #[test]
-fn sets_are_told_where_blocks_explain(rt: HostRuntime) -> Result<(), Fail> {
-    let mut config = Config::usual(rt.alloc())?;
+fn sets_are_told_where_blocks_explain(rt: HostRuntime) {
+    let mut config = Config::usual(rt.alloc()).expect(&rt, "no memory");
     expect_sets_told(&rt, &mut config);
-    Ok(())
 }

@@ -1,13 +1,13 @@
-//! The report on what is asked of an index.
+//! The verdicts on what is asked of an index, and the calls that answer from them.
 
-ghost use Rattle.std.specs.Prelude.{◌≡◌, ◌<◌, ◌≤◌, All, IfOk, length, map};
+ghost use Rattle.std.specs.Prelude.{◌≡◌, ◌^◌, ◌<◌, ◌≤◌, All, IfOk, length, map};
 ghost use Rattle.deb_index.specs.Constraints.{IsOfIndex};
 ghost use Rattle.deb_health.specs.Verdicts.{SpeaksOf, verdict_view};
 
+use crate::asking::index_of;
 use deb_index::{Constraint, Index};
 use deb_report::{
-    BrokenPackage, Config, Summary, asked_places, broken_packages, earlier_places, newly_broken,
-    report, report_since, report_told,
+    BrokenPackage, Config, broken_packages, earlier_places, newly_broken, report_since, report_told,
 };
 use deb_verdict::{Groundwork, Verdict, Workspace, cores_in, verdict};
 use std::alloc::{AllocError, Global};
@@ -41,18 +41,6 @@ pub fn verdicts_of(alloc: Global, index: &Index, places: &[u32]) -> Result<Vec<V
         verdicts.push(verdict(alloc, index, *place)?)?;
     }
     Ok(verdicts)
-}
-
-/// The report on the places that are asked.
-///
-/// # Errors
-///
-/// A name that no package has, or want of memory.
-pub fn report_on(alloc: Global, index: &Index, config: &Config) -> Result<Vec<u8>, Fail> {
-    let asked = asked_places(alloc, index, config)?;
-    let asked = asked.as_slice();
-    let verdicts = verdicts_of(alloc, index, asked)?;
-    Ok(report(alloc, index, asked, verdicts.as_slice(), config)?)
 }
 
 /// The cores behind the first of the package at a place.
@@ -90,39 +78,32 @@ fn later_below(
     Ok(later)
 }
 
-/// The report on the places that are asked, with the cores behind the first of the places below a number.
+/// The report with the cores behind the first of the places below a number.
 ///
 /// # Errors
 ///
-/// A name that no package has, or want of memory.
-pub fn report_told_on(
+/// Fewer packages, or want of memory.
+pub fn report_with_later(
     alloc: Global,
     index: &Index,
+    places: &[u32],
+    verdicts: &[Verdict],
     count: u32,
     config: &Config,
 ) -> Result<Vec<u8>, Fail>
-    requires { count ≤ length index.now.packages }
+    requires same { length places.now ≡ length verdicts.now }
+    requires within { All (λ place. place < length index.now.packages) places.now }
+    requires speaks { All (SpeaksOf index.now) (map verdict_view verdicts.now) }
 {
-    let asked = asked_places(alloc, index, config)?;
-    let asked = asked.as_slice();
-    let verdicts = verdicts_of(alloc, index, asked)?;
+    if count > index.len() {
+        return Err("fewer packages".into());
+    }
     let later = later_below(alloc, index, count)?;
-    Ok(report_told(
-        alloc,
-        index,
-        asked,
-        verdicts.as_slice(),
-        later.as_slice(),
-        config,
-    )?)
+    Ok(report_told(alloc, index, places, verdicts, later.as_slice(), config)?)
 }
 
-/// The broken packages of an earlier index.
-///
-/// # Errors
-///
-/// Want of memory.
-pub fn broken_before(
+/// The broken packages of an index.
+fn broken_before(
     alloc: Global,
     index: &Index,
     config: &Config,
@@ -133,44 +114,52 @@ pub fn broken_before(
     broken_packages(alloc, index, places, verdicts.as_slice())
 }
 
-/// The places of the newly broken packages, of those that are asked.
-///
-/// # Errors
-///
-/// A name that no package has, or want of memory.
-pub fn newly_broken_on(
-    alloc: Global,
-    index: &Index,
-    before: &[BrokenPackage],
-    config: &Config,
-) -> Result<Vec<u32>, Fail> {
-    let asked = asked_places(alloc, index, config)?;
-    let asked = asked.as_slice();
-    let verdicts = verdicts_of(alloc, index, asked)?;
-    Ok(newly_broken(alloc, index, asked, verdicts.as_slice(), before)?)
+/// The broken packages of the index of a text.
+fn broken_in(alloc: Global, text: &str, config: &Config) -> Result<Vec<BrokenPackage>, Fail> {
+    let index = index_of(alloc, text, "")?;
+    Ok(broken_before(alloc, &index, config)?)
 }
 
-/// The report on what became of the places that are asked, with its numbers.
+/// The places of what is newly broken since the index of an earlier text.
 ///
 /// # Errors
 ///
-/// A name that no package has, or want of memory.
-pub fn report_since_on(
+/// A text that is no index, or want of memory.
+pub fn news_since(
     alloc: Global,
     index: &Index,
-    before: &[BrokenPackage],
+    places: &[u32],
+    verdicts: &[Verdict],
+    earlier: &str,
     config: &Config,
-) -> Result<(Vec<u8>, Summary), Fail> {
-    let asked = asked_places(alloc, index, config)?;
-    let asked = asked.as_slice();
-    let verdicts = verdicts_of(alloc, index, asked)?;
-    Ok(report_since(
-        alloc,
-        index,
-        asked,
-        verdicts.as_slice(),
-        &[],
-        before,
-        config,
-    )?)
+) -> Result<Vec<u32>, Fail>
+    requires same { length places.now ≡ length verdicts.now }
+    requires within { All (λ place. place < length index.now.packages) places.now }
+    requires speaks { All (SpeaksOf index.now) (map verdict_view verdicts.now) }
+{
+    let before = broken_in(alloc, earlier, config)?;
+    Ok(newly_broken(alloc, index, places, verdicts, &before)?)
+}
+
+/// The report on what became of the places since the index of an earlier text.
+///
+/// # Errors
+///
+/// A text that is no index, or want of memory.
+pub fn report_since_earlier(
+    alloc: Global,
+    index: &Index,
+    places: &[u32],
+    verdicts: &[Verdict],
+    earlier: &str,
+    config: &Config,
+) -> Result<Vec<u8>, Fail>
+    requires few { length places.now < 2 ^ 32 }
+    requires same { length places.now ≡ length verdicts.now }
+    requires within { All (λ place. place < length index.now.packages) places.now }
+    requires speaks { All (SpeaksOf index.now) (map verdict_view verdicts.now) }
+{
+    let before = broken_in(alloc, earlier, config)?;
+    let told = report_since(alloc, index, places, verdicts, &[], &before, config)?;
+    Ok(told.0)
 }

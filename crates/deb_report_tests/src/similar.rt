@@ -1,6 +1,6 @@
 //! The names of an index that differ in numbers alone from missing ones.
 
-use crate::asking::{Asked, USUAL, expect_end};
+use crate::asking::{Asked, Case, REPORT, USUAL, Wanted, expect};
 use deb_report::{Format, Show};
 use std::alloc::AllocGlobal;
 use std::process::Abort;
@@ -43,11 +43,6 @@ causes: 1
    - libio-pty-perl 1
 ";
 
-#[test]
-fn provided_names(rt: HostRuntime) -> Result<(), Fail> {
-    expect_end(&rt, NUMBERED, &CAUSES, NUMBERED_CAUSES)
-}
-
 const NUMBERED_JSON: &str = "\"causes\":[
 {\"packages\":1,\"frees\":1,\"reasons\":[{\"kind\":\"missing\",\"relation\":\"perlapi-5.42.2\"}],\
 \"needed-by\":[{\"package\":\"libio-pty-perl\",\"version\":\"1\",\"field\":\"Depends\",\"relation\":\"perlapi-5.42.2\"}],\
@@ -55,89 +50,6 @@ const NUMBERED_JSON: &str = "\"causes\":[
 \"broken\":[{\"package\":\"libio-pty-perl\",\"version\":\"1\"}]}
 ]}
 ";
-
-#[test]
-fn similar_names_in_json(rt: HostRuntime) -> Result<(), Fail> {
-    let json = Asked {
-        format: Format::Json,
-        ..CAUSES
-    };
-    expect_end(&rt, NUMBERED, &json, NUMBERED_JSON)
-}
-
-/// The index of a package that needs a name, and of one that has another.
-fn expect_similar(
-    rt: &(impl Abort + AllocGlobal),
-    missing: &str,
-    other: &str,
-    similar: &str,
-) -> Result<(), Fail> {
-    let alloc = rt.alloc();
-    let text = format!(in alloc;
-        "Package: a\nVersion: 1\nArchitecture: all\nDepends: {missing}\n\nPackage: {other}\nVersion: 1\nArchitecture: all\n"
-    )?;
-    let end = format!(in alloc;
-        "  needed-by:\n   - a 1 Depends: {missing}\n{similar}  broken:\n   - a 1\n"
-    )?;
-    expect_end(rt, text.as_str(), &CAUSES, end.as_str())
-}
-
-#[test]
-fn numbers_of_libraries(rt: HostRuntime) -> Result<(), Fail> {
-    expect_similar(
-        &rt,
-        "librust-typed-path-0.12+default-dev",
-        "librust-typed-path-0.13+default-dev",
-        "  similar:\n   - librust-typed-path-0.13+default-dev\n",
-    )?;
-    expect_similar(
-        &rt,
-        "libbluray2",
-        "libbluray3",
-        "  similar:\n   - libbluray3\n",
-    )?;
-    expect_similar(
-        &rt,
-        "libboost-filesystem1.83.0",
-        "libboost-filesystem1.88.0",
-        "  similar:\n   - libboost-filesystem1.88.0\n",
-    )?;
-    expect_similar(
-        &rt,
-        "linux-headers-6.1.0-18-amd64",
-        "linux-headers-6.12.3-amd64",
-        "",
-    )?;
-    expect_similar(
-        &rt,
-        "linux-headers-6.1.0-18-amd64",
-        "linux-headers-6.12.3-1-amd64",
-        "  similar:\n   - linux-headers-6.12.3-1-amd64\n",
-    )?;
-    expect_similar(
-        &rt,
-        "python3.12-abi",
-        "python3-abi",
-        "  similar:\n   - python3-abi\n",
-    )
-}
-
-#[test]
-fn sums_of_interfaces(rt: HostRuntime) -> Result<(), Fail> {
-    expect_similar(
-        &rt,
-        "libcoq-elpi-gwzp3",
-        "libcoq-elpi-5btd8",
-        "  similar:\n   - libcoq-elpi-5btd8\n",
-    )?;
-    expect_similar(&rt, "libcoq-elpi-gwzp3", "libcoq-elpi-abcde", "")
-}
-
-#[test]
-fn names_without_numbers_alone_are_similar_to_none(rt: HostRuntime) -> Result<(), Fail> {
-    expect_similar(&rt, "abcd", "abce", "")?;
-    expect_similar(&rt, "abcdef", "abcdef2", "  similar:\n   - abcdef2\n")
-}
 
 const MANY: &str = "Package: a
 Version: 1
@@ -188,12 +100,6 @@ causes: 1
    - b 1
 ";
 
-/// Alternative by alternative, those of each in the order of the index; each once, none of the missing ones themselves, and no more than ten.
-#[test]
-fn at_most_ten_in_order(rt: HostRuntime) -> Result<(), Fail> {
-    expect_end(&rt, MANY, &CAUSES, MANY_CAUSES)
-}
-
 const OWN: &str = "Package: a
 Version: 1
 Architecture: all
@@ -221,8 +127,120 @@ const OWN_SIMILAR: &str = "  present:
    - a 1
 ";
 
-/// The missing name is one of the first ten with its stem, and isn't told.
+const CASES: &[Case] = &[
+    Case {
+        name: "provided names",
+        text: NUMBERED,
+        asked: CAUSES,
+        wanted: Wanted::End(NUMBERED_CAUSES),
+        ..REPORT
+    },
+    Case {
+        name: "similar names in JSON",
+        text: NUMBERED,
+        asked: Asked {
+            format: Format::Json,
+            ..CAUSES
+        },
+        wanted: Wanted::End(NUMBERED_JSON),
+        ..REPORT
+    },
+    // Alternative by alternative, those of each in the order of the index; each once, none of the missing ones themselves, and no more than ten.
+    Case {
+        name: "at most ten in order",
+        text: MANY,
+        asked: CAUSES,
+        wanted: Wanted::End(MANY_CAUSES),
+        ..REPORT
+    },
+    // The missing name is one of the first ten with its stem, and isn't told.
+    Case {
+        name: "the name itself is one of ten",
+        text: OWN,
+        asked: CAUSES,
+        wanted: Wanted::End(OWN_SIMILAR),
+        ..REPORT
+    },
+];
+
 #[test]
-fn the_name_itself_is_one_of_ten(rt: HostRuntime) -> Result<(), Fail> {
-    expect_end(&rt, OWN, &CAUSES, OWN_SIMILAR)
+fn similar_names(rt: HostRuntime) -> Result<(), Fail> {
+    for case in CASES {
+        expect(&rt, case)?;
+    }
+    Ok(())
+}
+
+/// A missing name, another one that the index has, and what is told of it.
+const PAIRS: &[(&str, &str, &str)] = &[
+    // Numbers of libraries.
+    (
+        "librust-typed-path-0.12+default-dev",
+        "librust-typed-path-0.13+default-dev",
+        "  similar:\n   - librust-typed-path-0.13+default-dev\n",
+    ),
+    ("libbluray2", "libbluray3", "  similar:\n   - libbluray3\n"),
+    (
+        "libboost-filesystem1.83.0",
+        "libboost-filesystem1.88.0",
+        "  similar:\n   - libboost-filesystem1.88.0\n",
+    ),
+    (
+        "linux-headers-6.1.0-18-amd64",
+        "linux-headers-6.12.3-amd64",
+        "",
+    ),
+    (
+        "linux-headers-6.1.0-18-amd64",
+        "linux-headers-6.12.3-1-amd64",
+        "  similar:\n   - linux-headers-6.12.3-1-amd64\n",
+    ),
+    (
+        "python3.12-abi",
+        "python3-abi",
+        "  similar:\n   - python3-abi\n",
+    ),
+    // Sums of interfaces.
+    (
+        "libcoq-elpi-gwzp3",
+        "libcoq-elpi-5btd8",
+        "  similar:\n   - libcoq-elpi-5btd8\n",
+    ),
+    ("libcoq-elpi-gwzp3", "libcoq-elpi-abcde", ""),
+    // Names without numbers alone are similar to none.
+    ("abcd", "abce", ""),
+    ("abcdef", "abcdef2", "  similar:\n   - abcdef2\n"),
+];
+
+/// The index of a package that needs a name, and of one that has another.
+fn expect_similar(
+    rt: &(impl Abort + AllocGlobal),
+    missing: &str,
+    other: &str,
+    similar: &str,
+) -> Result<(), Fail> {
+    let alloc = rt.alloc();
+    let text = format!(in alloc;
+        "Package: a\nVersion: 1\nArchitecture: all\nDepends: {missing}\n\nPackage: {other}\nVersion: 1\nArchitecture: all\n"
+    )?;
+    let text = text.as_str();
+    let end = format!(in alloc;
+        "  needed-by:\n   - a 1 Depends: {missing}\n{similar}  broken:\n   - a 1\n"
+    )?;
+    let case = Case {
+        name: text,
+        text,
+        asked: CAUSES,
+        wanted: Wanted::End(&end),
+        ..REPORT
+    };
+    expect(rt, &case)
+}
+
+#[test]
+fn pairs_of_names(rt: HostRuntime) -> Result<(), Fail> {
+    for (missing, other, similar) in PAIRS {
+        expect_similar(&rt, missing, other, similar)?;
+    }
+    Ok(())
 }

@@ -1,62 +1,11 @@
 //! The report since an earlier index.
 
-use crate::asking::{Asked, USUAL, config_of, index_of, is_made_of, on_both, on_index};
-use crate::reporting::{broken_before, newly_broken_on, report_since_on};
-use deb_index::Index;
-use deb_report::{BrokenPackage, Format, Show};
-use std::alloc::{AllocGlobal, Global};
-use std::process::Abort;
+use crate::asking::{Asked, Call, Case, REPORT, USUAL, Wanted, expect};
+use deb_report::{Format, Show};
 use std::test::Fail;
 
-fn broken_in(alloc: Global, text: &str, asked: &Asked<'_>) -> Result<Vec<BrokenPackage>, Fail> {
-    let config = config_of(alloc, asked)?;
-    let index = index_of(alloc, text, "")?;
-    Ok(broken_before(alloc, &index, &config)?)
-}
-
-fn expect_since_on(
-    rt: &impl Abort,
-    alloc: Global,
-    index: &Index,
-    before: &[BrokenPackage],
-    asked: &Asked<'_>,
-    wanted: &[&str],
-) -> Result<(), Fail> {
-    let config = config_of(alloc, asked)?;
-    let told = report_since_on(alloc, index, before, &config)?;
-    assert!(rt; is_made_of(&told.0, wanted), "{:?}", told.0);
-    Ok(())
-}
-
-/// Compares the report on the index of a text and a background since an earlier index with what is expected, whose parts stand one behind
-/// the other.
-fn expect_since_over(
-    rt: &(impl Abort + AllocGlobal),
-    earlier: &str,
-    text: &str,
-    background: &str,
-    asked: &Asked<'_>,
-    wanted: &[&str],
-) -> Result<(), Fail> {
-    let before = broken_in(rt.alloc(), earlier, asked)?;
-    on_both(rt.alloc(), text, background, |index| {
-        expect_since_on(rt, rt.alloc(), index, before.as_slice(), asked, wanted)
-    })
-}
-
-/// The same without a background.
-pub fn expect_since(
-    rt: &(impl Abort + AllocGlobal),
-    earlier: &str,
-    text: &str,
-    asked: &Asked<'_>,
-    wanted: &[&str],
-) -> Result<(), Fail> {
-    expect_since_over(rt, earlier, text, "", asked, wanted)
-}
-
 /// Two broken packages and one that isn't.
-pub const EARLIER: &str = "Package: a
+const EARLIER: &str = "Package: a
 Version: 1
 Architecture: all
 Depends: lib
@@ -72,7 +21,7 @@ Architecture: all
 ";
 
 /// The first is mended, the second is gone, the third is broken, and so is one more.
-pub const LATER: &str = "Package: a
+const LATER: &str = "Package: a
 Version: 2
 Architecture: all
 
@@ -87,11 +36,11 @@ Architecture: all
 Depends: c
 ";
 
-pub const HEAD: &str = "architecture: amd64
+const HEAD: &str = "architecture: amd64
 report:
 ";
 
-pub const BLOCKS: &str = " -
+const BLOCKS: &str = " -
   package: c
   version: 1
   architecture: amd64
@@ -108,7 +57,7 @@ pub const BLOCKS: &str = " -
    - depends: d 1 Depends: c
 ";
 
-pub const NUMBERS: &str = "stanzas: 3
+const NUMBERS: &str = "stanzas: 3
 skipped: 0
 duplicates: 0
 asked: 3
@@ -120,7 +69,7 @@ gone:
  - b 2
 ";
 
-pub const ONE_CAUSE: &str = "causes: 1
+const ONE_CAUSE: &str = "causes: 1
  -
   packages: 2
   frees: 2
@@ -132,16 +81,6 @@ pub const ONE_CAUSE: &str = "causes: 1
    - c 1
    - d 1
 ";
-
-/// The newly broken have a block, whatever is to be shown.
-#[test]
-fn news_mended_and_gone(rt: HostRuntime) -> Result<(), Fail> {
-    for show in [Show::All, Show::Failures, Show::Successes] {
-        let asked = Asked { show, ..USUAL };
-        expect_since(&rt, EARLIER, LATER, &asked, &[HEAD, BLOCKS, NUMBERS])?;
-    }
-    Ok(())
-}
 
 const SHORT_BLOCKS: &str = " -
   package: c
@@ -155,33 +94,11 @@ const SHORT_BLOCKS: &str = " -
   status: broken
 ";
 
-#[test]
-fn causes_without_explanations(rt: HostRuntime) -> Result<(), Fail> {
-    let asked = Asked {
-        explain: false,
-        causes: true,
-        ..USUAL
-    };
-    let wanted = [HEAD, SHORT_BLOCKS, NUMBERS, ONE_CAUSE];
-    expect_since(&rt, EARLIER, LATER, &asked, &wanted)
-}
-
 const DOCUMENT: &str = r#"{"architecture":"amd64","report":[
 {"package":"c","version":"1","architecture":"amd64","status":"broken"},
 {"package":"d","version":"1","architecture":"all","status":"broken"}
 ],"stanzas":3,"skipped":0,"duplicates":0,"asked":3,"broken":2,"newly-broken":2,"mended":[{"package":"a","version":"1"}],"gone":[{"package":"b","version":"2"}]}
 "#;
-
-/// In JSON, without explanations and causes.
-#[test]
-fn a_short_document(rt: HostRuntime) -> Result<(), Fail> {
-    let asked = Asked {
-        explain: false,
-        format: Format::Json,
-        ..USUAL
-    };
-    expect_since(&rt, EARLIER, LATER, &asked, &[DOCUMENT])
-}
 
 /// Of the first name one of two versions is broken, and then another one: no news. Of the second none is broken, and then one of two. The two of
 /// the third name are mended by one. The fourth is broken still, in a new version.
@@ -278,11 +195,6 @@ const CAUSES: Asked<'static> = Asked {
     ..USUAL
 };
 
-#[test]
-fn several_versions_of_a_name(rt: HostRuntime) -> Result<(), Fail> {
-    expect_since(&rt, VERSIONS, OTHER_VERSIONS, &CAUSES, &[VERSIONS_REPORT])
-}
-
 const NOTHING_NEW: &str = "architecture: amd64
 report:
 stanzas: 3
@@ -295,12 +207,6 @@ mended:
 gone:
 causes: 0
 ";
-
-/// Since the index itself.
-#[test]
-fn nothing_since_the_same_index(rt: HostRuntime) -> Result<(), Fail> {
-    expect_since(&rt, LATER, LATER, &CAUSES, &[NOTHING_NEW])
-}
 
 const ALL_NEW: &str = "stanzas: 3
 skipped: 0
@@ -325,13 +231,6 @@ gone:
  - a 1
  - b 2
 ";
-
-/// Since an index without packages, and of one without packages.
-#[test]
-fn nothing_before_and_nothing_now(rt: HostRuntime) -> Result<(), Fail> {
-    expect_since(&rt, "", LATER, &USUAL, &[HEAD, BLOCKS, ALL_NEW])?;
-    expect_since(&rt, EARLIER, "", &USUAL, &[ALL_GONE])
-}
 
 /// A name is provided alone, and one is in the background alone.
 const PROVIDED: &str = "Package: p
@@ -360,16 +259,6 @@ gone:
  - b 2
 ";
 
-#[test]
-fn provided_names_and_those_of_a_background(rt: HostRuntime) -> Result<(), Fail> {
-    let asked = Asked {
-        background: true,
-        ..USUAL
-    };
-    let wanted = [STILL_GONE];
-    expect_since_over(&rt, EARLIER, PROVIDED, IN_BACKGROUND, &asked, &wanted)
-}
-
 const TWO_NAMES: &str = "stanzas: 3
 skipped: 0
 duplicates: 0
@@ -391,59 +280,163 @@ const ONE_BLOCK: &str = " -
    - depends: d 1 Depends: c
 ";
 
-/// A listed name that the earlier index doesn't have is no fault.
-#[test]
-fn listed_names(rt: HostRuntime) -> Result<(), Fail> {
-    let asked = Asked {
-        only: Some(&[b"a", b"d"]),
-        ..USUAL
-    };
-    expect_since(&rt, EARLIER, LATER, &asked, &[HEAD, ONE_BLOCK, TWO_NAMES])
-}
+/// The report on the later text since the earlier one, with the causes of what is newly broken.
+pub const SINCE: Case = Case {
+    name: "since an earlier index",
+    text: LATER,
+    call: Call::Since(EARLIER),
+    asked: CAUSES,
+    wanted: Wanted::Whole(&[HEAD, BLOCKS, NUMBERS, ONE_CAUSE]),
+    ..REPORT
+};
 
-fn expect_newly_broken_on(
-    rt: &impl Abort,
-    alloc: Global,
-    index: &Index,
-    before: &[BrokenPackage],
-    asked: &Asked<'_>,
-    wanted: &[u32],
-) -> Result<(), Fail> {
-    let config = config_of(alloc, asked)?;
-    let news = newly_broken_on(alloc, index, before, &config)?;
-    assert_eq!(rt; news.as_slice(), wanted);
+/// The places of what is newly broken since then.
+pub const NEWS: Case = Case {
+    name: "places of the newly broken",
+    text: LATER,
+    call: Call::News(EARLIER),
+    wanted: Wanted::Places(&[1, 2]),
+    ..REPORT
+};
+
+const CASES: &[Case] = &[
+    // The newly broken have a block, whatever is to be shown.
+    Case {
+        name: "news, mended and gone",
+        asked: Asked {
+            show: Show::All,
+            ..USUAL
+        },
+        wanted: Wanted::Whole(&[HEAD, BLOCKS, NUMBERS]),
+        ..SINCE
+    },
+    Case {
+        name: "news, mended and gone",
+        asked: Asked {
+            show: Show::Failures,
+            ..USUAL
+        },
+        wanted: Wanted::Whole(&[HEAD, BLOCKS, NUMBERS]),
+        ..SINCE
+    },
+    Case {
+        name: "news, mended and gone",
+        asked: Asked {
+            show: Show::Successes,
+            ..USUAL
+        },
+        wanted: Wanted::Whole(&[HEAD, BLOCKS, NUMBERS]),
+        ..SINCE
+    },
+    Case {
+        name: "causes without explanations",
+        asked: Asked {
+            explain: false,
+            causes: true,
+            ..USUAL
+        },
+        wanted: Wanted::Whole(&[HEAD, SHORT_BLOCKS, NUMBERS, ONE_CAUSE]),
+        ..SINCE
+    },
+    Case {
+        name: "JSON without explanations and causes",
+        asked: Asked {
+            explain: false,
+            format: Format::Json,
+            ..USUAL
+        },
+        wanted: Wanted::Whole(&[DOCUMENT]),
+        ..SINCE
+    },
+    Case {
+        name: "several versions of a name",
+        text: OTHER_VERSIONS,
+        call: Call::Since(VERSIONS),
+        asked: CAUSES,
+        wanted: Wanted::Whole(&[VERSIONS_REPORT]),
+        ..REPORT
+    },
+    Case {
+        name: "nothing since the same index",
+        text: LATER,
+        call: Call::Since(LATER),
+        asked: CAUSES,
+        wanted: Wanted::Whole(&[NOTHING_NEW]),
+        ..REPORT
+    },
+    Case {
+        name: "nothing before",
+        text: LATER,
+        call: Call::Since(""),
+        wanted: Wanted::Whole(&[HEAD, BLOCKS, ALL_NEW]),
+        ..REPORT
+    },
+    Case {
+        name: "nothing now",
+        call: Call::Since(EARLIER),
+        wanted: Wanted::Whole(&[ALL_GONE]),
+        ..REPORT
+    },
+    Case {
+        name: "provided names and those of a background",
+        text: PROVIDED,
+        background: IN_BACKGROUND,
+        call: Call::Since(EARLIER),
+        asked: Asked {
+            background: true,
+            ..USUAL
+        },
+        wanted: Wanted::Whole(&[STILL_GONE]),
+        ..REPORT
+    },
+    // A listed name that the earlier index doesn't have is no fault.
+    Case {
+        name: "listed names",
+        asked: Asked {
+            only: Some(&[b"a", b"d"]),
+            ..USUAL
+        },
+        wanted: Wanted::Whole(&[HEAD, ONE_BLOCK, TWO_NAMES]),
+        ..SINCE
+    },
+    NEWS,
+    // Of one name another version was broken, of one none is broken any more, and one was broken and is still.
+    Case {
+        name: "places where there are several versions",
+        text: OTHER_VERSIONS,
+        call: Call::News(VERSIONS),
+        wanted: Wanted::Places(&[4]),
+        ..REPORT
+    },
+    Case {
+        name: "no places since the same index",
+        text: LATER,
+        call: Call::News(LATER),
+        wanted: Wanted::Places(&[]),
+        ..REPORT
+    },
+    Case {
+        name: "places where nothing was before",
+        text: OTHER_VERSIONS,
+        call: Call::News(""),
+        wanted: Wanted::Places(&[1, 2, 4]),
+        ..REPORT
+    },
+    Case {
+        name: "places of listed names",
+        asked: Asked {
+            only: Some(&[b"d", b"a"]),
+            ..USUAL
+        },
+        wanted: Wanted::Places(&[2]),
+        ..NEWS
+    },
+];
+
+#[test]
+fn since_an_earlier_index(rt: HostRuntime) -> Result<(), Fail> {
+    for case in CASES {
+        expect(&rt, case)?;
+    }
     Ok(())
-}
-
-/// Compares the places of the newly broken packages of the index of a text since an earlier index with what is expected.
-pub fn expect_newly_broken(
-    rt: &(impl Abort + AllocGlobal),
-    earlier: &str,
-    text: &str,
-    asked: &Asked<'_>,
-    wanted: &[u32],
-) -> Result<(), Fail> {
-    let before = broken_in(rt.alloc(), earlier, asked)?;
-    on_index(rt.alloc(), text, |index| {
-        expect_newly_broken_on(rt, rt.alloc(), index, before.as_slice(), asked, wanted)
-    })
-}
-
-/// Of one name another version was broken, of one none is broken any more, and one was broken and is still.
-#[test]
-fn places_of_the_newly_broken(rt: HostRuntime) -> Result<(), Fail> {
-    expect_newly_broken(&rt, EARLIER, LATER, &USUAL, &[1, 2])?;
-    expect_newly_broken(&rt, VERSIONS, OTHER_VERSIONS, &USUAL, &[4])?;
-    expect_newly_broken(&rt, LATER, LATER, &USUAL, &[])?;
-    expect_newly_broken(&rt, "", OTHER_VERSIONS, &USUAL, &[1, 2, 4])
-}
-
-/// Of listed names alone.
-#[test]
-fn places_of_listed_names(rt: HostRuntime) -> Result<(), Fail> {
-    let asked = Asked {
-        only: Some(&[b"d", b"a"]),
-        ..USUAL
-    };
-    expect_newly_broken(&rt, EARLIER, LATER, &asked, &[2])
 }

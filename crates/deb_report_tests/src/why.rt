@@ -1,6 +1,6 @@
 //! Cores as they are walked from the package.
 
-use crate::asking::{Asked, USUAL, expect_report};
+use crate::asking::{Asked, Case, REPORT, USUAL, Wanted, expect};
 use deb_report::{Format, Show};
 use std::alloc::AllocGlobal;
 use std::process::Abort;
@@ -35,7 +35,14 @@ pub fn expect_walk(rt: &(impl Abort + AllocGlobal), walked: &Walked<'_>) -> Resu
         walked.stanzas,
         "\nskipped: 0\nduplicates: 0\nasked: 1\nbroken: 1\n",
     ];
-    expect_report(rt, walked.text, &asked, &wanted)
+    let case = Case {
+        name: walked.name,
+        text: walked.text,
+        asked,
+        wanted: Wanted::Whole(&wanted),
+        ..REPORT
+    };
+    expect(rt, &case)
 }
 
 /// Compares the reasons of a document on a package with what is expected.
@@ -66,9 +73,17 @@ pub fn expect_reasons<'x>(
         r#","skipped":0,"duplicates":0,"asked":1,"broken":1}"#,
         "\n",
     ];
-    expect_report(rt, walked.text, &asked, &wanted)
+    let case = Case {
+        name: walked.name,
+        text: walked.text,
+        asked,
+        wanted: Wanted::Whole(&wanted),
+        ..REPORT
+    };
+    expect(rt, &case)
 }
 
+/// The example of the README.
 pub const EDITOR: Walked<'static> = Walked {
     text: "Package: dictionary
 Version: 1
@@ -100,12 +115,7 @@ Depends: word-list | dictionary
 ",
 };
 
-/// The example of the README.
-#[test]
-fn the_editor(rt: HostRuntime) -> Result<(), Fail> {
-    expect_walk(&rt, &EDITOR)
-}
-
+/// Either package that provides the name keeps out another that is needed, which comes behind them.
 const TWO_WAYS: Walked<'static> = Walked {
     text: "Package: a
 Version: 1
@@ -147,12 +157,7 @@ Depends: v, c
 ",
 };
 
-/// Either package that provides the name keeps out another that is needed, which comes behind them.
-#[test]
-fn two_ways_to_one_conflict(rt: HostRuntime) -> Result<(), Fail> {
-    expect_walk(&rt, &TWO_WAYS)
-}
-
+/// Eleven packages, each of which needs the next, and the last one that nobody has; of the names that differ in the number the first ten.
 const CHAIN: Walked<'static> = Walked {
     text: "Package: n5
 Version: 1
@@ -226,12 +231,7 @@ Depends: n7
 ",
 };
 
-/// Eleven packages, each of which needs the next, and the last one that nobody has; of the names that differ in the number the first ten.
-#[test]
-fn a_chain_in_another_order(rt: HostRuntime) -> Result<(), Fail> {
-    expect_walk(&rt, &CHAIN)
-}
-
+/// A package that is met by Provides has a line of its own, though the core speaks of it.
 const PROVIDED: Walked<'static> = Walked {
     text: "Package: app
 Version: 1
@@ -253,12 +253,7 @@ Provides: u, v (= 1)
 ",
 };
 
-/// A package that is met by Provides has a line of its own, though the core speaks of it.
-#[test]
-fn met_by_provides_with_a_version(rt: HostRuntime) -> Result<(), Fail> {
-    expect_walk(&rt, &PROVIDED)
-}
-
+/// The third version is none of the walk.
 const VERSIONS: Walked<'static> = Walked {
     text: "Package: p
 Version: 1
@@ -294,12 +289,7 @@ Architecture: all
 ",
 };
 
-/// The third version is none of the walk.
-#[test]
-fn two_versions_of_a_name(rt: HostRuntime) -> Result<(), Fail> {
-    expect_walk(&rt, &VERSIONS)
-}
-
+/// What is essential is told behind the package.
 const ESSENTIAL: Walked<'static> = Walked {
     text: "Package: e
 Version: 1
@@ -320,12 +310,7 @@ Conflicts: e
 ",
 };
 
-/// What is essential is told behind the package.
-#[test]
-fn an_essential_name(rt: HostRuntime) -> Result<(), Fail> {
-    expect_walk(&rt, &ESSENTIAL)
-}
-
+/// What comes near stands in the same line.
 const MISSING: Walked<'static> = Walked {
     text: "Package: a
 Version: 1
@@ -354,12 +339,7 @@ Provides: c, d (= 3), f
 ",
 };
 
-/// What comes near stands in the same line.
-#[test]
-fn missing_with_what_is_present(rt: HostRuntime) -> Result<(), Fail> {
-    expect_walk(&rt, &MISSING)
-}
-
+/// What comes near, and behind it the names that are similar.
 const NEWER: Walked<'static> = Walked {
     text: "Package: player
 Version: 1
@@ -382,12 +362,7 @@ Provides: libbluray4
 ",
 };
 
-/// What comes near, and behind it the names that are similar.
-#[test]
-fn missing_with_what_is_present_and_similar(rt: HostRuntime) -> Result<(), Fail> {
-    expect_walk(&rt, &NEWER)
-}
-
+/// Each need has similar names of its own.
 const EITHER: Walked<'static> = Walked {
     text: "Package: p
 Version: 1
@@ -424,12 +399,7 @@ Provides: two2
 ",
 };
 
-/// Each need has similar names of its own.
-#[test]
-fn similar_names_of_each_need(rt: HostRuntime) -> Result<(), Fail> {
-    expect_walk(&rt, &EITHER)
-}
-
+/// What was told is told once.
 const TWICE: Walked<'static> = Walked {
     text: "Package: p
 Version: 1
@@ -461,12 +431,7 @@ Depends: gone
 ",
 };
 
-/// What was told is told once.
-#[test]
-fn met_twice(rt: HostRuntime) -> Result<(), Fail> {
-    expect_walk(&rt, &TWICE)
-}
-
+/// Further in where it forks again; one of the packages was told there.
 const NESTED: Walked<'static> = Walked {
     text: "Package: p
 Version: 1
@@ -499,66 +464,60 @@ Conflicts: p
 ",
 };
 
-/// Further in where it forks again; one of the packages was told there.
-#[test]
-fn a_fork_in_a_fork(rt: HostRuntime) -> Result<(), Fail> {
-    expect_walk(&rt, &NESTED)
-}
-
 pub const EDITOR_REASONS: &str =
     "{\"kind\":\"conflict\",\"package\":\"dictionary\",\"version\":\"1\",\"field\":\"Conflicts\",\"relation\":\"gui (<< 5)\",\"hits\":[{\"package\":\"gui\",\"version\":\"4.0\"}]},\
 {\"kind\":\"depends\",\"package\":\"editor\",\"version\":\"2.1\",\"field\":\"Depends\",\"relation\":\"gui\",\"met-by\":[{\"package\":\"gui\",\"version\":\"4.0\"}]},\
 {\"kind\":\"depends\",\"package\":\"editor\",\"version\":\"2.1\",\"field\":\"Depends\",\"relation\":\"speller (>= 3)\",\"met-by\":[{\"package\":\"speller\",\"version\":\"3.2\"}]},\
 {\"kind\":\"depends\",\"package\":\"speller\",\"version\":\"3.2\",\"field\":\"Depends\",\"relation\":\"word-list | dictionary\",\"met-by\":[{\"package\":\"dictionary\",\"version\":\"1\"}]}";
 
-/// An answer to each need, and what the entry hits.
+const WALKS: &[Walked<'static>] = &[
+    EDITOR, TWO_WAYS, CHAIN, PROVIDED, VERSIONS, ESSENTIAL, MISSING, NEWER, EITHER, TWICE, NESTED,
+];
+
 #[test]
-fn the_editor_in_a_document(rt: HostRuntime) -> Result<(), Fail> {
-    expect_reasons(&rt, &EDITOR, EDITOR_REASONS)
+fn walks(rt: HostRuntime) -> Result<(), Fail> {
+    for walked in WALKS {
+        expect_walk(&rt, walked)?;
+    }
+    Ok(())
 }
 
-/// What provides a need is told with its entry.
-#[test]
-fn answers_by_provides_in_a_document(rt: HostRuntime) -> Result<(), Fail> {
-    expect_reasons(
-        &rt,
+/// Packages, and their reasons in a document.
+const REASONS: &[(&Walked<'static>, &str)] = &[
+    // An answer to each need, and what the entry hits.
+    (&EDITOR, EDITOR_REASONS),
+    // What provides a need is told with its entry.
+    (
         &PROVIDED,
         "{\"kind\":\"depends\",\"package\":\"app\",\"version\":\"1\",\"field\":\"Depends\",\"relation\":\"v (= 1)\",\"met-by\":[{\"package\":\"lib\",\"version\":\"2\",\"provides\":[\"v (= 1)\"]}]},\
 {\"kind\":\"missing\",\"package\":\"lib\",\"version\":\"2\",\"field\":\"Depends\",\"relation\":\"gone\",\"alternatives\":[\"gone\"]}",
-    )
-}
-
-/// All versions of the name.
-#[test]
-fn versions_in_a_document(rt: HostRuntime) -> Result<(), Fail> {
-    expect_reasons(
-        &rt,
+    ),
+    // All versions of the name.
+    (
         &VERSIONS,
         "{\"kind\":\"depends\",\"package\":\"p\",\"version\":\"1\",\"field\":\"Depends\",\"relation\":\"q (= 1)\",\"met-by\":[{\"package\":\"q\",\"version\":\"1\"}]},\
 {\"kind\":\"depends\",\"package\":\"p\",\"version\":\"1\",\"field\":\"Depends\",\"relation\":\"r\",\"met-by\":[{\"package\":\"r\",\"version\":\"1\"}]},\
 {\"kind\":\"depends\",\"package\":\"r\",\"version\":\"1\",\"field\":\"Depends\",\"relation\":\"q (= 2)\",\"met-by\":[{\"package\":\"q\",\"version\":\"2\"}]},\
 {\"kind\":\"versions\",\"name\":\"q\",\"versions\":[{\"package\":\"q\",\"version\":\"1\"},{\"package\":\"q\",\"version\":\"2\"},{\"package\":\"q\",\"version\":\"3\"}]}",
-    )
-}
-
-/// Each alternative of a need that nothing meets.
-#[test]
-fn alternatives_in_a_document(rt: HostRuntime) -> Result<(), Fail> {
-    expect_reasons(
-        &rt,
+    ),
+    // Each alternative of a need that nothing meets.
+    (
         &MISSING,
         "{\"kind\":\"depends\",\"package\":\"a\",\"version\":\"1\",\"field\":\"Pre-Depends\",\"relation\":\"b\",\"met-by\":[{\"package\":\"b\",\"version\":\"1\"}]},\
 {\"kind\":\"missing\",\"package\":\"b\",\"version\":\"1\",\"field\":\"Depends\",\"relation\":\"c (>= 2) | d (>= 4)\",\"alternatives\":[\"c (>= 2)\",\"d (>= 4)\"]}",
-    )
-}
-
-/// An essential name has no member more.
-#[test]
-fn an_essential_name_in_a_document(rt: HostRuntime) -> Result<(), Fail> {
-    expect_reasons(
-        &rt,
+    ),
+    // An essential name has no member more.
+    (
         &ESSENTIAL,
         "{\"kind\":\"essential\",\"name\":\"e\"},\
 {\"kind\":\"conflict\",\"package\":\"x\",\"version\":\"1\",\"field\":\"Conflicts\",\"relation\":\"e\",\"hits\":[{\"package\":\"e\",\"version\":\"1\"}]}",
-    )
+    ),
+];
+
+#[test]
+fn reasons_in_a_document(rt: HostRuntime) -> Result<(), Fail> {
+    for (walked, reasons) in REASONS {
+        expect_reasons(&rt, walked, reasons)?;
+    }
+    Ok(())
 }

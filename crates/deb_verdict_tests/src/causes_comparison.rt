@@ -3,15 +3,13 @@
 
 ghost use Rattle.std.specs.Prelude.{◌<◌, length};
 
-use crate::comparison::lists_chosen;
-use crate::generated::{generated, generated_with_any};
-use crate::grounded::{Grounded, on_ground, on_workspace};
+use crate::comparison::{Counts, NONE, lists_chosen};
+use crate::grounded::Grounded;
 use crate::trial::{find_first_core, find_first_set, has, is_answerable};
 use deb_index::{Constraint, Index};
-use deb_verdict::Workspace;
+use deb_verdict::{Workspace, cores_in};
 use std::alloc::{AllocError, Global};
 use std::process::Abort;
-use std::test::Fail;
 
 /// The constraints without those that are chosen and are no needs that some package of the index meets.
 fn without_cause(
@@ -87,83 +85,27 @@ fn compare_cores(
     workspace: &mut Workspace,
     grounded: &Grounded<'_>,
     p: u32,
-) -> Result<usize, Fail>
+) -> Result<usize, AllocError>
     requires { p < length grounded.now.index.now.packages }
 {
-    let cores = grounded.cores(alloc, workspace, p)?;
+    let cores = cores_in(alloc, workspace, &grounded.groundwork, p)?;
     let as_tried = are_as_tried(alloc, grounded.index, p, &cores)?;
     assert!(rt; as_tried, "place {p}");
     Ok(cores.len())
 }
 
-/// How many packages have causes, and how many have several.
-#[derive(Clone, Copy)]
-struct Counts {
-    broken: u32,
-    several: u32,
-}
-
-impl Counts {
-    fn new() -> Counts {
-        Counts {
-            broken: 0,
-            several: 0,
-        }
-    }
-
-    fn with(self, causes: usize) -> Counts {
-        Counts {
-            broken: self.broken.saturating_add(u32::from(causes > 0)),
-            several: self.several.saturating_add(u32::from(causes > 1)),
-        }
-    }
-
-    fn plus(self, other: Counts) -> Counts {
-        Counts {
-            broken: self.broken.saturating_add(other.broken),
-            several: self.several.saturating_add(other.several),
-        }
-    }
-}
-
-fn compare_all(
+/// Compares the cores of all packages of an index, and counts those that have causes, and those that have several.
+pub fn compare_all_causes(
     rt: &impl Abort,
     alloc: Global,
     workspace: &mut Workspace,
     grounded: &Grounded<'_>,
-) -> Result<Counts, Fail> {
-    let mut counts = Counts::new();
+) -> Result<Counts, AllocError> {
+    let mut counts = NONE;
     for p in 0..grounded.index.len() {
-        counts = counts.with(compare_cores(rt, alloc, workspace, grounded, p)?);
+        let causes = compare_cores(rt, alloc, workspace, grounded, p)?;
+        counts.broken = counts.broken.saturating_add(u32::from(causes > 0));
+        counts.several = counts.several.saturating_add(u32::from(causes > 1));
     }
     Ok(counts)
-}
-
-fn compare_text(rt: &impl Abort, alloc: Global, text: &str) -> Result<Counts, Fail> {
-    on_ground(alloc, text, |grounded| {
-        on_workspace(alloc, |workspace| {
-            compare_all(rt, alloc, workspace, grounded)
-        })
-    })
-}
-
-fn compare_generated(rt: &impl Abort, alloc: Global, seed: u32) -> Result<Counts, Fail> {
-    let text = generated(alloc, seed)?;
-    compare_text(rt, alloc, &text)
-}
-
-fn compare_generated_with_any(rt: &impl Abort, alloc: Global, seed: u32) -> Result<Counts, Fail> {
-    let text = generated_with_any(alloc, seed)?;
-    compare_text(rt, alloc, &text)
-}
-
-#[test]
-fn causes_as_all_sets_say(rt: HostRuntime) -> Result<(), Fail> {
-    let mut counts = Counts::new();
-    for seed in 0..40 {
-        counts = counts.plus(compare_generated(&rt, rt.alloc(), seed)?);
-        counts = counts.plus(compare_generated_with_any(&rt, rt.alloc(), seed)?);
-    }
-    assert!(rt; counts.broken > 50 && counts.several > 5);
-    Ok(())
 }

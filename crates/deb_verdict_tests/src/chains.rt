@@ -1,53 +1,52 @@
 //! First cores along chains of needs, in which each package has one need that the others leave open.
 
-use crate::expected::{expect, expect_lines};
-use crate::lent::on_index;
-use std::alloc::{AllocError, Global};
-use std::test::Fail;
+use crate::expected::{Case, expect_all};
+use crate::numbered::add_numbered;
+use std::alloc::AllocGlobal;
+use std::fmt::Write;
+use std::process::Abort;
 
 /// How many packages the long chain has.
 const LENGTH: u32 = 300;
 
-fn add_package(alloc: Global, text: &mut String, number: u32) -> Result<(), AllocError> {
-    text.push_str(&format!(in alloc; "Package: c{number}\nVersion: 1\n")?)?;
-    text.push_str("Architecture: all\nDepends: c")?;
-    text.push_str(&format!(in alloc; "{}\n\n", number.wrapping_add(1))?)
-}
-
 /// A chain of packages, each of which needs the next one; the last one needs what is missing.
-fn chain(alloc: Global, length: u32) -> Result<String, AllocError> {
-    let mut text = String::new(alloc);
-    for number in 0..length {
-        add_package(alloc, &mut text, number)?;
+fn add_chain(rt: &impl Abort, text: &mut String) {
+    for number in 0..LENGTH {
+        let next = number.wrapping_add(1);
+        let head = "Version: 1\nArchitecture: all";
+        let added = write!(text, "Package: c{number}\n{head}\nDepends: c{next}\n\n");
+        added.expect(rt, "no memory");
     }
-    Ok(text)
 }
 
 /// The line of the core that has the need of each package of a chain from the first one on.
-fn whole_core(alloc: Global, length: u32) -> Result<String, AllocError> {
-    let mut line = String::from_str(alloc, "0 core [Need(0, 0)")?;
-    for number in 1..length {
-        line.push_str(&format!(in alloc; ", Need({number}, 0)")?)?;
-    }
-    line.push_str("]")?;
-    Ok(line)
+fn add_core(rt: &impl Abort, line: &mut String) {
+    line.push_str("0 core [Need(0, 0)").expect(rt, "no memory");
+    add_numbered(rt, line, 1, LENGTH, ", Need(", ", 0)");
+    line.push_str("]").expect(rt, "no memory");
 }
 
 #[test]
-fn long_chain(rt: HostRuntime) -> Result<(), Fail> {
-    let text = chain(rt.alloc(), LENGTH)?;
-    let expected = whole_core(rt.alloc(), LENGTH)?;
-    on_index(
-        rt.alloc(),
-        &text,
-        true,
-        |index| expect_lines(&rt, index, &expected),
-    )
+fn long_chain(rt: HostRuntime) {
+    let mut text = String::new(rt.alloc());
+    add_chain(&rt, &mut text);
+    let mut expected = String::new(rt.alloc());
+    add_core(&rt, &mut expected);
+    let (text, expected) = (text.as_str(), expected.as_str());
+    expect_all(
+        &rt,
+        &[Case {
+            name: "long chain",
+            text,
+            expected,
+        }],
+    );
 }
 
-#[test]
-fn chain_whose_last_keeps_out_its_first(rt: HostRuntime) -> Result<(), Fail> {
-    let text = "Package: a
+const CASES: [Case<'static>; 4] = [
+    Case {
+        name: "chain whose last keeps out its first",
+        text: "Package: a
 Version: 1
 Architecture: all
 Depends: b
@@ -61,17 +60,15 @@ Package: c
 Version: 1
 Architecture: all
 Conflicts: a
-";
-    let expected = "0 core [Need(0, 0), Need(1, 0), Apart(2, 0)]
+",
+        expected: "0 core [Need(0, 0), Need(1, 0), Apart(2, 0)]
 1 set [1, 2]
 2 set [2]
-";
-    expect(&rt, text, true, expected)
-}
-
-#[test]
-fn chain_whose_first_keeps_out_its_last(rt: HostRuntime) -> Result<(), Fail> {
-    let text = "Package: a
+",
+    },
+    Case {
+        name: "chain whose first keeps out its last",
+        text: "Package: a
 Version: 1
 Architecture: all
 Depends: b
@@ -86,17 +83,15 @@ Package: c
 Version: 1
 Architecture: all
 Depends: absent
-";
-    let expected = "0 core [Need(0, 0), Need(1, 0), Need(2, 0)]
+",
+        expected: "0 core [Need(0, 0), Need(1, 0), Need(2, 0)]
 1 core [Need(1, 0), Need(2, 0)]
 2 core [Need(2, 0)]
-";
-    expect(&rt, text, true, expected)
-}
-
-#[test]
-fn chain_to_a_package_that_lacks_two_needs(rt: HostRuntime) -> Result<(), Fail> {
-    let text = "Package: a
+",
+    },
+    Case {
+        name: "chain to a package that lacks two needs",
+        text: "Package: a
 Version: 1
 Architecture: all
 Depends: b
@@ -109,17 +104,15 @@ Depends: absent, c, missing
 Package: c
 Version: 1
 Architecture: all
-";
-    let expected = "0 core [Need(0, 0), Need(1, 2)]
+",
+        expected: "0 core [Need(0, 0), Need(1, 2)]
 1 core [Need(1, 2)]
 2 set [2]
-";
-    expect(&rt, text, true, expected)
-}
-
-#[test]
-fn chain_to_another_version_of_its_first(rt: HostRuntime) -> Result<(), Fail> {
-    let text = "Package: a
+",
+    },
+    Case {
+        name: "chain to another version of its first",
+        text: "Package: a
 Version: 1
 Architecture: all
 Depends: b
@@ -133,10 +126,15 @@ Package: a
 Version: 2
 Architecture: all
 Depends: absent
-";
-    let expected = "0 core [Need(0, 0), Need(1, 0), Only(0)]
+",
+        expected: "0 core [Need(0, 0), Need(1, 0), Only(0)]
 1 core [Need(1, 0), Need(2, 0)]
 2 core [Need(2, 0)]
-";
-    expect(&rt, text, true, expected)
+",
+    },
+];
+
+#[test]
+fn short_chains(rt: HostRuntime) {
+    expect_all(&rt, &CASES);
 }

@@ -1,15 +1,17 @@
-//! The verdicts of small generated indexes, compared with all sets of places and all sets of positions, and their closures with all places.
+//! The verdicts of small generated indexes, compared with all sets of places and all sets of positions, and their closures with all places;
+//! and their cores, as `causes_comparison` does.
 
 ghost use Rattle.std.specs.Prelude.{◌<◌, length};
 
-use crate::generated::{generated, generated_with_any};
-use crate::lent::on_index;
+use crate::causes_comparison::compare_all_causes;
+use crate::generated::generate;
+use crate::grounded::Grounded;
+use crate::lent::{Asked, Question, on_text, on_workspace};
 use crate::trial::{count_refused, find_closure, find_first_core, find_first_set, has};
 use deb_index::{Constraint, Index};
-use deb_verdict::{Verdict, closure, verdict};
-use std::alloc::Global;
+use deb_verdict::{Verdict, Workspace, closure, verdict};
+use std::alloc::{AllocError, AllocGlobal, Global};
 use std::process::Abort;
-use std::test::Fail;
 
 /// Whether a list has the numbers of the marks that are set, rising.
 fn lists(numbers: &[u32], marked: &[bool]) -> bool {
@@ -79,7 +81,7 @@ fn compare_verdict(
     constraints: &[Constraint],
     chosen: &mut [bool],
     set: &mut [bool],
-) -> Result<bool, Fail>
+) -> Result<bool, AllocError>
     requires { p < length index.now.packages }
 {
     let found = verdict(alloc, index, p)?;
@@ -94,7 +96,7 @@ fn count_broken(
     constraints: &[Constraint],
     chosen: &mut [bool],
     set: &mut [bool],
-) -> Result<u32, Fail> {
+) -> Result<u32, AllocError> {
     let mut broken = 0u32;
     for p in 0..index.len() {
         if compare_verdict(rt, alloc, index, p, constraints, chosen, set)? {
@@ -105,7 +107,7 @@ fn count_broken(
 }
 
 /// Compares all verdicts of an index, and counts those that are broken.
-fn compare_verdicts(rt: &impl Abort, alloc: Global, index: &Index) -> Result<u32, Fail> {
+fn compare_verdicts(rt: &impl Abort, alloc: Global, index: &Index) -> Result<u32, AllocError> {
     let constraints = index.constraints(alloc)?;
     let mut chosen = vec![in alloc; false; constraints.len()]?;
     let mut set = vec![in alloc; false; index.len() as usize]?;
@@ -119,7 +121,7 @@ fn compare_closure(
     index: &Index,
     p: u32,
     set: &[bool],
-) -> Result<usize, Fail>
+) -> Result<usize, AllocError>
     requires { p < length index.now.packages }
 {
     let found = closure(alloc, index, p)?;
@@ -132,7 +134,7 @@ fn count_members(
     alloc: Global,
     index: &Index,
     set: &mut [bool],
-) -> Result<usize, Fail> {
+) -> Result<usize, AllocError> {
     let mut members = 0usize;
     for p in 0..index.len() {
         find_closure(index, p, set);
@@ -142,123 +144,130 @@ fn count_members(
 }
 
 /// Compares all closures of an index, and counts their members.
-fn compare_closures(rt: &impl Abort, alloc: Global, index: &Index) -> Result<usize, Fail> {
+fn compare_closures(rt: &impl Abort, alloc: Global, index: &Index) -> Result<usize, AllocError> {
     let mut set = vec![in alloc; false; index.len() as usize]?;
     count_members(rt, alloc, index, &mut set)
 }
 
 /// What is compared of an index.
 #[derive(Clone, Copy)]
-enum Compared {
+pub enum Compared {
     Verdicts,
     Closures,
     Both,
+    Causes,
 }
 
-/// What is counted over generated indexes.
+/// What is counted over generated indexes: broken packages, members of closures, alternatives that lack a mark, and packages with
+/// several causes.
 #[derive(Clone, Copy)]
-struct Counts {
-    broken: u32,
-    members: usize,
-    refused: u32,
+pub struct Counts {
+    pub broken: u32,
+    pub members: usize,
+    pub refused: u32,
+    pub several: u32,
 }
+
+pub const NONE: Counts = Counts {
+    broken: 0,
+    members: 0,
+    refused: 0,
+    several: 0,
+};
 
 impl Counts {
-    fn new() -> Counts {
-        Counts {
-            broken: 0,
-            members: 0,
-            refused: 0,
-        }
-    }
-
     fn plus(self, other: Counts) -> Counts {
         Counts {
             broken: self.broken.saturating_add(other.broken),
             members: self.members.saturating_add(other.members),
             refused: self.refused.saturating_add(other.refused),
+            several: self.several.saturating_add(other.several),
         }
     }
 }
 
-fn compare_index(
+pub fn compare_index(
     rt: &impl Abort,
     alloc: Global,
-    index: &Index,
+    workspace: &mut Workspace,
+    grounded: &Grounded<'_>,
     compared: Compared,
-) -> Result<Counts, Fail> {
-    let broken = match compared {
-        Compared::Closures => 0,
-        Compared::Verdicts | Compared::Both => compare_verdicts(rt, alloc, index)?,
-    };
-    let members = match compared {
-        Compared::Verdicts => 0,
-        Compared::Closures | Compared::Both => compare_closures(rt, alloc, index)?,
-    };
-    Ok(Counts {
-        broken,
-        members,
-        refused: count_refused(index),
-    })
-}
-
-fn compare_text(
-    rt: &impl Abort,
-    alloc: Global,
-    text: &str,
-    compared: Compared,
-) -> Result<Counts, Fail> {
-    on_index(
-        alloc,
-        text,
-        true,
-        |index| compare_index(rt, alloc, index, compared),
-    )
+) -> Result<Counts, AllocError> {
+    let index = grounded.index;
+    let mut counts = NONE;
+    counts.refused = count_refused(index);
+    match compared {
+        Compared::Verdicts => counts.broken = compare_verdicts(rt, alloc, index)?,
+        Compared::Closures => counts.members = compare_closures(rt, alloc, index)?,
+        Compared::Both => {
+            counts.broken = compare_verdicts(rt, alloc, index)?;
+            counts.members = compare_closures(rt, alloc, index)?;
+        }
+        Compared::Causes => counts = compare_all_causes(rt, alloc, workspace, grounded)?,
+    }
+    Ok(counts)
 }
 
 fn compare_generated(
-    rt: &impl Abort,
-    alloc: Global,
+    rt: &(impl Abort + AllocGlobal),
+    workspace: &mut Workspace,
     seed: u32,
+    with_any: bool,
     compared: Compared,
-) -> Result<Counts, Fail> {
-    let text = generated(alloc, seed)?;
-    compare_text(rt, alloc, &text, compared)
+) -> Result<Counts, AllocError> {
+    let mut text = String::new(rt.alloc());
+    generate(&mut text, seed, with_any)?;
+    on_text(rt, workspace, &text, true, Question::Compared(compared))
 }
 
-fn compare_generated_with_any(rt: &impl Abort, alloc: Global, seed: u32) -> Result<Counts, Fail> {
-    let text = generated_with_any(alloc, seed)?;
-    compare_text(rt, alloc, &text, Compared::Both)
+/// Compares the indexes of so many seeds, and counts.
+pub fn compare_seeds(
+    rt: &(impl Abort + AllocGlobal),
+    workspace: &mut Workspace,
+    seeds: u32,
+    with_any: bool,
+    compared: Compared,
+) -> Result<Counts, AllocError> {
+    let mut counts = NONE;
+    for seed in 0..seeds {
+        let found = compare_generated(rt, workspace, seed, with_any, compared)?;
+        counts = counts.plus(found);
+    }
+    Ok(counts)
+}
+
+fn count(
+    rt: &(impl Abort + AllocGlobal),
+    seeds: u32,
+    with_any: bool,
+    compared: Compared,
+) -> Counts {
+    let counts = on_workspace(rt, Asked::Seeds(seeds, with_any, compared));
+    counts.expect(rt, "no memory")
 }
 
 #[test]
-fn as_all_sets_say(rt: HostRuntime) -> Result<(), Fail> {
-    let mut counts = Counts::new();
-    for seed in 0..60 {
-        counts = counts.plus(compare_generated(&rt, rt.alloc(), seed, Compared::Verdicts)?);
-    }
+fn as_all_sets_say(rt: HostRuntime) {
+    let counts = count(&rt, 60, false, Compared::Verdicts);
     assert!(rt; counts.broken > 20 && counts.broken < 180);
-    Ok(())
 }
 
 #[test]
-fn closures_as_all_places_say(rt: HostRuntime) -> Result<(), Fail> {
-    let mut counts = Counts::new();
-    for seed in 0..200 {
-        counts = counts.plus(compare_generated(&rt, rt.alloc(), seed, Compared::Closures)?);
-    }
+fn closures_as_all_places_say(rt: HostRuntime) {
+    let counts = count(&rt, 200, false, Compared::Closures);
     assert!(rt; counts.members > 1000 && counts.members < 3000);
-    Ok(())
 }
 
 #[test]
-fn any_as_all_sets_say(rt: HostRuntime) -> Result<(), Fail> {
-    let mut counts = Counts::new();
-    for seed in 0..120 {
-        counts = counts.plus(compare_generated_with_any(&rt, rt.alloc(), seed)?);
-    }
+fn any_as_all_sets_say(rt: HostRuntime) {
+    let counts = count(&rt, 120, true, Compared::Both);
     assert!(rt; counts.broken > 50 && counts.broken < 430);
-    assert!(rt; counts.members > 500);
-    assert!(rt; counts.refused > 100);
-    Ok(())
+    assert!(rt; counts.members > 500 && counts.refused > 100);
+}
+
+#[test]
+fn causes_as_all_sets_say(rt: HostRuntime) {
+    let counts = count(&rt, 40, false, Compared::Causes);
+    let counts = counts.plus(count(&rt, 40, true, Compared::Causes));
+    assert!(rt; counts.broken > 50 && counts.several > 5);
 }

@@ -1,11 +1,11 @@
 //! First cores, compared with answers that were found by hand.
 
-use crate::expected::expect;
-use std::test::Fail;
+use crate::expected::{Case, expect_all};
 
-#[test]
-fn chain_of_needs_that_ends_nowhere(rt: HostRuntime) -> Result<(), Fail> {
-    let text = "Package: a
+const CASES: [Case<'static>; 6] = [
+    Case {
+        name: "chain of needs that ends nowhere",
+        text: "Package: a
 Version: 1
 Architecture: all
 Depends: c
@@ -33,21 +33,19 @@ Package: f
 Version: 1
 Architecture: all
 Depends: e | a
-";
-    let expected = "0 core [Need(0, 0), Need(2, 0), Need(3, 0)]
+",
+        expected: "0 core [Need(0, 0), Need(2, 0), Need(3, 0)]
 1 core [Need(1, 0), Need(2, 0), Need(3, 0)]
 2 core [Need(2, 0), Need(3, 0)]
 3 core [Need(3, 0)]
 4 set [4]
 5 set [4, 5]
 5 closure [0, 2, 3, 4, 5]
-";
-    expect(&rt, text, true, expected)
-}
-
-#[test]
-fn essential_package_that_is_hopeless(rt: HostRuntime) -> Result<(), Fail> {
-    let text = "Package: a
+",
+    },
+    Case {
+        name: "essential package that is hopeless",
+        text: "Package: a
 Version: 1
 Architecture: all
 
@@ -60,17 +58,15 @@ Depends: absent
 Package: f
 Version: 1
 Architecture: all
-";
-    let expected = "0 core [Essential(1), Need(1, 0)]
+",
+        expected: "0 core [Essential(1), Need(1, 0)]
 1 core [Need(1, 0)]
 2 core [Essential(1), Need(1, 0)]
-";
-    expect(&rt, text, true, expected)
-}
-
-#[test]
-fn need_that_nothing_meets_beside_one_that_is_met(rt: HostRuntime) -> Result<(), Fail> {
-    let text = "Package: a
+",
+    },
+    Case {
+        name: "need that nothing meets beside one that is met",
+        text: "Package: a
 Version: 1
 Architecture: all
 Depends: b | c, absent
@@ -83,17 +79,15 @@ Depends: c
 Package: c
 Version: 1
 Architecture: all
-";
-    let expected = "0 core [Need(0, 1)]
+",
+        expected: "0 core [Need(0, 1)]
 1 set [1, 2]
 0 closure [0, 1, 2]
-";
-    expect(&rt, text, true, expected)
-}
-
-#[test]
-fn conflict_with_what_both_provide(rt: HostRuntime) -> Result<(), Fail> {
-    let text = "Package: a
+",
+    },
+    Case {
+        name: "conflict with what both provide",
+        text: "Package: a
 Version: 1
 Architecture: all
 Provides: d
@@ -104,17 +98,15 @@ Version: 1
 Architecture: all
 Provides: d
 Depends: a
-";
-    let expected = "0 set [0]
+",
+        expected: "0 set [0]
 1 core [Apart(0, 0), Need(1, 0)]
 1 closure [0, 1]
-";
-    expect(&rt, text, true, expected)
-}
-
-#[test]
-fn need_of_an_earlier_version_of_itself(rt: HostRuntime) -> Result<(), Fail> {
-    let text = "Package: a
+",
+    },
+    Case {
+        name: "need of an earlier version of itself",
+        text: "Package: a
 Version: 1
 Architecture: all
 
@@ -122,10 +114,29 @@ Package: a
 Version: 2
 Architecture: all
 Depends: a (<< 2)
-";
-    let expected = "0 set [0]
+",
+        expected: "0 set [0]
 1 core [Need(1, 0), Only(0)]
 1 closure [0, 1]
-";
-    expect(&rt, text, true, expected)
+",
+    },
+    Case {
+        name: "none without an essential package",
+        text: "Package: a
+Version: 1
+Architecture: all
+
+Package: e
+Version: 1
+Architecture: all
+Essential: yes
+Depends: absent
+",
+        expected: "0 core [Essential(1), Need(1, 0)]\n1 core [Need(1, 0)]",
+    },
+];
+
+#[test]
+fn first_cores(rt: HostRuntime) {
+    expect_all(&rt, &CASES);
 }

@@ -1,105 +1,268 @@
 //! What is expected of the packages of an index, and whether it is found.
 //!
-//! It is a text with a line for each answer: the place of a package, and its verdict or its closure as `found` writes them.
+//! It is a text with a line for each answer. The line `1 set [0, 1]` has the place of a package and its verdict, `2 core [Need(2, 0)]`
+//! that of a broken one, `0 closure [0, 1]` its closure, and `2 cores [[Need(2, 0)]] causes [[Need(2, 0)]]` all its cores and their causes.
+//! The line `marks 0 1 = [true, true, false]` has places, and which packages are seen to be installable where these are asked for.
 
 ghost use Rattle.std.specs.Prelude.{◌<◌, length};
 
-use crate::lent::on_index;
+use crate::causes::expect_causes;
+use crate::comparison::{Counts, NONE};
+use crate::grounded::Grounded;
+use crate::installable::expect_marks;
+use crate::lent::{Asked, Question, on_text, on_workspace};
 use deb_index::Index;
-use deb_verdict::{Verdict, closure, verdict};
+use deb_verdict::{
+    Verdict, Wanted, Workspace, closure, is_installable_in, told_verdict_in, verdict, verdict_in,
+};
 use std::alloc::{AllocError, AllocGlobal, Global};
+use std::fmt::Debug;
 use std::process::Abort;
-use std::test::Fail;
 
-/// A verdict as `set [0, 2]` or `core [Need(0, 1)]`.
-pub fn written(alloc: Global, found: &Verdict) -> Result<String, AllocError> {
-    match found {
-        Verdict::Ok(places) => format!(in alloc; "set {places:?}"),
-        Verdict::Broken(core) => format!(in alloc; "core {core:?}"),
+/// The text of an index, and what is expected of it.
+#[derive(Clone, Copy)]
+pub struct Case<'a> {
+    pub name: &'a str,
+    pub text: &'a str,
+    pub expected: &'a str,
+}
+
+/// A call that has to give the verdict that is expected, or what is told of it.
+#[derive(Clone, Copy)]
+pub enum Call {
+    Verdict,
+    VerdictIn,
+    IsInstallableIn,
+    ToldVerdictIn(Wanted),
+}
+
+const NEITHER: Wanted = Wanted {
+    sets: false,
+    cores: false,
+};
+
+const CORES: Wanted = Wanted {
+    sets: false,
+    cores: true,
+};
+
+const SETS: Wanted = Wanted {
+    sets: true,
+    cores: false,
+};
+
+const EVERYTHING: Wanted = Wanted {
+    sets: true,
+    cores: true,
+};
+
+/// Whether a package can be installed, and what is told of its verdict where not all of it is wanted, and where all is.
+pub const TOLD: [Call; 5] = [
+    Call::IsInstallableIn,
+    Call::ToldVerdictIn(NEITHER),
+    Call::ToldVerdictIn(CORES),
+    Call::ToldVerdictIn(SETS),
+    Call::ToldVerdictIn(EVERYTHING),
+];
+
+pub const ALL: [Call; 7] = [
+    Call::Verdict,
+    Call::VerdictIn,
+    Call::IsInstallableIn,
+    Call::ToldVerdictIn(NEITHER),
+    Call::ToldVerdictIn(CORES),
+    Call::ToldVerdictIn(SETS),
+    Call::ToldVerdictIn(EVERYTHING),
+];
+
+/// Compares what is found in each index, by all calls and one after the other in one workspace, with what is expected.
+pub fn expect_all(rt: &(impl Abort + AllocGlobal), cases: &[Case<'_>]) {
+    expect_each(rt, true, &ALL, cases).expect(rt, "no memory");
+}
+
+/// The same with the essential names or without, and by some calls alone. The error is want of memory.
+pub fn expect_each(
+    rt: &(impl Abort + AllocGlobal),
+    essential: bool,
+    calls: &[Call],
+    cases: &[Case<'_>],
+) -> Result<(), AllocError> {
+    on_workspace(rt, Asked::Cases(essential, calls, cases))?;
+    Ok(())
+}
+
+pub fn expect_cases(
+    rt: &(impl Abort + AllocGlobal),
+    workspace: &mut Workspace,
+    essential: bool,
+    calls: &[Call],
+    cases: &[Case<'_>],
+) -> Result<Counts, AllocError> {
+    for case in cases {
+        let question = Question::Case(calls, case);
+        on_text(rt, workspace, case.text, essential, question)?;
     }
+    Ok(NONE)
 }
 
-/// The verdict of a package, as it is written.
-pub fn found_verdict(alloc: Global, index: &Index, p: u32) -> Result<String, AllocError>
-    requires { p < length index.now.packages }
-{
-    let found = verdict(alloc, index, p)?;
-    written(alloc, &found)
-}
-
-/// A closure as `closure [0, 1, 2]`.
-fn found_closure(alloc: Global, index: &Index, p: u32) -> Result<String, AllocError>
-    requires { p < length index.now.packages }
-{
-    let members = closure(alloc, index, p)?;
-    format!(in alloc; "closure {members:?}")
-}
-
-/// What is found of a package: its closure where a closure is expected, else its verdict.
-fn found(alloc: Global, index: &Index, p: u32, wanted: &str) -> Result<String, AllocError>
-    requires { p < length index.now.packages }
-{
-    if wanted.starts_with("closure ") {
-        found_closure(alloc, index, p)
-    } else {
-        found_verdict(alloc, index, p)
+pub fn expect_lines(
+    rt: &(impl Abort + AllocGlobal),
+    workspace: &mut Workspace,
+    grounded: &Grounded<'_>,
+    calls: &[Call],
+    case: &Case<'_>,
+) -> Result<Counts, AllocError> {
+    for line in case.expected.lines() {
+        let (place, wanted) = line.split_once(' ').expect(rt, case.name);
+        if place == "marks" {
+            expect_marks(rt, grounded, case.name, wanted)?;
+        } else {
+            let p = place.parse::<u32>().expect(rt, case.name);
+            expect_answer(rt, workspace, grounded, calls, case.name, p, wanted)?;
+        }
     }
-}
-
-/// The place that a line begins with, and the answer that is expected there.
-pub fn parts(line: &str) -> Option<(u32, &str)> {
-    let (place, wanted) = line.split_once(' ')?;
-    let place = place.parse::<u32>().ok()?;
-    Some((place, wanted))
+    Ok(NONE)
 }
 
 /// Compares what is found of the package at a place with what is expected.
-pub fn compare(rt: &impl Abort, p: u32, found: &str, wanted: &str) {
-    assert_eq!(rt; found, wanted, "place {p}");
-}
-
 fn expect_answer(
     rt: &(impl Abort + AllocGlobal),
-    index: &Index,
+    workspace: &mut Workspace,
+    grounded: &Grounded<'_>,
+    calls: &[Call],
+    name: &str,
     p: u32,
     wanted: &str,
-) -> Result<(), Fail> {
-    assert!(rt; p < index.len());
-    let found = found(rt.alloc(), index, p, wanted)?;
-    compare(rt, p, &found, wanted);
-    Ok(())
-}
-
-fn expect_line(rt: &(impl Abort + AllocGlobal), index: &Index, line: &str) -> Result<(), Fail> {
-    match parts(line) {
-        Some((p, wanted)) => expect_answer(rt, index, p, wanted),
-        None => Err(Fail::new("a line without a place")),
+) -> Result<(), AllocError> {
+    assert!(rt; p < grounded.index.len(), "{name}");
+    if wanted.starts_with("closure ") {
+        expect_closure(rt, grounded.index, name, p, wanted)
+    } else if wanted.starts_with("cores ") {
+        expect_causes(rt, workspace, grounded, name, p, wanted)
+    } else {
+        expect_verdict(rt, workspace, grounded, calls, name, p, wanted)
     }
 }
 
-/// Compares what is found in an index with what is expected.
-pub fn expect_lines(
+/// Compares what is found with what is expected.
+pub fn compare(rt: &impl Abort, name: &str, found: &str, wanted: &str) {
+    assert!(rt; found == wanted, "{name}: {found}, not {wanted}");
+}
+
+/// Compares a value, with a word before it, with what is expected.
+pub fn compare_value<T: Debug>(
+    rt: &(impl Abort + AllocGlobal),
+    name: &str,
+    word: &str,
+    value: &T,
+    wanted: &str,
+) -> Result<(), AllocError> {
+    let found = format!(in rt.alloc(); "{word} {value:?}")?;
+    compare(rt, name, &found, wanted);
+    Ok(())
+}
+
+fn expect_closure(
     rt: &(impl Abort + AllocGlobal),
     index: &Index,
-    expected: &str,
-) -> Result<(), Fail> {
-    for line in expected.lines() {
-        expect_line(rt, index, line)?;
+    name: &str,
+    p: u32,
+    wanted: &str,
+) -> Result<(), AllocError>
+    requires { p < length index.now.packages }
+{
+    let members = closure(rt.alloc(), index, p)?;
+    compare_value(rt, name, "closure", &members, wanted)
+}
+
+/// Compares the verdict of a package. After a refusal the same workspace serves, and what was left in it changes no answer.
+fn expect_verdict(
+    rt: &(impl Abort + AllocGlobal),
+    workspace: &mut Workspace,
+    grounded: &Grounded<'_>,
+    calls: &[Call],
+    name: &str,
+    p: u32,
+    wanted: &str,
+) -> Result<(), AllocError>
+    requires { p < length grounded.now.index.now.packages }
+{
+    for call in calls {
+        let first = expect_by(rt, workspace, grounded, *call, name, p, wanted);
+        if first.is_err() {
+            expect_by(rt, workspace, grounded, *call, name, p, wanted)?;
+        }
+        first?;
     }
     Ok(())
 }
 
-/// The same of the index of a text.
-pub fn expect(
+fn expect_by(
     rt: &(impl Abort + AllocGlobal),
-    text: &str,
-    essential: bool,
-    expected: &str,
-) -> Result<(), Fail> {
-    on_index(
-        rt.alloc(),
-        text,
-        essential,
-        |index| expect_lines(rt, index, expected),
-    )
+    workspace: &mut Workspace,
+    grounded: &Grounded<'_>,
+    call: Call,
+    name: &str,
+    p: u32,
+    wanted: &str,
+) -> Result<(), AllocError>
+    requires { p < length grounded.now.index.now.packages }
+{
+    let found = verdict_by(rt.alloc(), workspace, grounded, call, p)?;
+    compare_verdict(rt, name, &found, told_by(call, wanted))
+}
+
+/// The verdict that a call gives; without its places or constraints where the call tells that a package is installable or not.
+fn verdict_by(
+    alloc: Global,
+    workspace: &mut Workspace,
+    grounded: &Grounded<'_>,
+    call: Call,
+    p: u32,
+) -> Result<Verdict, AllocError>
+    requires { p < length grounded.now.index.now.packages }
+{
+    match call {
+        Call::Verdict => verdict(alloc, grounded.index, p),
+        Call::VerdictIn => verdict_in(alloc, workspace, &grounded.groundwork, p),
+        Call::IsInstallableIn => {
+            if is_installable_in(alloc, workspace, &grounded.groundwork, p)? {
+                Ok(Verdict::Ok(Vec::new(alloc)))
+            } else {
+                Ok(Verdict::Broken(Vec::new(alloc)))
+            }
+        }
+        Call::ToldVerdictIn(wanted) => {
+            told_verdict_in(alloc, workspace, &grounded.groundwork, p, wanted)
+        }
+    }
+}
+
+/// What a call tells of a verdict.
+fn told_by(call: Call, verdict: &str) -> &str {
+    let wanted = match call {
+        Call::Verdict | Call::VerdictIn => EVERYTHING,
+        Call::IsInstallableIn => NEITHER,
+        Call::ToldVerdictIn(wanted) => wanted,
+    };
+    if verdict.starts_with("set") {
+        if wanted.sets { verdict } else { "set []" }
+    } else if wanted.cores {
+        verdict
+    } else {
+        "core []"
+    }
+}
+
+/// Compares a verdict, as `set [0, 2]` or `core [Need(0, 1)]`, with what is expected.
+fn compare_verdict(
+    rt: &(impl Abort + AllocGlobal),
+    name: &str,
+    found: &Verdict,
+    wanted: &str,
+) -> Result<(), AllocError> {
+    match found {
+        Verdict::Ok(places) => compare_value(rt, name, "set", places, wanted),
+        Verdict::Broken(core) => compare_value(rt, name, "core", core, wanted),
+    }
 }

@@ -1,11 +1,37 @@
 //! First healthy sets where several answer a need, compared with answers that were found by hand.
 
-use crate::expected::expect;
-use std::test::Fail;
+use crate::expected::{Case, expect_all};
 
-#[test]
-fn alternatives_of_an_essential_package(rt: HostRuntime) -> Result<(), Fail> {
-    let text = "Package: a
+/// The first and the last answer of the need keep the essential package out.
+pub const ANSWER_BETWEEN: &str = "Package: a
+Version: 1
+Architecture: all
+Depends: b | c | d
+
+Package: b
+Version: 1
+Architecture: all
+Conflicts: e
+
+Package: c
+Version: 1
+Architecture: all
+
+Package: d
+Version: 1
+Architecture: all
+Conflicts: e
+
+Package: e
+Version: 1
+Architecture: all
+Essential: yes
+";
+
+const CASES: [Case<'static>; 8] = [
+    Case {
+        name: "alternatives of an essential package",
+        text: "Package: a
 Version: 1
 Architecture: all
 Depends: b | c
@@ -37,21 +63,19 @@ Architecture: all
 Package: h
 Version: 1
 Architecture: all
-";
-    let expected = "0 set [0, 2, 4]
+",
+        expected: "0 set [0, 2, 4]
 1 set [1, 4, 5, 6]
 2 set [2, 4, 6]
 3 set [3, 4, 6]
 4 set [4, 6]
 0 closure [0, 1, 2, 3, 4, 5, 6]
 3 closure [0, 1, 2, 3, 4, 5, 6]
-";
-    expect(&rt, text, true, expected)
-}
-
-#[test]
-fn all_versions_of_an_essential_name(rt: HostRuntime) -> Result<(), Fail> {
-    let text = "Package: a
+",
+    },
+    Case {
+        name: "all versions of an essential name",
+        text: "Package: a
 Version: 1
 Architecture: all
 
@@ -72,20 +96,18 @@ Architecture: all
 Package: c
 Version: 1
 Architecture: all
-";
-    let expected = "0 set [0, 2]
+",
+        expected: "0 set [0, 2]
 1 set [1, 4]
 2 set [2]
 3 set [2, 3]
 0 closure [0, 1, 2, 3, 4]
 2 closure [1, 2, 3, 4]
-";
-    expect(&rt, text, true, expected)
-}
-
-#[test]
-fn needs_with_one_answer(rt: HostRuntime) -> Result<(), Fail> {
-    let text = "Package: a
+",
+    },
+    Case {
+        name: "needs with one answer",
+        text: "Package: a
 Version: 1
 Architecture: all
 Depends: b, c | d
@@ -123,21 +145,19 @@ Package: i
 Version: 1
 Architecture: all
 Depends: d
-";
-    let expected = "0 set [0, 1, 2, 4, 5, 6]
+",
+        expected: "0 set [0, 1, 2, 4, 5, 6]
 2 set [1, 2, 4, 5, 6]
 3 set [3, 5, 7]
 5 set [5, 6]
 7 set [3, 5, 7]
 0 closure [0, 1, 2, 3, 4, 5, 6, 7]
 7 closure [3, 5, 6, 7]
-";
-    expect(&rt, text, true, expected)
-}
-
-#[test]
-fn what_essential_packages_need(rt: HostRuntime) -> Result<(), Fail> {
-    let text = "Package: e
+",
+    },
+    Case {
+        name: "what essential packages need",
+        text: "Package: e
 Version: 1
 Architecture: all
 Essential: yes
@@ -167,8 +187,8 @@ Depends: absent
 Package: n
 Version: 2
 Architecture: all
-";
-    let expected = "0 set [0, 1]
+",
+        expected: "0 set [0, 1]
 1 set [0, 1]
 2 core [Need(2, 1), Apart(3, 0)]
 3 set [0, 1, 3]
@@ -176,13 +196,11 @@ Architecture: all
 5 set [0, 1, 5]
 0 closure [0, 1, 2, 3, 5]
 4 closure [0, 1, 2, 3, 4, 5]
-";
-    expect(&rt, text, true, expected)
-}
-
-#[test]
-fn answers_that_cannot_be_had(rt: HostRuntime) -> Result<(), Fail> {
-    let text = "Package: a
+",
+    },
+    Case {
+        name: "answers that cannot be had",
+        text: "Package: a
 Version: 2
 Architecture: all
 Depends: c
@@ -207,20 +225,18 @@ Package: f
 Version: 1
 Architecture: all
 Provides: c, d
-";
-    let expected = "0 set [0, 4]
+",
+        expected: "0 set [0, 4]
 1 set [1, 4]
 2 set [2]
 3 core [Need(3, 0)]
 0 closure [0, 2, 3, 4]
 1 closure [1, 3, 4]
-";
-    expect(&rt, text, true, expected)
-}
-
-#[test]
-fn hopeless_alternative_beside_a_good_one(rt: HostRuntime) -> Result<(), Fail> {
-    let text = "Package: a
+",
+    },
+    Case {
+        name: "hopeless alternative beside a good one",
+        text: "Package: a
 Version: 1
 Architecture: all
 Depends: b | d
@@ -238,11 +254,52 @@ Depends: absent
 Package: d
 Version: 1
 Architecture: all
-";
-    let expected = "0 set [0, 3]
+",
+        expected: "0 set [0, 3]
 1 core [Need(1, 0), Need(2, 0)]
 2 core [Need(2, 0)]
 0 closure [0, 1, 2, 3]
-";
-    expect(&rt, text, true, expected)
+",
+    },
+    Case {
+        name: "answer between two that lead nowhere",
+        text: ANSWER_BETWEEN,
+        expected: "0 set [0, 2, 4]
+1 core [Essential(4), Apart(1, 0)]
+2 set [2, 4]
+4 set [4]",
+    },
+    // `a` needs another answer of `b | c` than `d` does.
+    Case {
+        name: "answer that a later need rules out",
+        text: "Package: a
+Version: 1
+Architecture: all
+Depends: b | c, d | f
+
+Package: b
+Version: 1
+Architecture: all
+
+Package: c
+Version: 1
+Architecture: all
+
+Package: d
+Version: 1
+Architecture: all
+Conflicts: b
+
+Package: f
+Version: 1
+Architecture: all
+Conflicts: b
+",
+        expected: "0 set [0, 2, 4]\n3 set [3]\n4 set [4]",
+    },
+];
+
+#[test]
+fn first_sets(rt: HostRuntime) {
+    expect_all(&rt, &CASES);
 }

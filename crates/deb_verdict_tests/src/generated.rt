@@ -2,7 +2,7 @@
 
 ghost use Rattle.std.specs.Prelude.{◌<◌};
 
-use std::alloc::{AllocError, Global};
+use std::alloc::AllocError;
 
 fn line(choice: u32) -> &'static str {
     match choice {
@@ -43,22 +43,6 @@ fn add_head(text: &mut String, seed: &mut u32, number: u32) -> Result<(), AllocE
     text.push_str(head(if number < 3 { number } else { choice }))
 }
 
-fn add_package(text: &mut String, seed: &mut u32, number: u32) -> Result<(), AllocError> {
-    add_head(text, seed, number)?;
-    text.push_str(line(draw(seed, 12)))?;
-    text.push_str("\n")
-}
-
-/// A text of three or four packages.
-pub fn generated(alloc: Global, seed: u32) -> Result<String, AllocError> {
-    let mut seed = seed;
-    let mut text = String::new(alloc);
-    for number in 0..4 {
-        add_package(&mut text, &mut seed, number)?;
-    }
-    Ok(text)
-}
-
 /// Conflicts and dependencies with the qualifier `any`, in each of their fields.
 fn line_with_any(choice: u32) -> &'static str {
     match choice {
@@ -97,20 +81,29 @@ fn marks(choice: u32) -> &'static str {
     }
 }
 
-fn add_package_with_any(text: &mut String, seed: &mut u32, number: u32) -> Result<(), AllocError> {
+/// Adds a package; with `any`, one that asks for names with that qualifier and provides some.
+fn add_package(
+    text: &mut String,
+    seed: &mut u32,
+    number: u32,
+    with_any: bool,
+) -> Result<(), AllocError> {
     add_head(text, seed, number)?;
-    text.push_str(line_with_any(draw(seed, 11)))?;
-    text.push_str(provided_line(draw(seed, 5)))?;
-    text.push_str(marks(draw(seed, 8)))?;
+    if with_any {
+        text.push_str(line_with_any(draw(seed, 11)))?;
+        text.push_str(provided_line(draw(seed, 5)))?;
+        text.push_str(marks(draw(seed, 8)))?;
+    } else {
+        text.push_str(line(draw(seed, 12)))?;
+    }
     text.push_str("\n")
 }
 
-/// A text of three or four packages that ask for and provide names with the qualifier `any`.
-pub fn generated_with_any(alloc: Global, seed: u32) -> Result<String, AllocError> {
+/// Adds a text of three or four packages.
+pub fn generate(text: &mut String, seed: u32, with_any: bool) -> Result<(), AllocError> {
     let mut seed = seed;
-    let mut text = String::new(alloc);
     for number in 0..4 {
-        add_package_with_any(&mut text, &mut seed, number)?;
+        add_package(text, &mut seed, number, with_any)?;
     }
-    Ok(text)
+    Ok(())
 }

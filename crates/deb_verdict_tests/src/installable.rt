@@ -1,55 +1,63 @@
 //! What is seen to be installable in small indexes.
 
-ghost use Rattle.std.specs.Prelude.{◌<◌, All, IfOk, length};
+ghost use Rattle.std.specs.Prelude.{◌<◌, All, length};
 
-use crate::lent::on_index;
+use crate::expected::{Case, compare_value, expect_all};
+use crate::grounded::Grounded;
 use deb_index::Index;
-use deb_verdict::{Groundwork, find_installable};
-use std::alloc::{AllocGlobal, Global};
+use deb_verdict::find_installable;
+use std::alloc::{AllocError, AllocGlobal};
 use std::process::Abort;
-use std::test::Fail;
 
-/// The asked places, of which each is one of the index.
-fn places(rt: &impl Abort, alloc: Global, index: &Index, asked: &[u32]) -> Result<Vec<u32>, Fail>
-    ensures { IfOk result (λ places. All (λ place. place < length index.now.packages) places.items) }
-{
-    let mut places = Vec::new(alloc);
-    for place in asked {
-        assert!(rt; *place < index.len());
-        places.push(*place)?;
-    }
-    Ok(places)
-}
-
-fn expect_marks_of(
+/// Adds the places that are written, of which each is one of the index. The error is want of memory.
+fn add_places(
     rt: &impl Abort,
-    alloc: Global,
+    places: &mut Vec<u32>,
     index: &Index,
-    asked: &[u32],
-    wanted: &[bool],
-) -> Result<(), Fail> {
-    let places = places(rt, alloc, index, asked)?;
-    let groundwork = Groundwork::new(alloc, index)?;
-    let marks = find_installable(alloc, &groundwork, &places)?;
-    assert_eq!(rt; marks.as_slice(), wanted);
+    written: &str,
+) -> Result<(), AllocError>
+    requires { All (λ place. place < length index.now.packages) places.old.items }
+    ensures { All (λ place. place < length index.now.packages) places.new.items }
+{
+    'words: for word in written.split_whitespace() {
+        let place = word.parse::<u32>().expect(rt, "no place");
+        assert!(rt; place < index.len());
+        places.push(place)?;
+    }
     Ok(())
 }
 
-/// Compares which packages of a text are marked, where some places are asked for, with what is expected.
+/// Compares which packages are marked, where some places are asked for, with what is expected: `0 1 = [true, true, false]`.
 pub fn expect_marks(
     rt: &(impl Abort + AllocGlobal),
-    text: &str,
-    asked: &[u32],
-    wanted: &[bool],
-) -> Result<(), Fail> {
-    on_index(rt.alloc(), text, true, |index| {
-        expect_marks_of(rt, rt.alloc(), index, asked, wanted)
-    })
+    grounded: &Grounded<'_>,
+    name: &str,
+    line: &str,
+) -> Result<(), AllocError> {
+    let (asked, wanted) = line.split_once('=').expect(rt, name);
+    let mut places = Vec::new(rt.alloc());
+    expect_marks_of(rt, grounded, &mut places, asked, name, wanted)
 }
 
-#[test]
-fn packages_apart_in_two_sets(rt: HostRuntime) -> Result<(), Fail> {
-    let text = "Package: a
+fn expect_marks_of(
+    rt: &(impl Abort + AllocGlobal),
+    grounded: &Grounded<'_>,
+    places: &mut Vec<u32>,
+    asked: &str,
+    name: &str,
+    wanted: &str,
+) -> Result<(), AllocError>
+    requires { All (λ place. place < length grounded.now.index.now.packages) places.old.items }
+{
+    add_places(rt, places, grounded.index, asked)?;
+    let marks = find_installable(rt.alloc(), &grounded.groundwork, places)?;
+    compare_value(rt, name, "", &marks, wanted)
+}
+
+const CASES: [Case<'static>; 6] = [
+    Case {
+        name: "packages apart in two sets",
+        text: "Package: a
 Version: 1
 Architecture: all
 Conflicts: b
@@ -67,13 +75,12 @@ Package: d
 Version: 1
 Architecture: all
 Depends: b
-";
-    expect_marks(&rt, text, &[0, 1, 2, 3], &[true, true, false, true])
-}
-
-#[test]
-fn versions_of_one_name_in_two_sets(rt: HostRuntime) -> Result<(), Fail> {
-    let text = "Package: a
+",
+        expected: "marks 0 1 2 3 = [true, true, false, true]",
+    },
+    Case {
+        name: "versions of one name in two sets",
+        text: "Package: a
 Version: 1
 Architecture: all
 
@@ -90,13 +97,12 @@ Package: c
 Version: 1
 Architecture: all
 Depends: b, a (<< 2)
-";
-    expect_marks(&rt, text, &[0, 1, 2, 3], &[true, true, true, false])
-}
-
-#[test]
-fn those_that_fit_together_be_they_asked_or_not(rt: HostRuntime) -> Result<(), Fail> {
-    let text = "Package: a
+",
+        expected: "marks 0 1 2 3 = [true, true, true, false]",
+    },
+    Case {
+        name: "those that fit together be they asked or not",
+        text: "Package: a
 Version: 1
 Architecture: all
 Depends: absent | c
@@ -108,14 +114,13 @@ Architecture: all
 Package: c
 Version: 1
 Architecture: all
-";
-    expect_marks(&rt, text, &[0], &[true, true, true])?;
-    expect_marks(&rt, text, &[], &[true, true, true])
-}
-
-#[test]
-fn second_answer_where_the_first_leads_nowhere(rt: HostRuntime) -> Result<(), Fail> {
-    let text = "Package: a
+",
+        expected: "marks 0 = [true, true, true]
+marks = [true, true, true]",
+    },
+    Case {
+        name: "second answer where the first leads nowhere",
+        text: "Package: a
 Version: 1
 Architecture: all
 Depends: b | d
@@ -133,13 +138,12 @@ Breaks: a
 Package: d
 Version: 1
 Architecture: all
-";
-    expect_marks(&rt, text, &[0, 1, 2, 3], &[true, true, true, true])
-}
-
-#[test]
-fn essential_package_is_in_each_set(rt: HostRuntime) -> Result<(), Fail> {
-    let text = "Package: a
+",
+        expected: "marks 0 1 2 3 = [true, true, true, true]",
+    },
+    Case {
+        name: "essential package is in each set",
+        text: "Package: a
 Version: 1
 Architecture: all
 Conflicts: e
@@ -152,13 +156,12 @@ Essential: yes
 Package: f
 Version: 1
 Architecture: all
-";
-    expect_marks(&rt, text, &[0, 2], &[false, true, true])
-}
-
-#[test]
-fn no_set_without_an_essential_package(rt: HostRuntime) -> Result<(), Fail> {
-    let text = "Package: a
+",
+        expected: "marks 0 2 = [false, true, true]",
+    },
+    Case {
+        name: "no set without an essential package",
+        text: "Package: a
 Version: 1
 Architecture: all
 
@@ -167,6 +170,12 @@ Version: 1
 Architecture: all
 Essential: yes
 Depends: absent
-";
-    expect_marks(&rt, text, &[0, 1], &[false, false])
+",
+        expected: "marks 0 1 = [false, false]",
+    },
+];
+
+#[test]
+fn installable_packages(rt: HostRuntime) {
+    expect_all(&rt, &CASES);
 }

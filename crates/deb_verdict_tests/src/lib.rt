@@ -1,15 +1,17 @@
 //! Verdicts of small indexes, compared with answers that were found by hand or by trying all sets.
 //!
-//! `reading` makes an index of a text and `lent` lends it, `expected` compares what is found with what is expected, `grounded` has an index
-//! with its groundwork. `verdicts`, `first_sets`, `cores`, `all_causes` and `qualifiers` have worked examples, `chains` those of chains of
-//! needs, `installable` those of the packages that are marked as installable, `many_answers` those of needs that very many packages may
-//! answer, `told` those of verdicts of which not all is wanted;
-//! `workspaces` asks for verdicts by turns in one workspace; `comparison` and `causes_comparison` compare what is found in the indexes of
-//! `generated` with what `trial` comes to, and `growths` has a test for each call that can want memory.
+//! `reading` makes an index of a text, `grounded` has one with its groundwork, `lent` makes both and a workspace and lends them to what
+//! asks. `expected` compares what is found with what is expected, with `causes` for cores and `installable` for marks, of which it has worked
+//! examples, as `verdicts`, `first_sets`, `cores`, `all_causes` and `qualifiers` have; `chains` has those of chains of needs, `many_answers`
+//! those of needs that very many packages may answer, and `numbered` makes their long texts. `workspaces` asks for verdicts by turns in one
+//! workspace; `comparison` and `causes_comparison` compare what is found in the indexes of `generated` with what `trial` comes to, and
+//! `growths` has a test for each call that can want memory.
 #![tactic(auto)]
 
 #[cfg(test)]
 mod all_causes;
+#[cfg(test)]
+mod causes;
 #[cfg(test)]
 mod causes_comparison;
 #[cfg(test)]
@@ -35,11 +37,11 @@ mod lent;
 #[cfg(test)]
 mod many_answers;
 #[cfg(test)]
+mod numbered;
+#[cfg(test)]
 mod qualifiers;
 #[cfg(test)]
 mod reading;
-#[cfg(test)]
-mod told;
 #[cfg(test)]
 mod trial;
 #[cfg(test)]

@@ -21,16 +21,6 @@ pub fn has(set: &[bool], number: usize) -> bool {
     set.get(number).copied().unwrap_or(false)
 }
 
-/// Whether a package of a set meets an atom as an alternative of a need.
-fn some_answers(index: &Index, set: &[bool], atom: &Atom) -> bool {
-    for q in 0..index.len() {
-        if has(set, q as usize) && index.meets_need(q, atom) {
-            return true;
-        }
-    }
-    false
-}
-
 /// Whether a package of a set, other than the one that has it, meets an entry.
 fn some_other_meets(index: &Index, set: &[bool], p: u32, entry: &Atom) -> bool {
     for q in 0..index.len() {
@@ -84,9 +74,10 @@ fn group(index: &Index, p: u32, number: usize) -> &[Atom] {
     }
 }
 
-fn is_answered(index: &Index, set: &[bool], p: u32, number: u32) -> bool {
-    for atom in group(index, p, number as usize) {
-        if some_answers(index, set, atom) {
+/// Whether a package of a set meets an alternative of a group.
+fn is_answered(index: &Index, set: &[bool], group: &[Atom]) -> bool {
+    for q in 0..index.len() {
+        if has(set, q as usize) && answers_some(index, q, group) {
             return true;
         }
     }
@@ -114,7 +105,7 @@ fn holds(index: &Index, set: &[bool], constraint: Constraint) -> bool {
     match constraint {
         Constraint::Essential(name) => count_named(index, set, name) > 0,
         Constraint::Need(p, number) => {
-            !has(set, p as usize) || is_answered(index, set, p, number)
+            !has(set, p as usize) || is_answered(index, set, group(index, p, number as usize))
         }
         Constraint::Apart(p, number) => !has(set, p as usize) || !is_hit(index, set, p, number),
         Constraint::Only(name) => count_named(index, set, name) < 2,
@@ -245,21 +236,15 @@ pub fn find_closure(index: &Index, p: u32, set: &mut [bool]) {
     }
 }
 
-/// How many packages meet an atom, and would not as an alternative of a need.
-fn count_unmarked(index: &Index, atom: &Atom) -> u32 {
-    let mut count = 0u32;
-    for q in 0..index.len() {
-        if index.meets(q, atom) && !index.meets_need(q, atom) {
-            count = count.saturating_add(1);
-        }
-    }
-    count
-}
-
+/// How many packages meet an atom of a group, and would not as an alternative of a need.
 fn count_refused_of(index: &Index, group: &[Atom]) -> u32 {
     let mut count = 0u32;
     for atom in group {
-        count = count.saturating_add(count_unmarked(index, atom));
+        for q in 0..index.len() {
+            if index.meets(q, atom) && !index.meets_need(q, atom) {
+                count = count.saturating_add(1);
+            }
+        }
     }
     count
 }

@@ -1,11 +1,22 @@
 //! Verdicts and closures of small indexes, compared with answers that were found by hand.
 
-use crate::expected::expect;
-use std::test::Fail;
+use crate::expected::{ALL, Case, expect_all, expect_each};
 
-#[test]
-fn alternatives(rt: HostRuntime) -> Result<(), Fail> {
-    let text = "Package: a
+const ESSENTIAL_CONFLICT: &str = "Package: base
+Version: 1
+Architecture: all
+Essential: yes
+
+Package: x
+Version: 1
+Architecture: all
+Conflicts: base
+";
+
+const CASES: [Case<'static>; 13] = [
+    Case {
+        name: "alternatives",
+        text: "Package: a
 Version: 1
 Architecture: all
 Depends: b | c
@@ -17,31 +28,28 @@ Architecture: all
 Package: c
 Version: 1
 Architecture: all
-";
-    let expected = "0 set [0, 2]
+",
+        expected: "0 set [0, 2]
 1 set [1]
 2 set [2]
 0 closure [0, 1, 2]
 2 closure [2]
-";
-    expect(&rt, text, true, expected)
-}
-
-#[test]
-fn first_core_lacks_the_earlier(rt: HostRuntime) -> Result<(), Fail> {
-    let text = "Package: a
+",
+    },
+    Case {
+        name: "first core lacks the earlier",
+        text: "Package: a
 Version: 1
 Architecture: all
 Depends: x, y
-";
-    let expected = "0 core [Need(0, 1)]
-";
-    expect(&rt, text, true, expected)
-}
-
-#[test]
-fn missing_further_down(rt: HostRuntime) -> Result<(), Fail> {
-    let text = "Package: a
+",
+        expected: "0 core [Need(0, 1)]
+marks 0 = [false]
+",
+    },
+    Case {
+        name: "missing further down",
+        text: "Package: a
 Version: 1
 Architecture: all
 Depends: b
@@ -54,18 +62,16 @@ Depends: c (>= 2)
 Package: c
 Version: 1
 Architecture: all
-";
-    let expected = "0 core [Need(0, 0), Need(1, 0)]
+",
+        expected: "0 core [Need(0, 0), Need(1, 0)]
 1 core [Need(1, 0)]
 2 set [2]
 0 closure [0, 1]
-";
-    expect(&rt, text, true, expected)
-}
-
-#[test]
-fn mail_agents(rt: HostRuntime) -> Result<(), Fail> {
-    let text = "Package: m1
+",
+    },
+    Case {
+        name: "mail agents",
+        text: "Package: m1
 Version: 1
 Architecture: all
 Provides: mail-agent
@@ -81,17 +87,15 @@ Package: u
 Version: 1
 Architecture: all
 Depends: m1, m2
-";
-    let expected = "0 set [0]
+",
+        expected: "0 set [0]
 1 set [1]
 2 core [Apart(1, 0), Need(2, 0), Need(2, 1)]
-";
-    expect(&rt, text, true, expected)
-}
-
-#[test]
-fn conflict_between_dependencies(rt: HostRuntime) -> Result<(), Fail> {
-    let text = "Package: a
+",
+    },
+    Case {
+        name: "conflict between dependencies",
+        text: "Package: a
 Version: 1
 Architecture: all
 Depends: b, c
@@ -104,17 +108,15 @@ Conflicts: c
 Package: c
 Version: 1
 Architecture: all
-";
-    let expected = "0 core [Need(0, 0), Need(0, 1), Apart(1, 0)]
+",
+        expected: "0 core [Need(0, 0), Need(0, 1), Apart(1, 0)]
 1 set [1]
 2 set [2]
-";
-    expect(&rt, text, true, expected)
-}
-
-#[test]
-fn versioned_provides(rt: HostRuntime) -> Result<(), Fail> {
-    let text = "Package: foo
+",
+    },
+    Case {
+        name: "versioned provides",
+        text: "Package: foo
 Version: 1
 Architecture: all
 Depends: bar (>= 1.0)
@@ -127,17 +129,15 @@ Package: bar-plus
 Version: 1
 Architecture: all
 Provides: bar (= 1.0)
-";
-    let expected = "0 set [0, 2]
+",
+        expected: "0 set [0, 2]
 1 set [1]
 2 set [2]
-";
-    expect(&rt, text, true, expected)
-}
-
-#[test]
-fn unversioned_provides(rt: HostRuntime) -> Result<(), Fail> {
-    let text = "Package: foo
+",
+    },
+    Case {
+        name: "unversioned provides",
+        text: "Package: foo
 Version: 1
 Architecture: all
 Depends: bar (>= 1.0)
@@ -150,17 +150,15 @@ Package: bar-plus
 Version: 1
 Architecture: all
 Provides: bar
-";
-    let expected = "0 core [Need(0, 0)]
+",
+        expected: "0 core [Need(0, 0)]
 1 set [1]
 2 set [2]
-";
-    expect(&rt, text, true, expected)
-}
-
-#[test]
-fn two_versions(rt: HostRuntime) -> Result<(), Fail> {
-    let text = "Package: n
+",
+    },
+    Case {
+        name: "two versions",
+        text: "Package: n
 Version: 1
 Architecture: all
 
@@ -177,41 +175,24 @@ Package: b
 Version: 1
 Architecture: all
 Depends: n (= 2)
-";
-    let expected = "0 set [0]
+",
+        expected: "0 set [0]
 1 set [1]
 2 core [Need(2, 0), Need(2, 1), Need(3, 0), Only(0)]
 3 set [1, 3]
-";
-    expect(&rt, text, true, expected)
-}
-
-#[test]
-fn essential_conflict(rt: HostRuntime) -> Result<(), Fail> {
-    let text = "Package: base
-Version: 1
-Architecture: all
-Essential: yes
-
-Package: x
-Version: 1
-Architecture: all
-Conflicts: base
-";
-    let expected = "0 set [0]
+",
+    },
+    Case {
+        name: "essential conflict",
+        text: ESSENTIAL_CONFLICT,
+        expected: "0 set [0]
 1 core [Essential(0), Apart(1, 0)]
 1 closure [0, 1]
-";
-    expect(&rt, text, true, expected)?;
-    let without = "1 set [1]
-1 closure [1]
-";
-    expect(&rt, text, false, without)
-}
-
-#[test]
-fn essential_packages_in_conflict(rt: HostRuntime) -> Result<(), Fail> {
-    let text = "Package: e1
+",
+    },
+    Case {
+        name: "essential packages in conflict",
+        text: "Package: e1
 Version: 1
 Architecture: all
 Essential: yes
@@ -225,28 +206,25 @@ Essential: yes
 Package: z
 Version: 1
 Architecture: all
-";
-    let expected = "0 core [Essential(1), Apart(0, 0)]
+",
+        expected: "0 core [Essential(1), Apart(0, 0)]
 1 core [Essential(0), Apart(0, 0)]
 2 core [Essential(0), Essential(1), Apart(0, 0)]
-";
-    expect(&rt, text, true, expected)
-}
-
-#[test]
-fn own_dependency(rt: HostRuntime) -> Result<(), Fail> {
-    let text = "Package: s
+",
+    },
+    Case {
+        name: "own dependency",
+        text: "Package: s
 Version: 1
 Architecture: all
 Depends: s, v
 Provides: v
-";
-    expect(&rt, text, true, "0 set [0]")
-}
-
-#[test]
-fn pre_depends_and_breaks(rt: HostRuntime) -> Result<(), Fail> {
-    let text = "Package: a
+",
+        expected: "0 set [0]",
+    },
+    Case {
+        name: "pre depends and breaks",
+        text: "Package: a
 Version: 1
 Architecture: all
 Depends: c
@@ -260,10 +238,56 @@ Package: c
 Version: 1
 Architecture: all
 Breaks: b (<< 2)
-";
-    let expected = "0 core [Need(0, 0), Need(0, 1), Apart(2, 0)]
+",
+        expected: "0 core [Need(0, 0), Need(0, 1), Apart(2, 0)]
 2 set [2]
 0 closure [0, 1, 2]
-";
-    expect(&rt, text, true, expected)
+",
+    },
+    // `d` is broken without a search, `c` is not.
+    Case {
+        name: "sound and broken packages",
+        text: "Package: a
+Version: 1
+Architecture: all
+Conflicts: b
+
+Package: b
+Version: 1
+Architecture: all
+
+Package: c
+Version: 1
+Architecture: all
+Depends: a, b
+
+Package: d
+Version: 1
+Architecture: all
+Depends: absent
+",
+        expected: "0 set [0]
+1 set [1]
+2 core [Apart(0, 0), Need(2, 0), Need(2, 1)]
+3 core [Need(3, 0)]",
+    },
+];
+
+#[test]
+fn verdicts_and_closures(rt: HostRuntime) {
+    expect_all(&rt, &CASES);
+}
+
+const WITHOUT_ESSENTIAL_NAMES: [Case<'static>; 1] = [Case {
+    name: "no essential conflict",
+    text: ESSENTIAL_CONFLICT,
+    expected: "1 set [1]
+1 closure [1]
+",
+}];
+
+#[test]
+fn essential_names_that_do_not_count(rt: HostRuntime) {
+    let compared = expect_each(&rt, false, &ALL, &WITHOUT_ESSENTIAL_NAMES);
+    compared.expect(&rt, "no memory");
 }

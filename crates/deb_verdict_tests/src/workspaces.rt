@@ -1,42 +1,6 @@
 //! Verdicts of two indexes by turns, in one workspace.
 
-use crate::expected::found_verdict;
-use crate::grounded::{Grounded, on_two};
-use deb_verdict::Workspace;
-use std::alloc::Global;
-use std::process::Abort;
-use std::test::Fail;
-
-/// Compares the verdicts in a workspace with those that a workspace of their own gives.
-fn expect_same(
-    rt: &impl Abort,
-    alloc: Global,
-    workspace: &mut Workspace,
-    grounded: &Grounded<'_>,
-) -> Result<(), Fail> {
-    for p in 0..grounded.index.len() {
-        let fresh = found_verdict(alloc, grounded.index, p)?;
-        grounded.expect(rt, alloc, workspace, p, &fresh)?;
-    }
-    Ok(())
-}
-
-/// At the end an agent that is broken and one that is forced come after a set of the other index.
-fn expect_all_by_turns(
-    rt: &impl Abort,
-    alloc: Global,
-    workspace: &mut Workspace,
-    agents: &Grounded<'_>,
-    versions: &Grounded<'_>,
-) -> Result<(), Fail> {
-    expect_same(rt, alloc, workspace, agents)?;
-    expect_same(rt, alloc, workspace, versions)?;
-    expect_same(rt, alloc, workspace, agents)?;
-    let broken = "core [Apart(2, 0), Need(3, 0), Need(3, 1)]";
-    versions.expect(rt, alloc, workspace, 3, "set [1, 3]")?;
-    agents.expect(rt, alloc, workspace, 3, broken)?;
-    agents.expect(rt, alloc, workspace, 1, "set [0, 1, 4]")
-}
+use crate::expected::{Case, expect_all};
 
 const AGENTS: &str = "Package: base
 Version: 1
@@ -86,14 +50,47 @@ Architecture: all
 Depends: n (= 2)
 ";
 
+const ALL_AGENTS: Case<'static> = Case {
+    name: "all agents",
+    text: AGENTS,
+    expected: "0 set [0, 2, 4]
+1 set [0, 1, 4]
+2 set [0, 2, 4]
+3 core [Apart(2, 0), Need(3, 0), Need(3, 1)]
+4 set [0, 2, 4]",
+};
+
+const ALL_VERSIONS: Case<'static> = Case {
+    name: "all versions",
+    text: VERSIONS,
+    expected: "0 set [0]
+1 set [1]
+2 core [Need(2, 0), Need(2, 1), Need(3, 0), Only(0)]
+3 set [1, 3]",
+};
+
+/// A set of the other index comes before an agent that is broken and one that is forced.
+const LAST_VERSION: Case<'static> = Case {
+    name: "the last version",
+    text: VERSIONS,
+    expected: "3 set [1, 3]",
+};
+
+const LAST_AGENTS: Case<'static> = Case {
+    name: "the last agents",
+    text: AGENTS,
+    expected: "3 core [Apart(2, 0), Need(3, 0), Need(3, 1)]
+1 set [0, 1, 4]",
+};
+
 #[test]
-fn one_workspace_for_all(rt: HostRuntime) -> Result<(), Fail> {
-    on_two(
-        rt.alloc(),
-        AGENTS,
-        VERSIONS,
-        |workspace, agents, versions| {
-            expect_all_by_turns(&rt, rt.alloc(), workspace, agents, versions)
-        },
-    )
+fn one_workspace_for_all(rt: HostRuntime) {
+    let turns = [
+        ALL_AGENTS,
+        ALL_VERSIONS,
+        ALL_AGENTS,
+        LAST_VERSION,
+        LAST_AGENTS,
+    ];
+    expect_all(&rt, &turns);
 }

@@ -1,11 +1,13 @@
-//! Tests of the public calls of `debcheck`; those of its command lines stand in `command_line_tests`, those of whole programs in `program_tests`, and what all
-//! three run on in `test_devices`.
+//! Tests of the public calls of `debcheck`; those of whole programs stand in `program_tests` and `screen_tests`, and what all three run on in
+//! `test_devices`.
 //!
-//! `counted` has devices of std's kind that count, `tally` a gate that counts. `whole_texts` and `over_std` read and write whole texts, `pieces` reads one piece by
-//! piece, `recordings` has sources that keep their beginning, `fault_lines` the lines and statuses of faults, `runs` small runs, `since_runs` those since an earlier
-//! index, `growths` a test for each call that can want memory.
+//! `counted` has devices of std's kind that count, `tally` a gate that counts, `cases` what a run is set to and comes to. `whole_texts` and `over_std`
+//! read and write whole texts, `pieces` reads one piece by piece, `recordings` has sources that keep their beginning, `fault_lines` the lines and
+//! statuses of faults, `runs` small runs, `since_runs` those since an earlier index, `growths` a test for each call that can want memory.
 #![tactic(auto)]
 
+#[cfg(test)]
+mod cases;
 #[cfg(test)]
 mod counted;
 #[cfg(test)]

@@ -59,12 +59,16 @@ fn listing(alloc: Global, index: &Index) -> Result<String, AllocError> {
 
 pub const LISTING: &str = "6 1 1 4, a 1, b 2, d 1:2-3, e 1";
 
-/// What is seen of an index, or a word for the fault that is told in its place.
-fn told_by(alloc: Global, outcome: &Result<Index, RunFault>) -> Result<String, AllocError> {
+/// Whether this is seen of an index, or this word tells the fault that is told in its place.
+fn is_told(
+    alloc: Global,
+    outcome: &Result<Index, RunFault>,
+    wanted: &str,
+) -> Result<bool, AllocError> {
     match outcome {
-        Ok(index) => listing(alloc, index),
+        Ok(index) => Ok(listing(alloc, index)?.as_str() == wanted),
         Err(RunFault::Memory) => Err(AllocError),
-        Err(fault) => String::from_str(alloc, word_for(fault)),
+        Err(fault) => Ok(word_for(fault) == wanted),
     }
 }
 
@@ -76,57 +80,55 @@ fn word_for(fault: &RunFault) -> &'static str {
     }
 }
 
-/// What reading all that is left in pieces of at least so many bytes comes to, with nothing behind it.
-fn told_of(
+/// Whether reading all that is left in pieces of at least so many bytes, with nothing behind it, comes to this.
+pub fn comes_to(
     rt: &(impl Threads + Sync + AllocGlobal),
     reader: &mut Feed<'_>,
     piece: usize,
-) -> Result<String, AllocError>
+    wanted: &str,
+) -> Result<bool, AllocError>
     requires { 0 < piece }
 {
     let config = Config::usual(rt.alloc())?;
     let outcome = read_pieces(rt, rt.alloc(), &config, reader, &[], piece);
-    told_by(rt.alloc(), &outcome)
-}
-
-/// It comes to this.
-pub fn expect_pieces(
-    rt: &(impl Abort + Threads + Sync + AllocGlobal),
-    reader: &mut Feed<'_>,
-    piece: usize,
-    wanted: &str,
-) -> Result<(), AllocError>
-    requires { 0 < piece }
-{
-    let told = told_of(rt, reader, piece)?;
-    assert!(rt; told.as_str() == wanted, "pieces of {piece} bytes: {told}");
-    Ok(())
+    drop(config);
+    is_told(rt.alloc(), &outcome, wanted)
 }
 
 /// How many bytes a piece has at least: from one to more than the text has.
 const PIECES: [usize; 12] = [1, 2, 3, 5, 8, 13, 21, 34, 55, 89, 144, 1000];
 
-#[test]
-fn pieces_of_any_size_make_the_index_of_the_text(rt: HostRuntime) -> Result<(), AllocError> {
-    for piece in PIECES {
-        for step in [1, 7, 1000] {
-            let mut reader = source_of(TEXT, step);
-            expect_pieces(&rt, &mut reader, piece, LISTING)?;
-            assert!(rt; reader.rest.is_empty());
-        }
-    }
-    Ok(())
+/// The reader, read to its end in pieces of at least so many bytes, comes to this.
+fn expect(
+    rt: &(impl Abort + Threads + Sync + AllocGlobal),
+    mut reader: Feed<'_>,
+    piece: usize,
+    wanted: &str,
+) {
+    let told = piece > 0 && matches!(comes_to(rt, &mut reader, piece, wanted), Ok(true));
+    assert!(rt; told && reader.rest.is_empty(), "pieces of {piece} bytes");
 }
 
 #[test]
-fn a_reader_fails_behind_each_byte(rt: HostRuntime) -> Result<(), AllocError> {
+fn pieces_of_any_size_make_the_index_of_the_text(rt: HostRuntime) {
+    for piece in PIECES {
+        for step in [1, 7, 1000] {
+            expect(&rt, source_of(TEXT, step), piece, LISTING);
+        }
+    }
+}
+
+#[test]
+fn a_reader_fails_behind_each_byte(rt: HostRuntime) {
     for count in 0..=TEXT.len() {
         let mut reader = source_of(&TEXT[..count], 1);
         reader.fails = true;
-        expect_pieces(&rt, &mut reader, 8, "failed")?;
-        assert!(rt; reader.reads as usize == count + 1, "behind {count} bytes");
+        let told = comes_to(&rt, &mut reader, 8, "failed");
+        assert!(rt;
+            matches!(told, Ok(true)) && reader.reads as usize == count + 1,
+            "behind {count} bytes"
+        );
     }
-    Ok(())
 }
 
 /// The second stanza has a fault, and so has the third.
@@ -135,16 +137,18 @@ const FAULTY: &[u8] =
 
 /// The first fault is told, in whatever piece it stands, once the text was read to its end; that a read failed goes before it.
 #[test]
-fn the_first_fault_is_told_behind_the_whole_text(rt: HostRuntime) -> Result<(), AllocError> {
+fn the_first_fault_is_told_behind_the_whole_text(rt: HostRuntime) {
     for piece in 1..=FAULTY.len() + 1 {
-        for (fails, wanted) in [(false, "missing field in stanza 2"), (true, "failed")] {
-            let mut reader = source_of(FAULTY, 3);
-            reader.fails = fails;
-            expect_pieces(&rt, &mut reader, piece, wanted)?;
-            assert!(rt; reader.rest.is_empty());
-        }
+        expect(
+            &rt,
+            source_of(FAULTY, 3),
+            piece,
+            "missing field in stanza 2",
+        );
+        let mut torn = source_of(FAULTY, 3);
+        torn.fails = true;
+        expect(&rt, torn, piece, "failed");
     }
-    Ok(())
 }
 
 /// One stanza of more than a thousand lines.
@@ -158,11 +162,16 @@ fn long_stanza(alloc: Global) -> Result<String, AllocError> {
 }
 
 /// As much again is read before each try to cut it: so there are few tries.
+fn is_read_in_few_steps(rt: &(impl Threads + Sync + AllocGlobal), text: &[u8]) -> bool {
+    let mut reader = source_of(text, 1_000_000);
+    let told = comes_to(rt, &mut reader, 1, "1 0 0 1, a 1");
+    matches!(told, Ok(true)) && reader.reads <= 16
+}
+
 #[test]
-fn a_text_without_an_empty_line_is_read_in_few_steps(rt: HostRuntime) -> Result<(), AllocError> {
-    let text = long_stanza(rt.alloc())?;
-    let mut reader = source_of(text.as_bytes(), 1_000_000);
-    let outcome = expect_pieces(&rt, &mut reader, 1, "1 0 0 1, a 1");
-    assert!(rt; reader.reads <= 16);
-    outcome
+fn a_text_without_an_empty_line_is_read_in_few_steps(rt: HostRuntime) {
+    match long_stanza(rt.alloc()) {
+        Ok(text) => assert!(rt; is_read_in_few_steps(&rt, text.as_bytes())),
+        Err(_) => panic!(rt; "no memory"),
+    }
 }

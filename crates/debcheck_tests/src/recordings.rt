@@ -1,31 +1,33 @@
 //! Sources whose beginning is kept.
 
 use debcheck::{Recording, Source, read_all};
+use std::alloc::Global;
 use std::process::Abort;
-use std::test::Fail;
 use test_devices::source_of;
 
-/// What is kept of so many bytes, of which so many come at each read.
-fn expect_front(rt: &(impl Abort + AllocGlobal), text: &[u8], step: usize) -> Result<(), Fail> {
+/// Whether the front of a text is kept, of which so many bytes come at each read.
+fn keeps_front(alloc: Global, text: &[u8], step: usize) -> bool {
     let mut source = Recording::new(source_of(text, step));
-    let bytes = read_all(rt.alloc(), &mut source, 10_000);
-    assert!(rt; bytes.is_ok() && source.front() == &text[..text.len().min(4_096)]);
-    Ok(())
+    let bytes = read_all(alloc, &mut source, 10_000);
+    bytes.is_ok() && source.front() == &text[..text.len().min(4_096)]
+}
+
+/// By some numbers of bytes at each read.
+fn expect_front(rt: &(impl Abort + AllocGlobal), text: &[u8]) {
+    for step in [1, 7, 4_095, 4_096, 4_097, 5_000] {
+        assert!(rt; keeps_front(rt.alloc(), text, step), "by {step} bytes");
+    }
 }
 
 #[test]
-fn the_first_bytes_are_kept(rt: HostRuntime) -> Result<(), Fail> {
-    let mut text = Vec::new(rt.alloc());
-    for number in 0..5_000_u32 {
-        text.push((number % 251) as u8)?;
+fn the_first_bytes_are_kept(rt: HostRuntime) {
+    let mut text = [0u8; 5_000];
+    for number in 0..5_000usize {
+        text[number] = (number % 251) as u8;
     }
-    for step in [1, 7, 4_095, 4_096, 4_097, 5_000] {
-        for length in [0, 1, 4_095, 4_096, 4_097, 5_000] {
-            let length = text.len().min(length);
-            expect_front(&rt, &text.as_slice()[..length], step)?;
-        }
+    for length in [0, 1, 4_095, 4_096, 4_097, 5_000] {
+        expect_front(&rt, &text[..text.len().min(length)]);
     }
-    Ok(())
 }
 
 #[test]

@@ -1,25 +1,19 @@
-//! Runs on an earlier index, with devices that fail.
+//! Runs since an earlier index, with devices that fail.
 
-ghost use Rattle.std.specs.Prelude.{◌≡◌, ◌<◌, ◌≤◌, IfOk, false, length};
-
-use crate::runs::has_written;
-use debcheck::{Config, Format, RunFault, Summary, run_since, status};
-use std::alloc::{AllocError, Global};
+use crate::cases::{Case, EMPTY, NOTHING, Settings, Torn, Way, expect_answer};
+use debcheck::{Format, Show, Summary};
 use std::process::Abort;
-use std::test::Fail;
 use std::thread::Threads;
-use test_devices::{Feed, Held, sink_of, source_of};
-use work_draw::OpenGate;
 
 /// One package, which is broken.
-pub const INDEX: &[u8] = b"Package: d\nVersion: 1\nArchitecture: all\nDepends: y\n";
+const INDEX: &[u8] = b"Package: d\nVersion: 1\nArchitecture: all\nDepends: y\n";
 
 /// Another one, which was.
-pub const EARLIER: &[u8] = b"Package: b\nVersion: 2\nArchitecture: all\nDepends: y\n";
+const EARLIER: &[u8] = b"Package: b\nVersion: 2\nArchitecture: all\nDepends: y\n";
 
-pub const BACKGROUND: &[u8] = b"Package: z\nVersion: 1\nArchitecture: all\n";
+const BACKGROUND: &[u8] = b"Package: z\nVersion: 1\nArchitecture: all\n";
 
-pub const REPORT: &[u8] = b"architecture: amd64
+const REPORT: &[u8] = b"architecture: amd64
 report:
  -
   package: d
@@ -40,149 +34,126 @@ gone:
  - b 2
 ";
 
-/// The usual settings, with a background.
-pub fn with_background(alloc: Global) -> Result<Config, AllocError>
-    ensures workers { IfOk result (λ config. config.workers ≡ 4) }
-    ensures chunk { IfOk result (λ config. config.chunk ≡ 64) }
-{
-    let name = String::from_str(alloc, "others")?;
-    let mut config = Config::usual(alloc)?;
-    config.bg = Some(name);
-    Ok(config)
-}
+/// The usual settings.
+const USUAL: Settings = Settings {
+    workers: 4,
+    chunk: 64,
+    show: Show::All,
+    explain: true,
+    all_reasons: false,
+    causes: false,
+    why: false,
+    format: Format::Text,
+};
 
-/// A run on three readers.
-pub fn run_on(
-    rt: &(impl Threads + Sync + AllocGlobal),
-    config: &Config,
-    index: &mut Feed<'_>,
-    background: &mut Feed<'_>,
-    earlier: &mut Feed<'_>,
-    output: &mut Held,
-) -> Result<Summary, RunFault>
-    requires workers { (0 < config.now.workers) × (config.now.workers ≤ 64) }
-    requires chunk { 0 < config.now.chunk }
-    requires index { index.old.failed ≡ false }
-    requires background { background.old.failed ≡ false }
-    requires earlier { earlier.old.failed ≡ false }
-    requires output { output.old.failed ≡ false }
-{
-    run_since(
-        rt,
-        rt.alloc(),
-        config,
-        index,
-        background,
-        earlier,
-        output,
-        &OpenGate,
-    )
-}
+/// A run on all three, byte by byte.
+const GOES_ON: Case<'static> = Case {
+    name: "readers that go on",
+    way: Way::Since,
+    settings: USUAL,
+    index: INDEX,
+    background: Some(BACKGROUND),
+    earlier: EARLIER,
+    begun: 3,
+    room: 50,
+    written: REPORT,
+    status: 1,
+    summary: Some(Summary {
+        stanzas: 2,
+        background: 1,
+        asked: 1,
+        broken: 1,
+        newly_broken: Some(1),
+        ..NOTHING
+    }),
+    ..EMPTY
+};
 
-/// What a run on three readers comes to, and how often the background and the earlier index were read.
-fn told_on(
-    rt: &(impl Threads + Sync + AllocGlobal),
-    config: &Config,
-    mut index: Feed<'_>,
-    mut background: Feed<'_>,
-    mut earlier: Feed<'_>,
-) -> (&'static str, u32, u32)
-    requires workers { (0 < config.now.workers) × (config.now.workers ≤ 64) }
-    requires chunk { 0 < config.now.chunk }
-    requires index { index.failed ≡ false }
-    requires background { background.failed ≡ false }
-    requires earlier { earlier.failed ≡ false }
-{
-    let mut output = sink_of(rt.alloc(), 50, 0, false);
-    let outcome = run_on(
-        rt,
-        config,
-        &mut index,
-        &mut background,
-        &mut earlier,
-        &mut output,
-    );
-    let told = told_by(&outcome, output.bytes.as_slice());
-    (told, background.reads, earlier.reads)
-}
+/// The same, in larger pieces.
+pub const SINCE: Case<'static> = Case {
+    name: "since an earlier index",
+    step: 11,
+    ..GOES_ON
+};
 
-/// A word for what a run came to: the report, or a fault with nothing written.
-fn told_by(outcome: &Result<Summary, RunFault>, written: &[u8]) -> &'static str {
-    match outcome {
-        Ok(_) if status(outcome) == 1 && written == REPORT => "report",
-        Err(_) if !written.is_empty() => "something written",
-        Err(RunFault::Read) => "index",
-        Err(RunFault::BackgroundRead) => "background",
-        Err(RunFault::EarlierRead) => "earlier",
-        Err(RunFault::Index(_)) => "a fault of the index",
-        _ => "another",
-    }
-}
+/// The same where all reasons are told; there is one.
+pub const SINCE_WITH_ALL_REASONS: Case<'static> = Case {
+    name: "since an earlier index, with all reasons",
+    settings: Settings {
+        all_reasons: true,
+        ..USUAL
+    },
+    ..SINCE
+};
 
-/// A text that fails behind so many bytes.
-fn torn(text: &[u8], count: usize) -> Feed<'_>
-    requires { count ≤ length text.now }
-    ensures { result.failed ≡ false }
-{
-    let mut source = source_of(&text[..count], 1);
-    source.fails = true;
-    source
-}
+/// The index fails; nothing behind it is read.
+const TORN: Case<'static> = Case {
+    name: "a reader of the index that fails",
+    torn: Torn::Index,
+    begun: 1,
+    written: b"",
+    status: 67,
+    told: "index",
+    summary: None,
+    ..GOES_ON
+};
 
-/// The readers behind it are not read.
-#[test]
-fn a_reader_fails_behind_each_byte(rt: HostRuntime) -> Result<(), Fail> {
-    let config = with_background(rt.alloc())?;
-    for count in 0..=INDEX.len() {
-        let (background, earlier) = (source_of(BACKGROUND, 1), source_of(EARLIER, 1));
-        let told = told_on(&rt, &config, torn(INDEX, count), background, earlier);
-        assert!(rt; told == ("index", 0, 0), "behind {count} bytes");
-    }
-    Ok(())
-}
+/// The background fails; the earlier index is not read.
+const TORN_BACKGROUND: Case<'static> = Case {
+    name: "a reader of the background that fails",
+    torn: Torn::Background,
+    begun: 2,
+    told: "background",
+    ..TORN
+};
 
-#[test]
-fn a_reader_of_the_background_fails_behind_each_byte(rt: HostRuntime) -> Result<(), Fail> {
-    let config = with_background(rt.alloc())?;
-    for count in 0..=BACKGROUND.len() {
-        let (index, earlier) = (source_of(INDEX, 1), source_of(EARLIER, 1));
-        let told = told_on(&rt, &config, index, torn(BACKGROUND, count), earlier);
-        assert!(rt;
-            (told.0, told.2) == ("background", 0),
-            "behind {count} bytes"
-        );
-    }
-    Ok(())
-}
+const TORN_EARLIER: Case<'static> = Case {
+    name: "a reader of the earlier index that fails",
+    torn: Torn::Earlier,
+    begun: 3,
+    told: "earlier",
+    ..TORN
+};
 
 /// A fault of the index goes before it.
-#[test]
-fn a_reader_of_the_earlier_index_fails_behind_each_byte(rt: HostRuntime) -> Result<(), Fail> {
-    let config = with_background(rt.alloc())?;
-    for count in 0..=EARLIER.len() {
-        let (index, background) = (source_of(INDEX, 1), source_of(BACKGROUND, 1));
-        let told = told_on(&rt, &config, index, background, torn(EARLIER, count));
-        assert!(rt; told.0 == "earlier", "behind {count} bytes");
-    }
-    let (faulty, background) = (source_of(b" x", 1), source_of(BACKGROUND, 1));
-    let told = told_on(
-        &rt,
-        &config,
-        faulty,
-        background,
-        torn(EARLIER, EARLIER.len()),
-    );
-    assert!(rt; told.0 == "a fault of the index");
-    Ok(())
+const FAULT: Case<'static> = Case {
+    name: "a fault of the index",
+    index: b" x",
+    status: 65,
+    told: "bad line in stanza 1",
+    ..TORN_EARLIER
+};
+
+/// The reader fails behind so many bytes of its text.
+fn expect_torn(rt: &(impl Abort + Threads + Sync + AllocGlobal), torn: Torn, count: usize) {
+    let case = match torn {
+        Torn::Background => Case {
+            background: Some(&BACKGROUND[..count.min(BACKGROUND.len())]),
+            ..TORN_BACKGROUND
+        },
+        Torn::Earlier => Case {
+            earlier: &EARLIER[..count.min(EARLIER.len())],
+            ..TORN_EARLIER
+        },
+        _ => Case {
+            index: &INDEX[..count.min(INDEX.len())],
+            ..TORN
+        },
+    };
+    expect_answer(rt, &case);
 }
 
 #[test]
-fn readers_that_go_on_give_a_report(rt: HostRuntime) -> Result<(), Fail> {
-    let config = with_background(rt.alloc())?;
-    let (index, background) = (source_of(INDEX, 1), source_of(BACKGROUND, 1));
-    let told = told_on(&rt, &config, index, background, source_of(EARLIER, 1));
-    assert!(rt; told.0 == "report");
-    Ok(())
+fn readers_fail_behind_each_byte(rt: HostRuntime) {
+    for count in 0..=INDEX.len() {
+        expect_torn(&rt, Torn::Index, count);
+    }
+    for count in 0..=BACKGROUND.len() {
+        expect_torn(&rt, Torn::Background, count);
+    }
+    for count in 0..=EARLIER.len() {
+        expect_torn(&rt, Torn::Earlier, count);
+    }
 }
 
 /// One package that was broken and is still, a newly broken one, each for two reasons, and one that is fine.
@@ -207,26 +178,25 @@ Architecture: all
 Depends: x
 ";
 
-/// A run on the index with news since the one before it writes this.
-fn expect_news(rt: &(impl Abort + Threads + Sync + AllocGlobal), config: &Config, wanted: &str)
-    requires workers { (0 < config.now.workers) × (config.now.workers ≤ 64) }
-    requires chunk { 0 < config.now.chunk }
-{
-    let mut output = sink_of(rt.alloc(), 50, 0, false);
-    let (mut index, mut background) = (source_of(NEWS, 50), source_of(BACKGROUND, 50));
-    let mut earlier = source_of(BEFORE, 50);
-    let outcome = run_on(
-        rt,
-        config,
-        &mut index,
-        &mut background,
-        &mut earlier,
-        &mut output,
-    );
-    assert!(rt; has_written(&output, &outcome, wanted.as_bytes()) && status(&outcome) == 1);
-}
+/// The index with news since the one before it.
+const FIRST: Case<'static> = Case {
+    name: "first reasons of news",
+    index: NEWS,
+    earlier: BEFORE,
+    step: 50,
+    written: FIRST_REASONS,
+    summary: Some(Summary {
+        stanzas: 4,
+        background: 1,
+        asked: 3,
+        broken: 2,
+        newly_broken: Some(1),
+        ..NOTHING
+    }),
+    ..GOES_ON
+};
 
-const FIRST_REASONS: &str = "architecture: amd64
+const FIRST_REASONS: &[u8] = b"architecture: amd64
 report:
  -
   package: b
@@ -246,14 +216,19 @@ mended:
 gone:
 ";
 
-#[test]
-fn first_reasons_of_news(rt: HostRuntime) -> Result<(), Fail> {
-    let config = with_background(rt.alloc())?;
-    expect_news(&rt, &config, FIRST_REASONS);
-    Ok(())
-}
+const WALKED: Case<'static> = Case {
+    name: "all reasons and causes of news",
+    settings: Settings {
+        all_reasons: true,
+        causes: true,
+        why: true,
+        ..USUAL
+    },
+    written: WALKS_AND_CAUSES,
+    ..FIRST
+};
 
-const WALKS_AND_CAUSES: &str = "architecture: amd64
+const WALKS_AND_CAUSES: &[u8] = b"architecture: amd64
 report:
  -
   package: b
@@ -296,18 +271,20 @@ causes: 2
    - b 1
 ";
 
-#[test]
-fn all_reasons_and_causes_of_news(rt: HostRuntime) -> Result<(), Fail> {
-    let mut config = with_background(rt.alloc())?;
-    config.all_reasons = true;
-    config.causes = true;
-    config.why = true;
-    expect_news(&rt, &config, WALKS_AND_CAUSES);
-    Ok(())
-}
+const IN_JSON: Case<'static> = Case {
+    name: "all reasons and causes of news in JSON",
+    settings: Settings {
+        all_reasons: true,
+        causes: true,
+        format: Format::Json,
+        ..USUAL
+    },
+    written: DOCUMENT,
+    ..FIRST
+};
 
-const DOCUMENT: &str =
-    r#"{"format":1,"options":["explain","bg","since","causes","all-reasons"],"architecture":"amd64","report":[
+const DOCUMENT: &[u8] =
+    br#"{"format":1,"options":["explain","bg","since","causes","all-reasons"],"architecture":"amd64","report":[
 {"package":"b","version":"1","architecture":"all","status":"broken","reasons":[{"kind":"missing","package":"b","version":"1","field":"Depends","relation":"c (>= 2)"}],"also":[[{"kind":"missing","package":"b","version":"1","field":"Depends","relation":"y"}]]}
 ],"stanzas":4,"skipped":0,"duplicates":0,"background":1,"asked":3,"broken":2,"newly-broken":1,"mended":[],"gone":[],"causes":[
 {"packages":1,"frees":0,"reasons":[{"kind":"missing","relation":"c (>= 2)"}],"needed-by":[{"package":"b","version":"1","field":"Depends","relation":"c (>= 2)"}],"hits":[],"versions":[],"present":[{"package":"c","version":"1"}],"similar":[],"broken":[{"package":"b","version":"1"}]},
@@ -315,17 +292,18 @@ const DOCUMENT: &str =
 ]}
 "#;
 
-#[test]
-fn all_reasons_and_causes_of_news_in_json(rt: HostRuntime) -> Result<(), Fail> {
-    let mut config = with_background(rt.alloc())?;
-    config.all_reasons = true;
-    config.causes = true;
-    config.format = Format::Json;
-    expect_news(&rt, &config, DOCUMENT);
-    Ok(())
-}
+/// Without explanations and causes no core is told.
+const UNEXPLAINED: Case<'static> = Case {
+    name: "statuses of news",
+    settings: Settings {
+        explain: false,
+        ..USUAL
+    },
+    written: STATUSES,
+    ..FIRST
+};
 
-const STATUSES: &str = "architecture: amd64
+const STATUSES: &[u8] = b"architecture: amd64
 report:
  -
   package: b
@@ -343,11 +321,12 @@ mended:
 gone:
 ";
 
-/// Without explanations and causes no core is told.
 #[test]
-fn statuses_of_news(rt: HostRuntime) -> Result<(), Fail> {
-    let mut config = with_background(rt.alloc())?;
-    config.explain = false;
-    expect_news(&rt, &config, STATUSES);
-    Ok(())
+fn runs_since_an_earlier_index(rt: HostRuntime) {
+    expect_answer(&rt, &GOES_ON);
+    expect_answer(&rt, &FAULT);
+    expect_answer(&rt, &FIRST);
+    expect_answer(&rt, &WALKED);
+    expect_answer(&rt, &IN_JSON);
+    expect_answer(&rt, &UNEXPLAINED);
 }

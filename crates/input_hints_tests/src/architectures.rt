@@ -1,70 +1,56 @@
 //! The line on the architecture that most stanzas are of.
 
+use crate::line::expect_line_of;
 use input_hints::elsewhere_hint_line;
-use std::process::Abort;
 use std::test::Fail;
 
-/// The line on a text names this architecture; or there is no line.
-fn expect(rt: &(impl Abort + AllocGlobal), text: &str, name: &str) -> Result<(), Fail> {
-    let line = elsewhere_hint_line(rt.alloc(), text.as_bytes())?;
-    let wanted = format!(in rt.alloc();
-        "hint: no stanza is of this architecture or of all, and most are of {name}: give another by --arch\n"
-    )?;
-    match line {
-        Some(line) => {
-            let same = line.as_slice() == wanted.as_str().as_bytes();
-            assert!(rt; same, "another line of: {text}");
-        }
-        None => {
-            assert!(rt; name.is_empty(), "no line of: {text}");
-        }
-    }
-    Ok(())
-}
+const ARM64: Option<&str> = Some(
+    "hint: no stanza is of this architecture or of all, and most are of arm64: give another by --arch\n",
+);
+
+const A: Option<&str> = Some(
+    "hint: no stanza is of this architecture or of all, and most are of a: give another by --arch\n",
+);
+
+/// Texts, and the line on the architecture that more than half of their stanzas are of.
+const LINES: &[(&str, Option<&str>)] = &[
+    ("Architecture: arm64", ARM64),
+    ("Package: a\narchitecture:\tarm64 \r\n", ARM64),
+    (
+        "Architecture: i386\n\nArchitecture: arm64\n\nArchitecture: arm64\n",
+        ARM64,
+    ),
+    (
+        "Architecture: b\nArchitecture: a\nArchitecture: c\nArchitecture: a\nArchitecture: a\n",
+        A,
+    ),
+    (
+        "Architecture: a\nArchitecture: a\nArchitecture: a\nArchitecture: c\nArchitecture: b\n",
+        A,
+    ),
+    (
+        "Architecture: a\nVersion: 1\nVersion: 1\nVersion: 1\n Architecture: b\n#Architecture: b\n",
+        A,
+    ),
+    ("", None),
+    ("\n", None),
+    ("Package: a\n", None),
+    ("Architecture: a\nArchitecture: b\n", None),
+    (
+        "Architecture: a\nArchitecture: a\nArchitecture: b\nArchitecture: c\n",
+        None,
+    ),
+    ("Architecture: a\nArchitecture: A\n", None),
+    ("Architecture:\n", None),
+    ("Architecture: \u{1b}[2J\n", None),
+    ("Architecture : a\n", None),
+];
 
 #[test]
 fn more_than_half_are_most(rt: HostRuntime) -> Result<(), Fail> {
-    let texts = [
-        ("Architecture: arm64", "arm64"),
-        ("Package: a\narchitecture:\tarm64 \r\n", "arm64"),
-        (
-            "Architecture: i386\n\nArchitecture: arm64\n\nArchitecture: arm64\n",
-            "arm64",
-        ),
-        (
-            "Architecture: b\nArchitecture: a\nArchitecture: c\nArchitecture: a\nArchitecture: a\n",
-            "a",
-        ),
-        (
-            "Architecture: a\nArchitecture: a\nArchitecture: a\nArchitecture: c\nArchitecture: b\n",
-            "a",
-        ),
-        (
-            "Architecture: a\nVersion: 1\nVersion: 1\nVersion: 1\n Architecture: b\n#Architecture: b\n",
-            "a",
-        ),
-    ];
-    for (text, name) in texts {
-        expect(&rt, text, name)?;
-    }
-    Ok(())
-}
-
-#[test]
-fn no_architecture_is_that_of_most(rt: HostRuntime) -> Result<(), Fail> {
-    let texts = [
-        "",
-        "\n",
-        "Package: a\n",
-        "Architecture: a\nArchitecture: b\n",
-        "Architecture: a\nArchitecture: a\nArchitecture: b\nArchitecture: c\n",
-        "Architecture: a\nArchitecture: A\n",
-        "Architecture:\n",
-        "Architecture: \u{1b}[2J\n",
-        "Architecture : a\n",
-    ];
-    for text in texts {
-        expect(&rt, text, "")?;
+    for (text, wanted) in LINES {
+        let line = elsewhere_hint_line(rt.alloc(), text.as_bytes());
+        expect_line_of(&rt, text, line, *wanted)?;
     }
     Ok(())
 }

@@ -1,126 +1,162 @@
 //! The line on a stanza: of which package it is.
 
+use crate::line::expect_line_of;
 use input_hints::{Input, stanza_hint_line};
-use std::process::Abort;
 use std::test::Fail;
 
-/// The package that the line on a stanza names, and whether that has a second one, are these; or there is no line.
-fn expect(
-    rt: &(impl Abort + AllocGlobal),
-    text: &str,
-    number: u64,
-    name: &str,
-    second: bool,
-) -> Result<(), Fail> {
-    let line = stanza_hint_line(rt.alloc(), Input::Index, 0, number, text.as_bytes())?;
-    let end = if second {
-        ", and has a second Package: is there no empty line between two indexes?\n"
-    } else {
-        "\n"
-    };
-    let wanted = format!(in rt.alloc();
-        "hint: stanza {number} of the index is of the package {name}{end}"
-    )?;
-    match line {
-        Some(line) => {
-            let same = line.as_slice() == wanted.as_str().as_bytes();
-            assert!(rt; same, "another line of {number} in: {text}");
-        }
-        None => {
-            assert!(rt; name.is_empty(), "no line of {number} in: {text}");
-        }
-    }
-    Ok(())
-}
+/// The number of a stanza, and its line.
+type Line<'a> = (u64, Option<&'a str>);
 
 /// Three stanzas, with a comment, lines of spaces and a last line without an end.
 const THREE: &str =
     "\n \t\nPackage: a\nVersion: 1\n\n# Package: none\n\n\nVersion: 2\n# Package: none\npackage:\t b \t\n Package: folded\n \nPACKAGE:c";
 
-#[test]
-fn stanzas_count_from_1(rt: HostRuntime) -> Result<(), Fail> {
-    expect(&rt, THREE, 1, "a", false)?;
-    expect(&rt, THREE, 2, "b", false)?;
-    expect(&rt, THREE, 3, "c", false)?;
-    expect(&rt, THREE, 4, "", false)?;
-    expect(&rt, THREE, u64::MAX, "", false)
-}
-
-#[test]
-fn a_second_package_is_of_the_same_stanza(rt: HostRuntime) -> Result<(), Fail> {
-    let text =
-        "Package: a\nVersion: 1\nPackage: b\nPackage: c\n\nPackage: d\n\npackage: e\n#\nPACKAGE:\n";
-    expect(&rt, text, 1, "a", true)?;
-    expect(&rt, text, 2, "d", false)?;
-    expect(&rt, text, 3, "e", true)
-}
+/// A second package is of the same stanza.
+const SECOND: &str =
+    "Package: a\nVersion: 1\nPackage: b\nPackage: c\n\nPackage: d\n\npackage: e\n#\nPACKAGE:\n";
 
 /// A comment doesn't end a stanza, nor does it open one.
-#[test]
-fn comments_are_no_lines(rt: HostRuntime) -> Result<(), Fail> {
-    let text = "#\n\nVersion: 1\n#\nPackage: a\n\n#\nPackage: b";
-    expect(&rt, text, 1, "a", false)?;
-    expect(&rt, text, 2, "b", false)?;
-    expect(&rt, text, 3, "", false)
-}
-
-#[test]
-fn no_package_is_no_line(rt: HostRuntime) -> Result<(), Fail> {
-    let texts = [
-        "",
-        "\n",
-        "Version: 1\n",
-        "Version: 1\n\nPackage: a\n",
-        "Package:\n",
-        "Package: \t \n",
-        "Package : a\n",
-        "Packages: a\n",
-        " Package: a\n",
-        "Source-Package: a\n",
-        "Package: \u{e4}\n",
-        "Package: a\tb\n",
-        "Package: a\u{1b}[2J\n",
-        "Package: a\u{7f}\n",
-    ];
-    for text in texts {
-        expect(&rt, text, 1, "", false)?;
-    }
-    Ok(())
-}
+const COMMENTS: &str = "#\n\nVersion: 1\n#\nPackage: a\n\n#\nPackage: b";
 
 /// Behind CR LF the white space is cut, too; such a line that has nothing else is none that parts stanzas.
-#[test]
-fn other_line_ends(rt: HostRuntime) -> Result<(), Fail> {
-    let text = "Package: a\r\nVersion: 1\r\n\r\nPackage: b\r\n";
-    expect(&rt, text, 1, "a", true)?;
-    expect(&rt, text, 2, "", false)
-}
+const CARRIAGE_RETURNS: &str = "Package: a\r\nVersion: 1\r\n\r\nPackage: b\r\n";
 
-#[test]
-fn what_is_shown_is_short(rt: HostRuntime) -> Result<(), Fail> {
-    let sixty = "012345678901234567890123456789012345678901234567890123456789";
-    let text = format!(in rt.alloc();
-        "Package: {sixty}\n\nPackage: {sixty}0\n\nPackage: ~ a(!)\n"
-    )?;
-    expect(&rt, text.as_str(), 1, sixty, false)?;
-    expect(&rt, text.as_str(), 2, sixty, false)?;
-    expect(&rt, text.as_str(), 3, "~ a(!)", false)
-}
+/// What is shown is short: names of 60 and 61 bytes.
+const LONG: &str = "Package: 012345678901234567890123456789012345678901234567890123456789
 
-#[test]
-fn of_the_background(rt: HostRuntime) -> Result<(), Fail> {
-    let line = stanza_hint_line(rt.alloc(), Input::Background, 0, 1, b"Package: a")?;
-    let wanted = b"hint: stanza 1 of the background is of the package a\n".as_slice();
-    assert!(rt; matches!(&line, Some(line) if line.as_slice() == wanted));
-    Ok(())
-}
+Package: 0123456789012345678901234567890123456789012345678901234567890
+
+Package: ~ a(!)
+";
+
+/// No package is no line.
+const NONE: &[Line] = &[(1, None)];
 
 /// The number that is told is that in the whole text.
+const BEHIND_OTHERS: &[Line] = &[(
+    26,
+    Some("hint: stanza 26 of the earlier index is of the package z\n"),
+)];
+
+/// An input, how many of its stanzas stand before a text, the text, and its lines.
+const TEXTS: &[(Input, u64, &str, &[Line])] = &[
+    (
+        Input::Index,
+        0,
+        THREE,
+        &[
+            (1, Some("hint: stanza 1 of the index is of the package a\n")),
+            (2, Some("hint: stanza 2 of the index is of the package b\n")),
+            (3, Some("hint: stanza 3 of the index is of the package c\n")),
+            (4, None),
+            (u64::MAX, None),
+        ],
+    ),
+    (
+        Input::Index,
+        0,
+        SECOND,
+        &[
+            (
+                1,
+                Some(
+                    "hint: stanza 1 of the index is of the package a, and has a second Package: is there no empty line between two indexes?\n",
+                ),
+            ),
+            (2, Some("hint: stanza 2 of the index is of the package d\n")),
+            (
+                3,
+                Some(
+                    "hint: stanza 3 of the index is of the package e, and has a second Package: is there no empty line between two indexes?\n",
+                ),
+            ),
+        ],
+    ),
+    (
+        Input::Index,
+        0,
+        COMMENTS,
+        &[
+            (1, Some("hint: stanza 1 of the index is of the package a\n")),
+            (2, Some("hint: stanza 2 of the index is of the package b\n")),
+            (3, None),
+        ],
+    ),
+    (
+        Input::Index,
+        0,
+        CARRIAGE_RETURNS,
+        &[
+            (
+                1,
+                Some(
+                    "hint: stanza 1 of the index is of the package a, and has a second Package: is there no empty line between two indexes?\n",
+                ),
+            ),
+            (2, None),
+        ],
+    ),
+    (
+        Input::Index,
+        0,
+        LONG,
+        &[
+            (
+                1,
+                Some(
+                    "hint: stanza 1 of the index is of the package 012345678901234567890123456789012345678901234567890123456789\n",
+                ),
+            ),
+            (
+                2,
+                Some(
+                    "hint: stanza 2 of the index is of the package 012345678901234567890123456789012345678901234567890123456789\n",
+                ),
+            ),
+            (
+                3,
+                Some("hint: stanza 3 of the index is of the package ~ a(!)\n"),
+            ),
+        ],
+    ),
+    (Input::Index, 0, "", NONE),
+    (Input::Index, 0, "\n", NONE),
+    (Input::Index, 0, "Version: 1\n", NONE),
+    (Input::Index, 0, "Version: 1\n\nPackage: a\n", NONE),
+    (Input::Index, 0, "Package:\n", NONE),
+    (Input::Index, 0, "Package: \t \n", NONE),
+    (Input::Index, 0, "Package : a\n", NONE),
+    (Input::Index, 0, "Packages: a\n", NONE),
+    (Input::Index, 0, " Package: a\n", NONE),
+    (Input::Index, 0, "Source-Package: a\n", NONE),
+    (Input::Index, 0, "Package: \u{e4}\n", NONE),
+    (Input::Index, 0, "Package: a\tb\n", NONE),
+    (Input::Index, 0, "Package: a\u{1b}[2J\n", NONE),
+    (Input::Index, 0, "Package: a\u{7f}\n", NONE),
+    (
+        Input::Background,
+        0,
+        "Package: a",
+        &[(
+            1,
+            Some("hint: stanza 1 of the background is of the package a\n"),
+        )],
+    ),
+    (
+        Input::Earlier,
+        24,
+        "Package: y\n\nPackage: z\n",
+        BEHIND_OTHERS,
+    ),
+];
+
 #[test]
-fn of_what_stands_behind_other_stanzas(rt: HostRuntime) -> Result<(), Fail> {
-    let rest = b"Package: y\n\nPackage: z\n".as_slice();
-    let line = stanza_hint_line(rt.alloc(), Input::Earlier, 24, 26, rest)?;
-    let wanted = b"hint: stanza 26 of the earlier index is of the package z\n".as_slice();
-    assert!(rt; matches!(&line, Some(line) if line.as_slice() == wanted));
+fn lines_of_stanzas(rt: HostRuntime) -> Result<(), Fail> {
+    for (input, before, text, lines) in TEXTS {
+        for (number, wanted) in *lines {
+            let line = stanza_hint_line(rt.alloc(), *input, *before, *number, text.as_bytes());
+            expect_line_of(&rt, text, line, *wanted)?;
+        }
+    }
     Ok(())
 }

@@ -2,166 +2,181 @@
 
 ghost use Rattle.std.specs.Prelude.{◌≡◌, false};
 
-use crate::programs::{Case, Left, WITH_BACKGROUND, WITHOUT_BACKGROUND, run_on};
+use crate::programs::{Case, WITH_BACKGROUND, WITHOUT_BACKGROUND, run_on};
 use debcheck::OpenFault;
 use std::process::Abort;
-use std::test::Fail;
 use std::thread::Threads;
 use std::time::Clock;
-use test_devices::{BACKGROUND, Cabinet, Held, INDEX, sink_of, source_of};
+use test_devices::{BACKGROUND, Cabinet, Feed, Held, INDEX, Screen, sink_of, source_of};
+use test_programs::{Left, run_line};
 
-/// What a program comes to whose reader fails behind this front of an index. Its background fails at once.
-fn read_in_vain(
-    rt: &(impl Clock + Threads + Sync + AllocGlobal),
+const NO_INDEX: &[u8] = b"debcheck: cannot read the index\n";
+
+const NO_BACKGROUND: &[u8] = b"debcheck: cannot read the background\n";
+
+/// A program whose background fails behind this front writes nothing to the output, and this line to the errors.
+fn expect_refusal(
+    rt: &(impl Abort + Clock + Threads + Sync + AllocGlobal),
     words: &str,
-    front: &[u8],
-) -> Result<Left, Fail> {
-    let alloc = rt.alloc();
-    let mut files = Cabinet::new("others", Some(b""), OpenFault::Unopened);
+    mut reader: Feed<'_>,
+    background: &[u8],
+    line: &[u8],
+)
+    requires { reader.failed ≡ false }
+{
+    let mut files = Cabinet::new("others", Some(background), OpenFault::Unopened);
     files.torn = true;
-    let mut reader = source_of(front, 1);
-    reader.fails = true;
-    let (output, errors) = (sink_of(alloc, 50, 0, false), sink_of(alloc, 50, 0, false));
-    Ok(run_on(rt, words, &files, &mut reader, output, errors)?)
+    let left = run_on(rt, words, &files, &mut reader);
+    assert!(rt; left.status == 67 && left.output.calls == 0);
+    assert!(rt; left.errors.bytes.as_slice() == line);
 }
 
-/// Nothing was written to the output, and this line to the errors.
-fn expect_refusal(rt: &impl Abort, left: &Left, status: u8, line: &[u8]) {
-    assert_eq!(rt; left.status, status);
-    assert_eq!(rt; left.output.calls, 0);
-    assert_eq!(rt; left.errors.bytes.as_slice(), line);
-}
-
+/// The background fails at once.
 #[test]
-fn a_reader_fails_behind_each_byte(rt: HostRuntime) -> Result<(), Fail> {
-    for case in &[WITH_BACKGROUND, WITHOUT_BACKGROUND] {
-        for count in 0..=case.index.len() {
-            let left = read_in_vain(&rt, case.words, &case.index[..count])?;
-            expect_refusal(&rt, &left, 67, b"debcheck: cannot read the index\n");
+fn a_reader_fails_behind_each_byte(rt: HostRuntime) {
+    for words in [WITH_BACKGROUND.words, WITHOUT_BACKGROUND.words] {
+        for count in 0..=INDEX.len() {
+            let mut reader = source_of(&INDEX[..count], 1);
+            reader.fails = true;
+            expect_refusal(&rt, words, reader, b"", NO_INDEX);
         }
     }
-    Ok(())
-}
-
-/// What a program comes to on this index whose background fails behind this front.
-fn read_background_in_vain(
-    rt: &(impl Clock + Threads + Sync + AllocGlobal),
-    words: &str,
-    index: &[u8],
-    front: &[u8],
-) -> Result<Left, Fail> {
-    let alloc = rt.alloc();
-    let mut files = Cabinet::new("others", Some(front), OpenFault::Unopened);
-    files.torn = true;
-    let mut reader = source_of(index, 11);
-    let (output, errors) = (sink_of(alloc, 50, 0, false), sink_of(alloc, 50, 0, false));
-    Ok(run_on(rt, words, &files, &mut reader, output, errors)?)
 }
 
 #[test]
-fn a_background_fails_behind_each_byte(rt: HostRuntime) -> Result<(), Fail> {
+fn a_background_fails_behind_each_byte(rt: HostRuntime) {
     for count in 0..=BACKGROUND.len() {
+        let reader = source_of(INDEX, 11);
         let front = &BACKGROUND[..count];
-        let left = read_background_in_vain(&rt, WITH_BACKGROUND.words, INDEX, front)?;
-        expect_refusal(&rt, &left, 67, b"debcheck: cannot read the background\n");
+        expect_refusal(&rt, WITH_BACKGROUND.words, reader, front, NO_BACKGROUND);
     }
-    Ok(())
 }
 
 #[test]
-fn a_failed_read_of_the_background_goes_before_the_faults(rt: HostRuntime) -> Result<(), Fail> {
+fn a_failed_read_of_the_background_goes_before_the_faults(rt: HostRuntime) {
     let words = "|--arch|amd64|--bg|others|--checkonly|nobody";
     for index in [b" x".as_slice(), b"Package: a!"] {
-        let left = read_background_in_vain(&rt, words, index, b" x")?;
-        expect_refusal(&rt, &left, 67, b"debcheck: cannot read the background\n");
+        expect_refusal(&rt, words, source_of(index, 11), b" x", NO_BACKGROUND);
     }
-    Ok(())
 }
 
-/// What a program comes to on these devices.
+/// What a program leaves on these devices.
 fn written_to(
     rt: &(impl Clock + Threads + Sync + AllocGlobal),
-    case: &Case,
+    words: &str,
     output: Held,
     errors: Held,
-) -> Result<Left, Fail>
+) -> Left
     requires output { output.failed ≡ false }
     requires errors { errors.failed ≡ false }
 {
     let files = Cabinet::new("others", Some(BACKGROUND), OpenFault::Unopened);
-    let mut reader = source_of(case.index, 11);
-    Ok(run_on(rt, case.words, &files, &mut reader, output, errors)?)
+    let screen = Screen::new(false, b"");
+    run_line(
+        rt,
+        words,
+        &files,
+        &mut source_of(INDEX, 11),
+        &screen,
+        output,
+        errors,
+    )
 }
 
-/// This was written by one write for each byte, and by so many flushes.
-fn expect_bytes(rt: &impl Abort, held: &Held, bytes: &[u8], flushes: u32) {
-    assert_eq!(rt; held.bytes.as_slice(), bytes);
-    assert_eq!(rt; held.flushes, flushes);
+/// What is written to an output, by how many writes and flushes.
+#[derive(Clone, Copy)]
+struct Written<'a> {
+    bytes: &'a [u8],
+    calls: usize,
+    flushes: u32,
 }
 
-/// The report is written byte by byte and flushed once. Where the flush fails, that is told.
-fn expect_each_byte(
+/// The program writes so to this output, and ends with this status. Where it fails, that is told.
+fn expect_written(
     rt: &(impl Abort + Clock + Threads + Sync + AllocGlobal),
-    case: &Case,
-    flush_fails: bool,
+    words: &str,
+    output: Held,
+    written: &Written<'_>,
     status: u8,
-    told: &[u8],
-) -> Result<(), Fail> {
-    let alloc = rt.alloc();
-    let output = sink_of(alloc, 1, 0, flush_fails);
-    let left = written_to(rt, case, output, sink_of(alloc, 50, 0, false))?;
-    assert_eq!(rt; left.status, status);
-    expect_bytes(rt, &left.output, case.output, 1);
-    assert_eq!(rt; left.output.calls as usize, case.output.len());
-    assert_eq!(rt; left.errors.bytes.as_slice(), told);
-    Ok(())
+)
+    requires { output.failed ≡ false }
+{
+    let left = written_to(rt, words, output, sink_of(rt.alloc(), 50, 0, false));
+    let told = if status == 1 {
+        b"".as_slice()
+    } else {
+        UNWRITTEN
+    };
+    assert!(rt; left.status == status && left.errors.bytes.as_slice() == told);
+    assert!(rt; left.output.bytes.as_slice() == written.bytes);
+    assert!(rt;
+        left.output.calls as usize == written.calls && left.output.flushes == written.flushes
+    );
 }
 
 const UNWRITTEN: &[u8] = b"debcheck: cannot write the report\n";
 
-#[test]
-fn one_byte_a_call_writes_the_whole_report(rt: HostRuntime) -> Result<(), Fail> {
-    for case in &[WITH_BACKGROUND, WITHOUT_BACKGROUND] {
-        expect_each_byte(&rt, case, false, 1, b"")?;
-        expect_each_byte(&rt, case, true, 68, UNWRITTEN)?;
-    }
-    Ok(())
-}
-
-/// The output takes this front byte by byte, and at the next write it fails or takes no byte: then nothing more is asked of it.
-fn expect_front(
-    rt: &(impl Abort + Clock + Threads + Sync + AllocGlobal),
-    case: &Case,
-    front: &[u8],
-    mut output: Held,
-) -> Result<(), Fail>
-    requires { output.failed ≡ false }
-{
-    output.step = 1;
-    let errors = sink_of(rt.alloc(), 50, 0, false);
-    let left = written_to(rt, case, output, errors)?;
-    expect_stopped(rt, &left, front);
-    Ok(())
-}
-
-fn expect_stopped(rt: &impl Abort, left: &Left, front: &[u8]) {
-    assert_eq!(rt; left.status, 68);
-    expect_bytes(rt, &left.output, front, 0);
-    assert_eq!(rt; left.output.calls as usize, front.len() + 1);
-    assert_eq!(rt; left.errors.bytes.as_slice(), UNWRITTEN);
+/// The report is written byte by byte and flushed once. Where the flush fails, that is told.
+fn expect_each_byte(rt: &(impl Abort + Clock + Threads + Sync + AllocGlobal), case: &Case) {
+    let written = Written {
+        bytes: case.told,
+        calls: case.told.len(),
+        flushes: 1,
+    };
+    let alloc = rt.alloc();
+    expect_written(rt, case.words, sink_of(alloc, 1, 0, false), &written, 1);
+    expect_written(rt, case.words, sink_of(alloc, 1, 0, true), &written, 68);
 }
 
 #[test]
-fn each_write_fails_in_turn(rt: HostRuntime) -> Result<(), Fail> {
+fn one_byte_a_call_writes_the_whole_report(rt: HostRuntime) {
+    expect_each_byte(&rt, &WITH_BACKGROUND);
+    expect_each_byte(&rt, &WITHOUT_BACKGROUND);
+}
+
+/// The output takes a front byte by byte, and at the next write it fails or takes no byte: then nothing more is asked of it.
+#[test]
+fn each_write_fails_in_turn(rt: HostRuntime) {
     let case = &WITHOUT_BACKGROUND;
     let mut call: u32 = 0;
-    for count in 0..case.output.len() {
+    for count in 0..case.told.len() {
         call = call.saturating_add(1);
+        let written = Written {
+            bytes: &case.told[..count],
+            calls: count + 1,
+            flushes: 0,
+        };
         let fails = sink_of(rt.alloc(), 1, call, false);
-        expect_front(&rt, case, &case.output[..count], fails)?;
+        expect_written(&rt, case.words, fails, &written, 68);
         let mut sticks = sink_of(rt.alloc(), 1, 0, false);
         sticks.sticks_at = call;
-        expect_front(&rt, case, &case.output[..count], sticks)?;
+        expect_written(&rt, case.words, sticks, &written, 68);
     }
-    Ok(())
+}
+
+/// At which write, or whether at the flush, an output fails; how many bytes a write to the errors takes, at which it fails, and what it takes before.
+const UNHEARD: [(u32, bool, usize, u32, &[u8]); 3] = [
+    (1, false, 50, 0, UNWRITTEN),
+    (0, true, 50, 0, UNWRITTEN),
+    (1, false, 5, 3, b"debcheck: "),
+];
+
+/// What nobody got has a status.
+fn expect_unheard(rt: &(impl Abort + Clock + Threads + Sync + AllocGlobal), words: &str) {
+    for (fails_at, flush_fails, step, errors_fail_at, told) in &UNHEARD {
+        let output = sink_of(rt.alloc(), 50, *fails_at, *flush_fails);
+        let errors = sink_of(rt.alloc(), *step, *errors_fail_at, false);
+        let left = written_to(rt, words, output, errors);
+        assert!(rt;
+            left.status == 68 && left.errors.bytes.as_slice() == *told,
+            "{words}"
+        );
+    }
+}
+
+#[test]
+fn what_nobody_got_has_a_status(rt: HostRuntime) {
+    for words in ["|--help", "|--version", "|--arch|amd64"] {
+        expect_unheard(&rt, words);
+    }
 }

@@ -1,32 +1,37 @@
 //! A whole program that can want memory; trials/growths runs it with each growth refused in turn.
 
-use crate::progress::{ONE_BY_ONE, expect_uncrowded, run_beside};
+use debcheck::OpenFault;
 use std::process::Abort;
 use std::test::Fail;
-use test_devices::{Beside, CHAIN_REPORT, Held, Screen, sink_with_room};
+use test_devices::{CHAIN, CHAIN_REPORT, Cabinet, Screen, clock_of, sink_with_room, source_of};
+use test_programs::{Left, ONE_BY_ONE, run_line};
 
 /// Where memory is wanted behind the first chunks, the line of progress is gone, too, before that is told.
 #[test]
 fn of_run_program(rt: HostRuntime) -> Result<(), Fail> {
-    let screen = Screen::new(true, b"");
-    let mut errors = Beside::new(&screen, sink_with_room(rt.alloc(), 1_000, 0)?);
     let output = sink_with_room(rt.alloc(), 1_000, 0)?;
-    let ended = run_beside(&rt, ONE_BY_ONE, &screen, output, &mut errors)?;
-    expect_uncrowded(&rt, &screen, &ended.output, &errors);
-    expect_ended(&rt, ended.status, &ended.output.held, &errors.held)
+    let errors = sink_with_room(rt.alloc(), 1_000, 0)?;
+    let screen = Screen::new(true, b"");
+    let left = run_line(
+        &clock_of(&rt, 1_200),
+        ONE_BY_ONE,
+        &Cabinet::new("earlier", Some(CHAIN), OpenFault::Unopened),
+        &mut source_of(CHAIN, 11),
+        &screen,
+        output,
+        errors,
+    );
+    assert!(rt; left.is_uncrowded(&screen));
+    expect_ended(&rt, &left)
 }
 
-fn expect_ended(rt: &impl Abort, status: u8, output: &Held, errors: &Held) -> Result<(), Fail> {
-    if status == 69 {
-        assert_eq!(rt; output.calls, 0);
-        assert_eq!(rt;
-            errors.bytes.as_slice(),
-            b"debcheck: out of memory\n".as_slice()
-        );
+fn expect_ended(rt: &impl Abort, left: &Left) -> Result<(), Fail> {
+    let told = left.errors.bytes.as_slice();
+    if left.status == 69 {
+        assert!(rt; left.output.calls == 0 && told == b"debcheck: out of memory\n".as_slice());
         return Err(Fail::new("out of memory"));
     }
-    assert_eq!(rt; status, 1);
-    assert_eq!(rt; output.bytes.as_slice(), CHAIN_REPORT);
-    assert!(rt; errors.bytes.is_empty());
+    assert!(rt; left.status == 1 && told.is_empty());
+    assert!(rt; left.output.bytes.as_slice() == CHAIN_REPORT);
     Ok(())
 }

@@ -1,7 +1,7 @@
 //! Tests of whole programs, from their words to their exit status.
 //!
 //! `programs` runs some, `more_reasons` those that tell all causes, `named_programs` those whose names stand in a file, `since_programs` those since an earlier
-//! index, `hints` looks at the lines after a run, `progress` at the line during it, `failing_devices` has each device fail in turn, `growths` a program that wants memory.
+//! index, `failing_devices` has each device fail in turn, `growths` a program that wants memory.
 #![tactic(auto)]
 
 #[cfg(test)]
@@ -9,14 +9,10 @@ mod failing_devices;
 #[cfg(test)]
 mod growths;
 #[cfg(test)]
-mod hints;
-#[cfg(test)]
 mod more_reasons;
 #[cfg(test)]
 mod named_programs;
 #[cfg(test)]
 mod programs;
-#[cfg(test)]
-mod progress;
 #[cfg(test)]
 mod since_programs;

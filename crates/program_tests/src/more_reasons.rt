@@ -1,7 +1,6 @@
 //! Whole programs that tell all causes, and reasons beside the first ones.
 
-use crate::programs::{Case, expect_case};
-use std::test::Fail;
+use crate::programs::{Case, expect_each};
 
 /// Two needs that no package meets are in the way of each of these packages.
 const TWO_CAUSES: &[u8] = b"Package: a
@@ -23,7 +22,7 @@ const ALL_REASONS: Case = Case {
     words: "|--arch|amd64|--all-reasons|--failures",
     index: TWO_CAUSES,
     status: 1,
-    output: b"architecture: amd64
+    told: b"architecture: amd64
 report:
  -
   package: a
@@ -51,19 +50,17 @@ duplicates: 0
 asked: 3
 broken: 2
 ",
-    errors: b"",
 };
 
 const ALL_REASONS_IN_JSON: Case = Case {
     words: "|--all-reasons|--arch|amd64|--format=json|--checkonly|a,c",
     index: TWO_CAUSES,
     status: 1,
-    output: b"{\"format\":1,\"options\":[\"explain\",\"checkonly\",\"all-reasons\"],\"architecture\":\"amd64\",\"report\":[
+    told: b"{\"format\":1,\"options\":[\"explain\",\"checkonly\",\"all-reasons\"],\"architecture\":\"amd64\",\"report\":[
 {\"package\":\"a\",\"version\":\"1\",\"architecture\":\"all\",\"status\":\"broken\",\"reasons\":[{\"kind\":\"missing\",\"package\":\"a\",\"version\":\"1\",\"field\":\"Depends\",\"relation\":\"y\"}],\"also\":[[{\"kind\":\"missing\",\"package\":\"a\",\"version\":\"1\",\"field\":\"Depends\",\"relation\":\"x\"}]]},
 {\"package\":\"c\",\"version\":\"1\",\"architecture\":\"all\",\"status\":\"ok\",\"installation-set\":[{\"package\":\"c\",\"version\":\"1\"}]}
 ],\"stanzas\":3,\"skipped\":0,\"duplicates\":0,\"asked\":2,\"broken\":1}
 ",
-    errors: b"",
 };
 
 /// Neither of the causes frees a package.
@@ -71,7 +68,7 @@ const ALL_CAUSES: Case = Case {
     words: "|--arch|amd64|--causes|--successes",
     index: TWO_CAUSES,
     status: 1,
-    output: b"architecture: amd64
+    told: b"architecture: amd64
 report:
  -
   package: c
@@ -105,7 +102,6 @@ causes: 2
    - a 1
    - b 1
 ",
-    errors: b"",
 };
 
 /// The example of the README.
@@ -133,7 +129,7 @@ const WHY: Case = Case {
     words: "|--arch|amd64|--failures|--why",
     index: EDITOR,
     status: 1,
-    output: b"architecture: amd64
+    told: b"architecture: amd64
 report:
  -
   package: editor
@@ -152,26 +148,23 @@ duplicates: 0
 asked: 4
 broken: 1
 ",
-    errors: b"",
 };
 
 const WHY_IN_JSON: Case = Case {
     words: "|--why|--arch|amd64|--format|json|--failures",
     index: EDITOR,
     status: 1,
-    output: b"{\"format\":1,\"options\":[\"explain\",\"failures\",\"why\"],\"architecture\":\"amd64\",\"report\":[
+    told: b"{\"format\":1,\"options\":[\"explain\",\"failures\",\"why\"],\"architecture\":\"amd64\",\"report\":[
 {\"package\":\"editor\",\"version\":\"2.1\",\"architecture\":\"amd64\",\"status\":\"broken\",\"reasons\":[{\"kind\":\"conflict\",\"package\":\"dictionary\",\"version\":\"1\",\"field\":\"Conflicts\",\"relation\":\"gui (<< 5)\",\"hits\":[{\"package\":\"gui\",\"version\":\"4.0\"}]},{\"kind\":\"depends\",\"package\":\"editor\",\"version\":\"2.1\",\"field\":\"Depends\",\"relation\":\"gui\",\"met-by\":[{\"package\":\"gui\",\"version\":\"4.0\"}]},{\"kind\":\"depends\",\"package\":\"editor\",\"version\":\"2.1\",\"field\":\"Depends\",\"relation\":\"speller (>= 3)\",\"met-by\":[{\"package\":\"speller\",\"version\":\"3.2\"}]},{\"kind\":\"depends\",\"package\":\"speller\",\"version\":\"3.2\",\"field\":\"Depends\",\"relation\":\"word-list | dictionary\",\"met-by\":[{\"package\":\"dictionary\",\"version\":\"1\"}]}]}
 ],\"stanzas\":4,\"skipped\":0,\"duplicates\":0,\"asked\":4,\"broken\":1}
 ",
-    errors: b"",
 };
 
 const WHY_OF_SUCCESSES: Case = Case {
     words: "|--arch|amd64|--why|--successes",
     index: TWO_CAUSES,
     status: 64,
-    output: b"",
-    errors: b"error: the argument '--why' cannot be used with '--successes' unless '--failures' is there, too
+    told: b"error: the argument '--why' cannot be used with '--successes' unless '--failures' is there, too
 
 For more information, try '--help'.
 ",
@@ -181,28 +174,24 @@ const ALL_REASONS_OF_SUCCESSES: Case = Case {
     words: "|--successes|--all-reasons|--arch|amd64|--causes",
     index: TWO_CAUSES,
     status: 64,
-    output: b"",
-    errors: b"error: the argument '--all-reasons' cannot be used with '--successes' unless '--failures' is there, too
+    told: b"error: the argument '--all-reasons' cannot be used with '--successes' unless '--failures' is there, too
 
 For more information, try '--help'.
 ",
 };
 
-#[test]
-fn all_causes_are_told(rt: HostRuntime) -> Result<(), Fail> {
-    expect_case(&rt, &ALL_REASONS)?;
-    expect_case(&rt, &ALL_REASONS_IN_JSON)?;
-    expect_case(&rt, &ALL_CAUSES)
-}
+const ALL_OF_THEM: [Case; 7] = [
+    ALL_REASONS,
+    ALL_REASONS_IN_JSON,
+    ALL_CAUSES,
+    WHY,
+    WHY_IN_JSON,
+    WHY_OF_SUCCESSES,
+    ALL_REASONS_OF_SUCCESSES,
+];
 
+/// All causes are told, a core is walked from its package, and packages without reasons are not asked for alone.
 #[test]
-fn a_core_is_walked_from_its_package(rt: HostRuntime) -> Result<(), Fail> {
-    expect_case(&rt, &WHY)?;
-    expect_case(&rt, &WHY_IN_JSON)
-}
-
-#[test]
-fn packages_without_reasons_are_not_asked_for_alone(rt: HostRuntime) -> Result<(), Fail> {
-    expect_case(&rt, &WHY_OF_SUCCESSES)?;
-    expect_case(&rt, &ALL_REASONS_OF_SUCCESSES)
+fn more_reasons_are_told(rt: HostRuntime) {
+    expect_each(&rt, &ALL_OF_THEM);
 }

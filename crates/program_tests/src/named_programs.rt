@@ -1,23 +1,8 @@
 //! Whole programs whose names stand in a file.
 
-ghost use Rattle.std.specs.Prelude.{◌≡◌, false};
-
-use crate::programs::{Left, run_on};
+use crate::programs::{Case, expect_on, expect_unread};
 use debcheck::OpenFault;
-use std::process::Abort;
-use std::test::Fail;
-use std::thread::Threads;
-use std::time::Clock;
-use test_devices::{Cabinet, Feed, INDEX, sink_of, source_of};
-
-/// What stands in the file, and what the program comes to.
-#[derive(Clone, Copy)]
-struct Case {
-    names: &'static [u8],
-    status: u8,
-    output: &'static [u8],
-    errors: &'static [u8],
-}
+use test_devices::{Cabinet, INDEX};
 
 const OF_C: &[u8] = b"architecture: amd64
 report:
@@ -52,154 +37,96 @@ asked: 2
 broken: 2
 ";
 
-const REPORTS: [Case; 4] = [
-    Case {
-        names: b"c\n",
-        status: 1,
-        output: OF_C,
-        errors: b"",
-    },
-    Case {
-        names: b"c",
-        status: 1,
-        output: OF_C,
-        errors: b"",
-    },
-    Case {
-        names: b"c\na\nc\n",
-        status: 1,
-        output: OF_BOTH,
-        errors: b"",
-    },
-    Case {
-        names: b"a\nc",
-        status: 1,
-        output: OF_BOTH,
-        errors: b"",
-    },
-];
-
 const FIRST_LINE: &[u8] = b"debcheck: names: line 1: bad name\n";
 
 const SECOND_LINE: &[u8] = b"debcheck: names: line 2: bad name\n";
 
-/// What stands in the file, which has no line, an empty one, or one that is no name, and what is told of it.
-const REFUSED: [(&[u8], &[u8]); 7] = [
-    (b"", FIRST_LINE),
-    (b"\n", FIRST_LINE),
-    (b"a\r\nc\r\n", FIRST_LINE),
-    (b"a,c\n", FIRST_LINE),
-    (b"a\n\nc\n", SECOND_LINE),
-    (b"a\nB c\n-d", SECOND_LINE),
-    (b"c\n\n", SECOND_LINE),
+/// What stands in the file, the status, and what is told: names that the index has, one that it doesn't have, and a file that has no line, an empty one, or
+/// one that is no name.
+const NAMES: [(&[u8], u8, &[u8]); 12] = [
+    (b"c\n", 1, OF_C),
+    (b"c", 1, OF_C),
+    (b"c\na\nc\n", 1, OF_BOTH),
+    (b"a\nc", 1, OF_BOTH),
+    (b"a\nzz\n", 66, b"debcheck: unknown package zz\n"),
+    (b"", 65, FIRST_LINE),
+    (b"\n", 65, FIRST_LINE),
+    (b"a\r\nc\r\n", 65, FIRST_LINE),
+    (b"a,c\n", 65, FIRST_LINE),
+    (b"a\n\nc\n", 65, SECOND_LINE),
+    (b"a\nB c\n-d", 65, SECOND_LINE),
+    (b"c\n\n", 65, SECOND_LINE),
 ];
-
-const UNKNOWN: Case = Case {
-    names: b"a\nzz\n",
-    status: 66,
-    output: b"",
-    errors: b"debcheck: unknown package zz\n",
-};
 
 const LINE: &str = "|--arch|amd64|--checkonly|@names";
 
-fn expect_case(
-    rt: &(impl Abort + Clock + Threads + Sync + AllocGlobal),
-    case: &Case,
-) -> Result<(), Fail> {
-    let alloc = rt.alloc();
-    let files = Cabinet::new("names", Some(case.names), OpenFault::Unopened);
-    let mut reader = source_of(INDEX, 11);
-    let (output, errors) = (sink_of(alloc, 50, 0, false), sink_of(alloc, 50, 0, false));
-    let left = run_on(rt, LINE, &files, &mut reader, output, errors)?;
-    expect_left(rt, case, &left);
-    Ok(())
-}
-
-fn expect_left(rt: &impl Abort, case: &Case, left: &Left) {
-    assert_eq!(rt; left.status, case.status);
-    assert_eq!(rt; left.output.bytes.as_slice(), case.output);
-    assert_eq!(rt; left.errors.bytes.as_slice(), case.errors);
-}
-
 #[test]
-fn the_names_of_a_file_are_asked(rt: HostRuntime) -> Result<(), Fail> {
-    for case in &REPORTS {
-        expect_case(&rt, case)?;
-    }
-    expect_case(&rt, &UNKNOWN)
-}
-
-#[test]
-fn a_line_that_is_no_name_is_told(rt: HostRuntime) -> Result<(), Fail> {
-    for (names, errors) in REFUSED {
+fn the_names_of_a_file_are_asked(rt: HostRuntime) {
+    for (names, status, told) in &NAMES {
+        let files = Cabinet::new("names", Some(*names), OpenFault::Unopened);
         let case = Case {
-            names,
-            status: 65,
-            output: b"",
-            errors,
+            words: LINE,
+            index: INDEX,
+            status: *status,
+            told: *told,
         };
-        expect_case(&rt, &case)?;
+        expect_on(&rt, &files, &case);
     }
-    Ok(())
 }
 
-/// Nothing was asked for but the file of names, and no index was read.
-fn expect_unread(
-    rt: &(impl Abort + Clock + Threads + Sync + AllocGlobal),
-    files: &Cabinet<'_>,
-    line: &str,
-    status: u8,
-    told: &[u8],
-) -> Result<(), Fail> {
-    let alloc = rt.alloc();
-    let mut reader = source_of(INDEX, 11);
-    let (output, errors) = (sink_of(alloc, 50, 0, false), sink_of(alloc, 50, 0, false));
-    let left = run_on(rt, line, files, &mut reader, output, errors)?;
-    expect_told(rt, &left, status, told);
-    expect_asked(rt, files, &reader);
-    Ok(())
-}
-
-fn expect_told(rt: &impl Abort, left: &Left, status: u8, told: &[u8]) {
-    assert_eq!(rt; left.status, status);
-    assert!(rt; left.output.bytes.is_empty());
-    assert_eq!(rt; left.errors.bytes.as_slice(), told);
-}
-
-fn expect_asked(rt: &impl Abort, files: &Cabinet<'_>, reader: &Feed<'_>) {
-    assert_eq!(rt; files.asked(), 1);
-    assert_eq!(rt; reader.reads, 0);
-}
+/// What stands in a file whose reading fails behind it, and why another isn't opened; the words, the status, and what is told.
+const UNREAD: [(Option<&[u8]>, bool, OpenFault, Case); 4] = [
+    (
+        None,
+        false,
+        OpenFault::Unopened,
+        Case {
+            words: "|--arch|amd64|--bg|b|--checkonly|@names",
+            index: INDEX,
+            status: 67,
+            told: b"debcheck: cannot read the names\n",
+        },
+    ),
+    (
+        None,
+        false,
+        OpenFault::Memory,
+        Case {
+            words: LINE,
+            index: INDEX,
+            status: 69,
+            told: b"debcheck: out of memory\n",
+        },
+    ),
+    (
+        Some(b"a\n"),
+        true,
+        OpenFault::Unopened,
+        Case {
+            words: "|--arch|amd64|--since|b|--checkonly|@names",
+            index: INDEX,
+            status: 67,
+            told: b"debcheck: cannot read the names\n",
+        },
+    ),
+    (
+        Some(b"a b\n"),
+        false,
+        OpenFault::Unopened,
+        Case {
+            words: "|--arch|amd64|--since|b|--checkonly|@names",
+            index: INDEX,
+            status: 65,
+            told: FIRST_LINE,
+        },
+    ),
+];
 
 #[test]
-fn names_are_read_before_all_else(rt: HostRuntime) -> Result<(), Fail> {
-    let unread = b"debcheck: cannot read the names\n";
-    let none = Cabinet::new("names", None, OpenFault::Unopened);
-    expect_unread(
-        &rt,
-        &none,
-        "|--arch|amd64|--bg|b|--checkonly|@names",
-        67,
-        unread,
-    )?;
-    let memory = Cabinet::new("names", None, OpenFault::Memory);
-    expect_unread(&rt, &memory, LINE, 69, b"debcheck: out of memory\n")?;
-    let mut torn = Cabinet::new("names", Some(b"a\n"), OpenFault::Unopened);
-    torn.torn = true;
-    expect_unread(
-        &rt,
-        &torn,
-        "|--arch|amd64|--since|b|--checkonly|@names",
-        67,
-        unread,
-    )?;
-    let bad = Cabinet::new("names", Some(b"a b\n"), OpenFault::Unopened);
-    expect_unread(
-        &rt,
-        &bad,
-        "|--arch|amd64|--since|b|--checkonly|@names",
-        65,
-        FIRST_LINE,
-    )
+fn names_are_read_before_all_else(rt: HostRuntime) {
+    for (names, torn, fault, case) in &UNREAD {
+        let mut files = Cabinet::new("names", *names, *fault);
+        files.torn = *torn;
+        expect_unread(&rt, &files, case);
+    }
 }

@@ -1,15 +1,11 @@
 //! Whole programs that are asked what became of an earlier index.
 
-ghost use Rattle.std.specs.Prelude.{◌≡◌, false};
-
-use debcheck::{OpenFault, Opener, Std, run_program};
-use std::alloc::AllocError;
+use crate::programs::{Case, expect_on};
+use debcheck::{OpenFault, Opener, Std};
 use std::process::Abort;
 use std::sync::atomic::{AtomicU32, Ordering};
-use std::test::Fail;
 use std::thread::Threads;
 use std::time::Clock;
-use test_devices::{Held, Screen, sink_of, source_of, words_in};
 
 /// In the earlier index `a`, `b` and `c` are broken, and `d` isn't.
 const EARLIER: &[u8] = b"Package: a
@@ -106,90 +102,27 @@ impl Opener for Shelf {
     }
 }
 
-/// What a program left, and how many files were asked for and reads made.
-#[derive(Drop)]
-struct Left {
-    status: u8,
-    output: Held,
-    errors: Held,
-    asked: u32,
-    reads: u32,
-}
-
-/// The program under the words of a line, on an index.
-fn run_on(
-    rt: &(impl Clock + Threads + Sync + AllocGlobal),
-    line: &str,
-    index: &[u8],
+/// The program comes to what the case says. Gives how many files were asked for, and how often its index was read.
+fn expect_case(
+    rt: &(impl Abort + Clock + Threads + Sync + AllocGlobal),
     fault: OpenFault,
-) -> Result<Left, AllocError> {
-    let alloc = rt.alloc();
-    let words = words_in(alloc, line)?;
+    case: &Case,
+) -> [u32; 2] {
     let files = Shelf {
         fault,
         asked: AtomicU32::new(0),
     };
-    let mut reader = source_of(index, 11);
-    let mut errors = sink_of(alloc, 50, 0, false);
-    let output = sink_of(alloc, 50, 0, false);
-    let screen = Screen::new(false, b"");
-    let ended = run_program(
-        rt,
-        Ok(words),
-        &files,
-        &mut reader,
-        output,
-        &mut errors,
-        &screen,
-    );
-    Ok(Left {
-        status: ended.status,
-        output: ended.output,
-        errors,
-        asked: files.asked.load(Ordering::SeqCst),
-        reads: reader.reads,
-    })
+    let reads = expect_on(rt, &files, case);
+    [files.asked.load(Ordering::SeqCst), reads]
 }
 
-/// The program writes this report, and ends with this status.
-fn expect_report(
-    rt: &(impl Abort + Clock + Threads + Sync + AllocGlobal),
-    line: &str,
-    status: u8,
-    report: &str,
-) -> Result<(), Fail> {
-    let left = run_on(rt, line, INDEX, OpenFault::Unopened)?;
-    expect_left(rt, line, &left, status, report);
-    Ok(())
+fn expect_cases(rt: &(impl Abort + Clock + Threads + Sync + AllocGlobal), cases: &[Case]) {
+    for case in cases {
+        expect_case(rt, OpenFault::Unopened, case);
+    }
 }
 
-fn expect_left(rt: &impl Abort, line: &str, left: &Left, status: u8, report: &str) {
-    assert_eq!(rt; left.output.bytes.as_slice(), report.as_bytes(), "{line}");
-    assert_eq!(rt; left.status, status, "{line}");
-    assert!(rt; left.errors.bytes.is_empty());
-    assert!(rt; left.output.flushed);
-}
-
-/// The program writes nothing but the line of a fault, and ends with this status.
-fn expect_fault(
-    rt: &(impl Abort + Clock + Threads + Sync + AllocGlobal),
-    line: &str,
-    index: &[u8],
-    status: u8,
-    told: &str,
-) -> Result<(), Fail> {
-    let left = run_on(rt, line, index, OpenFault::Unopened)?;
-    expect_told(rt, line, &left, status, told);
-    Ok(())
-}
-
-fn expect_told(rt: &impl Abort, line: &str, left: &Left, status: u8, told: &str) {
-    assert_eq!(rt; left.errors.bytes.as_slice(), told.as_bytes(), "{line}");
-    assert_eq!(rt; left.status, status, "{line}");
-    assert!(rt; left.output.bytes.is_empty());
-}
-
-const NEWS: &str = "architecture: amd64
+const NEWS: &[u8] = b"architecture: amd64
 report:
  -
   package: d
@@ -213,7 +146,7 @@ gone:
  - b 2
 ";
 
-const EXPLAINED: &str = "architecture: amd64
+const EXPLAINED: &[u8] = b"architecture: amd64
 report:
  -
   package: d
@@ -253,26 +186,11 @@ causes: 1
    - e 1
 ";
 
-const DOCUMENT: &str = "{\"architecture\":\"amd64\",\"report\":[
+const DOCUMENT: &[u8] = b"{\"architecture\":\"amd64\",\"report\":[
 {\"package\":\"d\",\"version\":\"1\",\"architecture\":\"all\",\"status\":\"broken\"},
 {\"package\":\"e\",\"version\":\"1\",\"architecture\":\"all\",\"status\":\"broken\"}
 ],\"stanzas\":4,\"skipped\":0,\"duplicates\":0,\"asked\":4,\"broken\":3,\"newly-broken\":2,\"mended\":[{\"package\":\"a\",\"version\":\"1\"}],\"gone\":[{\"package\":\"b\",\"version\":\"2\"}]}
 ";
-
-/// What any number of workers finds, whatever is to be shown.
-#[test]
-fn news_are_told_alone(rt: HostRuntime) -> Result<(), Fail> {
-    for line in [
-        "|--arch|amd64|--since|old",
-        "|--arch|amd64|--since=old|--failures|--workers|1",
-        "|--arch|amd64|--workers|64|--chunk|1|--since|old",
-    ] {
-        expect_report(&rt, line, 1, NEWS)?;
-    }
-    expect_report(&rt, "|--arch|amd64|--since|old|--format|json", 1, DOCUMENT)?;
-    let line = "|--arch|amd64|--explain|--causes|--since|old";
-    expect_report(&rt, line, 1, EXPLAINED)
-}
 
 /// `a` and `b` are gone, `c` is broken as before, and `d` newly broken, each by two needs.
 const TWO_NEEDS: &[u8] = b"Package: c
@@ -286,7 +204,7 @@ Architecture: all
 Depends: w, y
 ";
 
-const ALL_OF_NEWS: &str = "architecture: amd64
+const ALL_OF_NEWS: &[u8] = b"architecture: amd64
 report:
  -
   package: d
@@ -328,17 +246,8 @@ causes: 2
    - d 1
 ";
 
-/// All cores of what is newly broken, and its causes alone.
-#[test]
-fn all_causes_of_news_are_told(rt: HostRuntime) -> Result<(), Fail> {
-    let line = "|--arch|amd64|--causes|--all-reasons|--since|old";
-    let left = run_on(&rt, line, TWO_NEEDS, OpenFault::Unopened)?;
-    expect_left(&rt, line, &left, 1, ALL_OF_NEWS);
-    Ok(())
-}
-
 /// With the background behind each index `b` was not broken, and `d` isn't.
-const BEHIND: &str = "architecture: amd64
+const BEHIND: &[u8] = b"architecture: amd64
 report:
 stanzas: 5
 skipped: 0
@@ -353,7 +262,7 @@ gone:
 causes: 0
 ";
 
-const OF_E: &str = "architecture: amd64
+const OF_E: &[u8] = b"architecture: amd64
 report:
  -
   package: e
@@ -370,7 +279,7 @@ mended:
 gone:
 ";
 
-const OF_A_AND_C: &str = "architecture: amd64
+const OF_A_AND_C: &[u8] = b"architecture: amd64
 report:
 stanzas: 4
 skipped: 0
@@ -383,7 +292,7 @@ mended:
 gone:
 ";
 
-const OF_THE_SAME: &str = "architecture: amd64
+const OF_THE_SAME: &[u8] = b"architecture: amd64
 report:
 stanzas: 4
 skipped: 0
@@ -395,19 +304,7 @@ mended:
 gone:
 ";
 
-/// A name that the earlier index doesn't have is no fault, and packages that are broken as before leave the status at 0.
-#[test]
-fn other_words_ask_both_indexes(rt: HostRuntime) -> Result<(), Fail> {
-    let line = "|--arch|amd64|--causes|--bg|others|--since|old";
-    expect_report(&rt, line, 0, BEHIND)?;
-    let line = "|--arch|amd64|--since|old|--checkonly|e";
-    expect_report(&rt, line, 1, OF_E)?;
-    let line = "|--arch|amd64|--since|old|--checkonly|c,a";
-    expect_report(&rt, line, 0, OF_A_AND_C)?;
-    expect_report(&rt, "|--arch|amd64|--since|same", 0, OF_THE_SAME)
-}
-
-const ALL_NEW: &str = "architecture: amd64
+const ALL_NEW: &[u8] = b"architecture: amd64
 report:
  -
   package: c
@@ -434,29 +331,84 @@ mended:
 gone:
 ";
 
-/// An index of another architecture has no package, and so none that was broken.
+/// What any number of workers finds, whatever is to be shown. A name that the earlier index doesn't have is no fault, and packages that are broken as
+/// before leave the status at 0. An index of another architecture has no package, and so none that was broken.
+const REPORTS: [Case; 11] = [
+    Case {
+        words: "|--arch|amd64|--since|old",
+        index: INDEX,
+        status: 1,
+        told: NEWS,
+    },
+    Case {
+        words: "|--arch|amd64|--since=old|--failures|--workers|1",
+        index: INDEX,
+        status: 1,
+        told: NEWS,
+    },
+    Case {
+        words: "|--arch|amd64|--workers|64|--chunk|1|--since|old",
+        index: INDEX,
+        status: 1,
+        told: NEWS,
+    },
+    Case {
+        words: "|--arch|amd64|--since|old|--format|json",
+        index: INDEX,
+        status: 1,
+        told: DOCUMENT,
+    },
+    Case {
+        words: "|--arch|amd64|--explain|--causes|--since|old",
+        index: INDEX,
+        status: 1,
+        told: EXPLAINED,
+    },
+    Case {
+        words: "|--arch|amd64|--causes|--all-reasons|--since|old",
+        index: TWO_NEEDS,
+        status: 1,
+        told: ALL_OF_NEWS,
+    },
+    Case {
+        words: "|--arch|amd64|--causes|--bg|others|--since|old",
+        index: INDEX,
+        status: 0,
+        told: BEHIND,
+    },
+    Case {
+        words: "|--arch|amd64|--since|old|--checkonly|e",
+        index: INDEX,
+        status: 1,
+        told: OF_E,
+    },
+    Case {
+        words: "|--arch|amd64|--since|old|--checkonly|c,a",
+        index: INDEX,
+        status: 0,
+        told: OF_A_AND_C,
+    },
+    Case {
+        words: "|--arch|amd64|--since|same",
+        index: INDEX,
+        status: 0,
+        told: OF_THE_SAME,
+    },
+    Case {
+        words: "|--arch|amd64|--since|elsewhere",
+        index: INDEX,
+        status: 1,
+        told: ALL_NEW,
+    },
+];
+
 #[test]
-fn all_is_new_since_another_architecture(rt: HostRuntime) -> Result<(), Fail> {
-    expect_report(&rt, "|--arch|amd64|--since|elsewhere", 1, ALL_NEW)
+fn news_are_told_alone(rt: HostRuntime) {
+    expect_cases(&rt, &REPORTS);
 }
 
 /// An index with a fault in its first stanza.
 const FAULTY: &[u8] = b"Package: a\nVersion: 1\n";
-
-/// Those of the index and of the asked names go before those of the earlier index.
-#[test]
-fn faults_in_their_order(rt: HostRuntime) -> Result<(), Fail> {
-    let cut = "debcheck: earlier index: stanza 2: bad line\n";
-    expect_fault(&rt, "|--arch|amd64|--since|cut", INDEX, 65, cut)?;
-    let missing = "debcheck: stanza 1: missing field\n";
-    expect_fault(&rt, "|--arch|amd64|--since|cut", FAULTY, 65, missing)?;
-    let unknown = "debcheck: unknown package zz\n";
-    let line = "|--arch|amd64|--since|cut|--checkonly|zz";
-    expect_fault(&rt, line, INDEX, 66, unknown)?;
-    let line = "|--arch|amd64|--bg|cut|--since|cut";
-    let background = "debcheck: background: stanza 2: bad line\n";
-    expect_fault(&rt, line, INDEX, 65, background)
-}
 
 /// One stanza, of another architecture.
 const FOREIGN: &[u8] = b"Package: c
@@ -464,60 +416,128 @@ Version: 1
 Architecture: arm64
 ";
 
-/// They go before those of the earlier index, and behind an unknown name. An earlier index without a package is none of them.
+const EMPTY: &[u8] = b"debcheck: the index is empty\n";
+
+/// Those of the index and of the asked names go before those of the earlier index; that an index has no package goes behind an unknown name. An earlier
+/// index without a package is no fault.
+const FAULTS: [Case; 10] = [
+    Case {
+        words: "|--arch|amd64|--since|cut",
+        index: INDEX,
+        status: 65,
+        told: b"debcheck: earlier index: stanza 2: bad line\n",
+    },
+    Case {
+        words: "|--arch|amd64|--since|cut",
+        index: FAULTY,
+        status: 65,
+        told: b"debcheck: stanza 1: missing field\n",
+    },
+    Case {
+        words: "|--arch|amd64|--since|cut|--checkonly|zz",
+        index: INDEX,
+        status: 66,
+        told: b"debcheck: unknown package zz\n",
+    },
+    Case {
+        words: "|--arch|amd64|--bg|cut|--since|cut",
+        index: INDEX,
+        status: 65,
+        told: b"debcheck: background: stanza 2: bad line\n",
+    },
+    Case {
+        words: "|--arch|amd64|--since|old",
+        index: b"",
+        status: 65,
+        told: EMPTY,
+    },
+    Case {
+        words: "|--arch|amd64|--since|cut",
+        index: b"\n",
+        status: 65,
+        told: EMPTY,
+    },
+    Case {
+        words: "|--arch|amd64|--strict|--quiet|--since|old",
+        index: b"",
+        status: 65,
+        told: EMPTY,
+    },
+    Case {
+        words: "|--arch|amd64|--since|old",
+        index: FOREIGN,
+        status: 65,
+        told: b"debcheck: no stanza is of this architecture or of all\n",
+    },
+    Case {
+        words: "|--arch|amd64|--since|old|--bg|others",
+        index: FOREIGN,
+        status: 65,
+        told: b"debcheck: nothing is asked\n",
+    },
+    Case {
+        words: "|--arch|amd64|--since|old|--checkonly|c",
+        index: FOREIGN,
+        status: 66,
+        told: b"debcheck: unknown package c\n",
+    },
+];
+
 #[test]
-fn an_index_without_a_package_is_a_fault(rt: HostRuntime) -> Result<(), Fail> {
-    let empty = "debcheck: the index is empty\n";
-    expect_fault(&rt, "|--arch|amd64|--since|old", b"", 65, empty)?;
-    expect_fault(&rt, "|--arch|amd64|--since|cut", b"\n", 65, empty)?;
-    let line = "|--arch|amd64|--strict|--quiet|--since|old";
-    expect_fault(&rt, line, b"", 65, empty)?;
-    let elsewhere = "debcheck: no stanza is of this architecture or of all\n";
-    expect_fault(&rt, "|--arch|amd64|--since|old", FOREIGN, 65, elsewhere)?;
-    let line = "|--arch|amd64|--since|old|--bg|others";
-    expect_fault(&rt, line, FOREIGN, 65, "debcheck: nothing is asked\n")?;
-    let unknown = "debcheck: unknown package c\n";
-    let line = "|--arch|amd64|--since|old|--checkonly|c";
-    expect_fault(&rt, line, FOREIGN, 66, unknown)
+fn faults_in_their_order(rt: HostRuntime) {
+    expect_cases(&rt, &FAULTS);
 }
 
-/// So many files were asked for, and nothing was read.
-fn expect_unopened(
-    rt: &(impl Abort + Clock + Threads + Sync + AllocGlobal),
-    line: &str,
-    fault: OpenFault,
-    asked: u32,
-    told: &str,
-) -> Result<(), Fail> {
-    let left = run_on(rt, line, INDEX, fault)?;
-    expect_told(rt, line, &left, status_of(fault), told);
-    expect_asked(rt, &left, asked);
-    Ok(())
-}
+const UNREAD: &[u8] = b"debcheck: cannot read the earlier index\n";
 
-fn status_of(fault: OpenFault) -> u8 {
-    match fault {
-        OpenFault::Unopened => 67,
-        OpenFault::Memory => 69,
+/// Why a file isn't opened, how many files are asked for before that is told, and all else.
+const UNOPENED: [(OpenFault, u32, Case); 4] = [
+    (
+        OpenFault::Unopened,
+        1,
+        Case {
+            words: "|--arch|amd64|--since|no",
+            index: INDEX,
+            status: 67,
+            told: UNREAD,
+        },
+    ),
+    (
+        OpenFault::Unopened,
+        2,
+        Case {
+            words: "|--arch|amd64|--since|no|--bg|others",
+            index: INDEX,
+            status: 67,
+            told: UNREAD,
+        },
+    ),
+    (
+        OpenFault::Unopened,
+        1,
+        Case {
+            words: "|--arch|amd64|--since|no|--bg|nor",
+            index: INDEX,
+            status: 67,
+            told: b"debcheck: cannot read the background\n",
+        },
+    ),
+    (
+        OpenFault::Memory,
+        2,
+        Case {
+            words: "|--arch|amd64|--since|no|--bg|others",
+            index: INDEX,
+            status: 69,
+            told: b"debcheck: out of memory\n",
+        },
+    ),
+];
+
+#[test]
+fn an_earlier_index_is_opened_before_anything_is_read(rt: HostRuntime) {
+    for (fault, asked, case) in &UNOPENED {
+        let counts = expect_case(&rt, *fault, case);
+        assert!(rt; counts == [*asked, 0], "{}", case.words);
     }
-}
-
-fn expect_asked(rt: &impl Abort, left: &Left, asked: u32) {
-    assert_eq!(rt; left.asked, asked);
-    assert_eq!(rt; left.reads, 0);
-}
-
-#[test]
-fn an_earlier_index_is_opened_before_anything_is_read(rt: HostRuntime) -> Result<(), Fail> {
-    let earlier = "debcheck: cannot read the earlier index\n";
-    let background = "debcheck: cannot read the background\n";
-    let none = OpenFault::Unopened;
-    expect_unopened(&rt, "|--arch|amd64|--since|no", none, 1, earlier)?;
-    let line = "|--arch|amd64|--since|no|--bg|others";
-    expect_unopened(&rt, line, none, 2, earlier)?;
-    let line = "|--arch|amd64|--since|no|--bg|nor";
-    expect_unopened(&rt, line, none, 1, background)?;
-    let memory = "debcheck: out of memory\n";
-    let line = "|--arch|amd64|--since|no|--bg|others";
-    expect_unopened(&rt, line, OpenFault::Memory, 2, memory)
 }

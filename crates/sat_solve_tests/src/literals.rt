@@ -1,4 +1,4 @@
-//! Literals by their variables, and sets that were found.
+//! Literals by their variables.
 
 ghost use Rattle.std.specs.Prelude.{◌≡◌, true, false};
 
@@ -21,13 +21,5 @@ pub fn not(var: u32) -> Lit
     Lit {
         var,
         positive: false,
-    }
-}
-
-/// Whether what was found is this set.
-pub fn is_set(found: &Option<Vec<u32>>, wanted: &[u32]) -> bool {
-    match found {
-        Some(members) => members.as_slice() == wanted,
-        None => false,
     }
 }

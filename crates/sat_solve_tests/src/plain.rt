@@ -4,7 +4,6 @@
 use crate::literals::{lit, not};
 use sat_solve::Lit;
 use std::alloc::{AllocError, Global};
-use std::test::Fail;
 
 /// The worked formulas take fewer rounds.
 const ROUNDS: u32 = 10_000;
@@ -145,17 +144,15 @@ impl Plain {
         Ok(Some(members))
     }
 
-    /// The first set with `must` that makes the kept clauses true, if there is one.
+    /// The first set with `must` that makes the kept clauses true, if there is one. The empty set, which is no answer, where the search
+    /// takes too many rounds.
     pub fn solve(
         &mut self,
         alloc: Global,
         keep: &[bool],
         must: u32,
-    ) -> Result<Option<Vec<u32>>, Fail> {
-        self.steps.clear();
-        self.values.clear();
-        self.values.resize(self.vars as usize, None)?;
-        self.set(lit(must), false)?;
+    ) -> Result<Option<Vec<u32>>, AllocError> {
+        self.start(must)?;
         'rounds: for _ in 0..ROUNDS {
             if self.propagate(keep)? {
                 let found = self.decide(alloc)?;
@@ -166,6 +163,14 @@ impl Plain {
                 return Ok(None);
             }
         }
-        Err(Fail::new("the plain search takes too many rounds"))
+        Ok(Some(Vec::new(alloc)))
+    }
+
+    /// All variables are free but `must`, which is in.
+    fn start(&mut self, must: u32) -> Result<(), AllocError> {
+        self.steps.clear();
+        self.values.clear();
+        self.values.resize(self.vars as usize, None)?;
+        self.set(lit(must), false)
     }
 }

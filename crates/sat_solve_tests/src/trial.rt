@@ -1,9 +1,10 @@
-//! Many small formulas beside a trial of all sets.
+//! Many small formulas beside a trial of all sets, of clauses alone and with lists of exclusions.
 
 ghost use Rattle.std.specs.Prelude.{◌≡◌, ◌<◌, length};
 
+use crate::exclusions::draw_lists;
 use sat_solve::{Formula, Lit, Workspace};
-use std::alloc::{AllocError, AllocGlobal, Global};
+use std::alloc::AllocGlobal;
 use std::process::Abort;
 
 /// Numbers that look random, and are the same in each run.
@@ -31,6 +32,15 @@ impl Numbers {
         Lit {
             var: self.below(5),
             positive: self.below(2) == 0,
+        }
+    }
+
+    /// How many literals a clause has: rarely none, else one to three.
+    fn size(&mut self) -> u32 {
+        if self.below(20) == 0 {
+            0
+        } else {
+            1 + self.below(3)
         }
     }
 }
@@ -62,7 +72,7 @@ fn holds(set: u32, clause: &Small) -> bool {
 }
 
 /// The number of the first set of five variables with `must` that makes the kept clauses true.
-pub fn by_trial(clauses: &[Small], keep: &[bool], must: u32) -> Option<u32> {
+fn by_trial(clauses: &[Small], keep: &[bool], must: u32) -> Option<u32> {
     for set in 0..32 {
         let mut met = has(set, must);
         for clause in clauses {
@@ -79,7 +89,7 @@ pub fn by_trial(clauses: &[Small], keep: &[bool], must: u32) -> Option<u32> {
 }
 
 /// Whether what was found is the set of this number.
-pub fn is_number(found: &Option<Vec<u32>>, wanted: Option<u32>) -> bool {
+fn is_number(found: &Option<Vec<u32>>, wanted: Option<u32>) -> bool {
     match (found, wanted) {
         (Some(members), Some(set)) => {
             for var in 0..5 {
@@ -106,50 +116,55 @@ fn are_within(marks: &[bool], keep: &[bool]) -> bool {
 
 /// Whether a solve answers as the trial of all sets does.
 fn solve_agrees(
-    alloc: Global,
+    rt: &(impl Abort + AllocGlobal),
     formula: &Formula,
     workspace: &mut Workspace,
     clauses: &[Small],
     keep: &[bool],
     must: u32,
-) -> Result<bool, AllocError>
+) -> bool
     requires keep { length keep.now ≡ formula.now.groups }
     requires must { must < formula.now.vars }
 {
-    let found = formula.solve_in(alloc, workspace, keep, must)?;
-    Ok(is_number(&found, by_trial(clauses, keep, must)))
+    let found = formula.solve_in(rt.alloc(), workspace, keep, must);
+    is_number(
+        &found.expect(rt, "no memory"),
+        by_trial(clauses, keep, must),
+    )
 }
 
 /// Whether the solve with marks answers as the trial of all sets does, and its marks stand on kept groups that admit no set.
 fn marks_agree(
-    alloc: Global,
+    rt: &(impl Abort + AllocGlobal),
     formula: &Formula,
     workspace: &mut Workspace,
     clauses: &[Small],
     keep: &[bool],
     must: u32,
-) -> Result<bool, AllocError>
+) -> bool
     requires keep { length keep.now ≡ formula.now.groups }
     requires must { must < formula.now.vars }
 {
-    let mut marks = Vec::new(alloc);
-    let found = formula.solve_marked(alloc, workspace, keep, must, &mut marks)?;
-    if found.is_none() {
-        let still = solve_agrees(alloc, formula, workspace, clauses, &marks, must)?;
-        Ok(still && by_trial(clauses, &marks, must).is_none() && are_within(&marks, keep))
+    let mut marks = Vec::new(rt.alloc());
+    let found = formula.solve_marked(rt.alloc(), workspace, keep, must, &mut marks);
+    let found = found.expect(rt, "no memory");
+    if found.is_some() {
+        is_number(&found, by_trial(clauses, keep, must))
     } else {
-        Ok(is_number(&found, by_trial(clauses, keep, must)))
+        solve_agrees(rt, formula, workspace, clauses, &marks, must)
+            && by_trial(clauses, &marks, must).is_none()
+            && are_within(&marks, keep)
     }
 }
 
 /// Whether the solves answer on a formula as the trial of all sets does on its clauses, with drawn groups and a drawn variable.
-pub fn agrees(
-    alloc: Global,
+fn agrees(
+    rt: &(impl Abort + AllocGlobal),
     workspace: &mut Workspace,
     numbers: &mut Numbers,
     formula: &Formula,
     clauses: &[Small],
-) -> Result<bool, AllocError>
+) -> bool
     requires vars { formula.now.vars ≡ 5 }
     requires groups { formula.now.groups ≡ 3 }
 {
@@ -159,105 +174,83 @@ pub fn agrees(
         numbers.below(4) > 0,
     ];
     let must = numbers.below(5);
-    let solved = solve_agrees(alloc, formula, workspace, clauses, &keep, must)?;
-    let marked = marks_agree(alloc, formula, workspace, clauses, &keep, must)?;
-    Ok(solved && marked)
+    solve_agrees(rt, formula, workspace, clauses, &keep, must)
+        && marks_agree(rt, formula, workspace, clauses, &keep, must)
 }
 
 /// Adds a drawn clause to a formula of five variables and three groups, and to the clauses.
-fn add_drawn(
+pub fn draw_clause(
+    rt: &impl Abort,
     numbers: &mut Numbers,
     formula: &mut Formula,
     clauses: &mut Vec<Small>,
-) -> Result<(), AllocError>
+    is_full: bool,
+)
     requires vars { formula.old.vars ≡ 5 }
     requires groups { formula.old.groups ≡ 3 }
     ensures vars { formula.new.vars ≡ 5 }
     ensures groups { formula.new.groups ≡ 3 }
 {
     let group = numbers.below(3);
-    let a = numbers.literal();
-    let b = numbers.literal();
-    let c = numbers.literal();
-    let size = if numbers.below(20) == 0 {
-        0
-    } else {
-        1 + numbers.below(3)
+    let (a, b, c) = (numbers.literal(), numbers.literal(), numbers.literal());
+    let size = if is_full { 3 } else { numbers.size() };
+    let added = match size {
+        0 => formula.add(group, &[]),
+        1 => formula.add(group, &[a]),
+        2 => formula.add(group, &[a, b]),
+        _ => formula.add(group, &[a, b, c]),
     };
-    match size {
-        0 => formula.add(group, &[])?,
-        1 => formula.add(group, &[a])?,
-        2 => formula.add(group, &[a, b])?,
-        _ => formula.add(group, &[a, b, c])?,
-    }
-    clauses.push(Small {
+    added.expect(rt, "no memory");
+    let literals = [a, b, c];
+    let size = size as usize;
+    let clause = Small {
         group,
-        literals: [a, b, c],
-        size: size as usize,
-    })?;
-    Ok(())
+        literals,
+        size,
+    };
+    clauses.push(clause).expect(rt, "no memory");
 }
 
 /// Adds some drawn clauses.
-fn add_some(
+fn draw_clauses(
+    rt: &impl Abort,
     numbers: &mut Numbers,
     formula: &mut Formula,
     clauses: &mut Vec<Small>,
-) -> Result<(), AllocError>
+)
     requires vars { formula.old.vars ≡ 5 }
     requires groups { formula.old.groups ≡ 3 }
     ensures vars { formula.new.vars ≡ 5 }
     ensures groups { formula.new.groups ≡ 3 }
 {
     'clauses: for _ in 0..4 + numbers.below(10) {
-        add_drawn(numbers, formula, clauses)?;
+        draw_clause(rt, numbers, formula, clauses, false);
     }
-    Ok(())
 }
 
-/// Whether the solves answer on a formula as the trial of all sets does, once drawn clauses are added to it.
-fn drawn_agrees(
-    alloc: Global,
-    workspace: &mut Workspace,
-    numbers: &mut Numbers,
-    formula: &mut Formula,
-    clauses: &mut Vec<Small>,
-) -> Result<bool, AllocError>
-    requires vars { formula.old.vars ≡ 5 }
-    requires groups { formula.old.groups ≡ 3 }
-{
-    add_some(numbers, formula, clauses)?;
-    agrees(alloc, workspace, numbers, formula, clauses)
-}
-
-/// Whether the solves answer on the formula of this number as the trial of all sets does.
-fn number_agrees(
-    alloc: Global,
-    workspace: &mut Workspace,
-    number: u64,
-) -> Result<bool, AllocError> {
-    let mut numbers = Numbers { state: number };
-    let mut formula = Formula::new(alloc, 5, 3)?;
-    let mut clauses = Vec::new(alloc);
-    drawn_agrees(alloc, workspace, &mut numbers, &mut formula, &mut clauses)
-}
-
-/// Tries the formulas of 500 numbers.
-fn try_numbers(
+/// Sees that the solves answer on the formula of this number, with lists or without, as the trial of all sets does.
+fn expect_number(
     rt: &(impl Abort + AllocGlobal),
     workspace: &mut Workspace,
-) -> Result<(), AllocError> {
-    for number in 0..500 {
-        assert!(rt;
-            number_agrees(rt.alloc(), workspace, number)?,
-            "formula {number}"
-        );
+    number: u64,
+    has_lists: bool,
+) {
+    let mut numbers = Numbers { state: number };
+    let mut formula = Formula::new(rt.alloc(), 5, 3).expect(rt, "no memory");
+    let mut clauses = Vec::new(rt.alloc());
+    if has_lists {
+        draw_lists(rt, &mut numbers, &mut formula, &mut clauses);
+    } else {
+        draw_clauses(rt, &mut numbers, &mut formula, &mut clauses);
     }
-    Ok(())
+    let right = agrees(rt, workspace, &mut numbers, &formula, &clauses);
+    assert!(rt; right, "formula {number}, lists: {has_lists}");
 }
 
 #[test]
-fn small_formulas_as_by_trial(rt: HostRuntime) -> Result<(), AllocError> {
+fn small_formulas_as_by_trial(rt: HostRuntime) {
     let mut workspace = Workspace::new(rt.alloc());
-    try_numbers(&rt, &mut workspace)
+    for number in 0..1000 {
+        expect_number(&rt, &mut workspace, number / 2, number % 2 == 1);
+    }
 }

@@ -1,7 +1,7 @@
 //! Files over memory.
 
-use crate::devices::{Feed, source_of};
-use debcheck::{OpenFault, Opener, Recording};
+use crate::memory::{Feed, source_of};
+use devices::{OpenFault, Opener, Recording};
 use std::sync::atomic::{AtomicU32, Ordering};
 
 /// One name under which bytes stand, or nothing that can be opened. It counts what was asked of it.

@@ -2,8 +2,8 @@
 
 ghost use Rattle.std.specs.Prelude.{◌≡◌, Some};
 
-use crate::devices::Held;
-use debcheck::{DeviceFault, Sink};
+use crate::memory::Held;
+use devices::{DeviceFault, Sink};
 use std::alloc::Global;
 use std::io;
 use std::io::{IsTerminal, Write};

@@ -1,187 +1,152 @@
 //! Boards, and drawers that split, draw, join and close.
 
-ghost use Rattle.std.specs.Prelude.{◌≡◌, ◌<◌, All, IfOk, OnOk};
+ghost use Rattle.std.specs.Prelude.{◌≡◌, All};
 
 use std::alloc::{AllocError, Global};
-use std::process::Abort;
-use std::test::Fail;
 use std::thread;
 use std::thread::Threads;
 use work_draw::{Board, Drawer, new_board};
 
-/// A board of three numbers deals each, and then no more.
-pub fn expect_three_numbers(rt: &impl Abort, board: Board, mut drawer: Drawer)
-    requires { drawer.board ≡ board }
+/// How many numbers a board has, what its drawer draws of them, and whether that closes it.
+pub const DEALS: [(u32, &[Option<u32>], bool); 3] = [
+    (3, &[Some(0), Some(1), Some(2), None, None], true),
+    (0, &[None], true),
+    (3, &[Some(0)], false),
+];
+
+/// Whether a drawer draws these numbers.
+fn draws(board: &Board, drawer: &mut Drawer, wanted: &[Option<u32>]) -> bool
+    requires { drawer.old.board ≡ board.now }
+    ensures { drawer.new.board ≡ board.now }
 {
-    let opened = (drawer.spare(), drawer.held(), drawer.is_done());
-    let (first, second) = (board.draw(&mut drawer), board.draw(&mut drawer));
-    let (third, fourth) = (board.draw(&mut drawer), board.draw(&mut drawer));
-    let fifth = board.draw(&mut drawer);
+    let mut fine = true;
+    for number in wanted {
+        fine &= board.draw(drawer) == *number;
+    }
+    fine
+}
+
+/// Whether a board of so many numbers deals these, and is closed by its drawer or not.
+pub fn deals(
+    alloc: Global,
+    total: u32,
+    wanted: &[Option<u32>],
+    closes: bool,
+) -> Result<bool, AllocError> {
+    let (board, mut drawer) = new_board(alloc, total)?;
+    let opened = drawer.spare() == 63 && drawer.held() == 1 && !drawer.is_done();
+    let drawn = draws(&board, &mut drawer, wanted);
     let done = drawer.is_done();
     let closed = board.close(drawer);
-    assert_eq!(rt; opened, (63, 1, false));
-    assert_eq!(rt; (first, second, third), (Some(0), Some(1), Some(2)));
-    assert_eq!(rt; (fourth, fifth), (None, None));
-    assert!(rt; done && closed);
+    Ok(opened && drawn && done == closes && closed == closes)
 }
 
-/// A board of no numbers closes after one draw.
-pub fn expect_no_number(rt: &impl Abort, board: Board, mut drawer: Drawer)
-    requires { drawer.board ≡ board }
-{
-    let first = board.draw(&mut drawer);
-    let closed = board.close(drawer);
-    assert_eq!(rt; first, None);
-    assert!(rt; closed);
-}
-
-#[test]
-fn does_not_close_before_the_end(rt: HostRuntime) -> Result<(), Fail> {
-    let (board, mut drawer) = new_board(rt.alloc(), 3)?;
-    let first = board.draw(&mut drawer);
-    let closed = board.close(drawer);
-    assert_eq!(rt; first, Some(0));
-    assert!(rt; !closed);
-    Ok(())
-}
-
-#[test]
-fn does_not_close_without_all_drawers(rt: HostRuntime) -> Result<(), Fail> {
-    let (board, drawer) = new_board(rt.alloc(), 3)?;
+/// Whether a board that dealt all its numbers stays open without one of its drawers.
+fn stays_open(alloc: Global) -> Result<bool, AllocError> {
+    let (board, drawer) = new_board(alloc, 3)?;
     let (mut drawer, other) = board.split(drawer, 2);
     drop(other);
-    board.draw(&mut drawer);
-    board.draw(&mut drawer);
-    board.draw(&mut drawer);
-    board.draw(&mut drawer);
+    let drawn = draws(&board, &mut drawer, &[Some(0), Some(1), Some(2), None]);
     let done = drawer.is_done();
-    let closed = board.close(drawer);
-    assert!(rt; done);
-    assert!(rt; !closed);
-    Ok(())
+    Ok(!board.close(drawer) && drawn && done)
 }
 
-fn draw_all(
-    alloc: Global,
-    board: &Board,
-    mut drawer: Drawer,
-) -> Result<(Drawer, Vec<u32>), AllocError>
+#[test]
+fn does_not_close_without_all_drawers(rt: HostRuntime) {
+    assert!(rt; matches!(stays_open(rt.alloc()), Ok(true)));
+}
+
+/// Draws all numbers that are left. How often each came of a thousand is handed back, too.
+fn draw_all(board: &Board, mut drawer: Drawer) -> (Drawer, [u8; 1000])
     requires { drawer.board ≡ board.now }
-    ensures { IfOk result (λ r. (r.0.board ≡ drawer.board) × (r.0.held ≡ drawer.held)) }
+    ensures { (result.0.board ≡ drawer.board) × (result.0.held ≡ drawer.held) }
 {
-    let mut numbers = Vec::new(alloc);
+    let mut counts = [0u8; 1000];
     for _ in 0..2000u32 {
         let Some(number) = board.draw(&mut drawer) else {
             break;
         };
-        numbers.push(number)?;
+        if number < 1000 {
+            counts[number as usize] = counts[number as usize].saturating_add(1);
+        }
     }
-    Ok((drawer, numbers))
+    (drawer, counts)
 }
 
-fn expect_each_below_a_thousand(rt: &impl Abort, numbers: &[u32]) -> Result<(), Fail> {
-    assert_eq!(rt; numbers.len(), 1000);
-    for (at, number) in numbers.iter().enumerate() {
-        assert_eq!(rt; u64::from(*number), at as u64);
+/// Whether each of a thousand numbers came once.
+fn is_each_once(some: &[u8; 1000], others: &[u8; 1000]) -> bool {
+    for number in 0..1000usize {
+        if some[number].saturating_add(others[number]) != 1 {
+            return false;
+        }
     }
-    Ok(())
+    true
 }
 
-/// Two threads, each with one of the drawers of a split, draw each of a thousand numbers once.
-pub fn expect_each_number_once(
-    rt: &(impl Abort + Threads + Sync + AllocGlobal),
-    board: Board,
-    drawer: Drawer,
-) -> Result<(), Fail>
-    requires board { drawer.board ≡ board }
-    requires room { 0 < drawer.spare }
-{
-    let alloc = rt.alloc();
+/// Whether two threads, each with one of the drawers of a split, draw each of a thousand numbers once.
+pub fn shares_a_thousand(rt: &(impl Threads + Sync + AllocGlobal)) -> Result<bool, AllocError> {
+    let (board, drawer) = new_board(rt.alloc(), 1000)?;
     let (mine, theirs) = board.split(drawer, 0);
     let shared = &board;
     let (first, second) = thread::join(
         rt,
-        move || draw_all(alloc, shared, theirs),
-        move || draw_all(alloc, shared, mine),
+        move || draw_all(shared, theirs),
+        move || draw_all(shared, mine),
     );
-    let (other, mut numbers) = first?;
-    let (drawer, mut more) = second?;
-    let mut drawer = board.join(drawer, other);
+    let mut drawer = board.join(second.0, first.0);
     let last = board.draw(&mut drawer);
-    let held = drawer.held();
+    let both = drawer.held() == 2;
     let closed = board.close(drawer);
-    expect_closed(rt, last, held, closed);
-    numbers.append(&mut more)?;
-    numbers.sort()?;
-    expect_each_below_a_thousand(rt, &numbers)
+    Ok(last.is_none() && both && closed && is_each_once(&first.1, &second.1))
 }
 
-/// Two drawers found no number left, and the board was closed by both.
-fn expect_closed(rt: &impl Abort, last: Option<u32>, held: u32, closed: bool) {
-    assert_eq!(rt; last, None);
-    assert_eq!(rt; held, 2);
-    assert!(rt; closed);
-}
-
-/// Splits a drawer into halves, and these again, until nothing of them is spare. One is handed back, the others are added.
-fn split_up(board: &Board, drawer: Drawer, others: &mut Vec<Drawer>) -> Result<Drawer, AllocError>
+/// Splits a drawer into halves, and these again, until nothing of them is spare. One is handed back, the others are added where there is memory.
+fn split_up(board: &Board, drawer: Drawer, others: &mut Vec<Drawer>) -> Drawer
     requires own { drawer.board ≡ board.now }
     requires others { All (λ d. d.board ≡ board.now) others.old.items }
-    ensures own { IfOk result (λ d. d.board ≡ board.now) }
-    ensures others { OnOk result (All (λ d. d.board ≡ board.now) others.new.items) }
+    ensures own { result.board ≡ board.now }
+    ensures others { All (λ d. d.board ≡ board.now) others.new.items }
 {
     if drawer.spare() == 0 {
-        return Ok(drawer);
+        return drawer;
     }
     let give = (drawer.spare() - 1) / 2;
     let (kept, given) = board.split(drawer, give);
-    let kept = split_up(board, kept, others)?;
-    let given = split_up(board, given, others)?;
-    others.push(given)?;
-    Ok(kept)
+    let kept = split_up(board, kept, others);
+    let given = split_up(board, given, others);
+    drop(others.push(given));
+    kept
 }
 
-/// Draws once from each part and joins it into a drawer; also what was drawn, in the order of the parts.
-fn draw_from_each(
-    alloc: Global,
-    board: &Board,
-    first: Drawer,
-    parts: Vec<Drawer>,
-) -> Result<(Drawer, Vec<Option<u32>>), AllocError>
+/// Draws once from each part and joins it into a drawer; also whether the first ten draws took the numbers in their order, and the others none.
+fn draw_from_each(board: &Board, first: Drawer, parts: Vec<Drawer>) -> (Drawer, bool)
     requires own { first.board ≡ board.now }
     requires others { All (λ d. d.board ≡ board.now) parts.items }
-    ensures { IfOk result (λ r. r.0.board ≡ board.now) }
+    ensures { result.0.board ≡ board.now }
 {
     let mut whole = first;
-    let mut drawn = Vec::new(alloc);
-    drawn.push(board.draw(&mut whole))?;
+    let mut fine = board.draw(&mut whole) == Some(0);
+    let mut next = 1u32;
     for mut part in parts {
-        drawn.push(board.draw(&mut part))?;
+        fine &= board.draw(&mut part) == if next < 10 { Some(next) } else { None };
         whole = board.join(whole, part);
+        next = next.saturating_add(1);
     }
-    Ok((whole, drawn))
+    (whole, fine)
 }
 
-/// The first ten of 64 draws took the numbers in their order.
-fn expect_ten_in_order(rt: &impl Abort, drawn: &[Option<u32>]) {
-    assert_eq!(rt; drawn.len(), 64);
-    for (at, number) in drawn.iter().enumerate() {
-        assert_eq!(rt; *number, if at < 10 { Some(at as u32) } else { None });
-    }
+/// Whether 64 drawers of a board of ten numbers draw once each, and close it together.
+fn draw_once_each(alloc: Global) -> Result<bool, AllocError> {
+    let (board, drawer) = new_board(alloc, 10)?;
+    let mut others = Vec::new(alloc);
+    let first = split_up(&board, drawer, &mut others);
+    let all = others.len() == 63;
+    let (whole, fine) = draw_from_each(&board, first, others);
+    let joined = whole.spare() == 0 && whole.held() == 64 && whole.is_done();
+    Ok(board.close(whole) && all && fine && joined)
 }
 
 #[test]
-fn sixty_four_drawers_draw_once_each(rt: HostRuntime) -> Result<(), Fail> {
-    let (board, drawer) = new_board(rt.alloc(), 10)?;
-    let mut others = Vec::new(rt.alloc());
-    let first = split_up(&board, drawer, &mut others)?;
-    let count = others.len();
-    let (whole, drawn) = draw_from_each(rt.alloc(), &board, first, others)?;
-    let parts = (whole.spare(), whole.held(), whole.is_done());
-    let closed = board.close(whole);
-    expect_ten_in_order(&rt, &drawn);
-    assert_eq!(rt; count, 63);
-    assert_eq!(rt; parts, (0, 64, true));
-    assert!(rt; closed);
-    Ok(())
+fn sixty_four_drawers_draw_once_each(rt: HostRuntime) {
+    assert!(rt; matches!(draw_once_each(rt.alloc()), Ok(true)));
 }

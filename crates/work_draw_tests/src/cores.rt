@@ -2,12 +2,11 @@
 
 ghost use Rattle.std.specs.Prelude.{◌<◌, ◌≤◌, All, length};
 
-use crate::examples::{check_places, ground_of};
-use deb_index::{Constraint, Index};
+use crate::calls::{Call, holds};
+use deb_index::Constraint;
 use deb_verdict::{Groundwork, Workspace, cores_in};
 use std::alloc::{AllocError, Global};
 use std::process::Abort;
-use std::test::Fail;
 use std::thread::Threads;
 use work_draw::find_cores;
 
@@ -57,107 +56,8 @@ const RIVAL: &str = "[[Need(4, 0)]]";
 
 const THREE: &str = "[[Need(5, 3)], [Need(5, 2)], [Need(5, 0)]]";
 
-/// Whether the cores of each place are written so.
-fn are_cores(
-    alloc: Global,
-    found: &[Vec<Vec<Constraint>>],
-    wanted: &[&str],
-) -> Result<bool, AllocError> {
-    if found.len() != wanted.len() {
-        return Ok(false);
-    }
-    for (cores, text) in found.iter().zip(wanted.iter()) {
-        let written = format!(in alloc; "{cores:?}")?;
-        if written.as_str() != *text {
-            return Ok(false);
-        }
-    }
-    Ok(true)
-}
-
-/// Whether so many workers find cores that are written so.
-pub fn finds_cores(
-    rt: &(impl Threads + Sync + AllocGlobal),
-    groundwork: &Groundwork<'_>,
-    asked: &[u32],
-    workers: u32,
-    wanted: &[&str],
-) -> Result<bool, Fail>
-    requires places { All (λ place. place < length groundwork.now.index.now.packages) asked.now }
-    requires workers { (0 < workers) × (workers ≤ 64) }
-{
-    let found = find_cores(rt, rt.alloc(), groundwork, asked, workers)?;
-    Ok(are_cores(rt.alloc(), &found, wanted)?)
-}
-
-/// Compares the cores of the asked places of an index, by 1, 2, 3 and 64 workers, with what is expected of each.
-fn expect_cores_in(
-    rt: &(impl Abort + Threads + Sync + AllocGlobal),
-    index: &Index,
-    asked: &[u32],
-    wanted: &[&str],
-) -> Result<(), Fail> {
-    let groundwork = ground_of(rt.alloc(), index, asked)?;
-    assert!(rt; finds_cores(rt, &groundwork, asked, 1, wanted)?);
-    assert!(rt; finds_cores(rt, &groundwork, asked, 2, wanted)?);
-    assert!(rt; finds_cores(rt, &groundwork, asked, 3, wanted)?);
-    assert!(rt; finds_cores(rt, &groundwork, asked, 64, wanted)?);
-    Ok(())
-}
-
-/// The same of the index of a text.
-fn expect_cores(
-    rt: &(impl Abort + Threads + Sync + AllocGlobal),
-    text: &[u8],
-    asked: &[u32],
-    wanted: &[&str],
-) -> Result<(), Fail> {
-    if text.len() > 2_000 {
-        return Err("a longer text".into());
-    }
-    let index = Index::read(rt.alloc(), text, "amd64", true)?;
-    let outcome = expect_cores_in(rt, &index, asked, wanted);
-    drop(index);
-    outcome
-}
-
-#[test]
-fn no_place(rt: HostRuntime) -> Result<(), Fail> {
-    expect_cores(&rt, CAUSES, &[], &[])
-}
-
-#[test]
-fn no_package(rt: HostRuntime) -> Result<(), Fail> {
-    expect_cores(&rt, b"", &[], &[])
-}
-
-#[test]
-fn one_place(rt: HostRuntime) -> Result<(), Fail> {
-    expect_cores(&rt, CAUSES, &[3], &[TWO])
-}
-
-#[test]
-fn every_place(rt: HostRuntime) -> Result<(), Fail> {
-    let wanted = [SOUND, OVER, LACKS, TWO, RIVAL, THREE];
-    expect_cores(&rt, CAUSES, &[0, 1, 2, 3, 4, 5], &wanted)
-}
-
-#[test]
-fn places_in_any_order(rt: HostRuntime) -> Result<(), Fail> {
-    let wanted = [THREE, SOUND, TWO, LACKS, RIVAL, OVER];
-    expect_cores(&rt, CAUSES, &[5, 0, 3, 2, 4, 1], &wanted)
-}
-
-#[test]
-fn repeated_places(rt: HostRuntime) -> Result<(), Fail> {
-    let wanted = [THREE, THREE, SOUND, TWO, THREE, SOUND, TWO];
-    expect_cores(&rt, CAUSES, &[5, 5, 0, 3, 5, 0, 3], &wanted)
-}
-
 /// Two conflicts keep out both versions of what one package needs, and a third an essential one.
-#[test]
-fn causes_of_several_constraints(rt: HostRuntime) -> Result<(), Fail> {
-    let text = b"Package: a
+const SEVERAL: &[u8] = b"Package: a
 Version: 1
 Architecture: all
 Depends: b
@@ -177,72 +77,160 @@ Version: 1
 Architecture: all
 Essential: yes
 ";
-    let cores = "[[Need(0, 0), Apart(0, 0), Apart(0, 1)], [Essential(2), Apart(0, 2)]]";
-    let wanted = ["[]", cores, "[]", "[]", cores];
-    expect_cores(&rt, text, &[2, 0, 3, 1, 0], &wanted)
-}
 
-/// The cores of each place, as `cores_in` finds them.
-fn one_by_one(
-    alloc: Global,
-    groundwork: &Groundwork<'_>,
-    asked: &[u32],
-) -> Result<Vec<Vec<Vec<Constraint>>>, AllocError>
-    requires { All (λ place. place < length groundwork.now.index.now.packages) asked.now }
-{
-    let mut workspace = Workspace::new(alloc)?;
-    let mut found = Vec::new(alloc);
-    for place in asked {
-        found.push(cores_in(alloc, &mut workspace, groundwork, *place)?)?;
+const BOTH: &str = "[[Need(0, 0), Apart(0, 0), Apart(0, 1)], [Essential(2), Apart(0, 2)]]";
+
+/// Whether cores are written so.
+fn is_written(alloc: Global, cores: &[Vec<Constraint>], wanted: &str) -> bool {
+    match format!(in alloc; "{cores:?}") {
+        Ok(written) => written.as_str() == wanted,
+        Err(_) => false,
     }
-    Ok(found)
 }
 
-/// Compares the cores that so many workers find with those that are found one by one.
-fn expect_as_one_by_one(
-    rt: &(impl Abort + Threads + Sync + AllocGlobal),
+/// Whether the cores of each asked place are written as is said of the place.
+fn are_written(
+    alloc: Global,
+    asked: &[u32],
+    found: &[Vec<Vec<Constraint>>],
+    written: &[&str],
+) -> bool {
+    for (place, cores) in asked.iter().zip(found.iter()) {
+        match written.get(*place as usize) {
+            Some(text) if is_written(alloc, cores, text) => {}
+            _ => return false,
+        }
+    }
+    found.len() == asked.len()
+}
+
+/// Whether so many workers find cores that are written so.
+pub fn finds_cores(
+    rt: &(impl Threads + Sync + AllocGlobal),
     groundwork: &Groundwork<'_>,
     asked: &[u32],
     workers: u32,
-    alone: &[Vec<Vec<Constraint>>],
-) -> Result<(), Fail>
+    written: &[&str],
+) -> Result<bool, AllocError>
     requires places { All (λ place. place < length groundwork.now.index.now.packages) asked.now }
     requires workers { (0 < workers) × (workers ≤ 64) }
 {
     let found = find_cores(rt, rt.alloc(), groundwork, asked, workers)?;
-    assert_eq!(rt; found.as_slice(), alone, "with {workers} workers");
-    Ok(())
+    Ok(are_written(rt.alloc(), asked, &found, written))
 }
 
-fn expect_as_one_by_one_by_each_crew(
+/// The cores of asked places of the index of a text, by 1, 2, 3 and 64 workers, are written as is said of each place.
+fn expect_cores<'a>(
     rt: &(impl Abort + Threads + Sync + AllocGlobal),
-    index: &Index,
+    name: &str,
+    text: &[u8],
     asked: &[u32],
-) -> Result<(), Fail> {
-    let groundwork = ground_of(rt.alloc(), index, asked)?;
-    let alone = one_by_one(rt.alloc(), &groundwork, asked)?;
-    for workers in 1..=64u32 {
-        expect_as_one_by_one(rt, &groundwork, asked, workers, &alone)?;
+    written: &'a [&'a str],
+) {
+    for workers in [1, 2, 3, 64] {
+        let call = Call::Cores(workers, written);
+        assert!(rt; holds(rt, text, asked, call), "{name}, {workers} workers");
     }
-    Ok(())
 }
 
-/// Places that go through an index of six packages, now forwards, now backwards.
-fn many_places(alloc: Global) -> Result<Vec<u32>, AllocError> {
-    let mut places = Vec::new(alloc);
+fn expect_causes(rt: &(impl Abort + Threads + Sync + AllocGlobal), name: &str, asked: &[u32]) {
+    let written = [SOUND, OVER, LACKS, TWO, RIVAL, THREE];
+    expect_cores(rt, name, CAUSES, asked, &written);
+}
+
+#[test]
+fn several_workers_find_all_cores(rt: HostRuntime) {
+    expect_causes(&rt, "no place", &[]);
+    expect_causes(&rt, "one place", &[3]);
+    expect_causes(&rt, "every place", &[0, 1, 2, 3, 4, 5]);
+    expect_causes(&rt, "places in any order", &[5, 0, 3, 2, 4, 1]);
+    expect_causes(&rt, "repeated places", &[5, 5, 0, 3, 5, 0, 3]);
+}
+
+#[test]
+fn causes_of_several_constraints(rt: HostRuntime) {
+    expect_cores(&rt, "no package", b"", &[], &[]);
+    let written = [BOTH, SOUND, SOUND, SOUND];
+    expect_cores(&rt, "several", SEVERAL, &[2, 0, 3, 1, 0], &written);
+}
+
+/// Whether the cores of each place are those that `cores_in` finds.
+fn are_as_alone(
+    alloc: Global,
+    workspace: &mut Workspace,
+    groundwork: &Groundwork<'_>,
+    asked: &[u32],
+    found: &[Vec<Vec<Constraint>>],
+) -> bool
+    requires { All (λ place. place < length groundwork.now.index.now.packages) asked.now }
+{
+    for (place, cores) in asked.iter().zip(found.iter()) {
+        match cores_in(alloc, workspace, groundwork, *place) {
+            Ok(alone) if alone == *cores => {}
+            _ => return false,
+        }
+    }
+    found.len() == asked.len()
+}
+
+/// Whether so many workers find the cores that are found one by one.
+fn finds_as_alone(
+    rt: &(impl Threads + Sync + AllocGlobal),
+    workspace: &mut Workspace,
+    groundwork: &Groundwork<'_>,
+    asked: &[u32],
+    workers: u32,
+) -> bool
+    requires places { All (λ place. place < length groundwork.now.index.now.packages) asked.now }
+    requires workers { (0 < workers) × (workers ≤ 64) }
+{
+    match find_cores(rt, rt.alloc(), groundwork, asked, workers) {
+        Ok(found) => are_as_alone(rt.alloc(), workspace, groundwork, asked, &found),
+        Err(_) => false,
+    }
+}
+
+/// Whether each number of workers finds the cores that are found one by one.
+pub fn find_as_alone(
+    rt: &(impl Threads + Sync + AllocGlobal),
+    groundwork: &Groundwork<'_>,
+    asked: &[u32],
+) -> Result<bool, AllocError>
+    requires { All (λ place. place < length groundwork.now.index.now.packages) asked.now }
+{
+    let mut workspace = Workspace::new(rt.alloc())?;
+    let fine = each_finds_as_alone(rt, &mut workspace, groundwork, asked);
+    drop(workspace);
+    Ok(fine)
+}
+
+fn each_finds_as_alone(
+    rt: &(impl Threads + Sync + AllocGlobal),
+    workspace: &mut Workspace,
+    groundwork: &Groundwork<'_>,
+    asked: &[u32],
+) -> bool
+    requires { All (λ place. place < length groundwork.now.index.now.packages) asked.now }
+{
+    for workers in 1..=64u32 {
+        if !finds_as_alone(rt, workspace, groundwork, asked, workers) {
+            return false;
+        }
+    }
+    true
+}
+
+/// A hundred places, which go through an index of six packages now forwards, now backwards.
+fn many_places() -> [u32; 100] {
+    let mut places = [0u32; 100];
     for number in 0..100u32 {
         let step = number % 6;
-        places.push(if number % 7 < 3 { step } else { 5 - step })?;
+        places[number as usize] = if number % 7 < 3 { step } else { 5 - step };
     }
-    Ok(places)
+    places
 }
 
-/// A hundred places, by every number of workers.
 #[test]
-fn many_places_by_each_crew(rt: HostRuntime) -> Result<(), Fail> {
-    let places = many_places(rt.alloc())?;
-    let index = Index::read(rt.alloc(), CAUSES, "amd64", true)?;
-    let outcome = expect_as_one_by_one_by_each_crew(&rt, &index, &places);
-    drop(index);
-    outcome
+fn many_places_by_each_crew(rt: HostRuntime) {
+    assert!(rt; holds(&rt, CAUSES, &many_places(), Call::CoresAsAlone));
 }

@@ -1,14 +1,14 @@
 //! An index of three packages, places of an index, and the groundwork of one that has them.
 
-ghost use Rattle.std.specs.Prelude.{◌<◌, All, IfOk, OnOk, length};
+ghost use Rattle.std.specs.Prelude.{◌<◌, All, IfOk, length};
 
-use deb_index::Index;
+use deb_index::{Index, IndexError};
 use deb_verdict::Groundwork;
-use std::alloc::Global;
-use std::test::Fail;
+use std::alloc::{AllocError, Global};
+use std::process::Abort;
 
 /// Three packages; the first depends on the second or the third.
-const THREE_PACKAGES: &[u8] = b"Package: a
+pub const THREE_PACKAGES: &[u8] = b"Package: a
 Version: 1
 Architecture: all
 Depends: b | c
@@ -22,43 +22,41 @@ Version: 1
 Architecture: all
 ";
 
-/// Their index for amd64.
+/// The index of a text for amd64.
 ///
 /// # Errors
 ///
 /// Want of memory.
-pub fn three_packages(alloc: Global) -> Result<Index, Fail> {
-    Ok(Index::read(alloc, THREE_PACKAGES, "amd64", true)?)
+pub fn index_of(rt: &(impl Abort + AllocGlobal), text: &[u8]) -> Result<Index, AllocError> {
+    assert!(rt; text.len() <= 2_000, "a longer text");
+    match Index::read(rt.alloc(), text, "amd64", true) {
+        Ok(index) => Ok(index),
+        Err(IndexError::Memory) => Err(AllocError),
+        Err(_) => panic!(rt; "the text has a fault"),
+    }
 }
 
-/// Refuses places that the index does not have.
-///
-/// # Errors
-///
-/// There is such a place.
-pub fn check_places(index: &Index, places: &[u32]) -> Result<(), &'static str>
-    ensures { OnOk result (All (λ place. place < length index.now.packages) places.now) }
+/// Stops at places that the index does not have.
+pub fn check_places(rt: &impl Abort, index: &Index, places: &[u32])
+    ensures { All (λ place. place < length index.now.packages) places.now }
 {
     for place in places {
-        if *place >= index.len() {
-            return Err("no such place");
-        }
+        assert!(rt; *place < index.len(), "no such place");
     }
-    Ok(())
 }
 
 /// The groundwork of an index that has these places.
 ///
 /// # Errors
 ///
-/// There is no such place, or want of memory.
+/// Want of memory.
 pub fn ground_of<'a>(
     alloc: Global,
     index: &'a Index,
     places: &[u32],
-) -> Result<Groundwork<'a>, Fail>
+) -> Result<Groundwork<'a>, AllocError>
+    requires { All (λ place. place < length index.now.packages) places.now }
     ensures { IfOk result (λ groundwork. All (λ place. place < length groundwork.index.now.packages) places.now) }
 {
-    check_places(index, places)?;
     Ok(Groundwork::new(alloc, index)?)
 }

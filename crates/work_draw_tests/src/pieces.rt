@@ -1,11 +1,9 @@
 //! Pieces, and the verdicts that are gathered from them.
 
-ghost use Rattle.std.specs.Prelude.{◌≡◌, IfOk};
+ghost use Rattle.std.specs.Prelude.{◌≡◌, ◌≤◌, IfOk};
 
 use deb_verdict::Verdict;
 use std::alloc::{AllocError, Global};
-use std::process::Abort;
-use std::test::Fail;
 use work_draw::{Piece, gather};
 
 fn is_set(found: &Verdict, wanted: &[u32]) -> bool {
@@ -48,22 +46,35 @@ pub fn are_statuses(found: &[Verdict], sound: &[bool]) -> bool {
     true
 }
 
-pub fn expect_piece(
-    rt: &impl Abort,
-    piece: &Piece,
-    number: u32,
-    wanted: &[&[u32]],
-) -> Result<(), Fail> {
-    assert_eq!(rt; piece.number, number);
-    assert!(rt; are_sets(&piece.verdicts, wanted));
-    Ok(())
+/// Whether this is the piece with this number of three asked packages, two to a chunk.
+fn is_piece(piece: &Piece, number: usize) -> bool {
+    let wanted: &[&[u32]] = if number == 0 {
+        &[&[0, 2], &[1]]
+    } else {
+        &[&[2]]
+    };
+    number <= 1 && piece.number as usize == number && are_sets(&piece.verdicts, wanted)
 }
 
-/// The pieces of three asked packages, two to a chunk.
-pub fn expect_both_pieces(rt: &impl Abort, pieces: &[Piece]) -> Result<(), Fail> {
-    assert_eq!(rt; pieces.len(), 2);
-    expect_piece(rt, &pieces[0], 0, &[&[0, 2], &[1]])?;
-    expect_piece(rt, &pieces[1], 1, &[&[2]])
+/// Whether these are the first of both pieces, behind so many.
+pub fn are_pieces_behind(pieces: &[Piece], first: u32) -> bool
+    requires { first ≤ 1 }
+{
+    for (at, piece) in pieces.iter().enumerate() {
+        if at > 1 || !is_piece(piece, first as usize + at) {
+            return false;
+        }
+    }
+    true
+}
+
+/// Whether these are both pieces, in either order.
+pub fn are_both(pieces: &[Piece]) -> bool {
+    if pieces.len() != 2 {
+        return false;
+    }
+    let last = pieces[1].number as usize;
+    last <= 1 && is_piece(&pieces[1], last) && is_piece(&pieces[0], 1 - last)
 }
 
 /// A piece with a set of one place for each of these places.
@@ -79,7 +90,7 @@ pub fn piece_of(alloc: Global, number: u32, places: &[u32]) -> Result<Piece, All
 }
 
 #[test]
-fn gathers_by_number(rt: HostRuntime) -> Result<(), Fail> {
+fn gathers_by_number(rt: HostRuntime) -> Result<(), AllocError> {
     let alloc = rt.alloc();
     let mut pieces = Vec::new(alloc);
     pieces.push(piece_of(alloc, 2, &[5])?)?;

@@ -1,7 +1,7 @@
 //! An index with a background: packages that may be used and are not asked.
 
-use crate::reports::{Way, check};
-use std::test::Fail;
+use crate::example::Form;
+use crate::reports::check;
 
 /// Packages of the background are used and not asked.
 const USED: &str = r#"met_by_the_background gives 0 under --arch amd64 --bg others --explain
@@ -338,9 +338,12 @@ Depends: b (>=
 debcheck: background: stanza 1: bad relation in Depends
 ";
 
+/// One worker, and 64, each of which takes one package at once.
+const CREWS: [&str; 2] = ["--workers 1 --chunk 1", "--workers 64 --chunk 1"];
+
 #[test]
-fn examples_with_a_background_give_their_reports(rt: HostRuntime) -> Result<(), Fail> {
-    check(&rt, rt.alloc(), USED, Way::ByWorkers)?;
-    check(&rt, rt.alloc(), ESSENTIAL, Way::ByWorkers)?;
-    check(&rt, rt.alloc(), REFUSED, Way::ByWorkers)
+fn examples_with_a_background_give_their_reports(rt: HostRuntime) {
+    for document in [USED, ESSENTIAL, REFUSED] {
+        check(&rt, rt.alloc(), document, &CREWS, Form::AsAsked);
+    }
 }

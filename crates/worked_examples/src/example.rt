@@ -1,9 +1,9 @@
 //! What an example is, and how it is run.
-ghost use Rattle.std.specs.Prelude.{◌≡◌, ◌<◌, ◌≤◌, IfOk, false};
+ghost use Rattle.std.specs.Prelude.{◌≡◌, ◌<◌, ◌≤◌, IfSome, false};
 
-use debcheck::{Config, Source, Std, fault_line, read_line, run, status};
-use std::alloc::Global;
-use std::test::Fail;
+use crate::read_back::reads_back;
+use debcheck::{Config, RunFault, Source, Std, Summary, fault_line, read_line, run, status};
+use std::alloc::{AllocError, Global};
 use std::thread::Threads;
 use work_draw::OpenGate;
 
@@ -54,125 +54,110 @@ impl<'a> Example<'a> {
     }
 }
 
-/// What a run wrote, the line of its fault, and its status.
-#[derive(Drop)]
-pub struct Outcome {
-    pub written: Vec<u8>,
-    pub fault: Vec<u8>,
-    pub status: u8,
-}
-
-impl Outcome {
-    /// Whether this is the whole report, or the line of a fault under which nothing was written.
-    pub fn is(&self, report: &str, fault: &str, status: u8) -> bool {
-        self.written.as_slice() == report.as_bytes()
-            && self.fault.as_slice() == fault.as_bytes()
-            && self.status == status
-    }
-
-    /// Whether this is the answer of the example.
-    pub fn answers(&self, example: &Example<'_>) -> bool {
-        if example.status > 1 {
-            self.is("", example.answer, example.status)
-        } else {
-            self.is(example.answer, "", example.status)
+/// The words of two lines.
+fn words_of(alloc: Global, words: &str, more: &str) -> Result<Vec<String>, AllocError> {
+    let mut list = Vec::new(alloc);
+    for line in [words, more] {
+        for word in line.split_whitespace() {
+            list.push(String::from_str(alloc, word)?)?;
         }
     }
+    Ok(list)
 }
 
 /// The configuration that the words ask for.
-fn config_of(alloc: Global, words: &str) -> Result<Config, Fail>
-    ensures workers { IfOk result (λ config. (0 < config.workers) × (config.workers ≤ 64)) }
-    ensures chunk { IfOk result (λ config. 0 < config.chunk) }
+fn config_of(alloc: Global, words: &str, more: &str) -> Option<Config>
+    ensures workers { IfSome result (λ config. (0 < config.workers) × (config.workers ≤ 64)) }
+    ensures chunk { IfSome result (λ config. 0 < config.chunk) }
 {
-    let mut list = Vec::new(alloc);
-    for word in words.split_whitespace() {
-        list.push(String::from_str(alloc, word)?)?;
-    }
-    Ok(read_line(alloc, list)?)
+    let list = words_of(alloc, words, more).ok()?;
+    read_line(alloc, list).ok()
 }
 
-/// A run under a configuration on what a reader gives, with this background where one is asked for.
-pub fn outcome_under<S: Source, R: Threads + Sync>(
+/// Whether this is the line of the fault.
+fn has_line(alloc: Global, fault: &RunFault, line: &str) -> bool {
+    match fault_line(alloc, fault) {
+        Ok(told) => told.as_slice() == line.as_bytes(),
+        Err(_) => false,
+    }
+}
+
+/// Whether a run that came to this and wrote this gives the answer of the example: the whole report, or the line of a fault under which nothing was written.
+fn is_answer(
+    alloc: Global,
+    example: &Example<'_>,
+    form: Form,
+    outcome: &Result<Summary, RunFault>,
+    written: &[u8],
+) -> bool {
+    let told = match (outcome, form) {
+        (Ok(_), Form::AsAsked) => written == example.answer.as_bytes(),
+        (Ok(_), Form::ReadBack) => reads_back(alloc, written, example.answer),
+        (Err(fault), _) => written.is_empty() && has_line(alloc, fault, example.answer),
+    };
+    told && status(outcome) == example.status
+}
+
+/// What a run writes.
+#[derive(Clone, Copy)]
+pub enum Form {
+    /// The answer of the example.
+    AsAsked,
+    /// A document in JSON that, read back, tells what the lines of the answer tell.
+    ReadBack,
+}
+
+/// Whether a run under a configuration on what a reader gives has the answer of the example.
+pub fn gives_under<S: Source, R: Threads + Sync>(
     rt: &R,
     alloc: Global,
     config: &Config,
     reader: &mut S,
-    background: &str,
-) -> Result<Outcome, Fail>
+    example: &Example<'_>,
+    form: Form,
+) -> bool
+    requires reader { S.failed reader.old ≡ false }
     requires workers { (0 < config.now.workers) × (config.now.workers ≤ 64) }
     requires chunk { 0 < config.now.chunk }
-    requires reader { S.failed reader.old ≡ false }
 {
     let mut written = Vec::new(alloc);
-    let answer = run(
+    let outcome = run(
         rt,
         alloc,
         config,
         reader,
-        &mut Std::new(background.as_bytes()),
+        &mut Std::new(example.background.unwrap_or("").as_bytes()),
         &mut Std::new(&mut written),
         &OpenGate,
     );
-    let fault = match &answer {
-        Ok(_) => Vec::new(alloc),
-        Err(fault) => fault_line(alloc, fault)?,
-    };
-    Ok(Outcome {
-        written,
-        fault,
-        status: status(&answer),
-    })
+    is_answer(alloc, example, form, &outcome, &written)
 }
 
-/// A run under these words.
-pub fn outcome_on<S: Source, R: Threads + Sync>(
+/// The same under the words of the example and more.
+pub fn gives_on<S: Source, R: Threads + Sync>(
     rt: &R,
     alloc: Global,
-    words: &str,
+    more: &str,
     reader: &mut S,
-    background: &str,
-) -> Result<Outcome, Fail>
+    example: &Example<'_>,
+    form: Form,
+) -> bool
     requires { S.failed reader.old ≡ false }
 {
-    outcome_under(rt, alloc, &config_of(alloc, words)?, reader, background)
+    match config_of(alloc, example.words, more) {
+        Some(config) => gives_under(rt, alloc, &config, reader, example, form),
+        None => false,
+    }
 }
 
-/// A run on the texts of the example under these words, which may say more than its own.
-pub fn outcome_of<R: Threads + Sync>(
-    rt: &R,
-    alloc: Global,
-    words: &str,
-    example: &Example<'_>,
-) -> Result<Outcome, Fail> {
-    let mut reader = Std::new(example.text.as_bytes());
-    outcome_on(
-        rt,
-        alloc,
-        words,
-        &mut reader,
-        example.background.unwrap_or(""),
-    )
-}
-
-/// Whether a run on the texts of the example gives its answer under these words.
+/// The same on the text of the example.
 pub fn gives<R: Threads + Sync>(
     rt: &R,
     alloc: Global,
-    words: &str,
+    more: &str,
     example: &Example<'_>,
-) -> Result<bool, Fail> {
-    Ok(outcome_of(rt, alloc, words, example)?.answers(example))
-}
-
-/// Whether the answer comes from so many workers too, each of which takes so many packages at once.
-pub fn gives_by<R: Threads + Sync>(
-    rt: &R,
-    alloc: Global,
-    workers: u32,
-    chunk: u32,
-    example: &Example<'_>,
-) -> Result<bool, Fail> {
-    let words = format!(in alloc; "{} --workers {workers} --chunk {chunk}", example.words)?;
-    gives(rt, alloc, words.as_str(), example)
+    form: Form,
+) -> bool {
+    let mut reader = Std::new(example.text.as_bytes());
+    gives_on(rt, alloc, more, &mut reader, example, form)
 }

@@ -2,13 +2,11 @@
 
 ghost use Rattle.std.specs.Prelude.{◌≡◌, ◌<◌, ◌≤◌, IfOk};
 
-use crate::example::outcome_under;
-use crate::read_back::reads_back;
-use crate::reports::{Way, check, documents};
+use crate::example::{Example, Form, gives, gives_under};
+use crate::reports::{check, documents};
 use crate::sample;
 use debcheck::{Config, Format, Std};
 use std::alloc::{AllocError, Global};
-use std::test::Fail;
 
 const EXAMPLES: &str = r#"empty_index gives 0 under --arch amd64 --format json --explain
 ----
@@ -260,17 +258,17 @@ debcheck: unknown package zz
 "#;
 
 #[test]
-fn documents_are_these(rt: HostRuntime) -> Result<(), Fail> {
-    check(&rt, rt.alloc(), EXAMPLES, Way::Plain)
+fn documents_are_these(rt: HostRuntime) {
+    check(&rt, rt.alloc(), EXAMPLES, &[""], Form::AsAsked);
 }
 
 #[test]
-fn documents_tell_what_the_lines_tell(rt: HostRuntime) -> Result<(), Fail> {
+fn documents_tell_what_the_lines_tell(rt: HostRuntime) {
+    let more = "--format json";
     for examples in documents() {
-        check(&rt, rt.alloc(), examples, Way::ReadBack)?;
+        check(&rt, rt.alloc(), examples, &[more], Form::ReadBack);
     }
-    assert!(rt; reads_back(&rt, rt.alloc(), &sample::example())?);
-    Ok(())
+    assert!(rt; gives(&rt, rt.alloc(), more, &sample::example(), Form::ReadBack));
 }
 
 const STRANGE_ARCHITECTURE: &str = "Package: p
@@ -295,11 +293,27 @@ fn strange_config(alloc: Global) -> Result<Config, AllocError>
     Ok(config)
 }
 
+const STRANGE: Example<'static> = Example {
+    name: "",
+    status: 0,
+    words: "",
+    text: STRANGE_ARCHITECTURE,
+    background: None,
+    answer: STRANGE_REPORT,
+};
+
 #[test]
-fn architectures_are_escaped(rt: HostRuntime) -> Result<(), Fail> {
-    let config = strange_config(rt.alloc())?;
+fn architectures_are_escaped(rt: HostRuntime) {
     let mut reader = Std::new(STRANGE_ARCHITECTURE.as_bytes());
-    let found = outcome_under(&rt, rt.alloc(), &config, &mut reader, "")?;
-    assert!(rt; found.is(STRANGE_REPORT, "", 0), "the document");
-    Ok(())
+    let config = strange_config(rt.alloc()).expect(&rt, "no memory");
+    let fine = gives_under(
+        &rt,
+        rt.alloc(),
+        &config,
+        &mut reader,
+        &STRANGE,
+        Form::AsAsked,
+    );
+    drop(config);
+    assert!(rt; fine, "the document");
 }

@@ -1,11 +1,9 @@
 //! A group of 10,000 alternatives, a package with 20,000 groups, and many line feeds.
 
-use crate::example::{EXPLAINED, Example, gives, outcome_on};
+use crate::example::{EXPLAINED, Example, Form, gives, gives_on};
 use crate::relations::EMPTY_REPORT;
 use debcheck::{DeviceFault, Source};
 use std::alloc::{AllocError, Global};
-use std::process::Abort;
-use std::test::Fail;
 use std::thread::Threads;
 
 /// `n0 | n1 | .. | n9999`.
@@ -73,15 +71,14 @@ broken: {broken}
     )
 }
 
-/// The report on the asked package of a text.
-fn expect<'a, R: Abort + Threads + Sync>(
-    rt: &R,
-    alloc: Global,
+/// Whether the run gives this report on the asked package of the text.
+fn gives_text<'a>(
+    rt: &(impl Threads + Sync + AllocGlobal),
     words: &'a str,
     text: &'a str,
     report: &'a str,
     status: u8,
-) -> Result<(), Fail> {
+) -> bool {
     let example = Example {
         name: "",
         status,
@@ -90,8 +87,21 @@ fn expect<'a, R: Abort + Threads + Sync>(
         background: None,
         answer: report,
     };
-    assert!(rt; gives(rt, alloc, words, &example)?);
-    Ok(())
+    gives(rt, rt.alloc(), "", &example, Form::AsAsked)
+}
+
+/// Whether there are both, and the run gives this report on the text.
+fn gives_report(
+    rt: &(impl Threads + Sync + AllocGlobal),
+    words: &str,
+    text: Result<String, AllocError>,
+    report: Result<String, AllocError>,
+    status: u8,
+) -> bool {
+    match (text, report) {
+        (Ok(text), Ok(report)) => gives_text(rt, words, text.as_str(), report.as_str(), status),
+        _ => false,
+    }
 }
 
 /// The package alone.
@@ -111,13 +121,6 @@ fn report_alone(alloc: Global) -> Result<String, AllocError> {
     report_of(alloc, "a", explained.as_str(), 1, 1)
 }
 
-fn expect_no_alternative<R: Abort + Threads + Sync>(rt: &R, alloc: Global) -> Result<(), Fail> {
-    let text = text_alone(alloc)?;
-    let report = report_alone(alloc)?;
-    let words = "--arch amd64 --explain --checkonly a";
-    expect(rt, alloc, words, text.as_str(), report.as_str(), 1)
-}
-
 /// The package, and each of its alternatives.
 fn text_with_alternatives(alloc: Global) -> Result<String, AllocError> {
     let mut text = text_alone(alloc)?;
@@ -127,22 +130,13 @@ fn text_with_alternatives(alloc: Global) -> Result<String, AllocError> {
     Ok(text)
 }
 
-fn expect_last_alternative<R: Abort + Threads + Sync>(rt: &R, alloc: Global) -> Result<(), Fail> {
-    let text = text_with_alternatives(alloc)?;
+fn report_with_alternatives(alloc: Global) -> Result<String, AllocError> {
     let explained = "ok
   installation-set:
    - a 1
    - n9999 1
 ";
-    let report = report_of(alloc, "a", explained, 10_001, 0)?;
-    let words = "--arch amd64 --explain --checkonly a";
-    expect(rt, alloc, words, text.as_str(), report.as_str(), 0)
-}
-
-#[test]
-fn one_group_of_many_alternatives(rt: HostRuntime) -> Result<(), Fail> {
-    expect_no_alternative(&rt, rt.alloc())?;
-    expect_last_alternative(&rt, rt.alloc())
+    report_of(alloc, "a", explained, 10_001, 0)
 }
 
 /// A package with many groups, and both alternatives of each.
@@ -175,11 +169,19 @@ fn report_of_groups(alloc: Global) -> Result<String, AllocError> {
 }
 
 #[test]
-fn many_groups_of_two_alternatives(rt: HostRuntime) -> Result<(), Fail> {
-    let text = text_with_groups(rt.alloc())?;
-    let report = report_of_groups(rt.alloc())?;
+fn one_group_of_many_alternatives(rt: HostRuntime) {
+    let alloc = rt.alloc();
+    let words = "--arch amd64 --explain --checkonly a";
+    assert!(rt; gives_report(&rt, words, text_alone(alloc), report_alone(alloc), 1));
+    let text = text_with_alternatives(alloc);
+    assert!(rt; gives_report(&rt, words, text, report_with_alternatives(alloc), 0));
+}
+
+#[test]
+fn many_groups_of_two_alternatives(rt: HostRuntime) {
     let words = "--arch amd64 --explain --checkonly p";
-    expect(&rt, rt.alloc(), words, text.as_str(), report.as_str(), 0)
+    let text = text_with_groups(rt.alloc());
+    assert!(rt; gives_report(&rt, words, text, report_of_groups(rt.alloc()), 0));
 }
 
 /// Gives so many line feeds, as many a call as there is room for.
@@ -218,10 +220,17 @@ impl Source for Feeds {
     }
 }
 
+const LINE_FEEDS: Example<'static> = Example {
+    name: "",
+    status: 0,
+    words: EXPLAINED,
+    text: "",
+    background: None,
+    answer: EMPTY_REPORT,
+};
+
 #[test]
-fn line_feeds_alone_are_an_empty_index(rt: HostRuntime) -> Result<(), Fail> {
+fn line_feeds_alone_are_an_empty_index(rt: HostRuntime) {
     let mut reader = Feeds::new(268_435_457);
-    let found = outcome_on(&rt, rt.alloc(), EXPLAINED, &mut reader, "")?;
-    assert!(rt; found.is(EMPTY_REPORT, "", 0));
-    Ok(())
+    assert!(rt; gives_on(&rt, rt.alloc(), "", &mut reader, &LINE_FEEDS, Form::AsAsked));
 }

@@ -1,10 +1,7 @@
 //! A document in JSON, read back and laid out in lines again.
 
-use crate::example::{Example, outcome_of};
 use serde_json::Value;
 use std::alloc::{AllocError, Global};
-use std::test::Fail;
-use std::thread::Threads;
 
 /// The text with this name; one that stands in no report where there is none.
 fn text_in<'v>(object: &'v Value, name: &str) -> &'v str {
@@ -100,25 +97,16 @@ fn add_lines(alloc: Global, out: &mut String, document: &Value) -> Result<(), Al
     Ok(())
 }
 
-/// The lines that tell what the bytes of a document tell.
-fn lines_of(alloc: Global, bytes: &[u8]) -> Result<String, Fail> {
-    let document = Value::from_slice(alloc, bytes)?;
-    let mut out = String::new(alloc);
-    add_lines(alloc, &mut out, &document)?;
-    Ok(out)
+/// Whether the bytes of a document tell what these lines tell.
+pub fn reads_back(alloc: Global, bytes: &[u8], lines: &str) -> bool {
+    match Value::from_slice(alloc, bytes) {
+        Ok(document) => tells(alloc, &document, lines),
+        Err(_) => false,
+    }
 }
 
-/// Whether the document in JSON, read back, tells what the lines of the answer tell. A fault has no document.
-pub fn reads_back<R: Threads + Sync>(
-    rt: &R,
-    alloc: Global,
-    example: &Example<'_>,
-) -> Result<bool, Fail> {
-    if example.status > 1 {
-        return Ok(true);
-    }
-    let words = format!(in alloc; "{} --format json", example.words)?;
-    let found = outcome_of(rt, alloc, words.as_str(), example)?;
-    let lines = lines_of(alloc, found.written.as_slice())?;
-    Ok(lines.as_str() == example.answer)
+fn tells(alloc: Global, document: &Value, lines: &str) -> bool {
+    let mut out = String::new(alloc);
+    let added = add_lines(alloc, &mut out, document);
+    added.is_ok() && out.as_str() == lines
 }

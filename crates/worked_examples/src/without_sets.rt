@@ -1,8 +1,7 @@
 //! A report that tells no set is the same bytes, whether a set of its packages was looked for or not.
 
-use crate::example::{Example, gives_by};
+use crate::example::{Example, Form, gives};
 use std::process::Abort;
-use std::test::Fail;
 use std::thread::Threads;
 
 // Two versions of one name, of which one excludes what needs the other; a package that needs what isn't there, and one whose needs exclude each other.
@@ -99,34 +98,35 @@ asked: 6
 broken: 2
 ";
 
-/// The report on the text is the same by one worker and by three, which take one package at once or all.
-fn expect<'a, R: Abort + Threads + Sync + AllocGlobal>(
-    rt: &R,
-    words: &'a str,
-    report: &'a str,
-) -> Result<(), Fail> {
+/// One worker and three, which take one package at once or all.
+const CREWS: [&str; 4] = [
+    "--workers 1 --chunk 1",
+    "--workers 1 --chunk 64",
+    "--workers 3 --chunk 1",
+    "--workers 3 --chunk 64",
+];
+
+/// The report on the text is the same by each crew.
+fn expect<'a>(rt: &(impl Abort + Threads + Sync + AllocGlobal), words: &'a str, answer: &'a str) {
     let example = Example {
         name: "",
         status: 1,
         words,
         text: TEXT,
         background: None,
-        answer: report,
+        answer,
     };
-    for workers in [1, 3] {
-        for chunk in [1, 64] {
-            assert!(rt;
-                gives_by(rt, rt.alloc(), workers, chunk, &example)?,
-                "{words}, {workers} workers, chunks of {chunk}"
-            );
-        }
+    for crew in CREWS {
+        assert!(rt;
+            gives(rt, rt.alloc(), crew, &example, Form::AsAsked),
+            "{words} {crew}"
+        );
     }
-    Ok(())
 }
 
 /// Failures with their reasons, and blocks without explanations.
 #[test]
-fn reports_that_tell_no_set(rt: HostRuntime) -> Result<(), Fail> {
-    expect(&rt, "--arch amd64 --explain --failures", FAILURES)?;
-    expect(&rt, "--arch amd64", UNEXPLAINED)
+fn reports_that_tell_no_set(rt: HostRuntime) {
+    expect(&rt, "--arch amd64 --explain --failures", FAILURES);
+    expect(&rt, "--arch amd64", UNEXPLAINED);
 }

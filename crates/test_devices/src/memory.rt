@@ -2,7 +2,7 @@
 
 ghost use Rattle.std.specs.Prelude.{◌≡◌, IfOk, Some, false};
 
-use debcheck::{DeviceFault, Sink, Source};
+use devices::{DeviceFault, Sink, Source};
 use std::alloc::{AllocError, Global};
 
 /// Gives some bytes of a text at each read. Behind them it ends, or fails at each read.

@@ -1,0 +1,230 @@
+//! Calls on an index, and whether each has its answer.
+
+ghost use Rattle.std.specs.Prelude.{◌≡◌, ◌<◌, ◌≤◌, All, length};
+
+use crate::cores::{find_as_alone, finds_cores};
+use crate::examples::{check_places, ground_of, index_of};
+use crate::gates::{Hold, Tally};
+use crate::pieces::{are_both, are_pieces_behind, are_sets, are_statuses};
+use deb_index::Index;
+use deb_verdict::{Groundwork, Wanted};
+use std::alloc::AllocError;
+use std::process::Abort;
+use std::thread::Threads;
+use work_draw::{
+    Board, Drawer, Drawn, Gate, OpenGate, Piece, check_all, check_told, crew, draw_pieces,
+    new_board,
+};
+
+/// A call on asked places, and what it gives.
+#[derive(Clone, Copy)]
+pub enum Call<'a> {
+    /// `check_all` by two workers, with one place to a chunk: these sets.
+    Sets(&'a [&'a [u32]]),
+    /// The same on three packages behind a gate that counts and holds back.
+    HeldSets(Hold),
+    /// `draw_pieces` on a board of two numbers for three packages, of which none or the first was drawn before: the other pieces.
+    Pieces,
+    /// `crew` of two on the same board: both pieces.
+    PiecesByTwo,
+    /// `check_told` where no set and no core is wanted: statuses.
+    Statuses(&'a [bool]),
+    /// `find_cores` by so many workers: cores that are written so at each place of the index.
+    Cores(u32, &'a [&'a str]),
+    /// The same by each number of workers: what `cores_in` finds.
+    CoresAsAlone,
+}
+
+/// Whether the call has its answer, and no memory was wanted.
+pub fn holds(
+    rt: &(impl Abort + Threads + Sync + AllocGlobal),
+    text: &[u8],
+    asked: &[u32],
+    call: Call<'_>,
+) -> bool {
+    matches!(answers(rt, text, asked, call), Ok(true))
+}
+
+/// Whether the call has its answer on asked places of the index of a text.
+///
+/// # Errors
+///
+/// Want of memory.
+pub fn answers(
+    rt: &(impl Abort + Threads + Sync + AllocGlobal),
+    text: &[u8],
+    asked: &[u32],
+    call: Call<'_>,
+) -> Result<bool, AllocError> {
+    let index = index_of(rt, text)?;
+    let outcome = answers_on(rt, &index, asked, call);
+    drop(index);
+    outcome
+}
+
+fn answers_on(
+    rt: &(impl Abort + Threads + Sync + AllocGlobal),
+    index: &Index,
+    asked: &[u32],
+    call: Call<'_>,
+) -> Result<bool, AllocError> {
+    assert!(rt; asked.len() <= 100);
+    check_places(rt, index, asked);
+    match call {
+        Call::Sets(wanted) => finds_sets(rt, index, asked, wanted, &OpenGate),
+        Call::HeldSets(hold) => finds_held_sets(rt, index, asked, hold),
+        Call::Pieces => finds_pieces(rt, index),
+        Call::PiecesByTwo => finds_pieces_by_two(rt, index),
+        Call::Statuses(_) | Call::Cores(..) | Call::CoresAsAlone => {
+            answers_on_ground(rt, index, asked, call)
+        }
+    }
+}
+
+/// The same of a call on the groundwork of the index.
+fn answers_on_ground(
+    rt: &(impl Threads + Sync + AllocGlobal),
+    index: &Index,
+    asked: &[u32],
+    call: Call<'_>,
+) -> Result<bool, AllocError>
+    requires places { All (λ place. place < length index.now.packages) asked.now }
+    requires few { length asked.now ≤ 100 }
+{
+    let groundwork = ground_of(rt.alloc(), index, asked)?;
+    let outcome = match call {
+        Call::Statuses(wanted) => finds_statuses(rt, &groundwork, asked, wanted),
+        Call::Cores(workers, written) if 0 < workers && workers <= 64 => {
+            finds_cores(rt, &groundwork, asked, workers, written)
+        }
+        Call::CoresAsAlone => find_as_alone(rt, &groundwork, asked),
+        _ => Ok(false),
+    };
+    drop(groundwork);
+    outcome
+}
+
+fn finds_sets<G: Gate + Sync>(
+    rt: &(impl Threads + Sync + AllocGlobal),
+    index: &Index,
+    asked: &[u32],
+    wanted: &[&[u32]],
+    gate: &G,
+) -> Result<bool, AllocError>
+    requires places { All (λ place. place < length index.now.packages) asked.now }
+    requires few { length asked.now ≤ 100 }
+{
+    let found = check_all(rt, rt.alloc(), index, asked, 2, 1, gate)?;
+    Ok(are_sets(&found, wanted))
+}
+
+/// Whatever the answer, no chunk is begun twice, and none is ended that was not begun.
+fn finds_held_sets(
+    rt: &(impl Threads + Sync + AllocGlobal),
+    index: &Index,
+    asked: &[u32],
+    hold: Hold,
+) -> Result<bool, AllocError>
+    requires places { All (λ place. place < length index.now.packages) asked.now }
+    requires few { length asked.now ≤ 100 }
+{
+    let gate = Tally::new(hold);
+    let sets = finds_sets(rt, index, asked, &[&[0, 2], &[1], &[2]], &gate);
+    if gate.is_in_order(u32::from(sets.is_ok())) {
+        sets
+    } else {
+        Ok(false)
+    }
+}
+
+fn finds_statuses(
+    rt: &(impl Threads + Sync + AllocGlobal),
+    groundwork: &Groundwork<'_>,
+    asked: &[u32],
+    statuses: &[bool],
+) -> Result<bool, AllocError>
+    requires places { All (λ place. place < length groundwork.now.index.now.packages) asked.now }
+    requires few { length asked.now ≤ 100 }
+{
+    let wanted = Wanted {
+        sets: false,
+        cores: false,
+    };
+    let found = check_told(rt, rt.alloc(), groundwork, wanted, asked, 2, 1, &OpenGate)?;
+    Ok(are_statuses(&found, statuses))
+}
+
+/// Whether a worker on a board of two numbers, of which so many were drawn before, made the other pieces and closed the board. One that was refused memory
+/// lacks at most the piece of its last number.
+fn is_drawn(board: Board, drawn: Drawn, first: u32) -> Result<bool, AllocError>
+    requires board { drawn.drawer.board ≡ board }
+    requires first { first ≤ 1 }
+{
+    let Drawn {
+        mut drawer,
+        pieces,
+        refused,
+    } = drawn;
+    let alone = drawer.spare() == 63 && drawer.held() == 1;
+    let done = drawer.is_done();
+    let next = board.draw(&mut drawer);
+    let closed = board.close(drawer);
+    let fine = alone && are_pieces_behind(&pieces, first);
+    let count = first as usize + pieces.len();
+    if refused && fine && next.unwrap_or(2) as usize <= count + 1 {
+        return Err(AllocError);
+    }
+    Ok(!refused && fine && count == 2 && done && next.is_none() && closed)
+}
+
+/// Whether a worker makes a piece of each number that it draws, and none of the first where its drawer had that before.
+fn finds_pieces_behind(
+    rt: &(impl Abort + AllocGlobal),
+    index: &Index,
+    first: u32,
+) -> Result<bool, AllocError>
+    requires { first ≤ 1 }
+{
+    let asked = [0u32, 1, 2];
+    check_places(rt, index, &asked);
+    let (board, mut drawer) = new_board(rt.alloc(), 2)?;
+    if first > 0 {
+        assert!(rt; board.draw(&mut drawer) == Some(0));
+    }
+    let drawn = draw_pieces(rt.alloc(), index, &asked, 2, &board, drawer, &OpenGate);
+    is_drawn(board, drawn, first)
+}
+
+fn finds_pieces(rt: &(impl Abort + AllocGlobal), index: &Index) -> Result<bool, AllocError> {
+    let all = finds_pieces_behind(rt, index, 0)?;
+    Ok(all && finds_pieces_behind(rt, index, 1)?)
+}
+
+/// Whether two workers made both pieces, in either order, and left a drawer that holds two of the 64 parts and closes the board.
+fn are_by_two(board: Board, drawer: Drawer, pieces: &[Piece]) -> bool
+    requires { drawer.board ≡ board }
+{
+    let both = drawer.spare() == 62 && drawer.held() == 2 && drawer.is_done();
+    board.close(drawer) && both && are_both(pieces)
+}
+
+fn finds_pieces_by_two(
+    rt: &(impl Abort + Threads + Sync + AllocGlobal),
+    index: &Index,
+) -> Result<bool, AllocError> {
+    assert!(rt; index.len() == 3);
+    let alloc = rt.alloc();
+    let (board, drawer) = new_board(alloc, 2)?;
+    let (drawer, pieces) = crew(
+        rt,
+        alloc,
+        index,
+        &[0, 1, 2],
+        2,
+        &board,
+        drawer,
+        2,
+        &OpenGate,
+    )?;
+    Ok(are_by_two(board, drawer, &pieces))
+}
