@@ -81,11 +81,9 @@ Essential: yes
 const BOTH: &str = "[[Need(0, 0), Apart(0, 0), Apart(0, 1)], [Essential(2), Apart(0, 2)]]";
 
 /// Whether cores are written so.
-fn is_written(alloc: Global, cores: &[Vec<Constraint>], wanted: &str) -> bool {
-    match format!(in alloc; "{cores:?}") {
-        Ok(written) => written.as_str() == wanted,
-        Err(_) => false,
-    }
+fn is_written(alloc: Global, cores: &[Vec<Constraint>], wanted: &str) -> Result<bool, AllocError> {
+    let written = format!(in alloc; "{cores:?}")?;
+    Ok(written.as_str() == wanted)
 }
 
 /// Whether the cores of each asked place are written as is said of the place.
@@ -94,14 +92,17 @@ fn are_written(
     asked: &[u32],
     found: &[Vec<Vec<Constraint>>],
     written: &[&str],
-) -> bool {
+) -> Result<bool, AllocError> {
     for (place, cores) in asked.iter().zip(found.iter()) {
-        match written.get(*place as usize) {
-            Some(text) if is_written(alloc, cores, text) => {}
-            _ => return false,
+        let fine = match written.get(*place as usize) {
+            Some(text) => is_written(alloc, cores, text)?,
+            None => false,
+        };
+        if !fine {
+            return Ok(false);
         }
     }
-    found.len() == asked.len()
+    Ok(found.len() == asked.len())
 }
 
 /// Whether so many workers find cores that are written so.
@@ -116,7 +117,7 @@ pub fn finds_cores(
     requires workers { (0 < workers) × (workers ≤ 64) }
 {
     let found = find_cores(rt, rt.alloc(), groundwork, asked, workers)?;
-    Ok(are_written(rt.alloc(), asked, &found, written))
+    are_written(rt.alloc(), asked, &found, written)
 }
 
 /// The cores of asked places of the index of a text, by 1, 2, 3 and 64 workers, are written as is said of each place.
