@@ -3,7 +3,9 @@
 ghost use Rattle.std.specs.Prelude.{◌≡◌, ◌^◌, ◌<◌, All, length, map};
 ghost use Rattle.deb_health.specs.Verdicts.{SpeaksOf, verdict_view};
 
-use crate::reporting::{named, news_since, report_since_earlier, report_with_later, verdicts_of};
+use crate::reporting::{
+    index_of, named, news_since, report_since_earlier, report_with_later, verdicts_of,
+};
 use deb_index::Index;
 use deb_report::{AskedFault, Config, Format, Show, asked_places, report};
 use deb_verdict::Verdict;
@@ -96,14 +98,6 @@ fn ask(alloc: Global, config: &mut Config, asked: &Asked<'_>) -> Result<(), Allo
         config.only = Some(named(alloc, names)?);
     }
     Ok(())
-}
-
-pub fn index_of(alloc: Global, text: &str, background: &str) -> Result<Index, Fail> {
-    if text.len() > 2_000 || background.len() > 2_000 {
-        return Err("a longer text".into());
-    }
-    let bytes = background.as_bytes();
-    Ok(Index::read_both(alloc, text.as_bytes(), bytes, "amd64", true)?)
 }
 
 /// Whether a text is its parts, one behind the other.

@@ -1,10 +1,9 @@
 //! Tests of the public calls of `deb_report`.
 //!
-//! `reporting` has the verdicts on what is asked of an index, and the calls that answer from them; `asking` compares what is asked of the index of a
-//! text with what is expected.
-//! `parts` has the asked places and the report, each by itself, `causes` the block of causes, `similar` names that are near, `later` the cores behind
-//! the first, `why` cores as they are walked, `since` the report since an earlier index,
-//! `growths` a test for each call that can want memory.
+//! `reporting` has the index of a text, the verdicts on what is asked of it, and the calls that answer from them; `asking` compares what is asked of
+//! the index of a text with what is expected. `parts` has the asked places and the report, each by itself, `causes` the block of causes, `similar`
+//! names that are near, `later` the cores behind the first, `why` cores as they are walked, `since` the report since an earlier index, `growths` a
+//! test for each call that can want memory.
 #![tactic(auto)]
 
 #[cfg(test)]

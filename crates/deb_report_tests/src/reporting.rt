@@ -1,10 +1,9 @@
-//! The verdicts on what is asked of an index, and the calls that answer from them.
+//! The index of a text, the verdicts on what is asked of it, and the calls that answer from them.
 
 ghost use Rattle.std.specs.Prelude.{◌≡◌, ◌^◌, ◌<◌, ◌≤◌, All, IfOk, length, map};
 ghost use Rattle.deb_index.specs.Constraints.{IsOfIndex};
 ghost use Rattle.deb_health.specs.Verdicts.{SpeaksOf, verdict_view};
 
-use crate::asking::index_of;
 use deb_index::{Constraint, Index};
 use deb_report::{
     BrokenPackage, Config, broken_packages, earlier_places, newly_broken, report_since, report_told,
@@ -12,6 +11,14 @@ use deb_report::{
 use deb_verdict::{Groundwork, Verdict, Workspace, cores_in, verdict};
 use std::alloc::{AllocError, Global};
 use std::test::Fail;
+
+pub fn index_of(alloc: Global, text: &str, background: &str) -> Result<Index, Fail> {
+    if text.len() > 2_000 || background.len() > 2_000 {
+        return Err("a longer text".into());
+    }
+    let bytes = background.as_bytes();
+    Ok(Index::read_both(alloc, text.as_bytes(), bytes, "amd64", true)?)
+}
 
 /// The names as a list.
 ///

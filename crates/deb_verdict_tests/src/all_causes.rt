@@ -1,6 +1,7 @@
 //! All causes of packages, compared with answers that were found by hand.
 
-use crate::expected::{Case, expect_all};
+use crate::expected::Case;
+use crate::lent::expect_all;
 
 const CASES: [Case<'static>; 6] = [
     Case {

@@ -3,7 +3,7 @@
 ghost use Rattle.std.specs.Prelude.{◌<◌, All, length};
 ghost use Rattle.deb_index.specs.Constraints.{IsOfIndex};
 
-use crate::expected::compare;
+use crate::compared::compare;
 use crate::grounded::Grounded;
 use deb_index::{Constraint, Index};
 use deb_verdict::{Workspace, cause_in, cores_in};

@@ -3,9 +3,9 @@
 
 ghost use Rattle.std.specs.Prelude.{◌<◌, length};
 
-use crate::comparison::{Counts, NONE, lists_chosen};
+use crate::counts::{Counts, NONE};
 use crate::grounded::Grounded;
-use crate::trial::{find_first_core, find_first_set, has, is_answerable};
+use crate::trial::{find_first_core, find_first_set, has, is_answerable, lists_chosen};
 use deb_index::{Constraint, Index};
 use deb_verdict::{Workspace, cores_in};
 use std::alloc::{AllocError, Global};

@@ -1,6 +1,7 @@
 //! First cores along chains of needs, in which each package has one need that the others leave open.
 
-use crate::expected::{Case, expect_all};
+use crate::expected::Case;
+use crate::lent::expect_all;
 use crate::numbered::add_numbered;
 use std::alloc::AllocGlobal;
 use std::fmt::Write;

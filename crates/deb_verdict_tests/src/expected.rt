@@ -7,16 +7,15 @@
 ghost use Rattle.std.specs.Prelude.{◌<◌, length};
 
 use crate::causes::expect_causes;
-use crate::comparison::{Counts, NONE};
+use crate::compared::compare_value;
+use crate::counts::{Counts, NONE};
 use crate::grounded::Grounded;
-use crate::installable::expect_marks;
-use crate::lent::{Asked, Question, on_text, on_workspace};
+use crate::marks::expect_marks;
 use deb_index::Index;
 use deb_verdict::{
     Verdict, Wanted, Workspace, closure, is_installable_in, told_verdict_in, verdict, verdict_in,
 };
 use std::alloc::{AllocError, AllocGlobal, Global};
-use std::fmt::Debug;
 use std::process::Abort;
 
 /// The text of an index, and what is expected of it.
@@ -75,36 +74,6 @@ pub const ALL: [Call; 7] = [
     Call::ToldVerdictIn(EVERYTHING),
 ];
 
-/// Compares what is found in each index, by all calls and one after the other in one workspace, with what is expected.
-pub fn expect_all(rt: &(impl Abort + AllocGlobal), cases: &[Case<'_>]) {
-    expect_each(rt, true, &ALL, cases).expect(rt, "no memory");
-}
-
-/// The same with the essential names or without, and by some calls alone. The error is want of memory.
-pub fn expect_each(
-    rt: &(impl Abort + AllocGlobal),
-    essential: bool,
-    calls: &[Call],
-    cases: &[Case<'_>],
-) -> Result<(), AllocError> {
-    on_workspace(rt, Asked::Cases(essential, calls, cases))?;
-    Ok(())
-}
-
-pub fn expect_cases(
-    rt: &(impl Abort + AllocGlobal),
-    workspace: &mut Workspace,
-    essential: bool,
-    calls: &[Call],
-    cases: &[Case<'_>],
-) -> Result<Counts, AllocError> {
-    for case in cases {
-        let question = Question::Case(calls, case);
-        on_text(rt, workspace, case.text, essential, question)?;
-    }
-    Ok(NONE)
-}
-
 pub fn expect_lines(
     rt: &(impl Abort + AllocGlobal),
     workspace: &mut Workspace,
@@ -142,24 +111,6 @@ fn expect_answer(
     } else {
         expect_verdict(rt, workspace, grounded, calls, name, p, wanted)
     }
-}
-
-/// Compares what is found with what is expected.
-pub fn compare(rt: &impl Abort, name: &str, found: &str, wanted: &str) {
-    assert!(rt; found == wanted, "{name}: {found}, not {wanted}");
-}
-
-/// Compares a value, with a word before it, with what is expected.
-pub fn compare_value<T: Debug>(
-    rt: &(impl Abort + AllocGlobal),
-    name: &str,
-    word: &str,
-    value: &T,
-    wanted: &str,
-) -> Result<(), AllocError> {
-    let found = format!(in rt.alloc(); "{word} {value:?}")?;
-    compare(rt, name, &found, wanted);
-    Ok(())
 }
 
 fn expect_closure(

@@ -1,6 +1,7 @@
 //! First healthy sets where several answer a need, compared with answers that were found by hand.
 
-use crate::expected::{Case, expect_all};
+use crate::expected::Case;
+use crate::lent::expect_all;
 
 /// The first and the last answer of the need keep the essential package out.
 pub const ANSWER_BETWEEN: &str = "Package: a

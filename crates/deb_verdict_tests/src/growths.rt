@@ -1,7 +1,8 @@
 //! One test for each call that can want memory; trials/growths runs them with each growth refused in turn.
 
-use crate::expected::{Call, Case, TOLD, expect_each};
+use crate::expected::{Call, Case, TOLD};
 use crate::first_sets::ANSWER_BETWEEN;
+use crate::lent::expect_each;
 use std::alloc::{AllocError, AllocGlobal};
 use std::process::Abort;
 

@@ -1,9 +1,11 @@
-//! A workspace, the index of a text and its groundwork, each made by one function that lends it.
+//! A workspace, the index of a text and its groundwork, each made by one function that lends it to what is asked of cases and of seeds.
 //!
 //! To let go of one takes a proof at each way out, and their parts are many: so all that is asked goes through these functions.
 
-use crate::comparison::{Compared, Counts, NONE, compare_index, compare_seeds};
-use crate::expected::{Call, Case, expect_cases, expect_lines};
+use crate::as_tried::{Compared, compare_index};
+use crate::counts::{Counts, NONE};
+use crate::expected::{ALL, Call, Case, expect_lines};
+use crate::generated::generate;
 use crate::grounded::Grounded;
 use crate::reading::read;
 use deb_index::Index;
@@ -22,9 +24,25 @@ pub enum Asked<'a> {
 
 /// What is asked of an index.
 #[derive(Clone, Copy)]
-pub enum Question<'a> {
+enum Question<'a> {
     Case(&'a [Call], &'a Case<'a>),
     Compared(Compared),
+}
+
+/// Compares what is found in each index, by all calls and one after the other in one workspace, with what is expected.
+pub fn expect_all(rt: &(impl Abort + AllocGlobal), cases: &[Case<'_>]) {
+    expect_each(rt, true, &ALL, cases).expect(rt, "no memory");
+}
+
+/// The same with the essential names or without, and by some calls alone. The error is want of memory.
+pub fn expect_each(
+    rt: &(impl Abort + AllocGlobal),
+    essential: bool,
+    calls: &[Call],
+    cases: &[Case<'_>],
+) -> Result<(), AllocError> {
+    on_workspace(rt, Asked::Cases(essential, calls, cases))?;
+    Ok(())
 }
 
 /// The error is want of memory, here and below.
@@ -51,7 +69,49 @@ fn in_workspace(
     }
 }
 
-pub fn on_text(
+fn expect_cases(
+    rt: &(impl Abort + AllocGlobal),
+    workspace: &mut Workspace,
+    essential: bool,
+    calls: &[Call],
+    cases: &[Case<'_>],
+) -> Result<Counts, AllocError> {
+    for case in cases {
+        let question = Question::Case(calls, case);
+        on_text(rt, workspace, case.text, essential, question)?;
+    }
+    Ok(NONE)
+}
+
+fn compare_generated(
+    rt: &(impl Abort + AllocGlobal),
+    workspace: &mut Workspace,
+    seed: u32,
+    with_any: bool,
+    compared: Compared,
+) -> Result<Counts, AllocError> {
+    let mut text = String::new(rt.alloc());
+    generate(&mut text, seed, with_any)?;
+    on_text(rt, workspace, &text, true, Question::Compared(compared))
+}
+
+/// Compares the indexes of so many seeds, and counts.
+fn compare_seeds(
+    rt: &(impl Abort + AllocGlobal),
+    workspace: &mut Workspace,
+    seeds: u32,
+    with_any: bool,
+    compared: Compared,
+) -> Result<Counts, AllocError> {
+    let mut counts = NONE;
+    for seed in 0..seeds {
+        let found = compare_generated(rt, workspace, seed, with_any, compared)?;
+        counts = counts.plus(found);
+    }
+    Ok(counts)
+}
+
+fn on_text(
     rt: &(impl Abort + AllocGlobal),
     workspace: &mut Workspace,
     text: &str,

@@ -1,15 +1,18 @@
 //! Verdicts of small indexes, compared with answers that were found by hand or by trying all sets.
 //!
-//! `reading` makes an index of a text, `grounded` has one with its groundwork, `lent` makes both and a workspace and lends them to what
-//! asks. `expected` compares what is found with what is expected, with `causes` for cores and `installable` for marks, of which it has worked
-//! examples, as `verdicts`, `first_sets`, `cores`, `all_causes` and `qualifiers` have; `chains` has those of chains of needs, `many_answers`
-//! those of needs that very many packages may answer, and `numbered` makes their long texts. `workspaces` asks for verdicts by turns in one
-//! workspace; `comparison` and `causes_comparison` compare what is found in the indexes of `generated` with what `trial` comes to, and
-//! `growths` has a test for each call that can want memory.
+//! `reading` makes an index of a text, `grounded` has one with its groundwork. `expected` compares what is found with what is expected, by
+//! `compared`, with `causes` for cores and `marks` for what is installable. `as_tried` compares what is found with what `trial` comes to, with
+//! `causes_comparison` for cores, and `counts` has what it counts; `generated` makes texts for it. `lent` makes an index with its groundwork and a
+//! workspace, and lends them to both. `verdicts`, `first_sets`, `cores`, `all_causes`, `installable` and `qualifiers` have worked examples; `chains`
+//! has those of chains of needs, `many_answers` those of needs that very many packages may answer, and `numbered` makes their long texts.
+//! `workspaces` asks for verdicts by turns in one workspace, `comparison` has the generated indexes compared, and `growths` has a test for each call
+//! that can want memory.
 #![tactic(auto)]
 
 #[cfg(test)]
 mod all_causes;
+#[cfg(test)]
+mod as_tried;
 #[cfg(test)]
 mod causes;
 #[cfg(test)]
@@ -17,9 +20,13 @@ mod causes_comparison;
 #[cfg(test)]
 mod chains;
 #[cfg(test)]
+mod compared;
+#[cfg(test)]
 mod comparison;
 #[cfg(test)]
 mod cores;
+#[cfg(test)]
+mod counts;
 #[cfg(test)]
 mod expected;
 #[cfg(test)]
@@ -36,6 +43,8 @@ mod installable;
 mod lent;
 #[cfg(test)]
 mod many_answers;
+#[cfg(test)]
+mod marks;
 #[cfg(test)]
 mod numbered;
 #[cfg(test)]

@@ -1,6 +1,7 @@
 //! Needs that more packages may answer than a row is made from.
 
-use crate::expected::{Case, expect_all};
+use crate::expected::Case;
+use crate::lent::expect_all;
 use crate::numbered::add_numbered;
 use std::alloc::AllocGlobal;
 use std::process::Abort;

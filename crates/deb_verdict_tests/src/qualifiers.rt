@@ -1,6 +1,7 @@
 //! Verdicts and closures of indexes with the qualifier `any`, compared with answers that were found by hand.
 
-use crate::expected::{Case, expect_all};
+use crate::expected::Case;
+use crate::lent::expect_all;
 use crate::numbered::add_numbered;
 use std::alloc::AllocGlobal;
 use std::process::Abort;

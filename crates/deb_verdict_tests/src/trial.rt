@@ -21,6 +21,20 @@ pub fn has(set: &[bool], number: usize) -> bool {
     set.get(number).copied().unwrap_or(false)
 }
 
+/// Whether a list has the constraints that are chosen, in their order.
+pub fn lists_chosen(core: &[Constraint], constraints: &[Constraint], chosen: &[bool]) -> bool {
+    let mut count = 0usize;
+    for (number, constraint) in constraints.iter().enumerate() {
+        if has(chosen, number) {
+            match core.get(count) {
+                Some(next) if next == constraint => count = count.saturating_add(1),
+                _ => return false,
+            }
+        }
+    }
+    count == core.len()
+}
+
 /// Whether a package of a set, other than the one that has it, meets an entry.
 fn some_other_meets(index: &Index, set: &[bool], p: u32, entry: &Atom) -> bool {
     for q in 0..index.len() {

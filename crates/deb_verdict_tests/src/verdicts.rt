@@ -1,6 +1,7 @@
 //! Verdicts and closures of small indexes, compared with answers that were found by hand.
 
-use crate::expected::{ALL, Case, expect_all, expect_each};
+use crate::expected::{ALL, Case};
+use crate::lent::{expect_all, expect_each};
 
 const ESSENTIAL_CONFLICT: &str = "Package: base
 Version: 1

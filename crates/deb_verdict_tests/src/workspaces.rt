@@ -1,6 +1,7 @@
 //! Verdicts of two indexes by turns, in one workspace.
 
-use crate::expected::{Case, expect_all};
+use crate::expected::Case;
+use crate::lent::expect_all;
 
 const AGENTS: &str = "Package: base
 Version: 1

@@ -2,9 +2,9 @@
 
 ghost use Rattle.std.specs.Prelude.{◌≡◌, ◌<◌, ◌≤◌, All};
 
+use crate::drawn::{Numbers, Small, draw_clause};
 use crate::literals::{lit, not};
 use crate::scripts::follow;
-use crate::trial::{Numbers, Small, draw_clause};
 use sat_solve::{Formula, Owner};
 use std::alloc::AllocGlobal;
 use std::process::Abort;

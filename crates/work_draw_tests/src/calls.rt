@@ -2,10 +2,10 @@
 
 ghost use Rattle.std.specs.Prelude.{◌≡◌, ◌<◌, ◌≤◌, All, length};
 
-use crate::cores::{find_as_alone, finds_cores};
 use crate::examples::{check_places, ground_of, index_of};
-use crate::gates::{Hold, Tally};
+use crate::found::{find_as_alone, finds_cores};
 use crate::pieces::{are_both, are_pieces_behind, are_sets, are_statuses};
+use crate::tally::{Hold, Tally};
 use deb_index::Index;
 use deb_verdict::{Groundwork, Wanted};
 use std::alloc::AllocError;

@@ -3,8 +3,8 @@
 use crate::boards::{DEALS, deals, shares_a_thousand};
 use crate::calls::{Call, answers};
 use crate::examples::THREE_PACKAGES;
-use crate::gates::Hold;
 use crate::pieces::{are_sets, piece_of};
+use crate::tally::Hold;
 use std::alloc::AllocError;
 use std::process::Abort;
 use std::thread::Threads;

@@ -1,7 +1,8 @@
 //! Tests of the public calls of `work_draw`.
 //!
-//! `examples` has an index and its places, `calls` asks a call of one. `boards` draws from boards, `pieces` gathers what is made of the numbers, `gates` holds workers back at a gate,
-//! `cores` has several workers find all cores of packages, `growths` has a test for each call that can want memory.
+//! `examples` has an index and its places, `pieces` gathers what is made of the numbers, `tally` is a gate that counts the chunks and may hold
+//! workers back, `found` sees whether cores are those that are wanted, and `calls` asks a call of an index. `boards` draws from boards, `gates` holds
+//! workers back at a gate, `cores` has several workers find all cores of packages, and `growths` has a test for each call that can want memory.
 #![tactic(auto)]
 
 #[cfg(test)]
@@ -13,8 +14,12 @@ mod cores;
 #[cfg(test)]
 mod examples;
 #[cfg(test)]
+mod found;
+#[cfg(test)]
 mod gates;
 #[cfg(test)]
 mod growths;
 #[cfg(test)]
 mod pieces;
+#[cfg(test)]
+mod tally;
