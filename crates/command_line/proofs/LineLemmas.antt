@@ -7,7 +7,7 @@ use Rattle.std.proofs.lemmas.Str.Parse.{IsNumeralModel, numerals_by_value, parse
 use Rattle.std.specs.Str.{bytes_eq}
 use Rattle.std.proofs.lemmas.Bool.{eqb-true}
 use Rattle.std.proofs.lemmas.Slice.Eq.{bytes_eq-Decides}
-use Rattle.deb_report.specs.Settings.{is_excluded}
+use Rattle.run_settings.specs.Settings.{is_excluded}
 use Rattle.command_line.specs.Line.{is_count}
 
 -- decimal digits, and the number that they write

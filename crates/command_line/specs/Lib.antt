@@ -1,2 +1,2 @@
-pub use Rattle.deb_report.specs.Settings
+pub use Rattle.run_settings.specs.Settings
 pub mod Line

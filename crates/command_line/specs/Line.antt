@@ -13,15 +13,15 @@ use Rattle.clap.specs.declared.builder.action.ArgAction.TheVariants as action
 use Rattle.clap.specs.declared.error.kind.ErrorKind.{ErrorKind}
 use Rattle.clap.specs.declared.error.kind.ErrorKind.TheVariants as kind
 use Rattle.deb_relation.specs.Relationship.{is_name}
-use Rattle.deb_report.specs.declared.config.Config.{Config}
-use Rattle.deb_report.specs.declared.config.Format.{Format}
-use Rattle.deb_report.specs.declared.config.Format.TheVariants as form
+use Rattle.run_settings.specs.declared.config.Config.{Config}
+use Rattle.run_settings.specs.declared.config.Format.{Format}
+use Rattle.run_settings.specs.declared.config.Format.TheVariants as form
 use Rattle.command_line.specs.declared.line.TheConstants.{VERSION_LINE}
-use Rattle.deb_report.specs.declared.config.Show.{Show}
-use Rattle.deb_report.specs.declared.config.Show.TheVariants.{All, Failures, Successes}
+use Rattle.run_settings.specs.declared.config.Show.{Show}
+use Rattle.run_settings.specs.declared.config.Show.TheVariants.{All, Failures, Successes}
 use Rattle.command_line.specs.declared.line.LineFault.{LineFault}
 use Rattle.command_line.specs.declared.line.LineFault.TheVariants.{Refused, Help, Memory}
-use Rattle.deb_report.specs.Settings.{Settings, is_architecture, settings_of, usual_settings}
+use Rattle.run_settings.specs.Settings.{Settings, is_architecture, settings_of, usual_settings}
 
 -- all that a configuration says
 pub record Request : Type 0 where

@@ -6,7 +6,7 @@ ghost use Rattle.std.specs.List.{list_all};
 ghost use Rattle.std.specs.Str.Parse.{digits_value};
 ghost use Rattle.clap.specs.Words.{first_of, kind_of};
 ghost use Rattle.deb_relation.specs.Relationship.{is_name};
-ghost use Rattle.deb_report.specs.Settings.{is_architecture, settings_of};
+ghost use Rattle.run_settings.specs.Settings.{is_architecture, settings_of};
 ghost use Rattle.command_line.specs.Line.{Accepts, IsFaultOf, IsRefusal, RefusesLine, RefusesUnless, asked_by, file_named};
 ghost use Rattle.command_line.specs.Line.{format_of, has_good_file, has_good_names, has_good_reasons, has_good_since, has_good_values, is_count, is_set};
 ghost use Rattle.command_line.specs.Line.{line_status_of, listed_in, names_in, request_of, rows_in, show_of, tells_more_reasons, value_of};
@@ -17,7 +17,7 @@ use crate::other_words::advice_in;
 use crate::values::{count_of, file_in, format_of, is_architecture, names_of, wrong_part};
 use clap::ArgMatches;
 use clap::error::ErrorKind;
-use deb_report::{CHUNK_LIMIT, Config, Format, Show};
+use run_settings::{CHUNK_LIMIT, Config, Format, Show};
 use std::alloc::{AllocError, AllocFailed, Global};
 use thiserror::Error;
 

@@ -4,12 +4,12 @@ ghost use Rattle.std.specs.Prelude.{◌≡◌, ◌==◌, IfOk, MatchOption, map,
 ghost use Rattle.std.specs.Char.{is_ascii_digit};
 ghost use Rattle.std.specs.List.{list_all};
 ghost use Rattle.std.specs.Str.Parse.{digits_value};
-ghost use Rattle.deb_report.specs.Settings.{is_architecture, is_architecture_byte};
+ghost use Rattle.run_settings.specs.Settings.{is_architecture, is_architecture_byte};
 ghost use Rattle.command_line.specs.Line.{file_in, format_of, is_count, names_in};
 ghost use Rattle.deb_relation.specs.Relationship.{is_name};
 
 use deb_relation::is_name;
-use deb_report::Format;
+use run_settings::Format;
 use std::alloc::{AllocError, Global};
 
 // Whether all bytes of a text are letters, digits or `-`.

@@ -23,7 +23,8 @@ pub fn all_causes()
     ensures unmended { (index : IndexView) (p : ℕ) (cores : List (List ℕ)) (last : List ℕ) → AreCoresWithout index p nothing (cores ++ last ∷ [])
         → AdmitsNone index p (without (causes_at index cores) all_of) }
     ensures each { (index : IndexView) (p : ℕ) (cores : List (List ℕ)) (i : ℕ) (out : NumberSet) → AreCoresWithout index p nothing cores → i < length cores
-        → IsWithin out (is_final_at index) → ((k : ℕ) → cause_at index (slice_index_or cores i []) k ≡ true → out k ≡ false) → AdmitsNone index p (without out all_of) }
+        → IsWithin out (is_final_at index) → ((k : ℕ) → cause_at index (slice_index_or cores i []) k ≡ true → out k ≡ false)
+        → AdmitsNone index p (without out all_of) }
     ensures apart { (index : IndexView) (p : ℕ) (cores : List (List ℕ)) (i j k : ℕ) → AreCoresWithout index p nothing cores → i < j → j < length cores
         → cause_at index (slice_index_or cores i []) k ≡ true → cause_at index (slice_index_or cores j []) k ≡ true → ⊥ }
 {}

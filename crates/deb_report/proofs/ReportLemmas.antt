@@ -10,14 +10,14 @@ use Rattle.deb_index.specs.declared.constraint.Constraint.{Constraint}
 use Rattle.deb_index.specs.Constraints.{IsOfIndex}
 use Rattle.deb_index.specs.Packages.{IndexView}
 use Rattle.deb_health.specs.Verdicts.{SpeaksOf, VerdictView}
-use Rattle.deb_report.specs.declared.config.Show.{Show}
-use Rattle.deb_report.specs.declared.config.Show.TheVariants.{Failures}
+use Rattle.run_settings.specs.declared.config.Show.{Show}
+use Rattle.run_settings.specs.declared.config.Show.TheVariants.{Failures}
 use Rattle.deb_report.specs.declared.content.Content.{Content}
 use Rattle.deb_report.specs.declared.shown.Shown.{Shown}
 use Rattle.deb_report.specs.Causes.{CauseView}
 use Rattle.deb_report.specs.Content.{ContentView, causes_if, content_of, content_since}
 use Rattle.deb_report.specs.Report.{TellingView, also_at, broken_ones, is_shown, later_at, numbers_of, shown_of, summary_of, summary_with}
-use Rattle.deb_report.specs.Settings.{Settings}
+use Rattle.run_settings.specs.Settings.{Settings}
 use Rattle.deb_report.specs.Since.{BrokenView, amends_of, is_news, news_of}
 use Rattle.deb_report.specs.Told.{AreLaterOf, IsAskedOf, content_view, shown_view}
 use Rattle.deb_report.proofs.ListLemmas.{all_seen}

@@ -112,8 +112,8 @@ hits_of index constraints = filter (λ place. list_any (is_hit_by index place) c
 
 -- ---- causes with the packages that they break
 
--- the constraints of the cause, one of each that say the same; the places of the packages that have it among their causes; how many of these have no other; the needs that
--- say so in their cores; the versions that these cores ask for, of the names of which there may be one
+-- the constraints of the cause, one of each that say the same; the places of the packages that have it among their causes; how many of these have no other;
+-- the needs that say so in their cores; the versions that these cores ask for, of the names of which there may be one
 pub record CauseView : Type 0 where
   pub constraints : List Constraint
   pub places : List ℕ

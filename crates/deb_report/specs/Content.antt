@@ -5,10 +5,11 @@ use Rattle.deb_index.specs.Packages.{IndexView}
 use Rattle.deb_health.specs.Verdicts.{VerdictView}
 use Rattle.deb_report.specs.Causes.{CauseView, causes_list}
 use Rattle.deb_report.specs.Report.{broken_ones, numbers_of, shown_of, summary_of}
-use Rattle.deb_report.specs.Settings.{Settings}
+use Rattle.run_settings.specs.Settings.{Settings}
 use Rattle.deb_report.specs.Since.{BrokenView, amends_of, news_of, summary_since}
 
--- the asked places that have a block, with their verdicts; numbers and lists of broken packages of an earlier index, each under its title; the causes, where they are asked for
+-- the asked places that have a block, with their verdicts; numbers and lists of broken packages of an earlier index, each under its title;
+-- the causes, where they are asked for
 pub record ContentView : Type 0 where
   pub blocks : List (ℕ × VerdictView)
   pub numbers : List (List ℕ × ℕ)

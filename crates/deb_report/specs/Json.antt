@@ -95,8 +95,8 @@ near_json miss = object (label_json miss.deb ∷ provides_json miss.provides)
 unfoldable pub answers_to : IndexView → Constraint → List NearMissView
 answers_to index constraint = map (near_miss_at index (alternatives index constraint)) (brought index constraint)
 
--- where a walk goes on from a constraint: to the packages that answer a need, or to its alternatives, where nothing answers it; to the packages that an entry hits;
--- to the versions of a name
+-- where a walk goes on from a constraint: to the packages that answer a need, or to its alternatives, where nothing answers it;
+-- to the packages that an entry hits; to the versions of a name
 unfoldable pub why_json : IndexView → Constraint → List ℕ
 why_json index (Essential name) = []
 why_json index (Need place number) = let group = need_at index place number in codes "," ++

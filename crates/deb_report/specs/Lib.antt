@@ -14,7 +14,6 @@ pub mod Numbered
 pub mod Gathering
 pub mod Gathered
 pub mod Positions
-pub mod Settings
 pub mod Asked
 pub mod Since
 pub mod Content

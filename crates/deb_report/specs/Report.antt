@@ -8,10 +8,10 @@ use Rattle.deb_index.specs.declared.constraint.Constraint.TheVariants.{Essential
 use Rattle.deb_index.specs.Packages.{IndexView, PackageView, package_at, name_at, need_at, apart_at}
 use Rattle.deb_index.specs.Meets.{need_satisfiers}
 use Rattle.deb_health.specs.Verdicts.{VerdictView, Found, Blocked}
-use Rattle.deb_report.specs.declared.config.Show.{Show}
-use Rattle.deb_report.specs.declared.config.Show.TheVariants.{All, Failures, Successes}
+use Rattle.run_settings.specs.declared.config.Show.{Show}
+use Rattle.run_settings.specs.declared.config.Show.TheVariants.{All, Failures, Successes}
 use Rattle.deb_report.specs.declared.summary.Summary.{Summary}
-use Rattle.deb_report.specs.Settings.{Settings, options_of, tells_options}
+use Rattle.run_settings.specs.Settings.{Settings, options_of, tells_options}
 
 -- ---- lines
 
@@ -107,8 +107,8 @@ broken_ones asked verdicts = shown_of Failures asked verdicts
 abbrev pub titled : List ℕ → List ℕ → List ℕ
 titled title lines = line title [] ++ lines
 
--- what is told of verdicts: whether they are explained; whether the cores behind the first are, and which these are, by place; whether the first core is told as it
--- is walked; and the words that a document begins with, where it tells any
+-- what is told of verdicts: whether they are explained; whether the cores behind the first are, and which these are, by place;
+-- whether the first core is told as it is walked; and the words that a document begins with, where it tells any
 pub record TellingView : Type 0 where
   pub explain : Bool
   pub also : Bool

@@ -17,7 +17,7 @@ use Rattle.deb_report.specs.declared.telling.Telling.{Telling}
 use Rattle.deb_report.specs.Causes.{IsCauseOf, cause_view}
 use Rattle.deb_report.specs.Content.{ContentView}
 use Rattle.deb_report.specs.Report.{OfName, OfRelation, ReasonView, TellingView, telling_of}
-use Rattle.deb_report.specs.Settings.{settings_of}
+use Rattle.run_settings.specs.Settings.{settings_of}
 use Rattle.deb_report.specs.Since.{BrokenView, broken_view}
 
 abbrev pub reason_view : Reason → ReasonView

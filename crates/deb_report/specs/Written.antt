@@ -3,13 +3,13 @@ use Rattle.std.specs.Prelude.{ℕ, false, true, List, []}
 use Rattle.deb_index.specs.declared.constraint.Constraint.{Constraint}
 use Rattle.deb_index.specs.Packages.{IndexView}
 use Rattle.deb_health.specs.Verdicts.{VerdictView}
-use Rattle.deb_report.specs.declared.config.Format.{Format}
-use Rattle.deb_report.specs.declared.config.Format.TheVariants.{Json, Text}
+use Rattle.run_settings.specs.declared.config.Format.{Format}
+use Rattle.run_settings.specs.declared.config.Format.TheVariants.{Json, Text}
 use Rattle.deb_report.specs.Content.{ContentView, content_of, content_since}
 use Rattle.deb_report.specs.Json.{json_text}
 use Rattle.deb_report.specs.Lines.{lines_text}
 use Rattle.deb_report.specs.Report.{TellingView, telling_of}
-use Rattle.deb_report.specs.Settings.{Settings}
+use Rattle.run_settings.specs.Settings.{Settings}
 use Rattle.deb_report.specs.Since.{BrokenView}
 
 -- what is told in a form: lines, or a JSON document

@@ -6,10 +6,10 @@ ghost use Rattle.deb_index.specs.Constraints.{below};
 ghost use Rattle.deb_index.specs.Packages.{package_at, places_where};
 ghost use Rattle.deb_report.specs.declared.asked.AskedFault.TheVariants.{Memory};
 ghost use Rattle.deb_report.specs.Asked.{FailsToAsk, asked_places, foreground_packages, is_listed, is_unknown, listed_places, unknown_in};
-ghost use Rattle.deb_report.specs.Settings.{settings_of};
+ghost use Rattle.run_settings.specs.Settings.{settings_of};
 
-use crate::config::Config;
 use deb_index::Index;
+use run_settings::Config;
 use std::alloc::{AllocError, AllocFailed, Global};
 use thiserror::Error;
 

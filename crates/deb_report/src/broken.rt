@@ -4,10 +4,10 @@ ghost use Rattle.std.specs.Prelude.{◌≡◌, ◌<◌, All, IfOk, length, map};
 ghost use Rattle.deb_health.specs.Verdicts.{verdict_view};
 ghost use Rattle.deb_report.specs.Since.{broken_at, broken_of, broken_view};
 
-use crate::config::Show;
 use crate::shown::shown_of;
 use deb_health::Verdict;
 use deb_index::Index;
+use run_settings::Show;
 use std::alloc::{AllocError, Global};
 
 /// A package of an earlier index that could not be installed there.

@@ -13,7 +13,7 @@ ghost use Rattle.deb_report.specs.Causes.{CauseView, causes_list, same_cause};
 ghost use Rattle.deb_report.specs.Json.{escaped};
 ghost use Rattle.deb_report.specs.Plain.{has_plain_texts, is_plain};
 ghost use Rattle.deb_report.specs.Report.{broken_ones, is_broken};
-ghost use Rattle.deb_report.specs.Settings.{is_architecture};
+ghost use Rattle.run_settings.specs.Settings.{is_architecture};
 ghost use Rattle.deb_report.specs.Since.{amends_of, broken_of, news_of};
 ghost use Rattle.deb_report.specs.Walk.{step_limit, told_in, walk_of};
 

@@ -2,7 +2,7 @@
 //!
 //! The modules, in reading order:
 //!
-//! - `config`: what is asked of a run; a report depends on a part of it. `asked`: the places that are asked.
+//! - `asked`: the places that are asked.
 //! - `layout`: the report in its form, by `lines` or by `json`; what lines are made of is in `line_parts`, and what a document is in `json_parts`.
 //!   `telling`: what of verdicts it tells; `options`: the words that it is made under.
 //! - `content`: what both tell. `summary`, the numbers of a report; `shown`, the places that are shown; `reasons`, what stands against a package.
@@ -23,7 +23,6 @@ mod broken;
 mod cause_json;
 mod cause_lines;
 mod causes;
-mod config;
 mod content;
 mod cores;
 mod gathered;
@@ -58,7 +57,6 @@ mod wrongs;
 
 pub use asked::{AskedFault, asked_places, earlier_places};
 pub use broken::{BrokenPackage, broken_packages};
-pub use config::{CHUNK_LIMIT, Config, Format, Show};
 pub use layout::{report, report_since, report_told};
 pub use since::newly_broken;
 pub use summary::{Summary, summary_of};

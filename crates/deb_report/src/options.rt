@@ -1,9 +1,9 @@
 //! The words of the command line that a report is made under.
 
 ghost use Rattle.std.specs.Prelude.{◌≡◌, ◌++◌, IfOk, OnOk, codes, length, map};
-ghost use Rattle.deb_report.specs.Settings.{options_of, settings_of, show_words, tells_options, word_if};
+ghost use Rattle.run_settings.specs.Settings.{options_of, settings_of, show_words, tells_options, word_if};
 
-use crate::config::{Config, Show};
+use run_settings::{Config, Show};
 use std::alloc::{AllocError, Global};
 
 /// Adds a word, where it is said.
@@ -33,7 +33,7 @@ fn push_show(options: &mut Vec<&'static str>, show: Show) -> Result<(), AllocErr
 }
 
 /// The words that say of what packages a report tells, and what.
-#[tactic(auto, unfolding(crate::specs::Settings::options_of))]
+#[tactic(auto, unfolding(run_settings::specs::Settings::options_of))]
 pub(crate) fn options_of(
     alloc: Global,
     config: &Config,

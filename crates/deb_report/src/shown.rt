@@ -5,8 +5,8 @@ ghost use Rattle.deb_health.specs.Verdicts.{verdict_view};
 ghost use Rattle.deb_report.specs.Report.{is_broken, is_shown, shown_of, status_of};
 ghost use Rattle.deb_report.specs.Told.{shown_view};
 
-use crate::config::Show;
 use deb_health::Verdict;
+use run_settings::Show;
 use std::alloc::{AllocError, Global};
 
 /// An asked place and its verdict.

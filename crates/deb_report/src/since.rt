@@ -7,11 +7,11 @@ ghost use Rattle.deb_report.specs.Since.{AreMarks, broken_view, is_news, newly_b
 ghost use Rattle.deb_report.specs.Told.{IsAskedOf, shown_view};
 
 use crate::broken::BrokenPackage;
-use crate::config::Show;
 use crate::marks::marks_of;
 use crate::shown::{Shown, places_of, shown_of};
 use deb_health::Verdict;
 use deb_index::Index;
+use run_settings::Show;
 use std::alloc::{AllocError, Global};
 
 /// Whether a broken package is newly broken: its name has no mark.

@@ -4,9 +4,9 @@ ghost use Rattle.std.specs.Prelude.{◌≡◌, IfOk, map};
 ghost use Rattle.deb_report.specs.Report.{also_at};
 ghost use Rattle.deb_report.specs.Told.{telling_view};
 
-use crate::config::Config;
 use crate::options::options_of;
 use deb_index::Constraint;
+use run_settings::Config;
 use std::alloc::{AllocError, Global};
 
 /// What is told of verdicts.

@@ -7,8 +7,9 @@ use crate::reporting::{
     index_of, named, news_since, report_since_earlier, report_with_later, verdicts_of,
 };
 use deb_index::Index;
-use deb_report::{AskedFault, Config, Format, Show, asked_places, report};
+use deb_report::{AskedFault, asked_places, report};
 use deb_verdict::Verdict;
+use run_settings::{Config, Format, Show};
 use std::alloc::{AllocError, AllocGlobal, Global};
 use std::process::Abort;
 use std::test::Fail;

@@ -1,7 +1,7 @@
 //! The block of causes.
 
 use crate::asking::{Asked, Call, Case, REPORT, USUAL, Wanted, expect};
-use deb_report::{Format, Show};
+use run_settings::{Format, Show};
 use std::test::Fail;
 
 /// What is asked where the report is to end with the causes.

@@ -5,7 +5,7 @@ use crate::causes::SHARED_TOLD;
 use crate::later::FIRST_IN_JSON;
 use crate::since::{NEWS, SINCE};
 use crate::why::{EDITOR, EDITOR_REASONS, expect_reasons, expect_walk};
-use deb_report::{Config, Format, Show};
+use run_settings::{Config, Format, Show};
 use std::test::Fail;
 
 fn is_usual(config: &Config) -> bool {

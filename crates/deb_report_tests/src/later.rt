@@ -1,7 +1,7 @@
 //! The cores behind the first, and the words that a document begins with.
 
 use crate::asking::{Asked, Call, Case, REPORT, USUAL, Wanted, expect};
-use deb_report::{Format, Show};
+use run_settings::{Format, Show};
 use std::test::Fail;
 
 /// What is asked where all reasons are told.

@@ -1,7 +1,7 @@
 //! The asked places and the report, each by itself.
 
 use crate::asking::{Answer, Asked, Case, REPORT, USUAL, Wanted, expect, expect_places};
-use deb_report::{Config, Show};
+use run_settings::{Config, Show};
 use std::process::Abort;
 use std::test::Fail;
 

@@ -6,9 +6,10 @@ ghost use Rattle.deb_health.specs.Verdicts.{SpeaksOf, verdict_view};
 
 use deb_index::{Constraint, Index};
 use deb_report::{
-    BrokenPackage, Config, broken_packages, earlier_places, newly_broken, report_since, report_told,
+    BrokenPackage, broken_packages, earlier_places, newly_broken, report_since, report_told,
 };
 use deb_verdict::{Groundwork, Verdict, Workspace, cores_in, verdict};
+use run_settings::Config;
 use std::alloc::{AllocError, Global};
 use std::test::Fail;
 

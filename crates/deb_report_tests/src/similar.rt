@@ -1,7 +1,7 @@
 //! The names of an index that differ in numbers alone from missing ones.
 
 use crate::asking::{Asked, Case, REPORT, USUAL, Wanted, expect};
-use deb_report::{Format, Show};
+use run_settings::{Format, Show};
 use std::alloc::AllocGlobal;
 use std::process::Abort;
 use std::test::Fail;

@@ -1,7 +1,7 @@
 //! The report since an earlier index.
 
 use crate::asking::{Asked, Call, Case, REPORT, USUAL, Wanted, expect};
-use deb_report::{Format, Show};
+use run_settings::{Format, Show};
 use std::test::Fail;
 
 /// Two broken packages and one that isn't.

@@ -1,7 +1,7 @@
 //! Cores as they are walked from the package.
 
 use crate::asking::{Asked, Case, REPORT, USUAL, Wanted, expect};
-use deb_report::{Format, Show};
+use run_settings::{Format, Show};
 use std::alloc::AllocGlobal;
 use std::process::Abort;
 use std::test::Fail;

@@ -41,7 +41,8 @@ pub fn closure(alloc: Global, index: &Index, p: u32) -> Result<Vec<u32>, AllocEr
 /// The verdict of the package at a place: the first healthy set that contains it, or, where there is none, the first set of constraints that
 /// no set with it meets. Of two sets of numbers the first is the one that lacks the least number in which they differ.
 ///
-/// It goes through the whole index first; for many packages of one index, `verdict_in` goes through it once. `p` is a place of the index, counted from 0 and below `index.len()`. The one error is want of memory.
+/// It goes through the whole index first; for many packages of one index, `verdict_in` goes through it once.
+/// `p` is a place of the index, counted from 0 and below `index.len()`. The one error is want of memory.
 pub fn verdict(alloc: Global, index: &Index, p: u32) -> Result<Verdict, AllocError>
     requires { p < length index.now.packages }
     ensures verdict { IfOk result (λ found. IsVerdict index.now p (verdict_view found)) }

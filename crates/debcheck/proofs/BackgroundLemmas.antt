@@ -9,7 +9,7 @@ use Rattle.deb_index.proofs.BackgroundLemmas.{both-empty}
 use Rattle.debcheck.specs.declared.fault.RunFault.{RunFault}
 use Rattle.debcheck.specs.declared.fault.RunFault.TheVariants.{Read, TooLong, BackgroundRead, BackgroundTooLong, EarlierRead, EarlierTooLong, NamesRead, NamesTooLong, BadNameLine, Index, Background, Earlier, UnknownAsked, Slipped, Memory, Write}
 use Rattle.deb_report.specs.declared.summary.Summary.{Summary}
-use Rattle.deb_report.specs.Settings.{Settings}
+use Rattle.run_settings.specs.Settings.{Settings}
 use Rattle.debcheck.specs.Run.{Fails, Input, IsReadAs, IsReport, IsReportOn, behind, input, is_of_background}
 
 -- no bytes have no fault

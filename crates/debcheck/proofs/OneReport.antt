@@ -9,7 +9,7 @@ use Rattle.number_sets.specs.Sets.{members_of}
 use Rattle.work_draw.specs.Checks.{AnswersEach}
 use Rattle.deb_report.specs.declared.summary.Summary.{Summary}
 use Rattle.deb_report.specs.Report.{later_at, summary_of}
-use Rattle.deb_report.specs.Settings.{Settings, tells_all_causes}
+use Rattle.run_settings.specs.Settings.{Settings, tells_all_causes}
 use Rattle.deb_report.specs.Written.{written_since, written_told}
 use Rattle.deb_report.specs.Asked.{listed_places}
 use Rattle.deb_report.specs.Since.{BrokenView, broken_of, summary_since}

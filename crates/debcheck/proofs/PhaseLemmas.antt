@@ -8,7 +8,7 @@ use Rattle.debcheck.specs.declared.fault.RunFault.{RunFault}
 use Rattle.debcheck.specs.declared.fault.RunFault.TheVariants.{Read, TooLong, BackgroundRead, BackgroundTooLong, EarlierRead, EarlierTooLong, NamesRead, NamesTooLong, BadNameLine, Index, Background, Earlier, UnknownAsked, Slipped, Memory, Write}
 use Rattle.deb_report.specs.declared.summary.Summary.{Summary}
 use Rattle.devices.specs.Devices.{AppendsPart}
-use Rattle.deb_report.specs.Settings.{Settings}
+use Rattle.run_settings.specs.Settings.{Settings}
 use Rattle.debcheck.specs.Run.{Fails, FailsToAccept, FailsToIndex, FailsToReport, HasAsked, HasIndex, IfIndexed, IfTold, Input, IsRead, IsReadAs, IsReport, IsReportOn, Leaves, ReadsAs, Reports, TellsReport, WritesBy, WritesFrontBy, behind, input}
 use Rattle.debcheck.proofs.BackgroundLemmas.{back-asked}
 use Rattle.debcheck.proofs.IndexLemmas.{both-fore}

@@ -6,7 +6,7 @@ use Rattle.debcheck.specs.declared.fault.RunFault.{RunFault}
 use Rattle.debcheck.specs.declared.fault.RunFault.TheVariants.{Read, TooLong, BackgroundRead, BackgroundTooLong, EarlierRead, EarlierTooLong, NamesRead, NamesTooLong, BadNameLine, Index, Background, Earlier, UnknownAsked, Slipped, Memory, Write}
 use Rattle.deb_report.specs.declared.summary.Summary.{Summary}
 use Rattle.deb_report.specs.Asked.{asked_places}
-use Rattle.deb_report.specs.Settings.{Settings}
+use Rattle.run_settings.specs.Settings.{Settings}
 use Rattle.debcheck.specs.Run.{Fails, Input, IsReport, behind, input}
 use Rattle.debcheck.specs.Strict.{slip_of}
 use Rattle.debcheck.proofs.IndexLemmas.{fore-of-both}

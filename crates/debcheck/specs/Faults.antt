@@ -6,7 +6,8 @@ use Rattle.deb_index.specs.declared.error.IndexError.TheVariants.{BadLine, Repea
 use Rattle.deb_index.specs.declared.error.IndexError.TheVariants as index
 use Rattle.deb_index.specs.Reading.{field_name}
 use Rattle.debcheck.specs.declared.fault.RunFault.{RunFault}
-use Rattle.debcheck.specs.declared.fault.RunFault.TheVariants.{Read, TooLong, BackgroundRead, BackgroundTooLong, EarlierRead, EarlierTooLong, NamesRead, NamesTooLong}
+use Rattle.debcheck.specs.declared.fault.RunFault.TheVariants.{Read, TooLong, BackgroundRead, BackgroundTooLong}
+use Rattle.debcheck.specs.declared.fault.RunFault.TheVariants.{EarlierRead, EarlierTooLong, NamesRead, NamesTooLong}
 use Rattle.debcheck.specs.declared.fault.RunFault.TheVariants.{BadNameLine, Index, Background, Earlier, UnknownAsked, Slipped, Memory, Write}
 use Rattle.debcheck.specs.declared.strict.Slip.{Slip}
 use Rattle.debcheck.specs.declared.strict.Slip.TheVariants.{NoStanza, OtherArchitectures, NothingAsked}

@@ -6,7 +6,7 @@ use Rattle.input_hints.specs.declared.line.Input.TheVariants as input
 use Rattle.input_hints.specs.Beginnings.{hint_of as hint_by}
 use Rattle.input_hints.specs.Runs.{run_hint}
 use Rattle.input_hints.specs.Texts.{file_hint_line, hint_line, run_hint_line}
-use Rattle.deb_report.specs.declared.config.Config.{Config}
+use Rattle.run_settings.specs.declared.config.Config.{Config}
 use Rattle.deb_report.specs.declared.summary.Summary.{Summary}
 use Rattle.debcheck.specs.Strict.{hint_of}
 use Rattle.debcheck.specs.declared.fault.RunFault.{RunFault}

@@ -7,7 +7,7 @@ use Rattle.deb_health.specs.Causes.{AreCores}
 use Rattle.deb_health.specs.Verdicts.{Blocked, Found, VerdictView}
 use Rattle.work_draw.specs.Checks.{AnswersEach}
 use Rattle.deb_report.specs.Report.{later_at}
-use Rattle.deb_report.specs.Settings.{Settings, tells_all_causes}
+use Rattle.run_settings.specs.Settings.{Settings, tells_all_causes}
 
 -- those of a package with this verdict; one that can be installed has none
 abbrev pub AreLaterCores : IndexView → ℕ → VerdictView → List (List Constraint) → Type 0

@@ -5,7 +5,7 @@ use Rattle.deb_index.specs.declared.error.IndexError.{IndexError}
 use Rattle.deb_index.specs.declared.error.IndexError.TheVariants as index_error
 use Rattle.deb_index.specs.Packages.{IndexView}
 use Rattle.deb_index.specs.Reading.{byte_limit, index_of, index_of_both}
-use Rattle.deb_report.specs.Settings.{Settings}
+use Rattle.run_settings.specs.Settings.{Settings}
 use Rattle.deb_control.specs.Stanzas.{IsClosed}
 use Rattle.deb_index.specs.Pieces.{FrontView, IsFrontOf}
 use Rattle.debcheck.specs.declared.fault.RunFault.{RunFault}

@@ -1,9 +1,9 @@
 -- What a program comes to, from its words to its exit status.
 use Rattle.std.specs.Prelude.{◌≡◌, ◌⊎◌, ℕ, Bool, false, true, List, Option, Some, None, Result, Ok, Err, IfSome, option_map, string_bytes}
 use Rattle.std.specs.Io.KnownBytes.{Appends}
-use Rattle.deb_report.specs.declared.config.Config.{Config}
+use Rattle.run_settings.specs.declared.config.Config.{Config}
 use Rattle.deb_report.specs.declared.summary.Summary.{Summary}
-use Rattle.deb_report.specs.Settings.{Settings, settings_of}
+use Rattle.run_settings.specs.Settings.{Settings, settings_of}
 use Rattle.debcheck.specs.declared.fault.RunFault.{RunFault}
 use Rattle.debcheck.specs.declared.fault.RunFault.TheVariants as run_fault
 use Rattle.command_line.specs.declared.line.LineFault.{LineFault}
@@ -37,7 +37,8 @@ IsEarlier files (Some name) earlier = (source : Input) × (earlier ≡ Some sour
 
 -- ---- what is written
 
--- what is known of a device that was written to: what it held at the call, where it tells that, and what it holds now, whether a call of it has failed, and whether all is flushed
+-- what is known of a device that was written to: what it held at the call, where it tells that, and what it holds now, whether a call of it has failed,
+-- and whether all is flushed
 pub record Written : Type 0 where
   pub held : Option (List ℕ)
   pub now : Option (List ℕ)
@@ -76,7 +77,8 @@ Asks (Ok words) (Ok config) = Accepts words config
 Asks (Ok words) (Err fault) = RefusesLine words fault
 Asks (Err fault) line = line ≡ Err fault
 
--- what a line without a configuration comes to: help and the version go to the output, and where it fails, that is told as of a report; all else goes to the errors
+-- what a line without a configuration comes to: help and the version go to the output, and where it fails, that is told as of a report;
+-- all else goes to the errors
 unfoldable pub Refuses : LineFault → Written → Written → ℕ → Type 0
 Refuses (Help text) output errors status =
     ((status ≡ 0) × Adds output (string_bytes text) × (errors.now ≡ errors.held))
@@ -92,7 +94,8 @@ IsUnbegun files None unopened text rest output fault = ⊥
 IsUnbegun files (Some name) unopened text rest output fault = (text.failed ≡ false) × (rest ≡ text.text) × (output.now ≡ output.held)
     × (((fault ≡ unopened) × IsUnopened (files name)) ⊎ (fault ≡ run_fault.Memory))
 
--- a run on the text, on the background, and on the earlier index under the name, where there is one: the report was written and flushed, or there is a reason why it was not, and what was written until then
+-- a run on the text, on the background, and on the earlier index under the name, where there is one:
+-- the report was written and flushed, or there is a reason why it was not, and what was written until then
 unfoldable pub RunsBehind : Settings → Named → Option Text → Input → Input → Option (List ℕ) → Written → Result Summary RunFault → Type 0
 RunsBehind settings files since text background rest output (Ok summary) = (text.failed ≡ false) × (output.failed ≡ false) × (output.flushed ≡ true)
     × ((earlier : Option Input) × IsEarlier files since earlier × WritesAny settings text background earlier output.held output.now summary)

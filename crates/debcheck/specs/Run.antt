@@ -15,7 +15,7 @@ use Rattle.deb_report.specs.declared.summary.Summary.{Summary}
 use Rattle.deb_report.specs.Asked.{asked_places}
 use Rattle.devices.specs.Devices.{AppendsPart}
 use Rattle.deb_report.specs.Report.{summary_of}
-use Rattle.deb_report.specs.Settings.{Settings}
+use Rattle.run_settings.specs.Settings.{Settings}
 use Rattle.deb_report.specs.Written.{written_told}
 use Rattle.debcheck.specs.Later.{AreLater}
 use Rattle.debcheck.specs.Strict.{slip_of}
@@ -133,7 +133,8 @@ WritesFront settings text background old new = WritesFrontBy (IsReport settings)
 
 -- ---- why there is no report
 
--- why reading ends without a text, by the reader's marks before and after: a read failed; or none did, and there were more bytes than the limit, or memory was wanted
+-- why reading ends without a text, by the reader's marks before and after: a read failed;
+-- or none did, and there were more bytes than the limit, or memory was wanted
 abbrev pub FailsToRead : Option (List ℕ) → Bool → Bool → ℕ → RunFault → Type 0
 FailsToRead text before failed limit Read = failed ≡ true
 FailsToRead text before failed limit TooLong = (failed ≡ before) × IfSome text (λ bytes. limit < length bytes)
@@ -166,8 +167,9 @@ FailsToAccept settings bytes more (Background fault) = (fault ≢ index_error.Me
 FailsToAccept settings bytes more Memory = Unit {0}
 FailsToAccept settings bytes more _ = ⊥
 
--- why there is no index, in the order in which one cause goes before another: a read of the text failed, or it is too long; it was read, and a read of the background failed, or that is too long; both were read, and
--- the text has a fault; or it has none, and the background that was asked for has one. Where memory was wanted, no read had failed
+-- why there is no index, in the order in which one cause goes before another: a read of the text failed, or it is too long;
+-- it was read, and a read of the background failed, or that is too long; both were read,
+-- and the text has a fault; or it has none, and the background that was asked for has one. Where memory was wanted, no read had failed
 abbrev pub FailsToIndex : Settings → Input → Input → RunFault → Type 0
 FailsToIndex settings text background Read = text.failed ≡ true
 FailsToIndex settings text background TooLong = IsTooLong text
@@ -204,7 +206,8 @@ FailsToReport settings index _ = ⊥
 abbrev pub HasAsked : Settings → IndexView → Type 0
 HasAsked settings index = (asked : List ℕ) × IsAsked settings index asked
 
--- why a run fails: there is no index; or there is one, and an asked name is unknown; or all are known, and a strict run has a fault; or it has none, and the writer failed. Where memory was wanted, no read had failed
+-- why a run fails: there is no index; or there is one, and an asked name is unknown; or all are known, and a strict run has a fault;
+-- or it has none, and the writer failed. Where memory was wanted, no read had failed
 abbrev pub Fails : Settings → Input → Input → Bool → RunFault → Type 0
 Fails settings text background write_failed (UnknownAsked name) = IfIndexed settings text background (λ index. FailsToReport settings index (UnknownAsked name))
 Fails settings text background write_failed (Slipped slip) = IfIndexed settings text background (λ index. FailsToReport settings index (Slipped slip))

@@ -6,7 +6,7 @@ use Rattle.deb_health.specs.Verdicts.{IsVerdict, VerdictView}
 use Rattle.deb_verdict.specs.declared.wanted.Wanted.{Wanted}
 use Rattle.work_draw.specs.Checks.{AnswersEach}
 use Rattle.deb_report.specs.declared.summary.Summary.{Summary}
-use Rattle.deb_report.specs.Settings.{Settings, tells_all_causes}
+use Rattle.run_settings.specs.Settings.{Settings, tells_all_causes}
 use Rattle.deb_report.specs.Asked.{listed_places}
 use Rattle.deb_report.specs.Since.{BrokenView, broken_of, summary_since}
 use Rattle.deb_report.specs.Written.{written_since}
@@ -41,7 +41,8 @@ pub record IsReportSince (settings : Settings) (earlier text background output :
 
 -- ---- what is written
 
--- all were read and accepted, each asked name is known, and nothing of it is a fault of a strict run; and where the texts are told, this is their report, with its numbers
+-- all were read and accepted, each asked name is known, and nothing of it is a fault of a strict run;
+-- and where the texts are told, this is their report, with its numbers
 abbrev pub TellsReportSince : Settings → Input → Input → Input → List ℕ → Summary → Type 0
 TellsReportSince settings text background earlier output summary = IfIndexed settings text background (HasAsked settings)
     × IfIndexed settings earlier background (λ index. Unit {0})
@@ -77,7 +78,8 @@ abbrev pub FailsEarlier : Settings → Input → Input → RunFault → Type 0
 FailsEarlier settings earlier background fault = (cause : RunFault) × (fault ≡ earlier_fault cause) × (is_unread_behind fault ≡ false)
     × FailsToIndex settings earlier background cause
 
--- why a run fails: as it fails without an earlier index, and where it is the writer that failed, there is one; or there is an index, each asked name is known, and a strict run has no fault, but there is no earlier index.
+-- why a run fails: as it fails without an earlier index, and where it is the writer that failed, there is one;
+-- or there is an index, each asked name is known, and a strict run has no fault, but there is no earlier index.
 -- Where memory was wanted, no read of the index or of the background had failed
 abbrev pub FailsSince : Settings → Input → Input → Input → Bool → RunFault → Type 0
 FailsSince settings text background earlier write_failed fault =

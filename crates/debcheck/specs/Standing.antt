@@ -8,7 +8,7 @@ use Rattle.deb_verdict.specs.Told.{IsToldVerdict, as_told}
 use Rattle.deb_verdict.specs.declared.wanted.Wanted.{Wanted}
 use Rattle.work_draw.specs.Checks.{AnswersEach}
 use Rattle.deb_report.specs.Report.{is_broken, is_shown, later_at}
-use Rattle.deb_report.specs.Settings.{Settings, shows_sets, tells_all_causes}
+use Rattle.run_settings.specs.Settings.{Settings, shows_sets, tells_all_causes}
 use Rattle.deb_report.specs.Since.{BrokenView, is_new}
 use Rattle.deb_report.specs.Told.{AreLaterOf}
 use Rattle.debcheck.specs.Later.{AreLater}
@@ -32,7 +32,8 @@ TellSame wanted (place ∷ asked) (one ∷ told) (other ∷ verdicts) = (as_told
     × TellSame wanted asked told verdicts
 TellSame wanted asked told verdicts = ⊥
 
--- these and the later cores are what is found of the asked places since these packages were broken, but for what isn't wanted of the verdicts, and for the later cores of a package where one of these has its name
+-- these and the later cores are what is found of the asked places since these packages were broken, but for what isn't wanted of the verdicts,
+-- and for the later cores of a package where one of these has its name
 pub record AreFound (settings : Settings) (wanted : Wanted) (before : List BrokenView) (index : IndexView) (asked : List ℕ) (told : List VerdictView)
     (later : List (List (List Constraint))) : Type 0 where
   pub verdicts : List VerdictView
@@ -79,7 +80,8 @@ placed later [] cores = later
 placed later (place ∷ places) [] = later
 placed later (place ∷ places) (one ∷ cores) = placed (set later place one) places cores
 
--- these are the verdicts of the places, with sets, where these are wanted, and with cores, beside their later cores, where all causes are told; all are of what the index has
+-- these are the verdicts of the places, with sets, where these are wanted, and with cores, beside their later cores, where all causes are told;
+-- all are of what the index has
 pub record HaveCores (settings : Settings) (sets : Bool) (index : IndexView) (places : List ℕ) (told : List VerdictView)
     (later : List (List (List Constraint))) : Type 0 where
   pub each : AnswersEach (IsToldVerdict (wanting sets true) index) places told

@@ -1,7 +1,7 @@
 -- What a strict run takes for a fault.
 use Rattle.std.specs.Prelude.{ℕ, List, Option, Some, None, if◌then◌else◌, length}
 use Rattle.deb_index.specs.Packages.{IndexView}
-use Rattle.deb_report.specs.Settings.{Settings}
+use Rattle.run_settings.specs.Settings.{Settings}
 use Rattle.input_hints.specs.Runs.{run_hint}
 use Rattle.input_hints.specs.declared.run.RunHint.{RunHint}
 use Rattle.input_hints.specs.declared.run.RunHint.TheVariants as hint

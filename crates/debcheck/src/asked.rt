@@ -2,7 +2,7 @@
 
 ghost use Rattle.std.specs.Prelude.{◌≡◌, ◌<◌, ◌^◌, All, IfOk, IfErr, None, Ok, length};
 ghost use Rattle.deb_report.specs.Asked.{asked_places};
-ghost use Rattle.deb_report.specs.Settings.{settings_of};
+ghost use Rattle.run_settings.specs.Settings.{settings_of};
 ghost use Rattle.debcheck.specs.Run.{FailsToReport};
 ghost use Rattle.debcheck.specs.Strict.{slip_of};
 
@@ -11,7 +11,8 @@ use crate::fault::RunFault;
 use crate::hints::Clue;
 use crate::strict::slip_of;
 use deb_index::Index;
-use deb_report::{AskedFault, Config};
+use deb_report::AskedFault;
+use run_settings::Config;
 use std::alloc::Global;
 
 /// The places that are asked, rising, each once: all places of the foreground, or with `only` those of its named packages. What the background has

@@ -9,11 +9,11 @@ ghost use Rattle.debcheck.specs.Clues.{IsElsewhere, clue_of, name_text, provider
 use crate::fault::RunFault;
 use crate::hints::Clue;
 use deb_index::{Index, IndexError};
-use deb_report::Config;
 use input_hints::{
     Input, RunHint, background_name_line, elsewhere_hint_line, provided_name_line, run_hint,
     stanza_hint_line,
 };
+use run_settings::Config;
 use std::alloc::{AllocError, Global};
 
 // The stanza that a fault is of.

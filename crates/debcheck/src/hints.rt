@@ -5,8 +5,9 @@ ghost use Rattle.debcheck.specs.Hints.{clue_after, fault_hint_text, files_of, hi
 
 use crate::fault::RunFault;
 use crate::strict;
-use deb_report::{Config, Summary};
+use deb_report::Summary;
 use input_hints::{Hint, Input, file_hint_line, hint_line, hint_of, run_hint, run_hint_line};
+use run_settings::Config;
 use std::alloc::{AllocError, Global};
 use std::io::{IsTerminal, Write};
 

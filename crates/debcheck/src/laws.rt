@@ -4,7 +4,7 @@ ghost use Rattle.std.specs.Prelude.{◌≡◌, ℕ, Bool, List, Ok, Some, false}
 ghost use Rattle.deb_index.specs.Packages.{IndexView};
 ghost use Rattle.deb_index.specs.Reading.{index_of};
 ghost use Rattle.deb_report.specs.declared.summary.Summary.{Summary};
-ghost use Rattle.deb_report.specs.Settings.{Settings};
+ghost use Rattle.run_settings.specs.Settings.{Settings};
 ghost use Rattle.debcheck.specs.declared.fault.RunFault.{RunFault};
 ghost use Rattle.debcheck.specs.Run.{Fails, Input, IsReport, IsReportOn, input, is_of_background};
 ghost use Rattle.debcheck.specs.Since.{IsReportSince};

@@ -33,7 +33,7 @@ mod verdicts;
 
 pub use asked::asked_places;
 pub use command_line::{LineFault, VERSION_LINE, line_status, read_line, words_of};
-pub use deb_report::{CHUNK_LIMIT, Config, Format, Show, Summary, report};
+pub use deb_report::{Summary, report};
 pub use devices::{DeviceFault, Disk, OpenFault, Opener, Recording, Sink, Source, Std};
 pub use fault::{RunFault, fault_line, status};
 pub use input::read_all;
@@ -42,5 +42,6 @@ pub use phases::run;
 pub use pieces::read_pieces;
 pub use program::{Ended, run_process, run_program};
 pub use progress::Progress;
+pub use run_settings::{CHUNK_LIMIT, Config, Format, Show};
 pub use since::run_since;
 pub use strict::Slip;

@@ -3,7 +3,7 @@
 ghost use Rattle.std.specs.Prelude.{◌≡◌, ◌≢◌, ◌<◌, ◌≤◌, IfErr, IfOk, Ok, OnOk, false, length, true};
 ghost use Rattle.std.specs.Io.KnownBytes.{IsAtEnd};
 ghost use Rattle.deb_index.specs.Reading.{byte_limit, index_of_both};
-ghost use Rattle.deb_report.specs.Settings.{settings_of};
+ghost use Rattle.run_settings.specs.Settings.{settings_of};
 ghost use Rattle.debcheck.specs.Run.{Fails, FailsToAccept, FailsToIndex, FailsToReadBehind, FailsToReport, IsReadAs, IsReportOn, Leaves, ReadsAs, TellsReport};
 ghost use Rattle.debcheck.specs.Run.{WritesReport, behind, input, is_unread};
 
@@ -15,8 +15,9 @@ use crate::input::read_all;
 use crate::pieces::{PIECE, TextRead, finish, read_text};
 use crate::verdicts::{find_told, wanted_of};
 use deb_index::{BothError, Index, PART_SIZE, TEXT_LIMIT};
-use deb_report::{Config, Summary, report_told, summary_of};
+use deb_report::{Summary, report_told, summary_of};
 use devices::{Sink, Source, write_all};
+use run_settings::Config;
 use std::alloc::Global;
 use std::mem::forget;
 use std::thread::Threads;

@@ -3,7 +3,7 @@
 ghost use Rattle.std.specs.Prelude.{◌≡◌, ◌<◌, ◌≤◌, ◌+◌, ℕ, List, IfErr, IfOk, Ok, OnOk, drop, false, length};
 ghost use Rattle.std.specs.Io.KnownBytes.{IsAtEnd};
 ghost use Rattle.deb_index.specs.Reading.{byte_limit, index_of_both};
-ghost use Rattle.deb_report.specs.Settings.{settings_of};
+ghost use Rattle.run_settings.specs.Settings.{settings_of};
 ghost use Rattle.debcheck.specs.Pieces.{ComesTo, FailsInPieces, FailsToFinish, MakesIndex, ReadsAll, ReadsText, RefusesPiece, TakesLast, TakesPiece};
 ghost use Rattle.debcheck.specs.Run.{FailsToRead, is_unread};
 
@@ -12,8 +12,8 @@ use crate::held::Held;
 use crate::input::skip_rest;
 use deb_control::cut_behind_blank;
 use deb_index::{BothError, Index, IndexError, PART_SIZE, PartialIndex, TEXT_LIMIT};
-use deb_report::Config;
 use devices::Source;
+use run_settings::Config;
 use std::alloc::{AllocError, Global};
 use std::thread::Threads;
 

@@ -2,7 +2,7 @@
 
 ghost use Rattle.std.specs.Prelude.{◌≡◌, ◌<◌, ◌≤◌, IfErr, IfOk, OnOk, map, option_map, string_bytes, false};
 ghost use Rattle.std.specs.Result.{result_map_both};
-ghost use Rattle.deb_report.specs.Settings.{settings_of};
+ghost use Rattle.run_settings.specs.Settings.{settings_of};
 ghost use Rattle.debcheck.specs.Run.{input};
 ghost use Rattle.debcheck.specs.Program.{Asks, Ends, FailsToTake, Refuses, Runs, RunsBehind, RunsNamed, RunsTo, TakesNames, TellsOutcome, written};
 
@@ -14,9 +14,10 @@ use crate::phases::{After, run_noting};
 use crate::progress::{Progress, Wiping};
 use crate::since::run_since_noting;
 use command_line::{LineFault, line_status, read_line, words_of};
-use deb_report::{Config, Summary};
+use deb_report::Summary;
 use devices::{Disk, OpenFault, Opener, Recording, Sink, Source, Std};
 use input_hints::Input;
+use run_settings::Config;
 use std::alloc::Global;
 use std::env::Env;
 use std::fs::Files;

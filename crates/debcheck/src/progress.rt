@@ -2,8 +2,8 @@
 
 ghost use Rattle.std.specs.Prelude.{◌≡◌};
 
-use deb_report::Config;
 use devices::{DeviceFault, Sink};
+use run_settings::Config;
 use std::alloc::{AllocError, Global};
 use std::io::{IsTerminal, Write};
 use std::sync::atomic::{AtomicU32, AtomicU64, Ordering};

@@ -1,12 +1,12 @@
 //! What a strict run takes for a fault.
 
 ghost use Rattle.std.specs.Prelude.{◌≡◌, ◌<◌, ◌^◌, length};
-ghost use Rattle.deb_report.specs.Settings.{settings_of};
+ghost use Rattle.run_settings.specs.Settings.{settings_of};
 ghost use Rattle.debcheck.specs.Strict.{hint_of, slip_by, slip_of};
 
 use deb_index::Index;
-use deb_report::Config;
 use input_hints::{RunHint, run_hint};
+use run_settings::Config;
 
 /// Why nothing is asked of an index, or nothing that is in it.
 #[derive(Clone, Copy, Debug, PartialEq, Eq)]

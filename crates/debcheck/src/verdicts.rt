@@ -4,7 +4,7 @@
 ghost use Rattle.std.specs.Prelude.{◌≡◌, ◌^◌, ◌<◌, ◌≤◌, All, IfOk, filter, length, map, true};
 ghost use Rattle.deb_health.specs.Health.{IsHopeless};
 ghost use Rattle.deb_health.specs.Verdicts.{SpeaksOf, verdict_view};
-ghost use Rattle.deb_report.specs.Settings.{settings_of, tells_all_causes};
+ghost use Rattle.run_settings.specs.Settings.{settings_of, tells_all_causes};
 ghost use Rattle.deb_report.specs.Since.{broken_view};
 ghost use Rattle.deb_report.specs.Told.{AreLaterOf, later_view};
 ghost use Rattle.deb_verdict.specs.Told.{IsToldVerdict};
@@ -13,8 +13,9 @@ ghost use Rattle.debcheck.specs.Standing.{AreFound, HaveCores, Merges, is_unmark
 
 use crate::later::{Findings, no_cores, place_cores, split_firsts, with_cores};
 use deb_index::Index;
-use deb_report::{BrokenPackage, Config, Show, newly_broken};
+use deb_report::{BrokenPackage, newly_broken};
 use deb_verdict::{Groundwork, Verdict, Wanted, find_installable};
+use run_settings::{Config, Show};
 use std::alloc::{AllocError, Global};
 use std::thread::Threads;
 use work_draw::{Gate, check_told, find_cores};

@@ -1,7 +1,9 @@
 //! Worked examples over all crates: words and a text go in, and the bytes of the report are compared.
 //!
-//! `example` says what an example is and runs it, `reports` goes over those of `relations`, `meanings`, `qualifiers`, `settings` and `refusals`; `backgrounds` has
-//! those with a second text, `json_reports` documents in JSON, and `read_back` lays one out in lines again; `cut_texts`, `large`, `without_sets` and `workers` have inputs of their own.
+//! `example` says what an example is and runs it, `reports` goes over those of `relations`, `meanings`, `qualifiers`, `settings` and `refusals`;
+//! `backgrounds` has those with
+//! a second text, `json_reports` documents in JSON, and `read_back` lays one out in lines again;
+//! `cut_texts`, `large`, `without_sets` and `workers` have inputs of their own.
 #![tactic(auto)]
 
 #[cfg(test)]

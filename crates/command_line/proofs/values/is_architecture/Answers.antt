@@ -1,5 +1,5 @@
 use Rattle.std.proofs.Common.{◌≡◌, false, rules}
-use Rattle.deb_report.specs.Settings.{is_excluded}
+use Rattle.run_settings.specs.Settings.{is_excluded}
 use Rattle.command_line.proofs.LineLemmas.{names-another}
 use Rattle.command_line.proofs.values.is_architecture.Goals as goal
 

@@ -1,5 +1,5 @@
 use Rattle.std.proofs.Common.{◌≡◌, ◌∙◌, Some, ap, rules, sym}
-use Rattle.deb_report.specs.Settings.{settings_of}
+use Rattle.run_settings.specs.Settings.{settings_of}
 use Rattle.deb_report.proofs.AskedLemmas.{asked-known, asked-unknown}
 use Rattle.deb_report.proofs.asked.asked_places.Goals as goal
 

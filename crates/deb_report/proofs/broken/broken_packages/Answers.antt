@@ -1,7 +1,7 @@
 use Rattle.std.proofs.Common.{◌≡◌, ◌<◌, ◌∙◌, ℕ, arith, ap, length, map, sym, take}
 use Rattle.std.proofs.lemmas.List.{take_all}
 use Rattle.deb_health.specs.Verdicts.{VerdictView, verdict_view}
-use Rattle.deb_report.specs.declared.config.Show.TheVariants.{Failures}
+use Rattle.run_settings.specs.declared.config.Show.TheVariants.{Failures}
 use Rattle.deb_report.specs.declared.shown.Shown.{Shown}
 use Rattle.deb_report.specs.Since.{broken_at, broken_of}
 use Rattle.deb_report.specs.Told.{shown_view}

@@ -1,6 +1,6 @@
 use Rattle.std.proofs.Common.{arith, map}
 use Rattle.deb_health.specs.Verdicts.{verdict_view}
-use Rattle.deb_report.specs.Settings.{settings_of}
+use Rattle.run_settings.specs.Settings.{settings_of}
 use Rattle.deb_report.specs.Since.{broken_view}
 use Rattle.deb_report.specs.Told.{later_view}
 use Rattle.deb_report.proofs.ReportLemmas.{few-blocks}

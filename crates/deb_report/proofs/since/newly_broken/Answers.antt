@@ -1,6 +1,6 @@
 use Rattle.std.proofs.Common.{◌≡◌, ◌∙◌, ℕ, ap, filter, map}
 use Rattle.deb_health.specs.Verdicts.{VerdictView, verdict_view}
-use Rattle.deb_report.specs.declared.config.Show.TheVariants.{Failures}
+use Rattle.run_settings.specs.declared.config.Show.TheVariants.{Failures}
 use Rattle.deb_report.specs.Report.{broken_ones}
 use Rattle.deb_report.specs.Since.{broken_view, is_news, news_of}
 use Rattle.deb_report.specs.Told.{shown_view}

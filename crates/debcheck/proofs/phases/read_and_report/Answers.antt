@@ -1,6 +1,6 @@
 use Rattle.std.proofs.Common.{false}
 use Rattle.std.proofs.lemmas.Result.{IfErr-weaker, IfOk-weaker, err_from_is_err_and}
-use Rattle.deb_report.specs.Settings.{settings_of}
+use Rattle.run_settings.specs.Settings.{settings_of}
 use Rattle.debcheck.specs.Run.{Fails, FailsToReport, IsReportOn, TellsReport, input}
 use Rattle.debcheck.proofs.PhaseLemmas.{indexing-fails, report-fails, report-told}
 use Rattle.debcheck.proofs.phases.read_and_report.Goals as goal

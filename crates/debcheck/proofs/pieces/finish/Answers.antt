@@ -1,4 +1,4 @@
-use Rattle.deb_report.specs.Settings.{settings_of}
+use Rattle.run_settings.specs.Settings.{settings_of}
 use Rattle.debcheck.proofs.PieceLemmas.{fault-finishes}
 use Rattle.debcheck.proofs.pieces.finish.Goals as goal
 

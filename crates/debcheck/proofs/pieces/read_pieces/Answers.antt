@@ -1,6 +1,6 @@
 use Rattle.std.proofs.Common.{inl}
 use Rattle.std.proofs.lemmas.Result.{IfErr-weaker, IfOk-weaker, err_from_is_err_and}
-use Rattle.deb_report.specs.Settings.{settings_of}
+use Rattle.run_settings.specs.Settings.{settings_of}
 use Rattle.debcheck.proofs.PieceLemmas.{on-ok, pieces-make, pieces-make-none}
 use Rattle.debcheck.proofs.pieces.read_pieces.Goals as goal
 

@@ -1,7 +1,7 @@
 use Rattle.std.proofs.Common.{◌∙◌, ◌+◌, ◌-◌, ◌≤◌, ◌≡◌, ℕ, List, [], arith, drop, length, refl, rules, subst, sym}
 use Rattle.std.proofs.lemmas.Result.{err_from_is_err_and}
 use Rattle.deb_index.specs.Reading.{byte_limit}
-use Rattle.deb_report.specs.Settings.{settings_of}
+use Rattle.run_settings.specs.Settings.{settings_of}
 use Rattle.deb_index.specs.Pieces.{IsFrontOf}
 use Rattle.debcheck.specs.Pieces.{RefusesPiece, TakesLast, TakesPiece}
 use Rattle.debcheck.proofs.PieceLemmas.{fails-at-read, fails-over, fails-rest, fault-behind, reads-last, reads-none, reads-on, reads-taken}

@@ -1,6 +1,6 @@
 use Rattle.std.proofs.Common.{◌≡◌, ◌+◌, ◌-◌, ◌≤◌, length}
 use Rattle.deb_index.specs.Reading.{byte_limit}
-use Rattle.deb_report.specs.Settings.{settings_of}
+use Rattle.run_settings.specs.Settings.{settings_of}
 use Rattle.debcheck.specs.Pieces.{ReadsFront}
 use Rattle.debcheck.proofs.pieces.read_text.Given as goal
 

@@ -1,5 +1,5 @@
 use Rattle.std.proofs.Common.{rules}
-use Rattle.deb_report.specs.Settings.{settings_of}
+use Rattle.run_settings.specs.Settings.{settings_of}
 use Rattle.debcheck.proofs.PieceLemmas.{refuses-last, takes-last}
 use Rattle.debcheck.proofs.pieces.take_last.Goals as goal
 

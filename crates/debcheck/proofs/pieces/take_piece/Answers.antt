@@ -1,6 +1,6 @@
 use Rattle.std.proofs.Common.{length, refl, rules}
 use Rattle.std.proofs.lemmas.Result.{err_from_is_err_and}
-use Rattle.deb_report.specs.Settings.{settings_of}
+use Rattle.run_settings.specs.Settings.{settings_of}
 use Rattle.debcheck.proofs.PieceLemmas.{refuses-piece, takes-none, takes-piece}
 use Rattle.debcheck.proofs.pieces.take_piece.Goals as goal
 

@@ -1,5 +1,5 @@
 use Rattle.std.proofs.Common.{◌≡◌, ap, option_map, string_bytes}
-use Rattle.deb_report.specs.Settings.{settings_of}
+use Rattle.run_settings.specs.Settings.{settings_of}
 use Rattle.debcheck.proofs.ProgramLemmas.{runs_taken, runs_untaken}
 use Rattle.debcheck.proofs.program.name_and_run.Goals as goal
 

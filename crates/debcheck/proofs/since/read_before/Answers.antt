@@ -1,5 +1,5 @@
 use Rattle.std.proofs.lemmas.Result.{IfErr-weaker, IfOk-weaker}
-use Rattle.deb_report.specs.Settings.{settings_of}
+use Rattle.run_settings.specs.Settings.{settings_of}
 use Rattle.debcheck.specs.Run.{input}
 use Rattle.debcheck.proofs.PhaseLemmas.{as-indexed}
 use Rattle.debcheck.proofs.SinceLemmas.{wanting-earlier}

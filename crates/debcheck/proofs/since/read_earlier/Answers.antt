@@ -1,5 +1,5 @@
 use Rattle.std.proofs.lemmas.Result.{IfErr-weaker, IfOk-weaker}
-use Rattle.deb_report.specs.Settings.{settings_of}
+use Rattle.run_settings.specs.Settings.{settings_of}
 use Rattle.debcheck.proofs.PieceLemmas.{pieces-accepted, pieces-behind, pieces-fail, pieces-make, pieces-make-none}
 use Rattle.debcheck.proofs.since.read_earlier.Goals as goal
 

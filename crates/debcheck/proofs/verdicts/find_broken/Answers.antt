@@ -7,7 +7,7 @@ use Rattle.deb_index.specs.Packages.{IndexView}
 use Rattle.deb_health.specs.Causes.{AreCores}
 use Rattle.deb_health.specs.Verdicts.{SpeaksOf, VerdictView, verdict_view}
 use Rattle.deb_verdict.specs.Told.{IsToldVerdict}
-use Rattle.deb_report.specs.Settings.{settings_of, tells_all_causes}
+use Rattle.run_settings.specs.Settings.{settings_of, tells_all_causes}
 use Rattle.deb_report.specs.Told.{AreLaterOf, later_view}
 use Rattle.work_draw.specs.Checks.{AnswersEach}
 use Rattle.debcheck.specs.Later.{AreLaterIf}

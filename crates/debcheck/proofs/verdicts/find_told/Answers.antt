@@ -1,7 +1,7 @@
 use Rattle.std.proofs.Common.{◌≡◌, ◌∙◌, Bool, [], ap, arith, false, length, map, not, refl, sym, true}
 use Rattle.std.proofs.lemmas.Bool.{and_right, eqb-true, false_from_ne_true, true≢false}
 use Rattle.deb_health.specs.Verdicts.{verdict_view}
-use Rattle.deb_report.specs.Settings.{settings_of, tells_all_causes}
+use Rattle.run_settings.specs.Settings.{settings_of, tells_all_causes}
 use Rattle.deb_report.specs.Since.{broken_view, is_new}
 use Rattle.deb_report.specs.Told.{later_view}
 use Rattle.debcheck.proofs.LaterLemmas.{empty_list}

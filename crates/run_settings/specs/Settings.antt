@@ -5,13 +5,15 @@ use Rattle.std.specs.Char.{is_ascii_alphanumeric}
 use Rattle.std.specs.List.{list_all}
 use Rattle.std.specs.Option.{option_map}
 use Rattle.std.specs.Str.{bytes_eq}
-use Rattle.deb_report.specs.declared.config.Config.{Config}
-use Rattle.deb_report.specs.declared.config.Format.{Format}
-use Rattle.deb_report.specs.declared.config.Format.TheVariants.{Text}
-use Rattle.deb_report.specs.declared.config.Show.{Show}
-use Rattle.deb_report.specs.declared.config.Show.TheVariants.{All, Failures, Successes}
+use Rattle.run_settings.specs.declared.config.Config.{Config}
+use Rattle.run_settings.specs.declared.config.Format.{Format}
+use Rattle.run_settings.specs.declared.config.Format.TheVariants.{Text}
+use Rattle.run_settings.specs.declared.config.Show.{Show}
+use Rattle.run_settings.specs.declared.config.Show.TheVariants.{All, Failures, Successes}
 
--- what a report depends on: the architecture, what is shown, whether names may be essential, the names that are asked, whether a background is read, whether an index that asks for nothing has no report, whether causes are told, whether the cores of all causes are, whether a core is told as it is walked, and the report's form;
+-- what a report depends on: the architecture, what is shown, whether names may be essential, the names that are asked, whether a background is read,
+-- whether an index that asks for nothing has no report, whether causes are told, whether the cores of all causes are, whether a core is told as it is walked,
+-- and the report's form;
 -- not how the work is dealt out, which files the background and an earlier index are, or whether a run tells how far it has come
 pub record Settings : Type 0 where
   pub arch : List ℕ

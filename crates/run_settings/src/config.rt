@@ -1,7 +1,7 @@
 //! What is asked of a run.
 
 ghost use Rattle.std.specs.Prelude.{◌≡◌, IfOk, false};
-ghost use Rattle.deb_report.specs.Settings.{settings_of, shows_sets, tells_all_causes, tells_options, usual_settings};
+ghost use Rattle.run_settings.specs.Settings.{settings_of, shows_sets, tells_all_causes, tells_options, usual_settings};
 
 use std::alloc::{AllocError, Global};
 
@@ -103,7 +103,7 @@ impl Config {
     }
 
     /// Whether a document begins with the words that it is made under.
-    pub(crate) fn tells_options(&self) -> bool
+    pub fn tells_options(&self) -> bool
         ensures { result ≡ tells_options (settings_of self.now) }
     {
         self.tells_all_causes() || self.why
