@@ -35,12 +35,11 @@ fn few_slots(fields: &[Field]) -> Option<Slots>
     let mut slots = Slots::of_none();
     let mut i = fields.len();
     while i > 0 {
-        let name = fields[i - 1].name;
-        if contains_name(slots.candidates(fields, i, name), name) {
+        i -= 1;
+        let behind = slots.put(fields, i);
+        if contains_name(behind, fields[i].name) {
             return None;
         }
-        i -= 1;
-        slots.put(fields, i);
     }
     Some(slots)
 }

@@ -1,7 +1,7 @@
 //! Where the fields of a stanza are looked for by name.
 ghost use Rattle.std.specs.Prelude.{◌≡◌, ◌≤◌, ◌<◌, ◌+◌, List, length, drop, map};
-ghost use Rattle.deb_control.specs.Fields.{Entry, field_value, has_name};
-ghost use Rattle.deb_control.specs.Slots.{AreFirsts, name_slot, slot_count};
+ghost use Rattle.deb_control.specs.Fields.{Entry, field_value};
+ghost use Rattle.deb_control.specs.Slots.{AreFirsts, KeepsNamesakes, name_slot, slot_count};
 ghost use Rattle.deb_control.specs.Stanzas.{entry_of};
 
 use crate::field::Field;
@@ -46,29 +46,26 @@ impl Slots {
         }
     }
 
-    /// Puts down the name of the field at a place, where those of all fields behind it are put down.
-    pub(crate) fn put(&mut self, fields: &[Field], place: usize)
+    /// Puts down the name of the field at a place, where those of all fields behind it are put down; gives those of them that may have its name.
+    pub(crate) fn put<'f, 'a>(&mut self, fields: &'f [Field<'a>], place: usize) -> &'f [Field<'a>]
         requires within { place < length fields.now }
         requires few { place < 256 }
         requires firsts { AreFirsts self.old.firsts (place + 1) (map entry_of (drop (place + 1) fields.now)) }
-        ensures { AreFirsts self.new.firsts place (map entry_of (drop place fields.now)) }
+        ensures firsts { AreFirsts self.new.firsts place (map entry_of (drop place fields.now)) }
+        ensures named { KeepsNamesakes fields.now place (map entry_of result.now) }
     {
-        self.firsts[slot_of(fields[place].name)] = place as u8;
+        let slot = slot_of(fields[place].name);
+        let first = usize::from(self.firsts[slot]);
+        self.firsts[slot] = place as u8;
+        &fields[first.max(place + 1).min(fields.len())..]
     }
 
-    /// Fields among which a name is looked for: of those from `start` on, the ones that are left out have other names.
-    pub(crate) fn candidates<'f, 'a>(
-        &self,
-        fields: &'f [Field<'a>],
-        start: usize,
-        name: &[u8],
-    ) -> &'f [Field<'a>]
-        requires within { start ≤ length fields.now }
-        requires firsts { AreFirsts self.now.firsts start (map entry_of (drop start fields.now)) }
-        ensures named { has_name name.now (map entry_of result.now) ≡ has_name name.now (map entry_of (drop start fields.now)) }
-        ensures value { field_value (map entry_of result.now) name.now ≡ field_value (map entry_of (drop start fields.now)) name.now }
+    /// Fields among which a name is looked for: those that are left out have other names.
+    pub(crate) fn candidates<'f, 'a>(&self, fields: &'f [Field<'a>], name: &[u8]) -> &'f [Field<'a>]
+        requires { AreFirsts self.now.firsts 0 (map entry_of fields.now) }
+        ensures { field_value (map entry_of result.now) name.now ≡ field_value (map entry_of fields.now) name.now }
     {
         let first = usize::from(self.firsts[slot_of(name)]);
-        &fields[first.max(start).min(fields.len())..]
+        &fields[first.min(fields.len())..]
     }
 }

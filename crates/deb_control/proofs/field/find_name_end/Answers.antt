@@ -1,10 +1,10 @@
 use Rattle.std.proofs.Common.{◌≡◌, true, false, get_or, rules}
 use Rattle.deb_control.specs.Fields.{is_colon, is_name_byte}
-use Rattle.deb_control.proofs.FieldLemmas.{in-name-none, in-name-more, name-end, parts-bad, parts-none}
+use Rattle.deb_control.proofs.FieldLemmas.{in-name-more, name-end, parts-bad, parts-none}
 use Rattle.deb_control.proofs.field.find_name_end.Goals as goal
 
 pub bytes-init : goal.bytes-init
-bytes-init c = in-name-none c.args.line.now
+bytes-init c = c.letters_len-i.ensures.name
 
 pub returns-then-b-eq58-clause-end : goal.returns-then-b-eq58-clause-end
 returns-then-b-eq58-clause-end c =

@@ -1,4 +1,4 @@
-use Rattle.deb_control.proofs.FieldLemmas.{IsInName}
+use Rattle.deb_control.specs.Fields.{IsInName}
 use Rattle.deb_control.proofs.field.find_name_end.Given as goal
 
 abbrev pub invariant-bytes : goal.invariant-bytes

@@ -1,4 +1,4 @@
-use Rattle.std.proofs.Common.{arith, ◌≡◌, true, false, ap, length, map, drop, sym, ◌∙◌}
+use Rattle.std.proofs.Common.{arith, ◌≡◌, ℕ, ◌+◌, ◌-◌, true, false, ap, length, map, drop, sym, ◌∙◌}
 use Rattle.deb_control.specs.declared.field.Field.{Field}
 use Rattle.deb_control.specs.Fields.{has_name}
 use Rattle.deb_control.specs.Stanzas.{entry_of}
@@ -14,16 +14,20 @@ loop-i-init c =
 pub returns-then-contains_name : goal.returns-then-contains_name
 returns-then-contains_name c =
     let read = c.index-fields-i in
+    let next : c.loop-i.i - 1 + 1 ≡ c.loop-i.i = omega (arith, c.loop-i-test.true) in
     let found : agrees c.args.fields.now c.loop-i.i read.result ≡ true =
-    ap (λ (f : Field). has_name f.name.now (map entry_of (drop c.loop-i.i c.args.fields.now))) read.is ∙ sym c.candidates.ensures.named ∙ sym c.contains_name.ensures ∙ c.if-contains_name.true in
+    ap (λ (k : ℕ). has_name read.result.name.now (map entry_of (drop k c.args.fields.now))) (sym next) ∙ sym (c.put-behind.ensures.named read.result read.is)
+    ∙ ap (λ (f : Field). has_name f.name.now (map entry_of c.put-behind.result.now)) read.is ∙ sym c.contains_name.ensures ∙ c.if-contains_name.true in
     step_found c.args.fields.now c.loop-i.i read.result c.loop-i-test.true c.loop-i.invariant.0 read.is found
 
 pub loop-i-preserved : goal.loop-i-preserved
 loop-i-preserved c =
     let read = c.index-fields-i in
+    let next : c.loop-i.i - 1 + 1 ≡ c.loop-i.i = omega (arith, c.loop-i-test.true) in
     let none : agrees c.args.fields.now c.loop-i.i read.result ≡ false =
-    ap (λ (f : Field). has_name f.name.now (map entry_of (drop c.loop-i.i c.args.fields.now))) read.is ∙ sym c.candidates.ensures.named ∙ sym c.contains_name.ensures ∙ c.if-contains_name.false in
-    (omega (arith, c.loop-i.invariant.0), step_none c.args.fields.now c.loop-i.i read.result c.loop-i-test.true c.loop-i.invariant.0 read.is none c.loop-i.invariant.1, c.put.ensures)
+    ap (λ (k : ℕ). has_name read.result.name.now (map entry_of (drop k c.args.fields.now))) (sym next) ∙ sym (c.put-behind.ensures.named read.result read.is)
+    ∙ ap (λ (f : Field). has_name f.name.now (map entry_of c.put-behind.result.now)) read.is ∙ sym c.contains_name.ensures ∙ c.if-contains_name.false in
+    (omega (arith, c.loop-i.invariant.0), step_none c.args.fields.now c.loop-i.i read.result c.loop-i-test.true c.loop-i.invariant.0 read.is none c.loop-i.invariant.1, c.put-behind.ensures.firsts)
 
 pub returns : goal.returns
 returns c =
