@@ -1,63 +1,12 @@
 //! One test for each call that can want memory; trials/growths runs them with each growth of memory refused in turn.
 
 use crate::cases::{BY_TWO, Case, EMPTY, NOTHING, Settings, Way, expect};
-use crate::pieces::{LISTING, TEXT, comes_to};
 use crate::runs::FRONT;
 use crate::since_runs::{SINCE, SINCE_WITH_ALL_REASONS};
-use crate::whole_texts::told_by;
-use debcheck::{RunFault, Summary, fault_line, read_all, write_fault};
+use debcheck::{RunFault, Summary, write_fault};
 use std::alloc::{AllocError, Global};
 use std::process::Abort;
-use test_devices::{
-    BACKED_REPORT, BACKGROUND, CHAIN, CHAIN_REPORT, Held, INDEX, sink_with_room, source_of,
-};
-
-/// Three bytes where three are allowed, one more, and a reader that fails.
-#[test]
-fn of_read_all(rt: HostRuntime) -> Result<(), AllocError> {
-    for (text, fails, wanted, reads) in READS {
-        expect_read(&rt, text, fails, wanted, reads)?;
-    }
-    Ok(())
-}
-
-/// A text, whether its reader fails, what reading it comes to, and in how many reads.
-const READS: [(&str, bool, &str, u32); 3] = [
-    ("abc", false, "abc", 4),
-    ("abcd", false, "too long", 4),
-    ("abc", true, "failed", 4),
-];
-
-/// What reading to the end with a limit of three bytes comes to.
-fn expect_read(
-    rt: &(impl Abort + AllocGlobal),
-    text: &str,
-    fails: bool,
-    wanted: &str,
-    reads: u32,
-) -> Result<(), AllocError> {
-    let mut reader = source_of(text.as_bytes(), 1);
-    reader.fails = fails;
-    let outcome = read_all(rt.alloc(), &mut reader, 3);
-    let told = told_by(&outcome);
-    if told == b"no memory".as_slice() {
-        assert!(rt; !reader.failed);
-        return Err(AllocError);
-    }
-    assert!(rt;
-        told == wanted.as_bytes() && reader.reads == reads,
-        "{wanted}"
-    );
-    Ok(())
-}
-
-/// A text in many pieces.
-#[test]
-fn of_read_pieces(rt: HostRuntime) -> Result<(), AllocError> {
-    let told = comes_to(&rt, &mut source_of(TEXT, 11), 1, LISTING)?;
-    assert!(rt; told);
-    Ok(())
-}
+use test_devices::{BACKED_REPORT, BACKGROUND, CHAIN, CHAIN_REPORT, Held, INDEX, sink_with_room};
 
 /// No text, with a writer that takes one byte a call.
 #[test]
@@ -168,15 +117,6 @@ const UNKNOWN_LINE: &[u8] = b"debcheck: unknown package zz\n";
 fn unknown_package(alloc: Global) -> Result<RunFault, AllocError> {
     let name = Vec::from_slice(alloc, b"zz")?;
     Ok(RunFault::UnknownAsked { name })
-}
-
-#[test]
-fn of_fault_line(rt: HostRuntime) -> Result<(), AllocError> {
-    let fault = unknown_package(rt.alloc())?;
-    let line = fault_line(rt.alloc(), &fault);
-    drop(fault);
-    assert!(rt; line?.as_slice() == UNKNOWN_LINE);
-    Ok(())
 }
 
 /// A fault whose line finds no memory is told as want of memory.

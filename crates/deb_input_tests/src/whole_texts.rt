@@ -1,8 +1,8 @@
-//! Reading to the end, and writing a whole text.
+//! Reading to the end.
 
-use debcheck::{RunFault, read_all, write_fault};
+use deb_input::{RunFault, read_all};
 use std::alloc::Global;
-use test_devices::{Feed, Held, sink_of, source_of};
+use test_devices::{Feed, source_of};
 
 /// The bytes that were read, or words for the fault.
 pub fn told_by(outcome: &Result<Vec<u8>, RunFault>) -> &[u8] {
@@ -36,27 +36,4 @@ fn reads_nothing_or_fails(rt: HostRuntime) {
     let mut broken = source_of(b"abc", 1);
     broken.fails = true;
     assert!(rt; reads(rt.alloc(), &mut broken, 3, b"failed") && broken.reads == 4);
-}
-
-/// Whether the line of a fault is written to the sink, and flushed, or the sink fails with this front of the line in it.
-pub fn writes(alloc: Global, fault: &RunFault, mut sink: Held, fine: bool, wanted: &[u8]) -> bool {
-    let written = write_fault(alloc, &mut sink, fault).is_ok();
-    written == fine && sink.flushed == fine && sink.bytes.as_slice() == wanted
-}
-
-/// How many bytes a sink takes at each write, at which it fails, whether it fails at the flush, whether all goes well, and what it has then.
-const SINKS: [(usize, u32, bool, bool, &[u8]); 4] = [
-    (1, 0, false, true, b"debcheck: out of memory\n"),
-    (1, 5, false, false, b"debc"),
-    (0, 0, false, false, b""),
-    (9, 0, true, false, b"debcheck: out of memory\n"),
-];
-
-#[test]
-fn writes_a_whole_text_or_says_so(rt: HostRuntime) {
-    let alloc = rt.alloc();
-    for (step, fails_at, flush_fails, fine, wanted) in SINKS {
-        let sink = sink_of(alloc, step, fails_at, flush_fails);
-        assert!(rt; writes(alloc, &RunFault::Memory, sink, fine, wanted));
-    }
 }

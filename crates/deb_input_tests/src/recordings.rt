@@ -1,6 +1,7 @@
 //! Sources whose beginning is kept.
 
-use debcheck::{Recording, Source, read_all};
+use deb_input::read_all;
+use devices::{Recording, Source};
 use std::alloc::Global;
 use std::process::Abort;
 use test_devices::source_of;

@@ -3,7 +3,8 @@
 ghost use Rattle.std.specs.Prelude.{◌<◌};
 
 use deb_index::{Index, IndexError};
-use debcheck::{Config, RunFault, read_pieces};
+use deb_input::{RunFault, read_pieces};
+use run_settings::Config;
 use std::alloc::{AllocError, Global};
 use std::process::Abort;
 use std::thread::Threads;
