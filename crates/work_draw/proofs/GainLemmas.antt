@@ -1,7 +1,7 @@
 -- What a draw adds to what a drawer gained, with its piece and without.
 use Rattle.std.proofs.Common.{◌≡◌, ℕ, List, [], ◌∷◌, ◌++◌, sym, ◌∙◌, ap, arith}
 use Rattle.std.proofs.lemmas.List.{append_assoc, map-append}
-use Rattle.work_draw.specs.Board.{DrawerView}
+use Rattle.draw_board.specs.Board.{DrawerView}
 use Rattle.work_draw.specs.declared.pieces.Piece.{Piece}
 use Rattle.work_draw.specs.Pieces.{numbers_of, Gains, GainsButLast}
 

@@ -2,9 +2,9 @@
 use Rattle.std.proofs.Common.{◌≡◌, ℕ, List, [], ◌++◌, ap, arith}
 use mathlib.Core.List.{map-append}
 use Rattle.work_draw.specs.declared.pieces.Piece.{Piece}
-use Rattle.work_draw.specs.Drawing.{times, HoldsEachOnce}
+use Rattle.draw_board.specs.Drawing.{times, HoldsEachOnce}
 use Rattle.work_draw.specs.Pieces.{numbers_of, GainsInAll}
-use Rattle.work_draw.proofs.Counts.{times-append}
+use Rattle.draw_board.proofs.Counts.{times-append}
 
 -- what a first drawer gained is all that it holds
 pub gained_all : (total : ℕ) (before after : List ℕ) (pieces : List Piece) → before ≡ [] → GainsInAll before pieces after → HoldsEachOnce total after → HoldsEachOnce total (numbers_of pieces)

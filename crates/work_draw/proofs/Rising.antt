@@ -8,9 +8,9 @@ use Rattle.std.proofs.lemmas.List.{get_or-map, length-map}
 use native.Mathlib.Decide.{dec_le}
 use mathlib.Core.Logic.{dite}
 use Rattle.work_draw.specs.declared.pieces.Piece.{Piece}
-use Rattle.work_draw.specs.Drawing.{times, HoldsEachOnce}
+use Rattle.draw_board.specs.Drawing.{times, HoldsEachOnce}
 use Rattle.work_draw.specs.Pieces.{numbers_of}
-use Rattle.work_draw.proofs.Counts.{counts_itself, once_inside, none_from}
+use Rattle.draw_board.proofs.Counts.{counts_itself, once_inside, none_from}
 
 times-cons : (n x : ℕ) (xs : List ℕ) → times n (x ∷ xs) ≡ cond {A = ℕ} (x == n) 1 0 + times n xs
 times-cons n x xs = sum_by-cons (λ y. cond (y == n) 1 0) x xs

@@ -4,9 +4,9 @@ use Rattle.std.specs.List.{range_with_len}
 use Rattle.deb_index.specs.Packages.{IndexView}
 use Rattle.deb_health.specs.declared.answer.Verdict.{Verdict}
 use Rattle.work_draw.specs.declared.pieces.Piece.{Piece}
-use Rattle.work_draw.specs.Board.{BoardView, DrawerView}
+use Rattle.draw_board.specs.Board.{BoardView, DrawerView}
 use Rattle.work_draw.specs.Checks.{AnswersEach, IsFound, chunk_of, chunk_count}
-use Rattle.work_draw.specs.Drawing.{times}
+use Rattle.draw_board.specs.Drawing.{times}
 
 abbrev pub numbers_of : List Piece → List ℕ
 numbers_of pieces = map (λ p. p.number) pieces

@@ -1,9 +1,8 @@
 //! The verdicts of many packages by workers that draw chunks of them from one shared counter: each chunk once, none left out, in every order of events.
+//! The counter is the board of `draw_board`.
 //!
 //! To be read in this order:
 //!
-//! - `hand`: what a drawer knows, and the rule that ties the drawers of a board to its claim word.
-//! - `board`: the board and its drawers, which split, draw, join and close.
 //! - `chunks`: the verdicts of one chunk of the asked places, what finds them, and the gate that is told of it.
 //! - `pieces`: what is made of the numbers that are drawn, and the order in which it is gathered.
 //! - `workers`: a worker, who draws until no number is left, and a crew of them.
@@ -11,17 +10,15 @@
 //! - `cores`: all cores of many packages, by workers that draw nothing, but each take a part of the list.
 #![tactic(auto)]
 
-mod board;
 mod check;
 mod chunks;
 mod cores;
-mod hand;
 mod pieces;
 mod workers;
 
-pub use board::{Board, Drawer, WORKER_LIMIT, new_board};
 pub use check::{check_all, check_told};
 pub use chunks::{Gate, OpenGate};
 pub use cores::find_cores;
+pub use draw_board::{Board, Drawer, WORKER_LIMIT, new_board};
 pub use pieces::{Drawn, Piece, gather};
 pub use workers::{crew, draw_pieces};

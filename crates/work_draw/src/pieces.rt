@@ -1,10 +1,10 @@
 //! What is made of the numbers that are drawn, and the pieces of all workers in the order of their numbers.
 ghost use Rattle.std.specs.Prelude.{◌≡◌, IfOk, flat_map};
-ghost use Rattle.work_draw.specs.Drawing.{HoldsEachOnce};
+ghost use Rattle.draw_board.specs.Drawing.{HoldsEachOnce};
 ghost use Rattle.work_draw.specs.Pieces.{numbers_of, InOrderOfNumber};
 
-use crate::board::Drawer;
 use deb_verdict::Verdict;
+use draw_board::Drawer;
 use std::alloc::{AllocError, Global};
 
 /// The verdicts of one chunk.

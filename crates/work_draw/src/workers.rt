@@ -4,11 +4,11 @@ ghost use Rattle.std.specs.Thread.{IsSync};
 ghost use Rattle.work_draw.specs.Checks.{IsFoundAs, chunk_count};
 ghost use Rattle.work_draw.specs.Pieces.{AreFound, Find, Gains, GainsButLast, GainsInAll, IsReady, after_crew};
 
-use crate::board::{Board, Drawer};
 use crate::chunks::{Finder, Gate, check_chunk};
 use crate::pieces::{Drawn, Piece};
 use deb_index::Index;
 use deb_verdict::{Groundwork, Wanted, Workspace};
+use draw_board::{Board, Drawer};
 use std::alloc::{AllocError, Global};
 use std::thread;
 use std::thread::Threads;

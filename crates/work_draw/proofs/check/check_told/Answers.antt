@@ -4,10 +4,10 @@ use Rattle.std.proofs.lemmas.List.Sorted.{All-permutation}
 use Rattle.std.proofs.lemmas.Result.{IfOk-weaker}
 use Rattle.deb_health.specs.Verdicts.{SpeaksOf, verdict_view}
 use Rattle.deb_health.specs.declared.answer.Verdict.{Verdict}
-use Rattle.work_draw.specs.Board.{DrawerView}
+use Rattle.draw_board.specs.Board.{DrawerView}
 use Rattle.deb_verdict.specs.Told.{IsToldVerdict}
 use Rattle.work_draw.specs.Checks.{AnswersEach, IsFoundAs, chunk_of}
-use Rattle.work_draw.specs.Drawing.{HoldsEachOnce}
+use Rattle.draw_board.specs.Drawing.{HoldsEachOnce}
 use Rattle.work_draw.specs.Pieces.{InOrderOfNumber}
 use Rattle.work_draw.specs.declared.pieces.Piece.{Piece}
 use Rattle.work_draw.proofs.Answered.{answers_in_order, AnswersEach-All, AnswersEach-length, AnswersEach-map}

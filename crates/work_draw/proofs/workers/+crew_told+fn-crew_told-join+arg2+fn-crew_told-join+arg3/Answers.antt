@@ -1,6 +1,6 @@
 use Rattle.std.proofs.Common.{rules, ◌≡◌, ℕ, List, [], ◌++◌, ap, sym, subst, subst₂}
 use Rattle.std.proofs.lemmas.List.Elements.{All-append}
-use Rattle.work_draw.specs.Board.{DrawerView}
+use Rattle.draw_board.specs.Board.{DrawerView}
 use Rattle.work_draw.specs.Checks.{AnswersEach, IsFoundAs, chunk_of}
 use Rattle.work_draw.specs.declared.pieces.Piece.{Piece}
 use Rattle.work_draw.specs.Pieces.{Find, GainsInAll}

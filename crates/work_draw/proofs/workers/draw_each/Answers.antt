@@ -2,7 +2,7 @@ use Rattle.std.proofs.Common.{◌≡◌, [], ◌∷◌, ◌++◌, sym, subst, �
 use Rattle.std.proofs.lemmas.List.{append-nil}
 use Rattle.std.proofs.lemmas.List.Elements.{All-push}
 use Rattle.work_draw.specs.Checks.{AnswersEach, IsFoundAs, chunk_of}
-use Rattle.work_draw.specs.Board.{DrawerView}
+use Rattle.draw_board.specs.Board.{DrawerView}
 use Rattle.work_draw.specs.declared.pieces.Piece.{Piece}
 use Rattle.work_draw.specs.Pieces.{Find, numbers_of}
 use Rattle.work_draw.proofs.Bounds.{falls_by_push}
