@@ -1,5 +1,7 @@
 //! Names that stand in a file, one a line.
 
+ghost use Rattle.std.specs.Prelude.{◌≡◌, false};
+
 use deb_input::{RunFault, read_names};
 use std::alloc::Global;
 use test_devices::{Feed, source_of};
@@ -23,7 +25,9 @@ fn told_of(alloc: Global, outcome: &Result<Vec<Vec<u8>>, RunFault>) -> Option<St
 }
 
 /// Whether reading the names of a file comes to this.
-fn comes_to(alloc: Global, reader: &mut Feed<'_>, wanted: &str) -> bool {
+fn comes_to(alloc: Global, reader: &mut Feed<'_>, wanted: &str) -> bool
+    requires { reader.old.failed ≡ false }
+{
     let outcome = read_names(alloc, reader);
     let told = told_of(alloc, &outcome);
     drop(outcome);

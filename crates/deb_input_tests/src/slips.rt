@@ -28,6 +28,9 @@ fn slip_in(
     since: bool,
     asked: &[u32],
 ) -> Option<Option<Slip>> {
+    if text.len() > 1_000 || asked.len() > 1_000 {
+        return None;
+    }
     let config = settings(alloc, strict, since).ok()?;
     let index = Index::read(alloc, text, "amd64", true).ok()?;
     Some(slip_of(&config, &index, asked))
