@@ -1,14 +1,9 @@
 mod BackgroundLemmas
-mod DeviceLemmas
-mod FaultLemmas
-mod IndexLemmas
 mod LaterLemmas
 mod MergeLemmas
-mod NameLemmas
 mod NewsLemmas
 mod OneReport
 mod PhaseLemmas
-mod PieceLemmas
 mod ProgramLemmas
 mod RunLemmas
 mod SinceLemmas

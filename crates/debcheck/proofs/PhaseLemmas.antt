@@ -4,14 +4,15 @@ use Rattle.std.specs.Io.KnownBytes.{Appends, Consumes, IsAtEnd, Keeps}
 use Rattle.deb_index.specs.Packages.{IndexView}
 use Rattle.deb_index.specs.Reading.{byte_limit, index_of, index_of_both}
 use Rattle.deb_index.specs.declared.error.BothError.TheVariants.{Back}
-use Rattle.debcheck.specs.declared.fault.RunFault.{RunFault}
-use Rattle.debcheck.specs.declared.fault.RunFault.TheVariants.{Read, TooLong, BackgroundRead, BackgroundTooLong, EarlierRead, EarlierTooLong, NamesRead, NamesTooLong, BadNameLine, Index, Background, Earlier, UnknownAsked, Slipped, Memory, Write}
+use Rattle.deb_input.specs.declared.fault.RunFault.{RunFault}
+use Rattle.deb_input.specs.declared.fault.RunFault.TheVariants.{Read, TooLong, BackgroundRead, BackgroundTooLong, EarlierRead, EarlierTooLong, NamesRead, NamesTooLong, BadNameLine, Index, Background, Earlier, UnknownAsked, Slipped, Memory, Write}
 use Rattle.deb_report.specs.declared.summary.Summary.{Summary}
 use Rattle.devices.specs.Devices.{AppendsPart}
 use Rattle.run_settings.specs.Settings.{Settings}
-use Rattle.debcheck.specs.Run.{Fails, FailsToAccept, FailsToIndex, FailsToReport, HasAsked, HasIndex, IfIndexed, IfTold, Input, IsRead, IsReadAs, IsReport, IsReportOn, Leaves, ReadsAs, Reports, TellsReport, WritesBy, WritesFrontBy, behind, input}
+use Rattle.deb_input.specs.Inputs.{FailsToAccept, Input, IsRead, IsReadAs, input}
+use Rattle.debcheck.specs.Run.{Fails, FailsToIndex, FailsToReport, HasAsked, HasIndex, IfIndexed, IfTold, IsReport, IsReportOn, Leaves, ReadsAs, Reports, TellsReport, WritesBy, WritesFrontBy, behind}
 use Rattle.debcheck.proofs.BackgroundLemmas.{back-asked}
-use Rattle.debcheck.proofs.IndexLemmas.{both-fore}
+use Rattle.deb_input.proofs.IndexLemmas.{both-fore}
 
 -- ---- reading
 

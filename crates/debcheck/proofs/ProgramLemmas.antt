@@ -5,17 +5,19 @@ use Rattle.run_settings.specs.declared.config.Config.{Config}
 use Rattle.deb_report.specs.declared.summary.Summary.{Summary}
 use Rattle.run_settings.specs.Settings.{Settings, settings_of}
 use Rattle.devices.specs.declared.device.DeviceFault.{DeviceFault}
-use Rattle.debcheck.specs.declared.fault.RunFault.{RunFault}
-use Rattle.debcheck.specs.declared.fault.RunFault.TheVariants as run_fault
+use Rattle.deb_input.specs.declared.fault.RunFault.{RunFault}
+use Rattle.deb_input.specs.declared.fault.RunFault.TheVariants as run_fault
 use Rattle.command_line.specs.declared.line.LineFault.{LineFault}
 use Rattle.command_line.specs.declared.line.LineFault.TheVariants.{Refused, Help, Memory}
 use Rattle.devices.specs.Devices.{AppendsPart, IsHeld, IsUnopened}
-use Rattle.debcheck.specs.Faults.{status_of, told_line}
+use Rattle.deb_input.specs.Faults.{told_line}
+use Rattle.debcheck.specs.Statuses.{status_of}
 use Rattle.command_line.specs.Line.{Accepts, RefusesLine, line_status_of}
 use Rattle.debcheck.specs.LineFaults.{KeepsOther, TellsFront, TellsLine, mark_of}
-use Rattle.debcheck.specs.Names.{FailsToName, ReadsNames}
+use Rattle.deb_input.specs.Names.{FailsToName, ReadsNames}
 use Rattle.debcheck.specs.Program.{Asks, Ends, FailsToTake, IsEarlier, IsNamed, IsUnbegun, Named, Refuses, Runs, RunsBehind, RunsNamed, RunsTo, TakesNames, TellsFault, TellsOutcome, Text, Written, written}
-use Rattle.debcheck.specs.Run.{Fails, Input, Leaves, WritesReport, input}
+use Rattle.deb_input.specs.Inputs.{Input, input}
+use Rattle.debcheck.specs.Run.{Fails, Leaves, WritesReport}
 use Rattle.debcheck.specs.Since.{FailsSince, LeavesSince, WritesReportSince}
 
 -- ---- what is told

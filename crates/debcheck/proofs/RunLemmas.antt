@@ -2,14 +2,15 @@
 use Rattle.std.proofs.Common.{◌≡◌, ℕ, false, List, [], Some, Ok, Err, refl, ap, sym, subst, arith, inl, inr}
 use Rattle.std.proofs.lemmas.Bool.{cases_Bool}
 use Rattle.deb_index.specs.Packages.{IndexView}
-use Rattle.debcheck.specs.declared.fault.RunFault.{RunFault}
-use Rattle.debcheck.specs.declared.fault.RunFault.TheVariants.{Read, TooLong, BackgroundRead, BackgroundTooLong, EarlierRead, EarlierTooLong, NamesRead, NamesTooLong, BadNameLine, Index, Background, Earlier, UnknownAsked, Slipped, Memory, Write}
+use Rattle.deb_input.specs.declared.fault.RunFault.{RunFault}
+use Rattle.deb_input.specs.declared.fault.RunFault.TheVariants.{Read, TooLong, BackgroundRead, BackgroundTooLong, EarlierRead, EarlierTooLong, NamesRead, NamesTooLong, BadNameLine, Index, Background, Earlier, UnknownAsked, Slipped, Memory, Write}
 use Rattle.deb_report.specs.declared.summary.Summary.{Summary}
 use Rattle.deb_report.specs.Asked.{asked_places}
 use Rattle.run_settings.specs.Settings.{Settings}
-use Rattle.debcheck.specs.Run.{Fails, Input, IsReport, behind, input}
-use Rattle.debcheck.specs.Strict.{slip_of}
-use Rattle.debcheck.proofs.IndexLemmas.{fore-of-both}
+use Rattle.deb_input.specs.Inputs.{Input, input}
+use Rattle.debcheck.specs.Run.{Fails, IsReport, behind}
+use Rattle.deb_input.specs.Strict.{slip_of}
+use Rattle.deb_input.proofs.IndexLemmas.{fore-of-both}
 
 -- what is read behind the index is the background, where that is told: one that isn't asked for has no bytes
 told_behind : (settings : Settings) (background : List ℕ) → (settings.background ≡ false → background ≡ []) → behind settings (input (Some background) false) ≡ input (Some background) false

@@ -18,13 +18,15 @@ use Rattle.deb_report.specs.Since.{BrokenView, broken_of, is_new, news_of, summa
 use Rattle.deb_report.specs.Written.{written_since}
 use Rattle.deb_report.proofs.NewsLemmas.{report_by_news, summary_by_news}
 use Rattle.deb_report.proofs.Unshown.{LeavesTold, broken_unchanged, since_unchanged, summary_since_unchanged}
-use Rattle.debcheck.specs.declared.fault.RunFault.{RunFault}
-use Rattle.debcheck.specs.declared.fault.RunFault.TheVariants.{Read, TooLong, BackgroundRead, BackgroundTooLong, EarlierRead, EarlierTooLong, NamesRead, NamesTooLong, BadNameLine, Index, Background, Earlier, UnknownAsked, Slipped, Memory, Write}
+use Rattle.deb_input.specs.declared.fault.RunFault.{RunFault}
+use Rattle.deb_input.specs.declared.fault.RunFault.TheVariants.{Read, TooLong, BackgroundRead, BackgroundTooLong, EarlierRead, EarlierTooLong, NamesRead, NamesTooLong, BadNameLine, Index, Background, Earlier, UnknownAsked, Slipped, Memory, Write}
 use Rattle.devices.specs.Devices.{AppendsPart}
-use Rattle.debcheck.specs.Run.{Fails, FailsToAccept, FailsToIndex, FailsToRead, FailsToReport, HasAsked, HasIndex, IfIndexed, IfTold, Input, IsAsked, IsReadAs, ReadsAs, WritesBy, WritesFrontBy, behind, input, is_unread}
+use Rattle.deb_input.specs.Inputs.{FailsToAccept, FailsToRead, Input, IsReadAs, input, is_unread}
+use Rattle.deb_input.specs.Pieces.{FailsInPieces, ReadsAll}
+use Rattle.debcheck.specs.Run.{Fails, FailsToIndex, FailsToReport, HasAsked, HasIndex, IfIndexed, IfTold, IsAsked, ReadsAs, WritesBy, WritesFrontBy, behind}
 use Rattle.debcheck.specs.Since.{FailsEarlier, FailsSince, IsReportAfter, IsReportSince, LeavesSince, TellsReportSince, WereBroken, WritesFrontSince, WritesReportSince, earlier_fault, is_unread_behind, wanted_since}
 use Rattle.debcheck.specs.Standing.{AreFound, TellSame, wanted_at}
-use Rattle.debcheck.proofs.PhaseLemmas.{as-indexed, fails-unwritten, front-added, kept-itself, report-added, report-fails, told_index, told_weaker}
+use Rattle.debcheck.proofs.PhaseLemmas.{accept-fails, accepted-as, as-indexed, fails-unwritten, front-added, kept-itself, read_whole, report-added, report-fails, told_index, told_weaker}
 
 -- ---- what is told of verdicts
 
@@ -197,6 +199,23 @@ accepting-behind settings bytes more (UnknownAsked name) h = absurd h
 accepting-behind settings bytes more (Slipped slip) h = absurd h
 accepting-behind settings bytes more Memory h = (refl, refl)
 accepting-behind settings bytes more Write h = absurd h
+
+-- a text that was read in pieces
+pub pieces-accepted : (settings : Settings) (old new : Option (List ℕ)) (before failed : Bool) (bytes more : List ℕ) (index : IndexView) → before ≡ false → ReadsAll old new before failed bytes
+    → index_of_both bytes more settings.arch settings.essential ≡ Ok index → (background : Input) → IsReadAs (behind settings background) more → ReadsAs settings (input old failed) background index
+pieces-accepted settings old new before failed bytes more index unmarked all is background second =
+    accepted-as settings (input old failed) background bytes more index (read_whole old new failed bytes all.consumes all.ends (all.unfailed ∙ unmarked) all.within) second is
+
+pub pieces-fail : (settings : Settings) (old new : Option (List ℕ)) (before failed : Bool) (more : List ℕ) (fault : RunFault) → before ≡ false → FailsInPieces settings old new before failed more fault
+    → (background : Input) → IsReadAs (behind settings background) more → FailsToIndex settings (input old failed) background fault
+pieces-fail settings old new before failed more fault unmarked (inl h) background second = reading-fails settings old before failed fault unmarked h background more second
+pieces-fail settings old new before failed more fault unmarked (inr h) background second =
+    accept-fails settings (input old failed) background h.0 more fault (read_whole old new failed h.0 h.1.consumes h.1.ends (h.1.unfailed ∙ unmarked) h.1.within) second h.2
+
+pub pieces-behind : (settings : Settings) (old new : Option (List ℕ)) (before failed : Bool) (more : List ℕ) (fault : RunFault) → FailsInPieces settings old new before failed more fault
+    → is_unread_behind (earlier_fault fault) ≡ false
+pieces-behind settings old new before failed more fault (inl h) = reading-behind old before failed byte_limit fault h
+pieces-behind settings old new before failed more fault (inr h) = (accepting-behind settings h.0 more fault h.2).1
 
 pub asking-behind : (settings : Settings) (index : IndexView) (fault : RunFault) → FailsToReport settings index fault → is_unread_behind fault ≡ false
 asking-behind settings index Read h = absurd h

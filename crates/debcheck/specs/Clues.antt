@@ -13,8 +13,8 @@ use Rattle.input_hints.specs.declared.run.RunHint.TheVariants.{OtherArchitecture
 use Rattle.input_hints.specs.Texts.{background_name_line, provided_name_line, stanza_hint_line}
 use Rattle.input_hints.specs.declared.line.Input.{Input}
 use Rattle.input_hints.specs.declared.line.Input.TheVariants as input
-use Rattle.debcheck.specs.declared.fault.RunFault.{RunFault}
-use Rattle.debcheck.specs.declared.fault.RunFault.TheVariants.{Index, Background}
+use Rattle.deb_input.specs.declared.fault.RunFault.{RunFault}
+use Rattle.deb_input.specs.declared.fault.RunFault.TheVariants.{Index, Background}
 use Rattle.debcheck.specs.declared.hints.Clue.{Clue}
 use Rattle.debcheck.specs.declared.hints.Clue.TheVariants.{Line}
 

@@ -3,9 +3,9 @@ use Rattle.std.specs.Prelude.{◌≡◌, ℕ, Bool, List, Option, string_bytes}
 use Rattle.std.specs.Io.KnownBytes.{Appends}
 use Rattle.command_line.specs.declared.line.LineFault.{LineFault}
 use Rattle.command_line.specs.declared.line.LineFault.TheVariants.{Refused, Help, Memory}
-use Rattle.debcheck.specs.declared.fault.RunFault.TheVariants as run_fault
+use Rattle.deb_input.specs.declared.fault.RunFault.TheVariants as run_fault
 use Rattle.devices.specs.Devices.{AppendsPart}
-use Rattle.debcheck.specs.Faults.{fault_line}
+use Rattle.deb_input.specs.Faults.{fault_line}
 
 -- help and the version go to the output, all else to the errors
 abbrev pub TellsLine : LineFault → Option (List ℕ) → Option (List ℕ) → Option (List ℕ) → Option (List ℕ) → Type 0

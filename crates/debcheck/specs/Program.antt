@@ -4,15 +4,16 @@ use Rattle.std.specs.Io.KnownBytes.{Appends}
 use Rattle.run_settings.specs.declared.config.Config.{Config}
 use Rattle.deb_report.specs.declared.summary.Summary.{Summary}
 use Rattle.run_settings.specs.Settings.{Settings, settings_of}
-use Rattle.debcheck.specs.declared.fault.RunFault.{RunFault}
-use Rattle.debcheck.specs.declared.fault.RunFault.TheVariants as run_fault
+use Rattle.deb_input.specs.declared.fault.RunFault.{RunFault}
+use Rattle.deb_input.specs.declared.fault.RunFault.TheVariants as run_fault
 use Rattle.command_line.specs.declared.line.LineFault.{LineFault}
 use Rattle.command_line.specs.declared.line.LineFault.TheVariants.{Refused, Help, Memory}
 use Rattle.devices.specs.Devices.{AppendsPart, IsHeld, IsUnopened}
-use Rattle.debcheck.specs.Faults.{fault_line, status_of, told_line}
+use Rattle.deb_input.specs.Faults.{fault_line, told_line}
+use Rattle.debcheck.specs.Statuses.{status_of}
 use Rattle.command_line.specs.Line.{Accepts, RefusesLine}
-use Rattle.debcheck.specs.Names.{FailsToName, ReadsNames}
-use Rattle.debcheck.specs.Run.{Input}
+use Rattle.deb_input.specs.Names.{FailsToName, ReadsNames}
+use Rattle.deb_input.specs.Inputs.{Input}
 use Rattle.debcheck.specs.Since.{FailsAny, LeavesAny, WritesAny}
 
 -- ---- files

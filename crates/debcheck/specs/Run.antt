@@ -1,16 +1,17 @@
 -- What a run answers and writes.
-use Rattle.std.specs.Prelude.{◌≡◌, ◌≢◌, ℕ, ◌+◌, ◌<◌, ◌≤◌, Bool, false, true, List, [], Option, Some, None, Ok, Err, IfSome, if◌then◌else◌, length}
-use Rattle.std.specs.Io.KnownBytes.{Appends, Consumes, Keeps}
+use Rattle.std.specs.Prelude.{◌≡◌, ◌≢◌, ℕ, ◌≤◌, Bool, false, true, List, [], Option, Some, None, Ok, Err, IfSome, if◌then◌else◌, length}
+use Rattle.std.specs.Io.KnownBytes.{Appends, Keeps}
 use Rattle.deb_index.specs.declared.constraint.Constraint.{Constraint}
 use Rattle.deb_index.specs.Packages.{IndexView}
 use Rattle.deb_index.specs.Reading.{byte_limit, index_of, index_of_both}
 use Rattle.deb_health.specs.Verdicts.{IsVerdict, VerdictView}
 use Rattle.work_draw.specs.Checks.{AnswersEach}
-use Rattle.deb_index.specs.declared.error.BothError.TheVariants.{Back, Fore}
+use Rattle.deb_index.specs.declared.error.BothError.TheVariants.{Back}
 use Rattle.deb_index.specs.declared.error.IndexError.TheVariants as index_error
-use Rattle.debcheck.specs.declared.fault.RunFault.{RunFault}
-use Rattle.debcheck.specs.declared.fault.RunFault.TheVariants.{Read, TooLong, BackgroundRead, BackgroundTooLong, Index}
-use Rattle.debcheck.specs.declared.fault.RunFault.TheVariants.{Background, UnknownAsked, Slipped, Memory, Write}
+use Rattle.deb_input.specs.Inputs.{Input, IsRead, IsTooLong, input}
+use Rattle.deb_input.specs.declared.fault.RunFault.{RunFault}
+use Rattle.deb_input.specs.declared.fault.RunFault.TheVariants.{Read, TooLong, BackgroundRead, BackgroundTooLong, Index}
+use Rattle.deb_input.specs.declared.fault.RunFault.TheVariants.{Background, UnknownAsked, Slipped, Memory, Write}
 use Rattle.deb_report.specs.declared.summary.Summary.{Summary}
 use Rattle.deb_report.specs.Asked.{asked_places}
 use Rattle.devices.specs.Devices.{AppendsPart}
@@ -18,7 +19,7 @@ use Rattle.deb_report.specs.Report.{summary_of}
 use Rattle.run_settings.specs.Settings.{Settings}
 use Rattle.deb_report.specs.Written.{written_told}
 use Rattle.debcheck.specs.Later.{AreLater}
-use Rattle.debcheck.specs.Strict.{slip_of}
+use Rattle.deb_input.specs.Strict.{slip_of}
 
 -- these places are asked of an index, and a strict run finds no fault in that
 pub record IsAsked (settings : Settings) (index : IndexView) (asked : List ℕ) : Type 0 where
@@ -60,29 +61,9 @@ IsReport settings text background output summary = HasIndex settings text backgr
 
 -- ---- what is read
 
--- what is known of a reader: the bytes that were left in it at the call, where it tells them, and whether a read of it has failed
-pub record Input : Type 0 where
-  pub text : Option (List ℕ)
-  pub failed : Bool
-
-abbrev pub input : Option (List ℕ) → Bool → Input
-input text failed = record { text = text; failed = failed }
-
 -- what is read behind the index: the background, where one is asked for; else no bytes, and no read fails
 abbrev pub behind : Settings → Input → Input
 behind settings background = if settings.background then background else input (Some []) false
-
--- all of it was read: no read failed, and where its bytes are told, they are within the limit
-abbrev pub IsRead : Input → Type 0
-IsRead source = (source.failed ≡ false) × IfSome source.text (λ bytes. length bytes ≤ byte_limit)
-
--- it was read, as these bytes
-abbrev pub IsReadAs : Input → List ℕ → Type 0
-IsReadAs source bytes = (source.failed ≡ false) × IfSome source.text (λ told. told ≡ bytes) × (length bytes ≤ byte_limit)
-
--- no read failed, and where its bytes are told, they are more than the limit
-abbrev pub IsTooLong : Input → Type 0
-IsTooLong source = (source.failed ≡ false) × IfSome source.text (λ bytes. byte_limit < length bytes)
 
 -- both were read
 abbrev pub AreRead : Settings → Input → Input → Type 0
@@ -133,39 +114,12 @@ WritesFront settings text background old new = WritesFrontBy (IsReport settings)
 
 -- ---- why there is no report
 
--- why reading ends without a text, by the reader's marks before and after: a read failed;
--- or none did, and there were more bytes than the limit, or memory was wanted
-abbrev pub FailsToRead : Option (List ℕ) → Bool → Bool → ℕ → RunFault → Type 0
-FailsToRead text before failed limit Read = failed ≡ true
-FailsToRead text before failed limit TooLong = (failed ≡ before) × IfSome text (λ bytes. limit < length bytes)
-FailsToRead text before failed limit Memory = failed ≡ before
-FailsToRead text before failed limit _ = ⊥
-
--- why a read ends before its time: it failed; or none did, and memory was wanted
-abbrev pub FailsAtRead : Bool → Bool → RunFault → Type 0
-FailsAtRead before failed Read = failed ≡ true
-FailsAtRead before failed Memory = failed ≡ before
-FailsAtRead before failed _ = ⊥
-
--- where there were too many bytes, exactly one more than the limit was read
-abbrev pub ReadsOneOver : ℕ → Option (List ℕ) → Option (List ℕ) → RunFault → Type 0
-ReadsOneOver limit old new TooLong = (bytes : List ℕ) × (length bytes ≡ limit + 1) × Consumes old new bytes
-ReadsOneOver limit old new _ = Unit {0}
-
 -- why what stands behind the index is not read
 abbrev pub FailsToReadBehind : Input → RunFault → Type 0
 FailsToReadBehind source BackgroundRead = source.failed ≡ true
 FailsToReadBehind source BackgroundTooLong = IsTooLong source
 FailsToReadBehind source Memory = source.failed ≡ false
 FailsToReadBehind source _ = ⊥
-
--- why texts that were read are no index: the first has a fault, or it has none, and the one behind it has one; or memory was wanted
-abbrev pub FailsToAccept : Settings → List ℕ → List ℕ → RunFault → Type 0
-FailsToAccept settings bytes more (Index fault) = (fault ≢ index_error.Memory) × (index_of_both bytes more settings.arch settings.essential ≡ Err (Fore fault))
-FailsToAccept settings bytes more (Background fault) = (fault ≢ index_error.Memory)
-    × (index_of_both bytes more settings.arch settings.essential ≡ Err (Back fault))
-FailsToAccept settings bytes more Memory = Unit {0}
-FailsToAccept settings bytes more _ = ⊥
 
 -- why there is no index, in the order in which one cause goes before another: a read of the text failed, or it is too long;
 -- it was read, and a read of the background failed, or that is too long; both were read,
@@ -188,12 +142,6 @@ is_of_background BackgroundRead = true
 is_of_background BackgroundTooLong = true
 is_of_background (Background fault) = true
 is_of_background _ = false
-
--- the index itself was not read
-abbrev pub is_unread : RunFault → Bool
-is_unread Read = true
-is_unread TooLong = true
-is_unread _ = false
 
 -- why there is no report on an index: an asked name is unknown; or all are known, and a strict run has a fault; or memory was wanted
 abbrev pub FailsToReport : Settings → IndexView → RunFault → Type 0

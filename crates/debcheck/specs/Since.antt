@@ -10,11 +10,12 @@ use Rattle.run_settings.specs.Settings.{Settings, tells_all_causes}
 use Rattle.deb_report.specs.Asked.{listed_places}
 use Rattle.deb_report.specs.Since.{BrokenView, broken_of, summary_since}
 use Rattle.deb_report.specs.Written.{written_since}
-use Rattle.debcheck.specs.declared.fault.RunFault.{RunFault}
-use Rattle.debcheck.specs.declared.fault.RunFault.TheVariants.{Read, TooLong, BackgroundRead, BackgroundTooLong, EarlierRead}
-use Rattle.debcheck.specs.declared.fault.RunFault.TheVariants.{EarlierTooLong, Index, Earlier, Write}
-use Rattle.debcheck.specs.Run.{Fails, FailsToIndex, HasAsked, HasIndex, IfIndexed, IfTold, Input}
-use Rattle.debcheck.specs.Run.{IsReportBy, Leaves, WritesBy, WritesFrontBy, WritesReport, is_unread}
+use Rattle.deb_input.specs.declared.fault.RunFault.{RunFault}
+use Rattle.deb_input.specs.declared.fault.RunFault.TheVariants.{Read, TooLong, BackgroundRead, BackgroundTooLong, EarlierRead}
+use Rattle.deb_input.specs.declared.fault.RunFault.TheVariants.{EarlierTooLong, Index, Earlier, Write}
+use Rattle.deb_input.specs.Inputs.{Input, is_unread}
+use Rattle.debcheck.specs.Run.{Fails, FailsToIndex, HasAsked, HasIndex, IfIndexed, IfTold}
+use Rattle.debcheck.specs.Run.{IsReportBy, Leaves, WritesBy, WritesFrontBy, WritesReport}
 
 -- ---- the report
 

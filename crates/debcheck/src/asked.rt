@@ -4,13 +4,12 @@ ghost use Rattle.std.specs.Prelude.{◌≡◌, ◌<◌, ◌^◌, All, IfOk, IfEr
 ghost use Rattle.deb_report.specs.Asked.{asked_places};
 ghost use Rattle.run_settings.specs.Settings.{settings_of};
 ghost use Rattle.debcheck.specs.Run.{FailsToReport};
-ghost use Rattle.debcheck.specs.Strict.{slip_of};
+ghost use Rattle.deb_input.specs.Strict.{slip_of};
 
 use crate::clues::note_unknown;
-use crate::fault::RunFault;
 use crate::hints::Clue;
-use crate::strict::slip_of;
 use deb_index::Index;
+use deb_input::{RunFault, slip_of};
 use deb_report::AskedFault;
 use run_settings::Config;
 use std::alloc::Global;

@@ -6,9 +6,9 @@ ghost use Rattle.deb_index.specs.Reading.{byte_limit};
 ghost use Rattle.input_hints.specs.Architectures.{TellsMost};
 ghost use Rattle.debcheck.specs.Clues.{IsElsewhere, clue_of, name_text, provider_of, refused_text, stanza_of, stanza_text};
 
-use crate::fault::RunFault;
 use crate::hints::Clue;
 use deb_index::{Index, IndexError};
+use deb_input::RunFault;
 use input_hints::{
     Input, RunHint, background_name_line, elsewhere_hint_line, provided_name_line, run_hint,
     stanza_hint_line,

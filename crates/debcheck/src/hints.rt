@@ -3,8 +3,7 @@
 ghost use Rattle.std.specs.Prelude.{◌≡◌, IfOk, option_map, string_bytes};
 ghost use Rattle.debcheck.specs.Hints.{clue_after, fault_hint_text, files_of, hint_text, is_in_question, run_hint_text, unread_text};
 
-use crate::fault::RunFault;
-use crate::strict;
+use deb_input::RunFault;
 use deb_report::Summary;
 use input_hints::{Hint, Input, file_hint_line, hint_line, hint_of, run_hint, run_hint_line};
 use run_settings::Config;
@@ -93,7 +92,7 @@ fn fault_hint_text(
         RunFault::EarlierRead => unread_text(alloc, Input::Earlier, &config.since),
         RunFault::NamesRead => unread_text(alloc, Input::Names, &config.only_file),
         RunFault::Slipped(slip) => {
-            let line = run_hint_line(strict::hint_of(*slip));
+            let line = run_hint_line(deb_input::hint_of(*slip));
             Ok(Some(Vec::from_slice(alloc, line)?))
         }
         _ => Ok(None),

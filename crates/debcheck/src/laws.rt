@@ -5,8 +5,9 @@ ghost use Rattle.deb_index.specs.Packages.{IndexView};
 ghost use Rattle.deb_index.specs.Reading.{index_of};
 ghost use Rattle.deb_report.specs.declared.summary.Summary.{Summary};
 ghost use Rattle.run_settings.specs.Settings.{Settings};
-ghost use Rattle.debcheck.specs.declared.fault.RunFault.{RunFault};
-ghost use Rattle.debcheck.specs.Run.{Fails, Input, IsReport, IsReportOn, input, is_of_background};
+ghost use Rattle.deb_input.specs.declared.fault.RunFault.{RunFault};
+ghost use Rattle.deb_input.specs.Inputs.{Input, input};
+ghost use Rattle.debcheck.specs.Run.{Fails, IsReport, IsReportOn, is_of_background};
 ghost use Rattle.debcheck.specs.Since.{IsReportSince};
 
 pub use deb_report::laws::{causes_have_reasons, nothing_since_itself, plain_texts};

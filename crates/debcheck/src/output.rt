@@ -3,11 +3,11 @@
 ghost use Rattle.std.specs.Prelude.{◌≡◌, Bool, IfOk, OnOk, OnErr, true};
 ghost use Rattle.std.specs.Io.KnownBytes.{Appends};
 ghost use Rattle.devices.specs.Devices.{AppendsPart};
-ghost use Rattle.debcheck.specs.Faults.{told_line};
+ghost use Rattle.deb_input.specs.Faults.{told_line};
 ghost use Rattle.debcheck.specs.LineFaults.{KeepsOther, TellsFront, TellsLine, mark_of};
 
-use crate::fault::{RunFault, fault_line, memory_line};
 use command_line::LineFault;
+use deb_input::{RunFault, fault_line, memory_line};
 use devices::{DeviceFault, Sink, write_all};
 use std::alloc::Global;
 

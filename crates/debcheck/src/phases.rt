@@ -4,17 +4,16 @@ ghost use Rattle.std.specs.Prelude.{◌≡◌, ◌≢◌, ◌<◌, ◌≤◌, If
 ghost use Rattle.std.specs.Io.KnownBytes.{IsAtEnd};
 ghost use Rattle.deb_index.specs.Reading.{byte_limit, index_of_both};
 ghost use Rattle.run_settings.specs.Settings.{settings_of};
-ghost use Rattle.debcheck.specs.Run.{Fails, FailsToAccept, FailsToIndex, FailsToReadBehind, FailsToReport, IsReadAs, IsReportOn, Leaves, ReadsAs, TellsReport};
-ghost use Rattle.debcheck.specs.Run.{WritesReport, behind, input, is_unread};
+ghost use Rattle.deb_input.specs.Inputs.{FailsToAccept, IsReadAs, input, is_unread};
+ghost use Rattle.debcheck.specs.Run.{Fails, FailsToIndex, FailsToReadBehind, FailsToReport, IsReportOn, Leaves, ReadsAs, TellsReport};
+ghost use Rattle.debcheck.specs.Run.{WritesReport, behind};
 
 use crate::asked::ask_noting;
 use crate::clues::{note_read, stanzas_before};
-use crate::fault::RunFault;
 use crate::hints::Clue;
-use crate::input::read_all;
-use crate::pieces::{PIECE, TextRead, finish, read_text};
 use crate::verdicts::{find_told, wanted_of};
 use deb_index::{BothError, Index, PART_SIZE, TEXT_LIMIT};
+use deb_input::{PIECE, RunFault, TextRead, finish, read_all, read_text};
 use deb_report::{Summary, report_told, summary_of};
 use devices::{Sink, Source, write_all};
 use run_settings::Config;

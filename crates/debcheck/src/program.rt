@@ -3,17 +3,17 @@
 ghost use Rattle.std.specs.Prelude.{◌≡◌, ◌<◌, ◌≤◌, IfErr, IfOk, OnOk, map, option_map, string_bytes, false};
 ghost use Rattle.std.specs.Result.{result_map_both};
 ghost use Rattle.run_settings.specs.Settings.{settings_of};
-ghost use Rattle.debcheck.specs.Run.{input};
+ghost use Rattle.deb_input.specs.Inputs.{input};
 ghost use Rattle.debcheck.specs.Program.{Asks, Ends, FailsToTake, Refuses, Runs, RunsBehind, RunsNamed, RunsTo, TakesNames, TellsOutcome, written};
 
-use crate::fault::{RunFault, status};
+use crate::exit_status::status;
 use crate::hints::{Clue, note, tell_hint};
-use crate::names::read_names;
 use crate::output::{write_fault, write_line_fault};
 use crate::phases::{After, run_noting};
 use crate::progress::{Progress, Wiping};
 use crate::since::run_since_noting;
 use command_line::{LineFault, line_status, read_line, words_of};
+use deb_input::{RunFault, read_names};
 use deb_report::Summary;
 use devices::{Disk, OpenFault, Opener, Recording, Sink, Source, Std};
 use input_hints::Input;

@@ -1,7 +1,7 @@
 use Rattle.std.proofs.Common.{◌∙◌, Bool, true, List, ℕ, OnErr, Result, Ok, Err, subst}
 use Rattle.std.specs.Io.KnownBytes.{Appends}
 use Rattle.devices.specs.Devices.{AppendsPart}
-use Rattle.debcheck.specs.Faults.{told_line}
+use Rattle.deb_input.specs.Faults.{told_line}
 use Rattle.debcheck.proofs.output.write_fault.Goals as goal
 
 on_err : {T E : Type 0} (r : Result T E) (P : Type 0) → P → OnErr r P

@@ -6,7 +6,7 @@ use Rattle.deb_report.specs.Told.{later_view}
 use Rattle.deb_health.specs.Verdicts.{verdict_view}
 use Rattle.deb_verdict.specs.declared.wanted.Wanted.{Wanted}
 use Rattle.debcheck.specs.Standing.{AreFound, wanted_by}
-use Rattle.debcheck.specs.Strict.{slip_of}
+use Rattle.deb_input.specs.Strict.{slip_of}
 use Rattle.debcheck.proofs.StandingLemmas.{reported-told}
 use Rattle.debcheck.proofs.phases.check_and_report.Goals as goal
 

@@ -1,7 +1,8 @@
 use Rattle.std.proofs.Common.{false}
 use Rattle.std.proofs.lemmas.Result.{IfErr-weaker, IfOk-weaker, err_from_is_err_and}
 use Rattle.run_settings.specs.Settings.{settings_of}
-use Rattle.debcheck.specs.Run.{Fails, FailsToReport, IsReportOn, TellsReport, input}
+use Rattle.deb_input.specs.Inputs.{input}
+use Rattle.debcheck.specs.Run.{Fails, FailsToReport, IsReportOn, TellsReport}
 use Rattle.debcheck.proofs.PhaseLemmas.{indexing-fails, report-fails, report-told}
 use Rattle.debcheck.proofs.phases.read_and_report.Goals as goal
 

@@ -2,7 +2,7 @@ use Rattle.std.proofs.Common.{◌∙◌, sym}
 use Rattle.std.proofs.lemmas.Bool.{false≢true}
 use Rattle.std.proofs.lemmas.Result.{IfErr-weaker, IfOk-weaker}
 use Rattle.run_settings.specs.Settings.{settings_of}
-use Rattle.debcheck.specs.Run.{input}
+use Rattle.deb_input.specs.Inputs.{input}
 use Rattle.debcheck.proofs.PhaseLemmas.{accept-fails, accepted-as, read_whole}
 use Rattle.debcheck.proofs.phases.read_index.Goals as goal
 

@@ -3,7 +3,8 @@ use Rattle.std.proofs.lemmas.Result.{err_from_is_err_and}
 use Rattle.std.specs.Io.KnownBytes.{Appends}
 use Rattle.devices.specs.Devices.{AppendsPart}
 use Rattle.run_settings.specs.Settings.{settings_of}
-use Rattle.debcheck.specs.Run.{IsReport, input}
+use Rattle.deb_input.specs.Inputs.{input}
+use Rattle.debcheck.specs.Run.{IsReport}
 use Rattle.debcheck.proofs.PhaseLemmas.{fails-unwritten, front-added, leaves-unwritten, report-added, writing-fails}
 use Rattle.debcheck.proofs.phases.run_noting.Goals as goal
 

@@ -1,5 +1,5 @@
 use Rattle.std.proofs.Common.{map, option_map, refl, string_bytes}
-use Rattle.debcheck.specs.Run.{input}
+use Rattle.deb_input.specs.Inputs.{input}
 use Rattle.debcheck.proofs.ProgramLemmas.{takes_those}
 use Rattle.debcheck.proofs.program.take_names.Goals as goal
 

@@ -1,6 +1,6 @@
 use Rattle.std.proofs.lemmas.Result.{IfErr-weaker, IfOk-weaker}
 use Rattle.run_settings.specs.Settings.{settings_of}
-use Rattle.debcheck.specs.Run.{input}
+use Rattle.deb_input.specs.Inputs.{input}
 use Rattle.debcheck.proofs.PhaseLemmas.{as-indexed}
 use Rattle.debcheck.proofs.SinceLemmas.{wanting-earlier}
 use Rattle.debcheck.proofs.since.read_before.Goals as goal

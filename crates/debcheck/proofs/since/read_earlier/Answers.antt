@@ -1,6 +1,7 @@
 use Rattle.std.proofs.lemmas.Result.{IfErr-weaker, IfOk-weaker}
 use Rattle.run_settings.specs.Settings.{settings_of}
-use Rattle.debcheck.proofs.PieceLemmas.{pieces-accepted, pieces-behind, pieces-fail, pieces-make, pieces-make-none}
+use Rattle.deb_input.proofs.PieceLemmas.{pieces-make, pieces-make-none}
+use Rattle.debcheck.proofs.SinceLemmas.{pieces-accepted, pieces-behind, pieces-fail}
 use Rattle.debcheck.proofs.since.read_earlier.Goals as goal
 
 pub returns-clause-index : goal.returns-clause-index

@@ -3,7 +3,8 @@ use Rattle.std.proofs.lemmas.Bool.{true≢false}
 use Rattle.std.proofs.lemmas.Result.{IfErr-weaker, IfOk-weaker, err_from_is_err_and}
 use Rattle.run_settings.specs.Settings.{settings_of}
 use Rattle.deb_report.specs.Since.{broken_view}
-use Rattle.debcheck.specs.Run.{IfIndexed, IsReadAs, behind, input}
+use Rattle.deb_input.specs.Inputs.{IsReadAs, input}
+use Rattle.debcheck.specs.Run.{IfIndexed, behind}
 use Rattle.debcheck.specs.Since.{FailsEarlier, WereBroken}
 use Rattle.debcheck.proofs.PhaseLemmas.{accept-fails, accepted-as, indexing-fails}
 use Rattle.debcheck.proofs.SinceLemmas.{fails-as-alone, known-fails, told-known, unread-before}

@@ -8,7 +8,7 @@ use Rattle.deb_report.specs.Since.{broken_view}
 use Rattle.deb_report.specs.Told.{later_view}
 use Rattle.debcheck.specs.Standing.{AreFound}
 use Rattle.debcheck.specs.Since.{wanted_since}
-use Rattle.debcheck.specs.Strict.{slip_of}
+use Rattle.deb_input.specs.Strict.{slip_of}
 use Rattle.debcheck.proofs.SinceLemmas.{reported-after}
 use Rattle.debcheck.proofs.since.report_after.Goals as goal
 

@@ -3,7 +3,7 @@ use Rattle.std.proofs.lemmas.Result.{err_from_is_err_and}
 use Rattle.std.specs.Io.KnownBytes.{Appends}
 use Rattle.devices.specs.Devices.{AppendsPart}
 use Rattle.run_settings.specs.Settings.{settings_of}
-use Rattle.debcheck.specs.Run.{input}
+use Rattle.deb_input.specs.Inputs.{input}
 use Rattle.debcheck.proofs.SinceLemmas.{since-added, since-front, since-leaves, since-unwritten, since-writing-fails}
 use Rattle.debcheck.proofs.since.run_since_noting.Goals as goal
 

@@ -1,0 +1,5 @@
+mod DeviceLemmas
+mod FaultLemmas
+pub mod IndexLemmas
+mod NameLemmas
+pub mod PieceLemmas

@@ -1,0 +1,179 @@
+//! A text that is read piece by piece: little more of it is held than a piece.
+
+ghost use Rattle.std.specs.Prelude.{◌≡◌, ◌<◌, ◌≤◌, ◌+◌, ℕ, List, IfErr, IfOk, Ok, OnOk, drop, false, length};
+ghost use Rattle.std.specs.Io.KnownBytes.{IsAtEnd};
+ghost use Rattle.deb_index.specs.Reading.{byte_limit, index_of_both};
+ghost use Rattle.run_settings.specs.Settings.{settings_of};
+ghost use Rattle.deb_input.specs.Pieces.{FailsInPieces, FailsToFinish, MakesIndex, ReadsAll, ReadsText, RefusesPiece, TakesLast, TakesPiece};
+ghost use Rattle.deb_input.specs.Inputs.{FailsToRead, is_unread};
+
+use crate::fault::RunFault;
+use crate::held::Held;
+use crate::input::skip_rest;
+use deb_control::cut_behind_blank;
+use deb_index::{BothError, Index, IndexError, PART_SIZE, PartialIndex, TEXT_LIMIT};
+use devices::Source;
+use run_settings::Config;
+use std::alloc::{AllocError, Global};
+use std::thread::Threads;
+
+/// How many bytes of a text are read before some of them are taken into the index.
+pub const PIECE: usize = 4_194_304;
+
+/// What a text came to that was read to its end.
+#[derive(Drop)]
+pub struct TextRead {
+    /// The index of all of it, or the first fault of its stanzas.
+    pub outcome: Result<PartialIndex, IndexError>,
+    /// The piece that was taken last, or the one with the fault.
+    pub last: Vec<u8>,
+}
+
+// Takes what is held into the index, up to the first empty line of its last quarter. Answers how many bytes that are: none, where there is no such
+// line.
+fn take_piece<R: Threads + Sync>(
+    rt: &R,
+    alloc: Global,
+    config: &Config,
+    front: PartialIndex,
+    held: &[u8],
+) -> Result<(PartialIndex, usize), IndexError>
+    requires short { front.size + length held.now ≤ byte_limit }
+    ensures within { IfOk result (λ r. r.1 ≤ length held.now) }
+    ensures taken { IfOk result (λ r. TakesPiece (settings_of config.now) front held.now r.0 (drop r.1 held.now)) }
+    ensures refused { IfErr result (RefusesPiece (settings_of config.now) front held.now) }
+{
+    let (piece, rest) = cut_behind_blank(held, held.len() / 4 * 3);
+    if rest.is_empty() {
+        return Ok((front, 0));
+    }
+    let next = front.take(rt, alloc, piece, config.workers, PART_SIZE)?;
+    Ok((next, piece.len()))
+}
+
+// Takes all that is held into the index, behind which the text ends.
+fn take_last<R: Threads + Sync>(
+    rt: &R,
+    alloc: Global,
+    config: &Config,
+    front: PartialIndex,
+    held: &[u8],
+) -> Result<Result<PartialIndex, IndexError>, AllocError>
+    requires short { front.size + length held.now ≤ byte_limit }
+    ensures { IfOk result (TakesLast (settings_of config.now) front held.now) }
+{
+    match front.take(rt, alloc, held, config.workers, PART_SIZE) {
+        Ok(whole) => Ok(Ok(whole)),
+        Err(IndexError::Memory) => Err(AllocError),
+        Err(fault) => Ok(Err(fault)),
+    }
+}
+
+/// Reads all that is left in a reader, a piece of at least so many bytes at a time, each of which is taken into the index by the workers side by side
+/// and given back.
+///
+/// `Read` where a read failed; `TooLong` where there are over `deb_index::TEXT_LIMIT` bytes; or `Memory`.
+pub fn read_text<S: Source, R: Threads + Sync>(
+    rt: &R,
+    alloc: Global,
+    config: &Config,
+    reader: &mut S,
+    piece: usize,
+) -> Result<TextRead, RunFault>
+    requires { 0 < piece }
+    ensures end { OnOk result (IsAtEnd (S.remaining reader.new)) }
+    ensures mark { OnOk result (S.failed reader.new ≡ S.failed reader.old) }
+    ensures held { IfOk result (λ read. length read.last.items ≤ byte_limit) }
+    ensures text { IfOk result (λ read. ReadsText (settings_of config.now)
+        (S.remaining reader.old) (S.remaining reader.new) (S.failed reader.old) (S.failed reader.new) read.outcome) }
+    ensures refused { IfErr result (FailsToRead (S.remaining reader.old) (S.failed reader.old) (S.failed reader.new) byte_limit) }
+{
+    let mut front = PartialIndex::new(alloc, config.arch.as_str(), config.essential)?;
+    let mut held = Held::new(alloc);
+    let mut read = 0;
+    'pieces: loop {
+        // Where no empty line was found, as much again is read before the next try, so that a text without such lines is looked through a few
+        // times only.
+        let count = piece.max(held.len()).min(TEXT_LIMIT + 1 - read);
+        if !held.read_more(reader, count)? {
+            let outcome = take_last(rt, alloc, config, front, held.as_slice())?;
+            return Ok(TextRead {
+                outcome,
+                last: held.into_bytes(),
+            });
+        }
+        read += count;
+        if read > TEXT_LIMIT {
+            return Err(RunFault::TooLong);
+        }
+        match take_piece(rt, alloc, config, front, held.as_slice()) {
+            Ok((next, taken)) => {
+                front = next;
+                held.drop_front(taken);
+            }
+            Err(IndexError::Memory) => return Err(RunFault::Memory),
+            Err(fault) => {
+                // A failed read goes before the fault of a stanza, and so does that the text is too long.
+                skip_rest(alloc, reader, TEXT_LIMIT - read)?;
+                return Ok(TextRead {
+                    outcome: Err(fault),
+                    last: held.into_bytes(),
+                });
+            }
+        }
+    }
+}
+
+/// The index of a text that was read to its end, and of what stands behind it.
+///
+/// `Index` where the text has a fault, the first one; `Background` where it has none and what stands behind it has one, the first one; or `Memory`.
+pub fn finish<R: Threads + Sync>(
+    rt: &R,
+    alloc: Global,
+    config: &Config,
+    outcome: Result<PartialIndex, IndexError>,
+    more: &[u8],
+) -> Result<Index, RunFault>
+    requires { length more.now ≤ byte_limit }
+    ensures index { IfOk result (MakesIndex (settings_of config.now) outcome more.now) }
+    ensures refused { IfErr result (FailsToFinish (settings_of config.now) outcome more.now) }
+    ensures read { IfErr result (λ fault. is_unread fault ≡ false) }
+{
+    match outcome {
+        Err(fault) => Err(RunFault::Index(fault)),
+        Ok(whole) => match whole.finish(rt, alloc, more, config.workers, PART_SIZE) {
+            Ok(index) => Ok(index),
+            Err(BothError::Memory) => Err(RunFault::Memory),
+            Err(BothError::Fore(fault)) => Err(RunFault::Index(fault)),
+            Err(BothError::Back(fault)) => Err(RunFault::Background(fault)),
+        },
+    }
+}
+
+/// The index of all that is left in a reader, and of what stands behind it, as `deb_index::Index::read_both` has it: for any piece from 1, and for
+/// any number of workers (0 count as 1). The reader is read to its end. At least so many bytes as a piece has are read before some of them are
+/// taken into the index and given back; a few times as many are held, and more only where a long part of the text has no empty line.
+///
+/// The first of these faults is answered: `Read` (some read failed), `TooLong` (over `deb_index::TEXT_LIMIT` bytes), `Index` (the first stanza with
+/// a fault), `Background` (the first one of what stands behind). Want of memory is `Memory`; it may come at any time, and never after a failed read.
+pub fn read_pieces<E: Source, R: Threads + Sync>(
+    rt: &R,
+    alloc: Global,
+    config: &Config,
+    reader: &mut E,
+    more: &[u8],
+    piece: usize,
+) -> Result<Index, RunFault>
+    requires more { length more.now ≤ byte_limit }
+    requires piece { 0 < piece }
+    ensures end { OnOk result (IsAtEnd (E.remaining reader.new)) }
+    ensures mark { OnOk result (E.failed reader.new ≡ E.failed reader.old) }
+    ensures index { IfOk result (λ index. (bytes : List ℕ)
+        × ReadsAll (E.remaining reader.old) (E.remaining reader.new) (E.failed reader.old) (E.failed reader.new) bytes
+        × (index_of_both bytes more.now (settings_of config.now).arch (settings_of config.now).essential ≡ Ok index)) }
+    ensures refused { IfErr result (FailsInPieces (settings_of config.now)
+        (E.remaining reader.old) (E.remaining reader.new) (E.failed reader.old) (E.failed reader.new) more.now) }
+{
+    let read = read_text(rt, alloc, config, reader, piece)?;
+    finish(rt, alloc, config, read.outcome, more)
+}
