@@ -8,20 +8,24 @@ use std::alloc::{AllocError, Global};
 use std::process::Abort;
 use test_devices::{BACKED_REPORT, BACKGROUND, CHAIN, CHAIN_REPORT, Held, INDEX, sink_with_room};
 
+static NO_TEXT: Case<'static> = EMPTY;
+
 /// No text, with a writer that takes one byte a call.
 #[test]
 fn of_run(rt: HostRuntime) -> Result<(), AllocError> {
-    expect(&rt, &EMPTY)
+    expect(&rt, &NO_TEXT)
 }
+
+static FAILING: Case<'static> = FRONT;
 
 /// The same, and the writer fails at its fifth call.
 #[test]
 fn of_run_with_a_failing_writer(rt: HostRuntime) -> Result<(), AllocError> {
-    expect(&rt, &FRONT)
+    expect(&rt, &FAILING)
 }
 
 /// Two packages are broken, each by one cause.
-const ALL_REASONS: Case<'static> = Case {
+const TWO_BROKEN: Case<'static> = Case {
     name: "all reasons",
     settings: Settings {
         all_reasons: true,
@@ -41,40 +45,46 @@ const ALL_REASONS: Case<'static> = Case {
     ..EMPTY
 };
 
+static ALL_REASONS: Case<'static> = TWO_BROKEN;
+
 #[test]
 fn of_run_with_all_reasons(rt: HostRuntime) -> Result<(), AllocError> {
     expect(&rt, &ALL_REASONS)
 }
 
+static TEXTS_SINCE: Case<'static> = SINCE;
+
 /// An index, a background and an earlier index, each with a package.
 #[test]
 fn of_run_since(rt: HostRuntime) -> Result<(), AllocError> {
-    expect(&rt, &SINCE)
+    expect(&rt, &TEXTS_SINCE)
 }
+
+static REASONS_SINCE: Case<'static> = SINCE_WITH_ALL_REASONS;
 
 /// The same where all reasons are told; there is one.
 #[test]
 fn of_run_since_with_all_reasons(rt: HostRuntime) -> Result<(), AllocError> {
-    expect(&rt, &SINCE_WITH_ALL_REASONS)
+    expect(&rt, &REASONS_SINCE)
 }
 
 /// Three packages, two of them broken, in three chunks.
-const BY_TWO_WORKERS: Case<'static> = Case {
+const COUNTED: Case<'static> = Case {
     name: "two workers",
     way: Way::Counted,
     settings: BY_TWO,
     step: 1_000,
     room: 1_000,
-    ..ALL_REASONS
+    ..TWO_BROKEN
 };
 
-const BY_ONE_WORKER: Case<'static> = Case {
+static BY_ONE_WORKER: Case<'static> = Case {
     name: "one worker",
     settings: Settings {
         workers: 1,
         ..BY_TWO
     },
-    ..BY_TWO_WORKERS
+    ..COUNTED
 };
 
 #[test]
@@ -82,13 +92,15 @@ fn of_run_with_one_worker(rt: HostRuntime) -> Result<(), AllocError> {
     expect(&rt, &BY_ONE_WORKER)
 }
 
+static BY_TWO_WORKERS: Case<'static> = COUNTED;
+
 #[test]
 fn of_run_with_two_workers(rt: HostRuntime) -> Result<(), AllocError> {
     expect(&rt, &BY_TWO_WORKERS)
 }
 
 /// A package that needs one of the background, and a broken one, by two workers.
-const BACKED: Case<'static> = Case {
+static BACKED: Case<'static> = Case {
     name: "a background",
     index: INDEX,
     background: Some(BACKGROUND),

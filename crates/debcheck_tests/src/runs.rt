@@ -206,14 +206,13 @@ const TORN: Case<'static> = Case {
     ..FAULT
 };
 
+static SMALL_RUNS: [Case<'static>; 8] = [
+    EMPTY, FRONT, CHOICE, FAILURES, NAMED, UNKNOWN, FAULT, TORN,
+];
+
 #[test]
 fn small_runs(rt: HostRuntime) {
-    expect_answer(&rt, &EMPTY);
-    expect_answer(&rt, &FRONT);
-    expect_answer(&rt, &CHOICE);
-    expect_answer(&rt, &FAILURES);
-    expect_answer(&rt, &NAMED);
-    expect_answer(&rt, &UNKNOWN);
-    expect_answer(&rt, &FAULT);
-    expect_answer(&rt, &TORN);
+    for case in &SMALL_RUNS {
+        expect_answer(&rt, case);
+    }
 }

@@ -124,35 +124,29 @@ const FAULT: Case<'static> = Case {
     ..TORN_EARLIER
 };
 
-/// The reader fails behind so many bytes of its text.
-fn expect_torn(rt: &(impl Abort + Threads + Sync + AllocGlobal), torn: Torn, count: usize) {
-    let case = match torn {
-        Torn::Background => Case {
-            background: Some(&BACKGROUND[..count.min(BACKGROUND.len())]),
-            ..TORN_BACKGROUND
-        },
-        Torn::Earlier => Case {
-            earlier: &EARLIER[..count.min(EARLIER.len())],
-            ..TORN_EARLIER
-        },
-        _ => Case {
-            index: &INDEX[..count.min(INDEX.len())],
-            ..TORN
-        },
-    };
+static TORN_ONES: [Case<'static>; 3] = [TORN, TORN_BACKGROUND, TORN_EARLIER];
+
+/// The reader that fails does so behind so many bytes of its text.
+fn expect_torn(
+    rt: &(impl Abort + Threads + Sync + AllocGlobal),
+    torn: &Case<'static>,
+    count: usize,
+) {
+    let mut case = *torn;
+    match torn.torn {
+        Torn::Background => case.background = Some(&BACKGROUND[..count.min(BACKGROUND.len())]),
+        Torn::Earlier => case.earlier = &EARLIER[..count.min(EARLIER.len())],
+        _ => case.index = &INDEX[..count.min(INDEX.len())],
+    }
     expect_answer(rt, &case);
 }
 
 #[test]
 fn readers_fail_behind_each_byte(rt: HostRuntime) {
-    for count in 0..=INDEX.len() {
-        expect_torn(&rt, Torn::Index, count);
-    }
-    for count in 0..=BACKGROUND.len() {
-        expect_torn(&rt, Torn::Background, count);
-    }
-    for count in 0..=EARLIER.len() {
-        expect_torn(&rt, Torn::Earlier, count);
+    for torn in &TORN_ONES {
+        for count in 0..=INDEX.len() {
+            expect_torn(&rt, torn, count);
+        }
     }
 }
 
@@ -321,12 +315,11 @@ mended:
 gone:
 ";
 
+static RUNS: [Case<'static>; 6] = [GOES_ON, FAULT, FIRST, WALKED, IN_JSON, UNEXPLAINED];
+
 #[test]
 fn runs_since_an_earlier_index(rt: HostRuntime) {
-    expect_answer(&rt, &GOES_ON);
-    expect_answer(&rt, &FAULT);
-    expect_answer(&rt, &FIRST);
-    expect_answer(&rt, &WALKED);
-    expect_answer(&rt, &IN_JSON);
-    expect_answer(&rt, &UNEXPLAINED);
+    for case in &RUNS {
+        expect_answer(&rt, case);
+    }
 }
