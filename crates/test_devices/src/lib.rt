@@ -1,4 +1,4 @@
-//! What the tests of `debcheck` and of whole programs run on: devices over memory that tell what became of them, and fail where they are told to.
+//! What the tests of `deb_input`, of `debcheck` and of whole programs run on: devices over memory that tell what became of them, and fail where told to.
 //!
 //! `memory` has a reader and a writer, `cabinets` files, `screens` a screen and a clock, `words` makes words of a line, `texts` has indexes with their reports.
 #![tactic(auto)]
