@@ -130,7 +130,10 @@ pub(crate) fn stanzas_before(
         _ => return 0,
     };
     match Index::read(alloc, piece, config.arch.as_str(), config.essential) {
-        Ok(_) => 0,
+        Ok(index) => {
+            drop(index);
+            0
+        }
         Err(own) => number
             .unwrap_or(0)
             .saturating_sub(stanza_of(&own).unwrap_or(0)),

@@ -110,7 +110,11 @@ fn read_before<E: Source, G: Gate + Sync, R: Threads + Sync>(
         → FailsEarlier (settings_of config.now) (input (E.remaining earlier.old) (E.failed earlier.new)) background fault) }
 {
     match read_earlier(rt, alloc, config, earlier, more, seen) {
-        Ok(index) => broken_in(rt, alloc, config, &index, gate),
+        Ok(index) => {
+            let broken = broken_in(rt, alloc, config, &index, gate);
+            drop(index);
+            broken
+        }
         Err(fault) => Err(as_earlier(fault)),
     }
 }

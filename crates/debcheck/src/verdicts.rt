@@ -123,7 +123,9 @@ pub(crate) fn find_verdicts<G: Gate + Sync, R: Threads + Sync>(
     ensures each { IfOk result (λ v. AnswersEach (IsToldVerdict wanted index.now) asked.now (map verdict_view v.items)) }
 {
     let groundwork = Groundwork::new(alloc, index)?;
-    find_on(rt, alloc, config, wanted, &groundwork, asked, gate)
+    let found = find_on(rt, alloc, config, wanted, &groundwork, asked, gate);
+    drop(groundwork);
+    found
 }
 
 // The verdicts of broken packages, with their first cores, beside all later cores where all causes are told. No core is looked for twice.
@@ -221,9 +223,11 @@ pub(crate) fn find_told<G: Gate + Sync, R: Threads + Sync>(
 {
     if wanted.cores && (config.tells_all_causes() || !before.is_empty()) {
         let ground = Groundwork::new(alloc, index)?;
-        return find_news(
+        let found = find_news(
             rt, alloc, config, wanted, index, &ground, asked, before, gate,
         );
+        drop(ground);
+        return found;
     }
     let verdicts = find_verdicts(rt, alloc, config, wanted, index, asked, gate)?;
     let later = Vec::new(alloc);

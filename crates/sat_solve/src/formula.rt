@@ -128,7 +128,9 @@ impl Formula {
         ensures { IfOk result (IsAnswer self.now.vars self.now.clauses keep.now must keep.now) }
     {
         let mut workspace = Workspace::new(alloc);
-        self.solve_in(alloc, &mut workspace, keep, must)
+        let answer = self.solve_in(alloc, &mut workspace, keep, must);
+        drop(workspace);
+        answer
     }
 
     /// What `solve` gives, found in the buffers of an earlier solve.
