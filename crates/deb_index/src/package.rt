@@ -144,7 +144,7 @@ fn is_provided(atom: &Atom) -> bool
 {
     match &atom.bound {
         None => true,
-        Some((op, _)) => matches!(op, Op::Eq),
+        Some(bound) => matches!(bound.0, Op::Eq),
     }
 }
 
