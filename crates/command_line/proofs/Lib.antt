@@ -1,2 +1,3 @@
 mod LineFacts
 mod LineLemmas
+mod OptionLemmas

@@ -1,6 +1,6 @@
 -- What a command line asks for.
 use Rattle.std.specs.Prelude.{◌≡◌, ◌≢◌, ◌⊎◌, ℕ, ◌==◌, nat_le, Bool, true, false, not, ◌&&◌, ◌||◌}
-use Rattle.std.specs.Prelude.{List, [], ◌∷◌, length, Some, None, codes, if◌then◌else◌, is_some, ◌++◌, Option, string_bytes}
+use Rattle.std.specs.Prelude.{List, [], ◌∷◌, length, Some, None, codes, if◌then◌else◌, is_some, map, ◌++◌, Option, string_bytes}
 use Rattle.std.specs.Char.{is_ascii_digit}
 use Rattle.std.specs.List.{list_all, list_any, slice_split}
 use Rattle.std.specs.Option.{option_map, option_map_or, unwrap_or}
@@ -9,6 +9,7 @@ use Rattle.std.specs.Str.Parse.{digits_value}
 use Rattle.clap.specs.Lexer.{strip_byte}
 use Rattle.clap.specs.Words.{App, Row, Rule, Text, fault_of, first_of, found_of, matches_of, new_app, new_rule, rows_of}
 use Rattle.clap.specs.declared.parser.matches.ArgMatches.{ArgMatches}
+use Rattle.clap.specs.declared.builder.action.ArgAction.{ArgAction}
 use Rattle.clap.specs.declared.builder.action.ArgAction.TheVariants as action
 use Rattle.clap.specs.declared.error.kind.ErrorKind.{ErrorKind}
 use Rattle.clap.specs.declared.error.kind.ErrorKind.TheVariants as kind
@@ -17,6 +18,8 @@ use Rattle.run_settings.specs.declared.config.Config.{Config}
 use Rattle.run_settings.specs.declared.config.Format.{Format}
 use Rattle.run_settings.specs.declared.config.Format.TheVariants as form
 use Rattle.command_line.specs.declared.line.TheConstants.{VERSION_LINE}
+use Rattle.command_line.specs.declared.line.Values.{Values}
+use Rattle.command_line.specs.declared.options.Valued.{Valued}
 use Rattle.run_settings.specs.declared.config.Show.{Show}
 use Rattle.run_settings.specs.declared.config.Show.TheVariants.{All, Failures, Successes}
 use Rattle.command_line.specs.declared.line.LineFault.{LineFault}
@@ -76,6 +79,19 @@ abbrev pub other_rules : List Rule
 other_rules = flag_rule (codes "explain") ∷ flag_rule (codes "failures") ∷ flag_rule (codes "successes") ∷ flag_rule (codes "causes")
     ∷ flag_rule (codes "all-reasons")
     ∷ flag_rule (codes "why") ∷ flag_rule (codes "ignore-essential") ∷ flag_rule (codes "strict") ∷ flag_rule (codes "quiet") ∷ help_rule ∷ version_rule ∷ []
+
+-- what an option with a value says of itself
+abbrev pub valued_rule : Valued → Rule
+valued_rule option = record (value_rule option.name.now) { required = option.required; defaults = map (λ text. text.now) option.usual.now }
+
+-- those without one but for those that ask for a text in the place of a run
+abbrev pub flag_rules : List Rule
+flag_rules = flag_rule (codes "explain") ∷ flag_rule (codes "failures") ∷ flag_rule (codes "successes") ∷ flag_rule (codes "causes")
+    ∷ flag_rule (codes "all-reasons") ∷ flag_rule (codes "why") ∷ flag_rule (codes "ignore-essential") ∷ flag_rule (codes "strict") ∷ flag_rule (codes "quiet") ∷ []
+
+-- an option that asks for one
+abbrev pub call_rule : Text → ℕ → ArgAction → Rule
+call_rule name short text = record (flag_rule name) { short = Some short; action = Some text }
 
 -- the program's command with these options, whose words come without the program's name
 abbrev pub app_with : List Rule → App
@@ -189,6 +205,17 @@ asked_by rows = record {
   chunk = digits_value 10 (value_of (codes "chunk") rows);
   quiet = is_set (codes "quiet") rows;
 }
+
+-- the values of the options are these
+pub record AreValuesOf (rows : List Row) (values : Values) : Type 0 where
+  pub arch : values.arch.now ≡ value_of (codes "arch") rows
+  pub workers : values.workers ≡ digits_value 10 (value_of (codes "workers") rows)
+  pub chunk : values.chunk ≡ digits_value 10 (value_of (codes "chunk") rows)
+  pub show : values.show ≡ show_of (is_set (codes "failures") rows) (is_set (codes "successes") rows)
+  pub asked : option_map (λ text. text.now) values.asked ≡ first_of (codes "checkonly") rows
+  pub bg : option_map (λ text. text.now) values.bg ≡ first_of (codes "bg") rows
+  pub since : option_map (λ text. text.now) values.since ≡ first_of (codes "since") rows
+  pub format : values.format ≡ unwrap_or (format_of (value_of (codes "format") rows)) form.Text
 
 -- ---- the line
 

@@ -7,8 +7,8 @@ ghost use Rattle.std.specs.Str.Parse.{digits_value};
 ghost use Rattle.clap.specs.Words.{first_of, kind_of};
 ghost use Rattle.deb_relation.specs.Relationship.{is_name};
 ghost use Rattle.run_settings.specs.Settings.{is_architecture, settings_of};
-ghost use Rattle.command_line.specs.Line.{Accepts, IsFaultOf, IsRefusal, RefusesLine, RefusesUnless, asked_by, file_named};
-ghost use Rattle.command_line.specs.Line.{format_of, has_good_file, has_good_names, has_good_reasons, has_good_since, has_good_values, is_count, is_set};
+ghost use Rattle.command_line.specs.Line.{Accepts, AreValuesOf, IsFaultOf, IsRefusal, RefusesLine, RefusesUnless, asked_by, file_named, format_of};
+ghost use Rattle.command_line.specs.Line.{has_good_file, has_good_names, has_good_reasons, has_good_since, has_good_values, is_count, is_good_list, is_set};
 ghost use Rattle.command_line.specs.Line.{line_status_of, listed_in, names_in, request_of, rows_in, show_of, tells_more_reasons, value_of};
 ghost use Rattle.command_line.specs.declared.line.LineFault.TheVariants.{Memory};
 
@@ -73,13 +73,11 @@ pub fn line_status(fault: &LineFault) -> u8
 
 // The text of a refused word, with what stands for it here where it is one of other programs.
 fn unknown_text(alloc: Global, error: &clap::Error) -> Result<String, AllocError> {
-    let mut text = error.to_string(alloc)?;
-    if let Some(advice) = advice_in(text.as_str()) {
-        text.push_str("hint: ")?;
-        text.push_str(advice)?;
-        text.push_str("\n")?;
+    let text = error.to_string(alloc)?;
+    match advice_in(text.as_str()) {
+        Some(advice) => format!(in alloc; "{text}hint: {advice}\n"),
+        None => Ok(text),
     }
-    Ok(text)
 }
 
 // What a parse that gives no matches comes to.
@@ -103,27 +101,37 @@ fn fault_from(alloc: Global, error: &clap::Error) -> Result<LineFault, AllocErro
     })
 }
 
-// The refusal of a value that isn't of its option's form.
-fn refusal(alloc: Global, option: &str, value: &str, allowed: &str) -> Result<LineFault, AllocError>
-    ensures { IfOk result IsRefusal }
+// The refusal with this text; want of memory where there was none for it.
+fn refused(text: Result<String, AllocError>) -> LineFault
+    ensures told { OnOk text (IsRefusal result) }
+    ensures fault { RefusesUnless false result }
 {
-    let text = format!(in alloc;
-        "error: invalid value {value:?} for '{option}': {allowed}\n\nFor more information, try '--help'.\n"
-    )?;
-    Ok(LineFault::Refused { text })
+    match text {
+        Ok(text) => LineFault::Refused { text },
+        Err(_) => LineFault::Memory,
+    }
 }
 
-fn architecture(alloc: Global, matches: &ArgMatches<'_>) -> Result<String, LineFault>
-    ensures value { IfOk result (λ arch. string_bytes arch ≡ value_of (codes "arch") (rows_in matches.now)) }
+// The refusal of a value that isn't of its option's form.
+fn refusal(alloc: Global, option: &str, value: &str, allowed: &str) -> LineFault
+    ensures { RefusesUnless false result }
+{
+    refused(format!(in alloc;
+        "error: invalid value {value:?} for '{option}': {allowed}\n\nFor more information, try '--help'.\n"
+    ))
+}
+
+fn architecture<'a>(alloc: Global, matches: &ArgMatches<'a>) -> Result<&'a str, LineFault>
+    ensures value { IfOk result (λ arch. arch.now ≡ value_of (codes "arch") (rows_in matches.now)) }
     ensures good { OnOk result (is_architecture (value_of (codes "arch") (rows_in matches.now)) ≡ true) }
     ensures refused { IfErr result (RefusesUnless (is_architecture (value_of (codes "arch") (rows_in matches.now)))) }
 {
     let arch = value_of(matches, "arch");
     if is_architecture(arch) {
-        return Ok(String::from_str(alloc, arch)?);
+        return Ok(arch);
     }
     let allowed = "one or more letters, digits and -, neither all nor any";
-    Err(refusal(alloc, "--arch <A>", arch, allowed)?)
+    Err(refusal(alloc, "--arch <A>", arch, allowed))
 }
 
 fn workers(alloc: Global, matches: &ArgMatches<'_>) -> Result<u32, LineFault>
@@ -134,7 +142,7 @@ fn workers(alloc: Global, matches: &ArgMatches<'_>) -> Result<u32, LineFault>
     let value = value_of(matches, "workers");
     match count_of(value, WORKER_LIMIT) {
         Some(count) => Ok(count),
-        None => Err(refusal(alloc, "--workers <N>", value, "a number from 1 to 64")?),
+        None => Err(refusal(alloc, "--workers <N>", value, "a number from 1 to 64")),
     }
 }
 
@@ -146,75 +154,67 @@ fn chunk(alloc: Global, matches: &ArgMatches<'_>) -> Result<u32, LineFault>
     let value = value_of(matches, "chunk");
     match count_of(value, CHUNK_LIMIT) {
         Some(count) => Ok(count),
-        None => Err(refusal(alloc, "--chunk <K>", value, "a number from 1 to 1000000")?),
+        None => Err(refusal(alloc, "--chunk <K>", value, "a number from 1 to 1000000")),
     }
 }
 
-// The names in a list.
-fn listed(alloc: Global, list: &str) -> Result<Vec<Vec<u8>>, LineFault>
-    ensures value { IfOk result (λ names. map (λ name. name.items) names.items ≡ names_in list.now) }
+// Refuses what isn't names with commas between them.
+fn check_names(alloc: Global, list: &str) -> Result<(), LineFault>
     ensures good { OnOk result (list_all is_name (names_in list.now) ≡ true) }
     ensures refused { IfErr result (RefusesUnless (list_all is_name (names_in list.now))) }
 {
-    match names_of(alloc, list)? {
-        Some(names) => Ok(names),
-        None => {
-            let allowed = "package names with commas between them, or @ and the name of a file";
-            Err(refusal(alloc, ONLY, wrong_part(list), allowed)?)
-        }
+    let allowed = "package names with commas between them, or @ and the name of a file";
+    match wrong_part(list) {
+        Some(part) => Err(refusal(alloc, ONLY, part, allowed)),
+        None => Ok(()),
     }
 }
 
-fn only(alloc: Global, matches: &ArgMatches<'_>) -> Result<Option<Vec<Vec<u8>>>, LineFault>
-    ensures value { IfOk result (λ only. option_map (λ names. map (λ name. name.items) names.items) only
-        ≡ listed_in (first_of (codes "checkonly") (rows_in matches.now))) }
+// Refuses what is neither that nor the name of a file behind an `@`.
+fn check_list(alloc: Global, list: &str) -> Result<(), LineFault>
+    ensures good { OnOk result (is_good_list list.now ≡ true) }
+    ensures refused { IfErr result (RefusesUnless (is_good_list list.now)) }
+{
+    match file_in(list) {
+        Some("") => Err(refusal(alloc, ONLY, list, "the name of a file behind @")),
+        Some(_) => Ok(()),
+        None => check_names(alloc, list),
+    }
+}
+
+// What is given of the names that are asked: a list of them, or the name of a file behind an `@`.
+fn asked<'a>(alloc: Global, matches: &ArgMatches<'a>) -> Result<Option<&'a str>, LineFault>
+    ensures value { IfOk result (λ list. option_map (λ text. text.now) list ≡ first_of (codes "checkonly") (rows_in matches.now)) }
     ensures good { OnOk result (has_good_names (rows_in matches.now) ≡ true) }
     ensures refused { IfErr result (RefusesUnless (has_good_names (rows_in matches.now))) }
 {
-    let Some(list) = given(matches, "checkonly") else {
-        return Ok(None);
-    };
-    match file_in(list) {
-        Some("") => Err(refusal(alloc, ONLY, list, "the name of a file behind @")?),
-        Some(_) => Ok(None),
-        None => Ok(Some(listed(alloc, list)?)),
+    let list = given(matches, "checkonly");
+    if let Some(text) = list {
+        check_list(alloc, text)?;
     }
+    Ok(list)
 }
 
-// The name of the file that has the names that are asked.
-fn only_file(alloc: Global, matches: &ArgMatches<'_>) -> Result<Option<String>, AllocError>
-    ensures { IfOk result (λ file. option_map string_bytes file ≡ file_named (first_of (codes "checkonly") (rows_in matches.now))) }
-{
-    let Some(list) = given(matches, "checkonly") else {
-        return Ok(None);
-    };
-    match file_in(list) {
-        Some(name) => Ok(Some(String::from_str(alloc, name)?)),
-        None => Ok(None),
-    }
-}
-
-// The name of a file that an option takes; `shown` is the option as a refusal names it.
-fn file(
+// The name of the file that an option takes; `shown` is the option as a refusal names it.
+fn file<'a>(
     alloc: Global,
-    matches: &ArgMatches<'_>,
+    matches: &ArgMatches<'a>,
     option: &str,
     shown: &str,
-) -> Result<Option<String>, LineFault>
-    ensures value { IfOk result (λ file. option_map string_bytes file ≡ first_of option.now (rows_in matches.now)) }
+) -> Result<Option<&'a str>, LineFault>
+    ensures value { IfOk result (λ file. option_map (λ name. name.now) file ≡ first_of option.now (rows_in matches.now)) }
     ensures good { OnOk result (has_good_file option.now (rows_in matches.now) ≡ true) }
     ensures refused { IfErr result (RefusesUnless (has_good_file option.now (rows_in matches.now))) }
 {
     match given(matches, option) {
-        None => Ok(None),
-        Some("") => Err(refusal(alloc, shown, "", "the name of a file")?),
-        Some(file) => Ok(Some(String::from_str(alloc, file)?)),
+        Some("") => Err(refusal(alloc, shown, "", "the name of a file")),
+        file => Ok(file),
     }
 }
 
 // The name of the earlier index's file. With one, packages that can be installed are not asked for.
-fn earlier(alloc: Global, matches: &ArgMatches<'_>) -> Result<Option<String>, LineFault>
-    ensures value { IfOk result (λ file. option_map string_bytes file ≡ first_of (codes "since") (rows_in matches.now)) }
+fn earlier<'a>(alloc: Global, matches: &ArgMatches<'a>) -> Result<Option<&'a str>, LineFault>
+    ensures value { IfOk result (λ file. option_map (λ name. name.now) file ≡ first_of (codes "since") (rows_in matches.now)) }
     ensures good { OnOk result (has_good_since (rows_in matches.now) ≡ true) }
     ensures refused { IfErr result (RefusesUnless (has_good_since (rows_in matches.now))) }
 {
@@ -222,9 +222,7 @@ fn earlier(alloc: Global, matches: &ArgMatches<'_>) -> Result<Option<String>, Li
     if since.is_some() && is_set(matches, "successes") {
         let text =
             "error: the argument '--since <FILE>' cannot be used with '--successes'\n\nFor more information, try '--help'.\n";
-        return Err(LineFault::Refused {
-            text: String::from_str(alloc, text)?,
-        });
+        return Err(refused(String::from_str(alloc, text)));
     }
     Ok(since)
 }
@@ -237,7 +235,7 @@ fn report_format(alloc: Global, matches: &ArgMatches<'_>) -> Result<Format, Line
     let value = value_of(matches, "format");
     match format_of(value) {
         Some(form) => Ok(form),
-        None => Err(refusal(alloc, "--format <FORM>", value, "text or json")?),
+        None => Err(refusal(alloc, "--format <FORM>", value, "text or json")),
     }
 }
 
@@ -249,18 +247,17 @@ fn tells_more_reasons(matches: &ArgMatches<'_>) -> bool
 }
 
 // The refusal of an option that tells of packages that cannot be installed alone, where those that can be are asked for alone.
-fn untold(alloc: Global, matches: &ArgMatches<'_>) -> Result<LineFault, AllocError>
-    ensures { IfOk result IsRefusal }
+fn untold(alloc: Global, matches: &ArgMatches<'_>) -> LineFault
+    ensures { RefusesUnless false result }
 {
     let option = if is_set(matches, "why") {
         "--why"
     } else {
         "--all-reasons"
     };
-    let text = format!(in alloc;
+    refused(format!(in alloc;
         "error: the argument '{option}' cannot be used with '--successes' unless '--failures' is there, too\n\nFor more information, try '--help'.\n"
-    )?;
-    Ok(LineFault::Refused { text })
+    ))
 }
 
 // Which packages are shown.
@@ -272,10 +269,104 @@ fn show(alloc: Global, matches: &ArgMatches<'_>) -> Result<Show, LineFault>
 {
     match (is_set(matches, "failures"), is_set(matches, "successes")) {
         (true, false) => Ok(Show::Failures),
-        (false, true) if tells_more_reasons(matches) => Err(untold(alloc, matches)?),
+        (false, true) if tells_more_reasons(matches) => Err(untold(alloc, matches)),
         (false, true) => Ok(Show::Successes),
         _ => Ok(Show::All),
     }
+}
+
+// What the values of the options say.
+#[derive(Drop)]
+pub(crate) struct Values<'a> {
+    arch: &'a str,
+    workers: u32,
+    chunk: u32,
+    show: Show,
+    // What is given of the names that are asked.
+    asked: Option<&'a str>,
+    bg: Option<&'a str>,
+    since: Option<&'a str>,
+    format: Format,
+}
+
+// The values of the options, each of its form.
+fn checked_values<'a>(alloc: Global, matches: &ArgMatches<'a>) -> Result<Values<'a>, LineFault>
+    ensures values { IfOk result (AreValuesOf (rows_in matches.now)) }
+    ensures good { OnOk result (has_good_values (rows_in matches.now) ≡ true) }
+    ensures refused { IfErr result (RefusesUnless (has_good_values (rows_in matches.now))) }
+{
+    Ok(Values {
+        arch: architecture(alloc, matches)?,
+        workers: workers(alloc, matches)?,
+        chunk: chunk(alloc, matches)?,
+        show: show(alloc, matches)?,
+        asked: asked(alloc, matches)?,
+        bg: file(alloc, matches, "bg", "--bg <FILE>")?,
+        since: earlier(alloc, matches)?,
+        format: report_format(alloc, matches)?,
+    })
+}
+
+// The names that are asked, where a list of them is given.
+fn only(alloc: Global, list: Option<&str>) -> Result<Option<Vec<Vec<u8>>>, AllocError>
+    ensures { IfOk result (λ only. option_map (λ names. map (λ name. name.items) names.items) only ≡ listed_in (option_map (λ text. text.now) list.entry)) }
+{
+    let Some(list) = list else {
+        return Ok(None);
+    };
+    match file_in(list) {
+        Some(_) => Ok(None),
+        None => Ok(Some(names_of(alloc, list)?)),
+    }
+}
+
+// The name of the file that has the names that are asked, where one is given.
+fn only_file(list: Option<&str>) -> Option<&str>
+    ensures { option_map (λ file. file.now) result ≡ file_named (option_map (λ text. text.now) list.entry) }
+{
+    match list {
+        Some(list) => file_in(list),
+        None => None,
+    }
+}
+
+// The text of a value by itself.
+fn owned(alloc: Global, text: Option<&str>) -> Result<Option<String>, AllocError>
+    ensures { IfOk result (λ owned. option_map string_bytes owned ≡ option_map (λ text. text.now) text.entry) }
+{
+    match text {
+        Some(text) => Ok(Some(String::from_str(alloc, text)?)),
+        None => Ok(None),
+    }
+}
+
+// The configuration of these values and of the options that have none.
+fn config_with(
+    alloc: Global,
+    matches: &ArgMatches<'_>,
+    values: &Values<'_>,
+) -> Result<Config, AllocError>
+    requires { AreValuesOf (rows_in matches.now) values.now }
+    ensures { IfOk result (λ config. request_of config ≡ asked_by (rows_in matches.now)) }
+{
+    Ok(Config {
+        arch: String::from_str(alloc, values.arch)?,
+        workers: values.workers,
+        chunk: values.chunk,
+        explain: is_set(matches, "explain") || tells_more_reasons(matches),
+        show: values.show,
+        essential: !is_set(matches, "ignore-essential"),
+        only: only(alloc, values.asked)?,
+        only_file: owned(alloc, only_file(values.asked))?,
+        bg: owned(alloc, values.bg)?,
+        since: owned(alloc, values.since)?,
+        strict: is_set(matches, "strict"),
+        causes: is_set(matches, "causes"),
+        all_reasons: is_set(matches, "all-reasons"),
+        why: is_set(matches, "why"),
+        format: values.format,
+        quiet: is_set(matches, "quiet"),
+    })
 }
 
 // The configuration that the options and their values say.
@@ -284,34 +375,14 @@ fn config_of(alloc: Global, matches: &ArgMatches<'_>) -> Result<Config, LineFaul
     ensures request { IfOk result (λ config. request_of config ≡ asked_by (rows_in matches.now)) }
     ensures refused { IfErr result (RefusesUnless (has_good_values (rows_in matches.now))) }
 {
-    Ok(Config {
-        arch: architecture(alloc, matches)?,
-        workers: workers(alloc, matches)?,
-        chunk: chunk(alloc, matches)?,
-        explain: is_set(matches, "explain") || tells_more_reasons(matches),
-        show: show(alloc, matches)?,
-        essential: !is_set(matches, "ignore-essential"),
-        only: only(alloc, matches)?,
-        only_file: only_file(alloc, matches)?,
-        bg: file(alloc, matches, "bg", "--bg <FILE>")?,
-        since: earlier(alloc, matches)?,
-        strict: is_set(matches, "strict"),
-        causes: is_set(matches, "causes"),
-        all_reasons: is_set(matches, "all-reasons"),
-        why: is_set(matches, "why"),
-        format: report_format(alloc, matches)?,
-        quiet: is_set(matches, "quiet"),
-    })
+    let values = checked_values(alloc, matches)?;
+    Ok(config_with(alloc, matches, &values)?)
 }
 
 // The configuration that the words ask for.
 fn read_words(alloc: Global, words: &[String]) -> Result<Config, LineFault>
     ensures accepted { IfOk result (Accepts (map string_bytes words.now)) }
     ensures refused { IfErr result (RefusesLine (map string_bytes words.now)) }
-    ensures architecture { IfOk result (λ config. is_architecture (string_bytes config.arch) ≡ true) }
-    ensures workers { IfOk result (λ config. (0 < config.workers) × (config.workers ≤ 64)) }
-    ensures chunk { IfOk result (λ config. (0 < config.chunk) × (config.chunk ≤ 1000000)) }
-    ensures only { IfOk result (λ config. IfSome (settings_of config).only (All (λ name. is_name name ≡ true))) }
 {
     if words.is_empty() {
         return Ok(Config::usual(alloc)?);

@@ -1,22 +1,118 @@
 //! The options of the command line, as `clap` reads them.
 
-ghost use Rattle.std.specs.Prelude.{◌≡◌, IfOk, [], false, option_map};
+ghost use Rattle.std.specs.Prelude.{◌≡◌, ◌++◌, IfOk, [], false, option_map};
 ghost use Rattle.clap.specs.Words.{app_of, first_of, rule_of};
-ghost use Rattle.command_line.specs.Line.{app_with, flag_rule, help_rule, is_set, line_app, rows_in, value_of, value_rule, value_rules, version_rule};
+ghost use Rattle.command_line.specs.Line.{app_with, call_rule, flag_rule, flag_rules, is_set, line_app, rows_in, value_of, value_rules, valued_rule};
 
 use clap::{Arg, ArgAction, ArgMatches, Command};
 use std::alloc::{AllocError, Global};
 
 // An option with a value.
-fn valued<'a>(alloc: Global, name: &'a str, value: &'a str, help: &'a str) -> Arg<'a>
-    ensures rule { rule_of result ≡ value_rule name.now }
+pub(crate) struct Valued {
+    name: &'static str,
+    // What help calls its value.
+    value: &'static str,
+    // Whether it has to be said.
+    required: bool,
+    // Its value where it isn't said, if it has one.
+    usual: &'static [&'static str],
+    // What help says of it.
+    help: &'static str,
+}
+
+// The options with a value, as help lists them.
+static VALUED: [Valued; 7] = [
+    Valued {
+        name: "arch",
+        value: "A",
+        required: true,
+        usual: &[],
+        help: "The architecture: letters, digits and -, neither all nor any",
+    },
+    Valued {
+        name: "bg",
+        value: "FILE",
+        required: false,
+        usual: &[],
+        help: "A second index, whose packages may be used and are not checked",
+    },
+    Valued {
+        name: "since",
+        value: "FILE",
+        required: false,
+        usual: &[],
+        help: "An earlier index; tells what is newly broken since it, and nothing else",
+    },
+    Valued {
+        name: "checkonly",
+        value: "N1,N2,..",
+        required: false,
+        usual: &[],
+        help: "Checks the packages of these names alone",
+    },
+    Valued {
+        name: "format",
+        value: "FORM",
+        required: false,
+        usual: &["text"],
+        help: "The form of the report, text or json",
+    },
+    Valued {
+        name: "workers",
+        value: "N",
+        required: false,
+        usual: &["4"],
+        help: "How many workers check, 1 to 64",
+    },
+    Valued {
+        name: "chunk",
+        value: "K",
+        required: false,
+        usual: &["64"],
+        help: "How many packages a worker takes at once, 1 to 1000000",
+    },
+];
+
+// The options without a value, each with what help says of it, as it lists them.
+static FLAGS: [(&str, &str); 9] = [
+    (
+        "explain",
+        "Tells the set that was found, or the reasons why there is none",
+    ),
+    ("failures", "Shows the packages that cannot be installed"),
+    ("successes", "Shows the packages that can be installed"),
+    (
+        "causes",
+        "Tells what is wrong in the end, each cause with the packages that it breaks",
+    ),
+    (
+        "all-reasons",
+        "Tells the reasons of all causes of a package, and not of the first alone",
+    ),
+    ("why", "Tells reasons as they are walked from the package"),
+    (
+        "ignore-essential",
+        "Asks for no essential packages in a set",
+    ),
+    (
+        "strict",
+        "Ends with a fault where nothing is asked, and so does --since by itself",
+    ),
+    ("quiet", "Shows no progress and no hints on a terminal"),
+];
+
+// Such an option as `clap` takes it.
+fn valued_option<'a>(alloc: Global, option: &'static Valued) -> Arg<'a>
+    ensures rule { rule_of result ≡ valued_rule option.now }
     ensures local { result.global ≡ false }
 {
-    Arg::new(alloc, name)
-        .long(name)
+    Arg::new(alloc, option.name)
+        .long(option.name)
         .action(ArgAction::Set)
-        .value_name(value)
-        .help(help)
+        .value_name(option.value)
+        .help(option.help)
+        .required(option.required)
+        .default_values(option.usual)
 }
 
 // An option without a value.
@@ -30,28 +126,12 @@ fn flag<'a>(alloc: Global, name: &'a str, help: &'a str) -> Arg<'a>
         .help(help)
 }
 
-// The call for help.
-fn help_flag<'a>(alloc: Global) -> Arg<'a>
-    ensures rule { rule_of result ≡ help_rule }
+// An option with a short name, too, which asks for a text in the place of a run.
+fn call<'a>(alloc: Global, name: &'a str, short: char, text: ArgAction, help: &'a str) -> Arg<'a>
+    ensures rule { rule_of result ≡ call_rule name.now short text }
     ensures local { result.global ≡ false }
 {
-    Arg::new(alloc, "help")
-        .long("help")
-        .short('h')
-        .action(ArgAction::Help)
-        .help("Prints this help")
-}
-
-// The call for the version.
-fn version_flag<'a>(alloc: Global) -> Arg<'a>
-    ensures rule { rule_of result ≡ version_rule }
-    ensures local { result.global ≡ false }
-{
-    Arg::new(alloc, "version")
-        .long("version")
-        .short('V')
-        .action(ArgAction::Version)
-        .help("Prints the program's version")
+    flag(alloc, name, help).short(short).action(text)
 }
 
 // The program's command without options.
@@ -70,48 +150,37 @@ fn bare<'a>(alloc: Global) -> Command<'a>
 fn with_values<'a>(alloc: Global) -> Result<Command<'a>, AllocError>
     ensures { IfOk result (λ command. app_of command ≡ app_with value_rules) }
 {
-    let arch = "The architecture: letters, digits and -, neither all nor any";
-    let background = "A second index, whose packages may be used and are not checked";
-    let since = "An earlier index; tells what is newly broken since it, and nothing else";
-    let only = "Checks the packages of these names alone";
-    let format = "The form of the report, text or json";
-    let workers = "How many workers check, 1 to 64";
-    let chunk = "How many packages a worker takes at once, 1 to 1000000";
-    bare(alloc)
-        .arg(valued(alloc, "arch", "A", arch).required(true))?
-        .arg(valued(alloc, "bg", "FILE", background))?
-        .arg(valued(alloc, "since", "FILE", since))?
-        .arg(valued(alloc, "checkonly", "N1,N2,..", only))?
-        .arg(valued(alloc, "format", "FORM", format).default_value("text"))?
-        .arg(valued(alloc, "workers", "N", workers).default_value("4"))?
-        .arg(valued(alloc, "chunk", "K", chunk).default_value("64"))
+    let mut command = bare(alloc);
+    for option in &VALUED {
+        command = command.arg(valued_option(alloc, option))?;
+    }
+    Ok(command)
+}
+
+// The same with the options that have none behind these.
+fn with_flags<'a>(alloc: Global) -> Result<Command<'a>, AllocError>
+    ensures { IfOk result (λ command. app_of command ≡ app_with (value_rules ++ flag_rules)) }
+{
+    let mut command = with_values(alloc)?;
+    for &(name, help) in &FLAGS {
+        command = command.arg(flag(alloc, name, help))?;
+    }
+    Ok(command)
 }
 
 // The program's command.
 pub(crate) fn command<'a>(alloc: Global) -> Result<Command<'a>, AllocError>
     ensures { IfOk result (λ command. app_of command ≡ line_app) }
 {
-    let explain = "Tells the set that was found, or the reasons why there is none";
-    let failures = "Shows the packages that cannot be installed";
-    let successes = "Shows the packages that can be installed";
-    let causes = "Tells what is wrong in the end, each cause with the packages that it breaks";
-    let all = "Tells the reasons of all causes of a package, and not of the first alone";
-    let why = "Tells reasons as they are walked from the package";
-    let essential = "Asks for no essential packages in a set";
-    let strict = "Ends with a fault where nothing is asked, and so does --since by itself";
-    let quiet = "Shows no progress and no hints on a terminal";
-    with_values(alloc)?
-        .arg(flag(alloc, "explain", explain))?
-        .arg(flag(alloc, "failures", failures))?
-        .arg(flag(alloc, "successes", successes))?
-        .arg(flag(alloc, "causes", causes))?
-        .arg(flag(alloc, "all-reasons", all))?
-        .arg(flag(alloc, "why", why))?
-        .arg(flag(alloc, "ignore-essential", essential))?
-        .arg(flag(alloc, "strict", strict))?
-        .arg(flag(alloc, "quiet", quiet))?
-        .arg(help_flag(alloc))?
-        .arg(version_flag(alloc))
+    with_flags(alloc)?
+        .arg(call(alloc, "help", 'h', ArgAction::Help, "Prints this help"))?
+        .arg(call(
+            alloc,
+            "version",
+            'V',
+            ArgAction::Version,
+            "Prints the program's version",
+        ))
 }
 
 // The value of an option, where it has one.

@@ -6,22 +6,48 @@ const FROM_INPUT: &str = "the index comes on standard input, write debcheck --ar
 const NO_SUCH: &str =
     "debcheck has no such option, see DIFFERENCES FROM DOSE-DEBCHECK in its manual page";
 
+// The words of those programs, each with what to write in its place, or that there is nothing.
+static OTHER_WORDS: [(&str, &str); 24] = [
+    ("-a", "write --arch A"),
+    ("--deb-native-arch", "write --arch A"),
+    ("-e", "write --explain"),
+    ("-f", "write --failures"),
+    ("-s", "write --successes"),
+    ("--summary", "write --causes"),
+    ("--deb-ignore-essential", "write --ignore-essential"),
+    ("-o", "the report goes to standard output, write > FILE"),
+    (
+        "--outfile",
+        "the report goes to standard output, write > FILE",
+    ),
+    ("--fg", FROM_INPUT),
+    ("-c", NO_SUCH),
+    ("-d", NO_SUCH),
+    ("-m", NO_SUCH),
+    ("-t", NO_SUCH),
+    ("-v", NO_SUCH),
+    ("--coinst", NO_SUCH),
+    ("--compare", NO_SUCH),
+    ("--dot", NO_SUCH),
+    ("--fields", NO_SUCH),
+    ("--latest", NO_SUCH),
+    ("--lowmem", NO_SUCH),
+    ("--deb-builds-from", NO_SUCH),
+    ("--deb-foreign-archs", NO_SUCH),
+    ("--timers", NO_SUCH),
+];
+
 /// What to write in the place of a word of those programs, or that there is nothing; none of another word.
 pub(crate) fn advice_on(word: &str) -> Option<&'static str> {
-    match word {
-        "-a" | "--deb-native-arch" => Some("write --arch A"),
-        "-e" => Some("write --explain"),
-        "-f" => Some("write --failures"),
-        "-s" => Some("write --successes"),
-        "--summary" => Some("write --causes"),
-        "--deb-ignore-essential" => Some("write --ignore-essential"),
-        "-o" | "--outfile" => Some("the report goes to standard output, write > FILE"),
-        "--fg" => Some(FROM_INPUT),
-        "-c" | "-d" | "-m" | "-t" | "-v" => Some(NO_SUCH),
-        "--coinst" | "--compare" | "--dot" | "--fields" | "--latest" | "--lowmem" => Some(NO_SUCH),
-        "--deb-builds-from" | "--deb-foreign-archs" | "--timers" => Some(NO_SUCH),
-        _ if word.starts_with('-') => None,
-        _ => Some(FROM_INPUT),
+    for &(other, advice) in &OTHER_WORDS {
+        if word == other {
+            return Some(advice);
+        }
+    }
+    if word.starts_with('-') {
+        None
+    } else {
+        Some(FROM_INPUT)
     }
 }
 

@@ -1,6 +1,6 @@
 //! The values of the command line's options.
 
-ghost use Rattle.std.specs.Prelude.{◌≡◌, ◌==◌, IfOk, MatchOption, map, option_map, true, false};
+ghost use Rattle.std.specs.Prelude.{◌≡◌, ◌==◌, IfOk, MatchOption, is_none, map, option_map, true, false};
 ghost use Rattle.std.specs.Char.{is_ascii_digit};
 ghost use Rattle.std.specs.List.{list_all};
 ghost use Rattle.std.specs.Str.Parse.{digits_value};
@@ -73,29 +73,21 @@ fn parts_of<'t>(alloc: Global, text: &'t str) -> Result<Vec<&'t str>, AllocError
     text.split(',').collect(alloc)
 }
 
-// The names in a list, or `None` where a part of it is no package name.
-pub(crate) fn names_of(alloc: Global, text: &str) -> Result<Option<Vec<Vec<u8>>>, AllocError>
-    ensures { IfOk result (λ r. MatchOption r (list_all is_name (names_in text.now) ≡ false)
-        (λ names. (list_all is_name (names_in text.now) ≡ true) × (map (λ name. name.items) names.items ≡ names_in text.now))) }
+// The first part of a list that is no package name.
+pub(crate) fn wrong_part(text: &str) -> Option<&str>
+    ensures { is_none result ≡ list_all is_name (names_in text.now) }
+{
+    text.split(',').find(|part| !is_name(part.as_bytes()))
+}
+
+// The parts of a list as names.
+pub(crate) fn names_of(alloc: Global, text: &str) -> Result<Vec<Vec<u8>>, AllocError>
+    ensures { IfOk result (λ names. map (λ name. name.items) names.items ≡ names_in text.now) }
 {
     let parts = parts_of(alloc, text)?;
     let mut names = Vec::new(alloc);
     for part in parts.as_slice() {
-        if !is_name(part.as_bytes()) {
-            return Ok(None);
-        }
         names.push(Vec::from_slice(alloc, part.as_bytes())?)?;
     }
-    Ok(Some(names))
-}
-
-/// The first part of a list that is no package name; the whole list where each is one.
-pub(crate) fn wrong_part(text: &str) -> &str {
-    for part in text.split(',') {
-        let name = part.as_bytes();
-        if !is_name(name) {
-            return part;
-        }
-    }
-    text
+    Ok(names)
 }

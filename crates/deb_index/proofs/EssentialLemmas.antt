@@ -1,30 +1,17 @@
 -- Which names are essential, by the places of each.
-use Rattle.std.proofs.Common.{◌≡◌, ◌<◌, ◌≤◌, ◌+◌, ℕ, Bool, true, false, cond, ◌&&◌, ◌||◌, List, [], ◌∷◌, ◌++◌, map, filter, length, get_or, Option, Some, refl, sym, ap, ◌∙◌, subst, take, arith}
-use Prim.Native.Nat.{suc, zero}
+use Rattle.std.proofs.Common.{◌≡◌, ◌<◌, ◌≤◌, ◌+◌, ℕ, Bool, true, false, cond, ◌&&◌, ◌||◌, List, [], ◌∷◌, ◌++◌, map, filter, length, get_or, Some, refl, sym, ap, ◌∙◌, subst, take, arith}
+use Prim.Native.Nat.{suc}
 use Rattle.std.specs.Prelude.{slice_get}
 use Rattle.std.specs.List.{list_any, enumerate_from}
-use Rattle.std.specs.Option.{option_map, option_map_or}
+use Rattle.std.specs.Option.{option_map_or}
 use Rattle.std.proofs.lemmas.List.{length-take-le, take_more}
-use Rattle.std.proofs.lemmas.Option.{slice_get-map, slice_get-get_or}
-use Rattle.deb_index.specs.declared.package.Package.{Package}
-use Rattle.deb_index.specs.Packages.{IndexView, PackageView, is_essential, is_named, name_at, names, package_view, places_where}
+use Rattle.deb_index.specs.Packages.{IndexView, PackageView, is_essential, is_named, name_at, names, places_where}
 use Rattle.deb_index.specs.declared.names.Lists.{Lists}
 use Rattle.deb_index.specs.declared.names.Names.{Names}
 use Rattle.deb_index.specs.Built.{is_marked}
 use Rattle.deb_index.specs.Names.{IsNaming, name_texts}
 use Rattle.deb_index.proofs.EnumerateLemmas.{places-push}
 use Rattle.deb_index.proofs.NameLemmas.{lists-count, only-packages, places-at}
-
-pub marked-at : (packages : List Package) (i : ℕ) (p : Package) → i < length packages → p ≡ get_or packages i p
-    → p.essential ≡ option_map_or (λ (q : PackageView). q.essential) (slice_get (map package_view packages) i) false
-marked-at packages i p within at =
-    ap (λ (q : Package). q.essential) at
-    ∙ sym (ap (λ (o : Option PackageView). option_map_or (λ (q : PackageView). q.essential) o false) (slice_get-map package_view packages i ∙ ap (option_map package_view) (slice_get-get_or packages i p within)))
-
-pub marked-none : (packages : List PackageView) (i : ℕ) → length packages ≤ i → false ≡ option_map_or (λ (q : PackageView). q.essential) (slice_get packages i) false
-marked-none [] i h = refl
-marked-none (p ∷ ps) zero h = absurd (omega arith)
-marked-none (p ∷ ps) (suc i) h = marked-none ps i (omega arith)
 
 no-places : {A : Type 0} (n : ℕ) (xs : List A) → map (λ (e : ℕ × A). e.0) (filter (λ (e : ℕ × A). false) (enumerate_from n xs)) ≡ []
 no-places n [] = refl

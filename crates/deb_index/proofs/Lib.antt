@@ -27,6 +27,7 @@ pub mod EnumerateLemmas
 pub mod NameLemmas
 pub mod ProvidedLemmas
 pub mod BuiltLemmas
+pub mod SeenLemmas
 pub mod EssentialLemmas
 pub mod EndLemmas
 pub mod ShareLemmas

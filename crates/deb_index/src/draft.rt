@@ -191,6 +191,7 @@ impl Draft {
     {
         let known = self.catalog.names.number(candidate.name.as_slice());
         if self.contains(alloc, known, &candidate)? {
+            drop(candidate);
             self.catalog.duplicates += 1;
             self.catalog.stanzas += 1;
             return Ok(());

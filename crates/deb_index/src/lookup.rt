@@ -260,7 +260,7 @@ fn provided_meets(entry: &Atom, atom: &Atom) -> bool
     match (&entry.bound, &atom.bound) {
         (_, None) => true,
         (None, Some(_)) => false,
-        (Some((_, version)), Some((op, than))) => bound_holds(version, *op, than),
+        (Some(provided), Some(bound)) => bound_holds(&provided.1, bound.0, &bound.1),
     }
 }
 

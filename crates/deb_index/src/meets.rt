@@ -25,7 +25,7 @@ fn meets_bound(version: &Version, atom: &Atom) -> bool
 {
     match &atom.bound {
         None => true,
-        Some((op, than)) => bound_holds(version, *op, than),
+        Some(bound) => bound_holds(version, bound.0, &bound.1),
     }
 }
 
@@ -35,7 +35,7 @@ fn provided_meets(entry: &Atom, atom: &Atom) -> bool
 {
     match &entry.bound {
         None => atom.bound.is_none(),
-        Some((_, version)) => meets_bound(version, atom),
+        Some(provided) => meets_bound(&provided.1, atom),
     }
 }
 

@@ -43,14 +43,12 @@ fn is_same_qualifier(qualifier: &Option<Box<SmallText>>, other: &Option<Box<Smal
 }
 
 // Whether both are bounds of one operator and one text, or neither is there.
-fn is_same_bound(bound: &Option<(Op, Version)>, other: &Option<(Op, Version)>) -> bool
-    ensures { IsTrue result → bound.now ≡ other.now }
+fn is_same_bound(bound: &Option<Box<(Op, Version)>>, other: &Option<Box<(Op, Version)>>) -> bool
+    ensures { IsTrue result → option_map (λ b. b.value) bound.now ≡ option_map (λ b. b.value) other.now }
 {
     match (bound, other) {
         (None, None) => true,
-        (Some((op, version)), Some((other_op, other_version))) => {
-            version.text() == other_version.text() && *op == *other_op
-        }
+        (Some(bound), Some(other)) => bound.1.text() == other.1.text() && bound.0 == other.0,
         _ => false,
     }
 }
@@ -91,7 +89,7 @@ fn mix(text: &[u8]) -> usize {
 pub(crate) fn digest_of(atom: &Atom) -> usize {
     let name = mix(atom.name.as_slice());
     let version = match &atom.bound {
-        Some((_, version)) => mix(version.text()),
+        Some(bound) => mix(bound.1.text()),
         None => 0,
     };
     name.wrapping_add(version.wrapping_mul(17))

@@ -5,7 +5,7 @@ ghost use Rattle.deb_control.specs.Fields.{field_value};
 ghost use Rattle.deb_relation.specs.AtomView.{atom_view};
 ghost use Rattle.deb_index.specs.Packages.{package_view};
 ghost use Rattle.deb_index.specs.Reading.{Gives, head_of, head_view, groups_in, atoms_in, is_allowed, is_for, is_marked, is_provided};
-ghost use Rattle.deb_index.specs.Reading.{provides_in, package_of, reading_of, reading_view, readings, relation_text, good_version, stanza_limit, Steps};
+ghost use Rattle.deb_index.specs.Reading.{HeadView, provides_in, package_of, package_with, reading_of, reading_view, readings, relation_text, good_version, stanza_limit, Steps};
 ghost use Rattle.deb_index.specs.Reading as spec;
 
 use crate::error::{IndexError, RelField};
@@ -43,6 +43,16 @@ pub(crate) struct Head<'s> {
     pub(crate) name: &'s [u8],
     pub(crate) version: Version,
     pub(crate) architecture: &'s [u8],
+}
+
+/// What a stanza asks for and provides, of those that count for the architecture.
+#[derive(Drop)]
+pub(crate) struct Relations {
+    pub(crate) pre_depends: Groups,
+    pub(crate) depends: Groups,
+    pub(crate) conflicts: Vec<Atom>,
+    pub(crate) breaks: Vec<Atom>,
+    pub(crate) provides: Vec<Atom>,
 }
 
 /// What a stanza without a fault is.
@@ -144,7 +154,7 @@ fn is_provided(atom: &Atom) -> bool
 {
     match &atom.bound {
         None => true,
-        Some((op, _)) => matches!(op, Op::Eq),
+        Some(bound) => matches!(bound.0, Op::Eq),
     }
 }
 
@@ -192,7 +202,49 @@ fn is_allowed(stanza: &Stanza) -> bool
     }
 }
 
+// The relationships of a stanza, which make a package with what its head says.
 #[tactic(auto, unfolding(crate::specs::Reading::package_of))]
+fn read_relations(alloc: Global, number: u64, stanza: &Stanza) -> Result<Relations, IndexError>
+    ensures { (head : HeadView) → Gives (package_with stanza.now head) result (package_of number stanza.now head) }
+{
+    let pre_depends = read_groups(alloc, number, stanza, RelField::PreDepends)?;
+    let depends = read_groups(alloc, number, stanza, RelField::Depends)?;
+    let conflicts = read_atoms(alloc, number, stanza, RelField::Conflicts)?;
+    let breaks = read_atoms(alloc, number, stanza, RelField::Breaks)?;
+    let provides = read_provides(alloc, number, stanza)?;
+    Ok(Relations {
+        pre_depends,
+        depends,
+        conflicts,
+        breaks,
+        provides,
+    })
+}
+
+// The package that a stanza's head and its relationships make.
+fn make_package(
+    stanza: &Stanza,
+    name: SmallText,
+    version: Version,
+    architecture: SmallText,
+    relations: Relations,
+) -> Package
+    ensures { package_view result ≡ package_with stanza.now (record { name = name; version = version; architecture = architecture }) relations }
+{
+    Package {
+        name,
+        version,
+        architecture,
+        essential: is_marked(stanza),
+        multi_arch_allowed: is_allowed(stanza),
+        pre_depends: relations.pre_depends,
+        depends: relations.depends,
+        conflicts: relations.conflicts,
+        breaks: relations.breaks,
+        provides: relations.provides,
+    }
+}
+
 fn read_package(
     alloc: Global,
     number: u64,
@@ -201,23 +253,10 @@ fn read_package(
 ) -> Result<Package, IndexError>
     ensures { Gives package_view result (package_of number stanza.now (head_view head.entry)) }
 {
-    let pre_depends = read_groups(alloc, number, stanza, RelField::PreDepends)?;
-    let depends = read_groups(alloc, number, stanza, RelField::Depends)?;
-    let conflicts = read_atoms(alloc, number, stanza, RelField::Conflicts)?;
-    let breaks = read_atoms(alloc, number, stanza, RelField::Breaks)?;
-    let provides = read_provides(alloc, number, stanza)?;
-    Ok(Package {
-        name: SmallText::from_slice(alloc, head.name)?,
-        version: head.version,
-        architecture: SmallText::from_slice(alloc, head.architecture)?,
-        essential: is_marked(stanza),
-        multi_arch_allowed: is_allowed(stanza),
-        pre_depends,
-        depends,
-        conflicts,
-        breaks,
-        provides,
-    })
+    let name = SmallText::from_slice(alloc, head.name)?;
+    let architecture = SmallText::from_slice(alloc, head.architecture)?;
+    let relations = read_relations(alloc, number, stanza)?;
+    Ok(make_package(stanza, name, head.version, architecture, relations))
 }
 
 fn is_for(arch: &[u8], architecture: &[u8]) -> bool

@@ -26,8 +26,8 @@ impl Index {
         ensures accepted { IfOk result (λ index. index_of text.now arch.now essential ≡ Ok index) }
         ensures refused { IfErr result (λ e. e ≢ IndexError.Memory → index_of text.now arch.now essential ≡ Err e) }
     {
-        let empty = Builder::new(alloc, arch.as_bytes(), essential)?;
         let parted = in_one(alloc, text)?;
+        let empty = Builder::new(alloc, arch.as_bytes(), essential)?;
         let fore = empty.add_text(alloc, parted)?;
         let unlinked = fore.end_foreground().finish(alloc)?;
         let index = unlinked.link(alloc)?;

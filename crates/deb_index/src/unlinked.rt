@@ -41,8 +41,8 @@ impl Unlinked {
     pub(crate) fn link(self, alloc: Global) -> Result<Index, AllocError>
         ensures { IfOk result (λ index. index ≡ self) }
     {
-        let links = self.links_in(alloc, 0, self.len())?;
-        Ok(self.with_links(links))
+        let links = self.links_in(alloc, 0, self.len());
+        self.with_links(links)
     }
 
     /// The same by so many workers side by side; 0 workers count as 1.
@@ -54,8 +54,8 @@ impl Unlinked {
     ) -> Result<Index, AllocError>
         ensures { IfOk result (λ index. index ≡ self) }
     {
-        let links = links_on(rt, alloc, &self, 0, self.len(), workers)?;
-        Ok(self.with_links(links))
+        let links = links_on(rt, alloc, &self, 0, self.len(), workers);
+        self.with_links(links)
     }
 
     fn len(&self) -> u32
@@ -83,15 +83,17 @@ impl Unlinked {
         Links::of(alloc, &self.lookup(), from, to)
     }
 
-    fn with_links(self, links: Links) -> Index
-        requires { IsLinked self self.packages links }
-        ensures { result ≡ self }
+    // The index with its rows, where these could be made.
+    fn with_links(self, links: Result<Links, AllocError>) -> Result<Index, AllocError>
+        requires { IfOk links (λ l. IsLinked self self.packages l) }
+        ensures { IfOk result (λ index. index ≡ self) }
     {
-        Index {
+        let links = links?;
+        Ok(Index {
             links,
             essential: self.essential,
             catalog: self.catalog,
-        }
+        })
     }
 }
 

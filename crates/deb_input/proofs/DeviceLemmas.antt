@@ -5,6 +5,7 @@ use Rattle.std.proofs.Math.Seq.{take-append-add, take-take}
 use Rattle.std.proofs.lemmas.List.{take-append-le, length-take-le}
 use Rattle.std.specs.Prelude.{Option, Some, None}
 use Rattle.std.specs.Io.KnownBytes.{Consumes}
+use Rattle.deb_input.specs.Pieces.{HoldsMore}
 
 pub consumes_nothing : (a : Option (List ℕ)) → Consumes a a []
 consumes_nothing None = tt
@@ -60,3 +61,7 @@ pub consumes_filled : (a b c : Option (List ℕ)) (room part : List ℕ) (filled
 consumes_filled a b c room part filled size n h k fits held =
     let P : List ℕ → Type 0 = λ bytes. Consumes a c bytes in
     subst P (sym (filled_more room part filled size n fits held)) (consumes_more a b c (take filled room) (take n part) h k)
+
+-- more is held, and more behind that
+pub holds_on : (old mid new : Option (List ℕ)) (held more most : List ℕ) → HoldsMore held more old mid → HoldsMore more most mid new → HoldsMore held most old new
+holds_on old mid new held more most h k = (h.0 ++ k.0, consumes_more old mid new h.0 k.0 h.1 k.1, k.2 ∙ ap (λ bytes. bytes ++ k.0) h.2 ∙ append_assoc held h.0 k.0)

@@ -1,7 +1,7 @@
 //! A text that is read piece by piece: little more of it is held than a piece.
 
-ghost use Rattle.std.specs.Prelude.{◌≡◌, ◌<◌, ◌≤◌, ◌+◌, ℕ, List, IfErr, IfOk, Ok, OnOk, drop, false, length};
-ghost use Rattle.std.specs.Io.KnownBytes.{IsAtEnd};
+ghost use Rattle.std.specs.Prelude.{◌≡◌, ◌<◌, ◌≤◌, ◌+◌, ℕ, List, Err, IfErr, IfOk, Ok, OnOk, drop, false, length};
+ghost use Rattle.std.specs.Io.KnownBytes.{Consumes, IsAtEnd};
 ghost use Rattle.deb_index.specs.Reading.{byte_limit, index_of_both};
 ghost use Rattle.run_settings.specs.Settings.{settings_of};
 ghost use Rattle.deb_input.specs.Pieces.{FailsInPieces, FailsToFinish, MakesIndex, ReadsAll, ReadsText, RefusesPiece, TakesLast, TakesPiece};
@@ -69,6 +69,50 @@ fn take_last<R: Threads + Sync>(
     }
 }
 
+// What a text comes to that ends with what is held.
+fn end_of<R: Threads + Sync>(
+    rt: &R,
+    alloc: Global,
+    config: &Config,
+    front: PartialIndex,
+    held: Held,
+) -> Result<TextRead, RunFault>
+    requires short { front.size + length held ≤ byte_limit }
+    ensures outcome { IfOk result (λ read. TakesLast (settings_of config.now) front held read.outcome) }
+    ensures last { IfOk result (λ read. read.last.items ≡ held) }
+    ensures refused { IfErr result (λ fault. fault ≡ RunFault.Memory) }
+{
+    let outcome = take_last(rt, alloc, config, front, held.as_slice())?;
+    Ok(TextRead {
+        outcome,
+        last: held.into_bytes(),
+    })
+}
+
+// What a text comes to that has a fault in what is held, with room for so many bytes behind it. A failed read goes before the fault, and so does
+// that the text is too long.
+fn refused_text<S: Source>(
+    alloc: Global,
+    reader: &mut S,
+    room: usize,
+    fault: IndexError,
+    held: Held,
+) -> Result<TextRead, RunFault>
+    requires { room ≤ byte_limit }
+    ensures rest { OnOk result ((bytes : List ℕ) × Consumes (S.remaining reader.old) (S.remaining reader.new) bytes × (length bytes ≤ room)) }
+    ensures end { OnOk result (IsAtEnd (S.remaining reader.new)) }
+    ensures mark { OnOk result (S.failed reader.new ≡ S.failed reader.old) }
+    ensures outcome { IfOk result (λ read. read.outcome ≡ Err fault) }
+    ensures last { IfOk result (λ read. read.last.items ≡ held) }
+    ensures refused { IfErr result (FailsToRead (S.remaining reader.old) (S.failed reader.old) (S.failed reader.new) room) }
+{
+    skip_rest(alloc, reader, room)?;
+    Ok(TextRead {
+        outcome: Err(fault),
+        last: held.into_bytes(),
+    })
+}
+
 /// Reads all that is left in a reader, a piece of at least so many bytes at a time, each of which is taken into the index by the workers side by side
 /// and given back.
 ///
@@ -96,11 +140,7 @@ pub fn read_text<S: Source, R: Threads + Sync>(
         // times only.
         let count = piece.max(held.len()).min(TEXT_LIMIT + 1 - read);
         if !held.read_more(reader, count)? {
-            let outcome = take_last(rt, alloc, config, front, held.as_slice())?;
-            return Ok(TextRead {
-                outcome,
-                last: held.into_bytes(),
-            });
+            return end_of(rt, alloc, config, front, held);
         }
         read += count;
         if read > TEXT_LIMIT {
@@ -112,14 +152,7 @@ pub fn read_text<S: Source, R: Threads + Sync>(
                 held.drop_front(taken);
             }
             Err(IndexError::Memory) => return Err(RunFault::Memory),
-            Err(fault) => {
-                // A failed read goes before the fault of a stanza, and so does that the text is too long.
-                skip_rest(alloc, reader, TEXT_LIMIT - read)?;
-                return Ok(TextRead {
-                    outcome: Err(fault),
-                    last: held.into_bytes(),
-                });
-            }
+            Err(fault) => return refused_text(alloc, reader, TEXT_LIMIT - read, fault, held),
         }
     }
 }

@@ -38,6 +38,23 @@ pub fn closure(alloc: Global, index: &Index, p: u32) -> Result<Vec<u32>, AllocEr
     Vec::from_slice(alloc, members.as_slice())
 }
 
+/// What `verdict` gives, found in the buffers of an earlier verdict, of whatever package and index.
+fn verdict_by(
+    alloc: Global,
+    workspace: &mut Workspace,
+    index: &Index,
+    p: u32,
+) -> Result<Verdict, AllocError>
+    requires { p < length index.now.packages }
+    ensures verdict { IfOk result (λ found. IsVerdict index.now p (verdict_view found)) }
+    ensures within { IfOk result (λ found. SpeaksOf index.now (verdict_view found)) }
+{
+    let groundwork = Groundwork::new(alloc, index)?;
+    let found = verdict_in(alloc, workspace, &groundwork, p);
+    drop(groundwork);
+    found
+}
+
 /// The verdict of the package at a place: the first healthy set that contains it, or, where there is none, the first set of constraints that
 /// no set with it meets. Of two sets of numbers the first is the one that lacks the least number in which they differ.
 ///
@@ -48,9 +65,10 @@ pub fn verdict(alloc: Global, index: &Index, p: u32) -> Result<Verdict, AllocErr
     ensures verdict { IfOk result (λ found. IsVerdict index.now p (verdict_view found)) }
     ensures within { IfOk result (λ found. SpeaksOf index.now (verdict_view found)) }
 {
-    let groundwork = Groundwork::new(alloc, index)?;
     let mut workspace = Workspace::new(alloc)?;
-    verdict_in(alloc, &mut workspace, &groundwork, p)
+    let found = verdict_by(alloc, &mut workspace, index, p);
+    drop(workspace);
+    found
 }
 
 /// Whether some healthy set has the package at a place of the index of a groundwork: `true` exactly where one has it.

@@ -89,7 +89,9 @@ fn search_lacked(
     ensures { OnOk result (AreHopeless groundwork.now.index.now (members_of hopeless.new)) }
 {
     let mut workspace = Workspace::new(alloc)?;
-    search_names(alloc, groundwork, &mut workspace, hopeless)
+    let searched = search_names(alloc, groundwork, &mut workspace, hopeless);
+    drop(workspace);
+    searched
 }
 
 /// What no healthy set has, as far as it is known with a search for essential names.
@@ -111,8 +113,15 @@ impl<'a> Groundwork<'a> {
         ensures { IfOk result (λ groundwork. groundwork.index.now ≡ index.now) }
     {
         let mut groundwork = Groundwork::of(alloc, index)?;
-        let hopeless = find_hopeless(alloc, &groundwork)?;
-        groundwork.hopeless = hopeless;
-        Ok(groundwork)
+        match find_hopeless(alloc, &groundwork) {
+            Ok(hopeless) => {
+                groundwork.hopeless = hopeless;
+                Ok(groundwork)
+            }
+            Err(error) => {
+                drop(groundwork);
+                Err(error)
+            }
+        }
     }
 }

@@ -121,19 +121,28 @@ fn find_lacking_places(alloc: Global, index: &Index) -> Result<SparseSet, AllocE
     Ok(hopeless)
 }
 
+/// Places that no healthy set has: these, or all places, where each package of some essential name is among these.
+fn spread(alloc: Global, index: &Index, lacking: &SparseSet) -> Result<SparseSet, AllocError>
+    requires { AreHopeless index.now (members_of lacking.now) }
+    ensures { IfOk result (λ hopeless. AreHopeless index.now (members_of hopeless)) }
+{
+    let mut hopeless = SparseSet::new(alloc);
+    hopeless.extend(lacking.as_slice())?;
+    spread_by_essential(index, &mut hopeless)?;
+    Ok(hopeless)
+}
+
 impl<'a> Groundwork<'a> {
     /// What is found of an index without a search.
     pub(crate) fn of(alloc: Global, index: &'a Index) -> Result<Groundwork<'a>, AllocError>
         ensures { IfOk result (λ groundwork. groundwork.index.now ≡ index.now) }
     {
-        let mut hopeless = find_lacking_places(alloc, index)?;
-        let base = BaseSet::find(alloc, index, &hopeless)?;
-        let mut lacking = SparseSet::new(alloc);
-        lacking.extend(hopeless.as_slice())?;
-        spread_by_essential(index, &mut hopeless)?;
+        let alone = mark_alone(alloc, index)?;
         let forced = force_all(alloc, index)?;
         let met = mark_met(alloc, index, &forced)?;
-        let alone = mark_alone(alloc, index)?;
+        let lacking = find_lacking_places(alloc, index)?;
+        let hopeless = spread(alloc, index, &lacking)?;
+        let base = BaseSet::find(alloc, index, &lacking)?;
         Ok(Groundwork {
             index,
             forced,

@@ -124,6 +124,38 @@ fn lead_of(sets: u32) -> Lead {
     }
 }
 
+/// Makes sets with asked packages that have no mark yet, and marks their places.
+fn mark_sets(
+    groundwork: &Groundwork<'_>,
+    asked: &[u32],
+    installation: &mut Installation,
+    marks: &mut [bool],
+) -> Result<(), AllocError>
+    requires asked { All (λ place. place < length groundwork.now.index.now.packages) asked.now }
+    requires count { length marks.old ≡ length groundwork.now.index.now.packages }
+    requires marks { MarksOnly (IsInstallable groundwork.now.index.now) marks.old }
+    ensures count { OnOk result (length marks.new ≡ length groundwork.now.index.now.packages) }
+    ensures marks { OnOk result (MarksOnly (IsInstallable groundwork.now.index.now) marks.new) }
+{
+    let mut sets = 0;
+    for place in asked {
+        if sets < SETS
+            && !marks[*place as usize]
+            && mark_set(
+                groundwork,
+                asked,
+                *place,
+                lead_of(sets),
+                installation,
+                marks,
+            )?
+        {
+            sets += 1;
+        }
+    }
+    Ok(())
+}
+
 /// Marks places that are seen to be installable.
 fn mark_installable(
     alloc: Global,
@@ -140,23 +172,9 @@ fn mark_installable(
     mark_healthy(groundwork.index, &groundwork.base.members, marks);
     let spare = weight_of_all(groundwork.index).saturating_mul(TIMES);
     let mut installation = Installation::new(alloc, spare);
-    let mut sets = 0;
-    for place in asked {
-        if sets < SETS
-            && !marks[*place as usize]
-            && mark_set(
-                groundwork,
-                asked,
-                *place,
-                lead_of(sets),
-                &mut installation,
-                marks,
-            )?
-        {
-            sets += 1;
-        }
-    }
-    Ok(())
+    let marked = mark_sets(groundwork, asked, &mut installation, marks);
+    drop(installation);
+    marked
 }
 
 /// Marks, by place, packages of the groundwork's index that some healthy set is seen to have; others may be installable, too. The base set of the

@@ -17,6 +17,7 @@ use std::alloc::{AllocError, Global};
 /// The buffers in which a verdict is found, and which are taken over for the next one, of whatever package and index.
 ///
 /// What an earlier verdict left in them changes no answer.
+// Who makes one lends it, and drops it by a call of `drop`: at the end of a function the proof would go through each buffer.
 #[derive(Drop)]
 pub struct Workspace {
     /// The places that are in every set that is looked for, and those that have a variable each.
@@ -50,10 +51,11 @@ impl Workspace {
     pub fn new(alloc: Global) -> Result<Workspace, AllocError>
         ensures { IfOk result IsFresh }
     {
+        let formula = Formula::new(alloc, 0, 0)?;
         Ok(Workspace {
             forced: SparseSet::new(alloc),
             candidates: Candidates::new(alloc),
-            formula: Formula::new(alloc, 0, 0)?,
+            formula,
             clause: Vec::new(alloc),
             found: Vec::new(alloc),
             rivals: Rivals::new(alloc),

@@ -1,5 +1,5 @@
 -- The lines of a field in one stanza, from the first line of a text on.
-use Rattle.std.proofs.Common.{◌≡◌, ◌∙◌, ℕ, suc, zero, ◌-◌, ◌<◌, Bool, true, false, List, [], ◌∷◌, Option, Some, None, Bor, slice_get, refl, ap, arith}
+use Rattle.std.proofs.Common.{◌≡◌, ◌∙◌, ℕ, suc, zero, ◌-◌, ◌<◌, Bool, true, false, List, [], ◌∷◌, Option, Some, None, Bor, slice_get, refl, arith}
 use Rattle.std.specs.Option.{option_map_or}
 use Rattle.input_hints.specs.Beginnings.{lines}
 use Rattle.input_hints.specs.Stanzas.{behind_line, field_lines, is_wanted}

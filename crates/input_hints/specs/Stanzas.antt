@@ -1,6 +1,6 @@
 -- The lines of a field in one stanza of a text.
 use Rattle.std.specs.Prelude.{ℕ, Bool, true, false, not, ◌==◌, ◌&&◌, ◌-◌, nat_le, List, [], ◌∷◌}
-use Rattle.std.specs.Prelude.{◌++◌, Option, Some, None, is_some, codes, drop, take, length, option_map, slice_get, if◌then◌else◌}
+use Rattle.std.specs.Prelude.{◌++◌, Option, Some, None, is_some, codes, drop, take, length, slice_get, if◌then◌else◌}
 use Rattle.std.specs.Option.{option_and_then, option_map_or}
 use Rattle.std.specs.Char.{is_ascii_whitespace}
 use Rattle.std.specs.List.{list_all, prefix_len, suffix_len}

@@ -6,6 +6,7 @@ ghost use Rattle.input_hints.specs.Architectures.{IsMost, TellsMost, count_of, i
 ghost use Rattle.input_hints.specs.Texts.{elsewhere_line};
 
 use crate::field::{shown, value_in};
+use crate::line::line_of;
 use crate::lines::{is_line_of, split_line};
 use std::alloc::{AllocError, Global};
 
@@ -84,13 +85,8 @@ fn most_of(text: &[u8]) -> Option<&[u8]>
 fn elsewhere_line(alloc: Global, name: &[u8]) -> Result<Vec<u8>, AllocError>
     ensures { IfOk result (λ line. line.items ≡ elsewhere_line name.now) }
 {
-    let mut line = Vec::from_slice(
-        alloc,
-        b"hint: no stanza is of this architecture or of all, and most are of ",
-    )?;
-    line.extend_from_slice(name)?;
-    line.extend_from_slice(b": give another by --arch\n")?;
-    Ok(line)
+    let before = b"hint: no stanza is of this architecture or of all, and most are of ";
+    line_of(alloc, &[before, name, b": give another by --arch\n"])
 }
 
 /// The line on a text of which no stanza is of the architecture that is asked for or of all, with LF: it tells the one that more than half of the

@@ -5,7 +5,7 @@ ghost use Rattle.std.specs.List.{list_any};
 ghost use Rattle.std.specs.Option.{option_copied};
 ghost use Rattle.input_hints.specs.Texts.{file_hint_line, is_control, option_name, unread_line};
 
-use crate::line::Input;
+use crate::line::{Input, line_of};
 use std::alloc::{AllocError, Global};
 
 // The option that names the file of an input, with what stands between it and the name.
@@ -32,11 +32,8 @@ fn has_control(name: &[u8]) -> bool
 fn unread_line(alloc: Global, option: &[u8], name: &[u8]) -> Result<Vec<u8>, AllocError>
     ensures { IfOk result (λ line. line.items ≡ unread_line name.now option.now) }
 {
-    let mut line = Vec::from_slice(alloc, b"hint: ")?;
-    line.extend_from_slice(option)?;
-    line.extend_from_slice(name)?;
-    line.extend_from_slice(b": no file that can be read stands there\n")?;
-    Ok(line)
+    let behind = b": no file that can be read stands there\n";
+    line_of(alloc, &[b"hint: ", option, name, behind])
 }
 
 /// The line that tells that an input's file, of this name, can't be opened or read, with LF. None where the name may have control characters, and

@@ -1,6 +1,7 @@
 //! The lines that tell what may be wrong.
 
 ghost use Rattle.std.specs.Prelude.{◌≡◌, ◌++◌, IfOk, OnOk};
+ghost use Rattle.std.specs.List.{flat_map};
 ghost use Rattle.std.specs.Option.{option_copied};
 ghost use Rattle.input_hints.specs.Texts.{advice, around, by_command, command, complaint, hint_line, input_name, remedy};
 
@@ -18,6 +19,13 @@ pub enum Input {
     Earlier,
     /// What it reads from the file of `--checkonly`.
     Names,
+}
+
+/// A text of these parts, one behind the other.
+pub(crate) fn line_of(alloc: Global, parts: &[&[u8]]) -> Result<Vec<u8>, AllocError>
+    ensures { IfOk result (λ line. line.items ≡ flat_map (λ part. part.now) parts.now) }
+{
+    parts.concat(alloc)
 }
 
 /// What an input is called.
@@ -102,8 +110,7 @@ fn push_by_command(line: &mut Vec<u8>, input: Input, command: &[u8]) -> Result<(
     let (before, behind) = around(input);
     line.extend_from_slice(before)?;
     line.extend_from_slice(command)?;
-    line.extend_from_slice(behind)?;
-    Ok(())
+    line.extend_from_slice(behind)
 }
 
 #[tactic(auto, unfolding(crate::specs::Texts::remedy))]
@@ -111,10 +118,9 @@ fn push_remedy(line: &mut Vec<u8>, input: Input, hint: Hint) -> Result<(), Alloc
     ensures { OnOk result (line.new.items ≡ line.old.items ++ remedy input hint) }
 {
     match command(hint) {
-        Some(command) => push_by_command(line, input, command)?,
-        None => line.extend_from_slice(advice(hint))?,
+        Some(command) => push_by_command(line, input, command),
+        None => line.extend_from_slice(advice(hint)),
     }
-    Ok(())
 }
 
 /// The line that tells what is likely wrong with an input, and what to do, with LF.
@@ -124,11 +130,8 @@ fn push_remedy(line: &mut Vec<u8>, input: Input, hint: Hint) -> Result<(), Alloc
 pub fn hint_line(alloc: Global, input: Input, hint: Hint) -> Result<Vec<u8>, AllocError>
     ensures { IfOk result (λ line. line.items ≡ hint_line input hint) }
 {
-    let mut line = Vec::from_slice(alloc, b"hint: ")?;
-    line.extend_from_slice(input_name(input))?;
-    line.extend_from_slice(b" ")?;
-    line.extend_from_slice(complaint(hint))?;
-    line.extend_from_slice(b": ")?;
+    let what = complaint(hint);
+    let mut line = line_of(alloc, &[b"hint: ", input_name(input), b" ", what, b": "])?;
     push_remedy(&mut line, input, hint)?;
     line.push(b'\n')?;
     Ok(line)

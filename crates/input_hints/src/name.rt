@@ -3,6 +3,7 @@
 ghost use Rattle.std.specs.Prelude.{◌≡◌, IfOk};
 ghost use Rattle.input_hints.specs.Texts.{background_name_line, provided_name_line};
 
+use crate::line::line_of;
 use std::alloc::{AllocError, Global};
 
 /// The line on a name that packages of the background alone have, with LF.
@@ -12,12 +13,8 @@ use std::alloc::{AllocError, Global};
 pub fn background_name_line(alloc: Global, name: &[u8]) -> Result<Vec<u8>, AllocError>
     ensures { IfOk result (λ line. line.items ≡ background_name_line name.now) }
 {
-    let mut line = Vec::from_slice(alloc, b"hint: ")?;
-    line.extend_from_slice(name)?;
-    line.extend_from_slice(
-        b" is a package of the background: names are asked of the index alone\n",
-    )?;
-    Ok(line)
+    let behind = b" is a package of the background: names are asked of the index alone\n";
+    line_of(alloc, &[b"hint: ", name, behind])
 }
 
 /// The line on a name that is no package's, but is provided by one, with LF.
@@ -31,10 +28,9 @@ pub fn provided_name_line(
 ) -> Result<Vec<u8>, AllocError>
     ensures { IfOk result (λ line. line.items ≡ provided_name_line name.now provider.now) }
 {
-    let mut line = Vec::from_slice(alloc, b"hint: no package is called ")?;
-    line.extend_from_slice(name)?;
-    line.extend_from_slice(b", but ")?;
-    line.extend_from_slice(provider)?;
-    line.extend_from_slice(b" provides it\n")?;
-    Ok(line)
+    let before = b"hint: no package is called ";
+    line_of(
+        alloc,
+        &[before, name, b", but ", provider, b" provides it\n"],
+    )
 }

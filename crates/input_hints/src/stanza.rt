@@ -1,12 +1,12 @@
 //! The package of one stanza of a text, and the line that tells it.
 
-ghost use Rattle.std.specs.Prelude.{◌≡◌, ◌++◌, IfOk, decimal, option_map};
+ghost use Rattle.std.specs.Prelude.{◌≡◌, ◌++◌, IfOk, codes, option_map};
 ghost use Rattle.std.specs.Option.{option_copied};
 ghost use Rattle.input_hints.specs.Stanzas.{has_second_package, stanza_package};
 ghost use Rattle.input_hints.specs.Texts.{package_line, stanza_end, stanza_hint_line};
 
 use crate::field::{field_line, shown, value_in};
-use crate::line::{Input, input_name};
+use crate::line::{Input, input_name, line_of};
 use std::alloc::{AllocError, Global};
 
 // The package of the stanza with a number, by its first line that begins with `Package:`.
@@ -40,6 +40,24 @@ fn stanza_end(second: bool) -> &'static [u8]
     }
 }
 
+// The line on a stanza whose number has these digits, of an input that is called so.
+fn stanza_line<'t>(
+    alloc: Global,
+    digits: &'t [u8],
+    input: &'t [u8],
+    name: &'t [u8],
+    end: &'t [u8],
+) -> Result<Vec<u8>, AllocError>
+    ensures { IfOk result (λ line. line.items ≡ codes "hint: stanza " ++ digits.now ++ codes " of " ++ input.now
+        ++ codes " is of the package " ++ name.now ++ end.now) }
+{
+    let package = b" is of the package ";
+    line_of(
+        alloc,
+        &[b"hint: stanza ", digits, b" of ", input, package, name, end],
+    )
+}
+
 #[tactic(auto, unfolding(crate::specs::Texts::package_line))]
 fn package_line(
     alloc: Global,
@@ -50,14 +68,15 @@ fn package_line(
 ) -> Result<Vec<u8>, AllocError>
     ensures { IfOk result (λ line. line.items ≡ package_line input number name.now second) }
 {
-    let mut line = Vec::from_slice(alloc, b"hint: stanza ")?;
-    line.extend_from_slice(number.to_string(alloc)?.as_str().as_bytes())?;
-    line.extend_from_slice(b" of ")?;
-    line.extend_from_slice(input_name(input))?;
-    line.extend_from_slice(b" is of the package ")?;
-    line.extend_from_slice(name)?;
-    line.extend_from_slice(stanza_end(second))?;
-    Ok(line)
+    let digits = number.to_string(alloc)?;
+    let input = input_name(input);
+    stanza_line(
+        alloc,
+        digits.as_str().as_bytes(),
+        input,
+        name,
+        stanza_end(second),
+    )
 }
 
 /// The line that tells of which package an input's stanza is, with LF, and whether it has a second line that begins with `Package:`. Stanzas count

@@ -1,8 +1,9 @@
 -- Answers to the parts of a list are answers to the list.
-use Rattle.std.proofs.Common.{◌≡◌, ℕ, zero, suc, ◌+◌, ◌*◌, ◌<◌, ◌≤◌, List, [], ◌∷◌, ◌++◌, All, take, drop, length, get_or, flat_map, map, sym, ap, ◌∙◌, subst, refl, arith, take-append-drop, drop-drop, drop_of_length-le}
+use Rattle.std.proofs.Common.{◌≡◌, ℕ, zero, suc, ◌+◌, ◌*◌, ◌<◌, ◌≤◌, List, [], ◌∷◌, ◌++◌, All, take, drop, length, get_or, flat_map, map, Global, Vec, Result, Ok, Err, IfOk, IsOkAnd, sym, ap, ◌∙◌, subst, refl, arith, take-append-drop, drop-drop, drop_of_length-le}
 use Rattle.std.specs.List.{range_with_len}
 use Rattle.std.proofs.lemmas.List.{take_more}
 use Rattle.std.proofs.lemmas.List.Elements.{All-cons, All-nil}
+use Rattle.std.proofs.lemmas.Result.{IfOk-weaker}
 use Rattle.work_draw.specs.declared.pieces.Piece.{Piece}
 use Rattle.work_draw.specs.Checks.{AnswersEach, chunk_of}
 use Rattle.work_draw.specs.Pieces.{numbers_of}
@@ -36,6 +37,18 @@ module _ {A B : Type 0} (R : A → B → Type 0) where
   pub answers_in_order : (items_of : Piece → List B) (asked : List A) (size n : ℕ) (ps : List Piece) → numbers_of ps ≡ range_with_len 0 n → length asked ≤ n * size
       → All (λ p. AnswersEach R (chunk_of asked size p.number) (items_of p)) ps → AnswersEach R asked (flat_map (λ p. items_of p) ps)
   answers_in_order items_of asked size n ps e enough h = let none : 0 * size ≡ 0 = omega arith in subst (λ (k : ℕ). AnswersEach R (drop k asked) (flat_map (λ p. items_of p) ps)) none (from_chunk items_of asked size 0 n ps e (omega arith) h)
+
+-- what answers two parts of a list, joined, answers the list
+module _ {A B E : Type 0} (R : A → B → Type 0) where
+  pub Answers-joined : (front back : List A) (first second both : Result (Vec B Global) E) → IfOk first (λ ys. AnswersEach R front ys.items)
+      → IfOk second (λ ys. AnswersEach R back ys.items) → IfOk both (λ all. IsOkAnd first (λ found. IsOkAnd second (λ more. all.items ≡ found.items ++ more.items)))
+      → IfOk both (λ all. AnswersEach R (front ++ back) all.items)
+  Answers-joined front back (Ok found) (Ok more) both one two items =
+      IfOk-weaker both _ _
+      (λ all e. subst (λ (ys : List B). AnswersEach R (front ++ back) ys) (sym e) (AnswersEach-append R front back found.items more.items one two))
+      items
+  Answers-joined front back (Ok found) (Err none) both one two items = IfOk-weaker both _ _ (λ all none. absurd none) items
+  Answers-joined front back (Err none) second both one two items = IfOk-weaker both _ _ (λ all none. absurd none) items
 
 -- answers that say as much, seen by view
 module _ {A B C : Type 0} (R : A → B → Type 0) (S : A → C → Type 0) (view : B → C) (says : (a : A) (b : B) → R a b → S a (view b)) where

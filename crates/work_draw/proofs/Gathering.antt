@@ -1,9 +1,15 @@
 -- The pieces of two workers, together.
-use Rattle.std.proofs.Common.{◌≡◌, ℕ, List, [], ◌++◌, ap, arith}
+use Rattle.std.proofs.Common.{◌≡◌, ℕ, ◌+◌, ◌-◌, ◌<◌, Bool, true, false, List, [], ◌++◌, ◌∙◌, ap, ap₂, sym, subst, arith}
+use Rattle.std.proofs.lemmas.List.Elements.{All-append}
 use mathlib.Core.List.{map-append}
+use Rattle.deb_index.specs.Packages.{IndexView}
+use Rattle.deb_health.specs.declared.answer.Verdict.{Verdict}
+use Rattle.work_draw.specs.Checks.{AnswersEach, chunk_of}
+use Rattle.work_draw.specs.declared.pieces.Drawn.{Drawn}
 use Rattle.work_draw.specs.declared.pieces.Piece.{Piece}
+use Rattle.draw_board.specs.Board.{BoardView, DrawerView, both_drawers, new_drawer}
 use Rattle.draw_board.specs.Drawing.{times, HoldsEachOnce}
-use Rattle.work_draw.specs.Pieces.{numbers_of, GainsInAll}
+use Rattle.work_draw.specs.Pieces.{numbers_of, Find, Gains, GainsInAll, IsLeftBy, IsReady, after_crew}
 use Rattle.draw_board.proofs.Counts.{times-append}
 
 -- what a first drawer gained is all that it holds
@@ -15,8 +21,74 @@ gained_all total before after pieces empty gained once n =
     omega arith
 
 -- a drawer that began with nothing is joined into another
-pub gains_joined : (before : List ℕ) (p q : List Piece) (m n : List ℕ) → GainsInAll before p m → GainsInAll [] q n → GainsInAll before (q ++ p) (m ++ n)
+gains_joined : (before : List ℕ) (p q : List Piece) (m n : List ℕ) → GainsInAll before p m → GainsInAll [] q n → GainsInAll before (p ++ q) (m ++ n)
 gains_joined before p q m n h k x =
     let a = h x in
     let b = k x in
-    omega (arith, times-append x m n, ap (times x) (map-append (λ (y : Piece). y.number) q p), times-append x (numbers_of q) (numbers_of p))
+    omega (arith, times-append x m n, ap (times x) (map-append (λ (y : Piece). y.number) p q), times-append x (numbers_of p) (numbers_of q))
+
+-- what a crew has done to a drawer but for what it drew: so many drawers were split off, and joined again
+abbrev with_crew : DrawerView → List ℕ → ℕ → ℕ → ℕ → DrawerView
+with_crew d numbers past spare held = record d { numbers = numbers; past = past; spare = spare; held = held; done = true }
+
+drawers_joined : (before mine theirs first second : DrawerView) (board : BoardView) (workers half rest : ℕ) → half + rest ≡ workers
+    → mine ≡ record before { spare = before.spare - 1 - (half - 1) } → theirs ≡ new_drawer board (half - 1) before.done → 0 < half → 0 < rest
+    → first ≡ after_crew mine rest first.past first.numbers → second ≡ after_crew theirs half second.past second.numbers
+    → both_drawers first second ≡ after_crew before workers (first.past + second.past) (first.numbers ++ second.numbers)
+drawers_joined before mine theirs first second board workers half rest all kept given some others done_first done_second =
+    ap₂ both_drawers done_first done_second
+    ∙ (ap₂ (λ (a b : DrawerView). both_drawers (after_crew a rest first.past first.numbers) (after_crew b half second.past second.numbers)) kept given
+    ∙ ap₂ (λ (spare held : ℕ). with_crew before (first.numbers ++ second.numbers) (first.past + second.past) spare held) (omega arith) (omega arith))
+
+-- each half of the workers can begin with its part of a drawer with which all of them can
+module _ (index : IndexView) (asked : List ℕ) (size : ℕ) (board : BoardView) (before : DrawerView) (workers half rest : ℕ) (all : half + rest ≡ workers) (some : 0 < half) (others : 0 < rest)
+    (ready : IsReady index asked size board before workers) where
+  pub theirs_ready : (theirs : DrawerView) → theirs ≡ new_drawer board (half - 1) before.done → IsReady index asked size board theirs half
+  theirs_ready theirs given =
+      let spare : theirs.spare ≡ half - 1 = ap (λ (d : DrawerView). d.spare) given in
+      (ap (λ (d : DrawerView). d.board) given, ready.1, ready.2, ready.3, some, omega arith)
+
+  pub mine_ready : (mine : DrawerView) → mine ≡ record before { spare = before.spare - 1 - (half - 1) } → IsReady index asked size board mine rest
+  mine_ready mine kept =
+      let spare : mine.spare ≡ before.spare - 1 - (half - 1) = ap (λ (d : DrawerView). d.spare) kept in
+      let room = ready.5 in
+      (ap (λ (d : DrawerView). d.board) kept ∙ ready.0, ready.1, ready.2, ready.3, others, omega arith)
+
+module _ (IsSo : ℕ → Verdict → Type 0) (asked : List ℕ) (size : ℕ) (before : DrawerView) where
+  -- what a worker leaves is what a crew of one does
+  pub left_by_one : (drawn : Drawn) → drawn.drawer ≡ record before { numbers = drawn.drawer.numbers; past = drawn.drawer.past; done = drawn.drawer.done }
+      → (drawn.refused ≡ false → (drawn.drawer.done ≡ true) × Gains before.numbers drawn.pieces.items drawn.drawer.numbers) → Find IsSo asked size drawn.pieces.items
+      → IsLeftBy IsSo asked size before 1 drawn
+  left_by_one drawn same gained found = record {
+    same_board = ap (λ (d : DrawerView). d.board) same;
+    done = λ fine.
+        same
+        ∙ (ap (λ (b : Bool). record before { numbers = drawn.drawer.numbers; past = drawn.drawer.past; done = b }) (gained fine).0
+        ∙ ap₂ (λ (spare held : ℕ). with_crew before drawn.drawer.numbers drawn.drawer.past spare held) (omega arith) (omega arith));
+    gained = λ fine n. ap (times n) (gained fine).1 ∙ times-append n before.numbers (numbers_of drawn.pieces.items);
+    found = λ fine. found;
+  }
+
+  -- what two crews leave, of which the second began with a new drawer, is what a crew of all does
+  pub left_by_both : (mine theirs : DrawerView) (board : BoardView) (workers half rest : ℕ) → half + rest ≡ workers → mine ≡ record before { spare = before.spare - 1 - (half - 1) }
+      → theirs ≡ new_drawer board (half - 1) before.done → 0 < half → 0 < rest → (first second both : Drawn) → IsLeftBy IsSo asked size mine rest first
+      → IsLeftBy IsSo asked size theirs half second → both.drawer ≡ both_drawers first.drawer second.drawer
+      → (both.refused ≡ false → (first.refused ≡ false) × (second.refused ≡ false))
+      → (both.refused ≡ false → both.pieces.items ≡ first.pieces.items ++ second.pieces.items) → IsLeftBy IsSo asked size before workers both
+  left_by_both mine theirs board workers half rest all kept given some others first second both one two drawer fine pieces = record {
+    same_board = ap (λ (d : DrawerView). d.board) drawer ∙ (one.same_board ∙ ap (λ (d : DrawerView). d.board) kept);
+    done = λ r.
+        drawer
+        ∙ (drawers_joined before mine theirs first.drawer second.drawer board workers half rest all kept given some others (one.done (fine r).0) (two.done (fine r).1)
+        ∙ ap₂ (λ (past : ℕ) (numbers : List ℕ). after_crew before workers past numbers) (sym (ap (λ (d : DrawerView). d.past) drawer))
+        (sym (ap (λ (d : DrawerView). d.numbers) drawer)));
+    gained = λ r.
+        let begun = subst (λ (b : List ℕ). GainsInAll b first.pieces.items first.drawer.numbers) (ap (λ (d : DrawerView). d.numbers) kept) (one.gained (fine r).0) in
+        let new = subst (λ (b : List ℕ). GainsInAll b second.pieces.items second.drawer.numbers) (ap (λ (d : DrawerView). d.numbers) given) (two.gained (fine r).1) in
+        let joined = gains_joined before.numbers first.pieces.items second.pieces.items first.drawer.numbers second.drawer.numbers begun new in
+        subst (λ (n : List ℕ). GainsInAll before.numbers both.pieces.items n) (sym (ap (λ (d : DrawerView). d.numbers) drawer))
+        (subst (λ (p : List Piece). GainsInAll before.numbers p (first.drawer.numbers ++ second.drawer.numbers)) (sym (pieces r)) joined);
+    found = λ r.
+        subst (λ (p : List Piece). Find IsSo asked size p) (sym (pieces r))
+        (All-append (λ (p : Piece). AnswersEach IsSo (chunk_of asked size p.number) p.verdicts.items) first.pieces.items second.pieces.items (one.found (fine r).0) (two.found (fine r).1));
+  }

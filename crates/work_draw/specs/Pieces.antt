@@ -1,8 +1,9 @@
 -- What a worker makes of the numbers that it draws.
-use Rattle.std.specs.Prelude.{◌≡◌, ℕ, ◌+◌, ◌-◌, ◌<◌, ◌≤◌, true, List, All, map, flat_map, IsPermutation, ◌++◌, length}
+use Rattle.std.specs.Prelude.{◌≡◌, ℕ, ◌+◌, ◌-◌, ◌<◌, ◌≤◌, true, false, List, All, map, flat_map, IsPermutation, ◌++◌, length}
 use Rattle.std.specs.List.{range_with_len}
 use Rattle.deb_index.specs.Packages.{IndexView}
 use Rattle.deb_health.specs.declared.answer.Verdict.{Verdict}
+use Rattle.work_draw.specs.declared.pieces.Drawn.{Drawn}
 use Rattle.work_draw.specs.declared.pieces.Piece.{Piece}
 use Rattle.draw_board.specs.Board.{BoardView, DrawerView}
 use Rattle.work_draw.specs.Checks.{AnswersEach, IsFound, chunk_of, chunk_count}
@@ -46,3 +47,10 @@ abbrev pub IsReady : IndexView → List ℕ → ℕ → BoardView → DrawerView
 IsReady index asked size board drawer workers =
     (drawer.board ≡ board) × All (λ place. place < length index.packages) asked × (0 < size) × (board.total ≡ chunk_count asked size) × (0 < workers)
     × (workers ≤ drawer.spare + 1)
+
+-- What so many workers leave who began with a drawer. Unless memory was refused they are done, and have a piece for each number that was gained.
+pub record IsLeftBy (IsSo : ℕ → Verdict → Type 0) (asked : List ℕ) (size : ℕ) (before : DrawerView) (workers : ℕ) (drawn : Drawn) : Type 0 where
+  pub same_board : drawn.drawer.board ≡ before.board
+  pub done : drawn.refused ≡ false → drawn.drawer ≡ after_crew before workers drawn.drawer.past drawn.drawer.numbers
+  pub gained : drawn.refused ≡ false → GainsInAll before.numbers drawn.pieces.items drawn.drawer.numbers
+  pub found : drawn.refused ≡ false → Find IsSo asked size drawn.pieces.items

@@ -35,12 +35,15 @@ pub fn check_told<G: Gate + Sync, R: Threads + Sync>(
 {
     let total = asked.len().div_ceil(chunk as usize) as u32;
     let (board, drawer) = new_board(alloc, total)?;
-    let (drawer, pieces) = crew_told(
+    let drawn = crew_told(
         rt, alloc, groundwork, wanted, asked, chunk, &board, drawer, workers, gate,
-    )?;
-    let complete = board.close(drawer);
+    );
+    let complete = board.close(drawn.drawer);
+    if drawn.refused {
+        return Err(AllocError);
+    }
     prove!(complete);
-    gather(alloc, total, pieces)
+    gather(alloc, total, drawn.pieces)
 }
 
 /// The verdict of each asked place, in the order of the list, for 1 to 64 workers and any chunk from 1.
@@ -65,5 +68,7 @@ pub fn check_all<G: Gate + Sync, R: Threads + Sync>(
 {
     let groundwork = Groundwork::new(alloc, index)?;
     let wanted = Wanted::everything();
-    check_told(rt, alloc, &groundwork, wanted, asked, workers, chunk, gate)
+    let found = check_told(rt, alloc, &groundwork, wanted, asked, workers, chunk, gate);
+    drop(groundwork);
+    found
 }

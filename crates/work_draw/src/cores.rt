@@ -1,5 +1,5 @@
 //! The cores of many packages, by workers that each take a part of the list.
-ghost use Rattle.std.specs.Prelude.{◌≡◌, ◌<◌, ◌≤◌, All, IfOk, length, map};
+ghost use Rattle.std.specs.Prelude.{◌≡◌, ◌<◌, ◌≤◌, ◌++◌, All, IfOk, IsOkAnd, length, map};
 ghost use Rattle.std.specs.Thread.{IsSync};
 ghost use Rattle.deb_health.specs.Causes.{AreCores};
 ghost use Rattle.deb_index.specs.Constraints.{IsOfIndex};
@@ -40,7 +40,22 @@ fn find_alone<F: Finder>(
     ensures { IfOk result (λ v. AnswersEach (AreFoundCores (F.index finder.now)) places.now v.items) }
 {
     let mut workspace = Workspace::new(alloc)?;
-    cores_of(alloc, &mut workspace, finder, places)
+    let found = cores_of(alloc, &mut workspace, finder, places);
+    drop(workspace);
+    found
+}
+
+/// What was found of two parts of a list, as one.
+fn joined(
+    first: Result<Vec<Vec<Vec<Constraint>>>, AllocError>,
+    second: Result<Vec<Vec<Vec<Constraint>>>, AllocError>,
+) -> Result<Vec<Vec<Vec<Constraint>>>, AllocError>
+    ensures { IfOk result (λ all. IsOkAnd first (λ found. IsOkAnd second (λ more. all.items ≡ found.items ++ more.items))) }
+{
+    let mut found = first?;
+    let mut more = second?;
+    found.append(&mut more)?;
+    Ok(found)
 }
 
 /// The cores of each place, by so many workers: half of them find those of the first half of the list, the others those of the second.
@@ -72,10 +87,7 @@ fn find_shared<F: Finder + Sync, R: Threads + Sync>(
             ensures { IfOk result (λ v. AnswersEach (AreFoundCores (F.index finder.entry.now)) back.entry.now v.items) }
         { find_shared(rt, alloc, finder, back, rest) },
     );
-    let mut found = first?;
-    let mut more = second?;
-    found.append(&mut more)?;
-    Ok(found)
+    joined(first, second)
 }
 
 /// For each place of the groundwork's index the cores whose causes are all causes of its package, as `cores_in` finds them, in the order of

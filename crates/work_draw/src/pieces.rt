@@ -1,5 +1,5 @@
 //! What is made of the numbers that are drawn, and the pieces of all workers in the order of their numbers.
-ghost use Rattle.std.specs.Prelude.{◌≡◌, IfOk, flat_map};
+ghost use Rattle.std.specs.Prelude.{◌≡◌, IfOk, false, flat_map};
 ghost use Rattle.draw_board.specs.Drawing.{HoldsEachOnce};
 ghost use Rattle.work_draw.specs.Pieces.{numbers_of, InOrderOfNumber};
 
@@ -25,6 +25,19 @@ pub struct Drawn {
     pub pieces: Vec<Piece>,
     /// Whether memory was refused; then the worker stopped, and the last number drawn may lack its piece.
     pub refused: bool,
+}
+
+impl Drawn {
+    /// The drawer and the pieces, unless memory was refused.
+    pub(crate) fn whole(self) -> Result<(Drawer, Vec<Piece>), AllocError>
+        ensures { IfOk result (λ r. (self.refused ≡ false) × (r.0 ≡ self.drawer) × (r.1 ≡ self.pieces)) }
+    {
+        if self.refused {
+            Err(AllocError)
+        } else {
+            Ok((self.drawer, self.pieces))
+        }
+    }
 }
 
 /// The verdicts of the pieces by rising number, where each number below `total` stands once and no other does.

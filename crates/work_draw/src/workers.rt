@@ -1,8 +1,9 @@
 //! Workers that draw chunks and find their verdicts.
-ghost use Rattle.std.specs.Prelude.{◌≡◌, ◌+◌, ◌<◌, ◌≤◌, [], true, false, All, IfOk, OnOk, length};
+ghost use Rattle.std.specs.Prelude.{◌≡◌, ◌+◌, ◌<◌, ◌≤◌, ◌++◌, [], true, false, All, IfOk, OnOk, length};
 ghost use Rattle.std.specs.Thread.{IsSync};
+ghost use Rattle.draw_board.specs.Board.{both_drawers};
 ghost use Rattle.work_draw.specs.Checks.{IsFoundAs, chunk_count};
-ghost use Rattle.work_draw.specs.Pieces.{AreFound, Find, Gains, GainsButLast, GainsInAll, IsReady, after_crew};
+ghost use Rattle.work_draw.specs.Pieces.{AreFound, Find, Gains, GainsButLast, GainsInAll, IsLeftBy, IsReady, after_crew};
 
 use crate::chunks::{Finder, Gate, check_chunk};
 use crate::pieces::{Drawn, Piece};
@@ -76,6 +77,7 @@ fn draw_told<F: Finder, G: Gate>(
             gate,
         )
         .is_err();
+        drop(workspace);
     }
     drawn
 }
@@ -109,7 +111,7 @@ pub fn draw_pieces<G: Gate>(
         };
     };
     let wanted = Wanted::everything();
-    draw_told(
+    let drawn = draw_told(
         alloc,
         &groundwork,
         wanted,
@@ -118,10 +120,34 @@ pub fn draw_pieces<G: Gate>(
         board,
         drawer,
         gate,
-    )
+    );
+    drop(groundwork);
+    drawn
 }
 
-/// The crew of `crew`, for as much of the verdicts as is wanted.
+/// What two crews of one board leave, as one. Memory is refused, too, where there is none for the pieces of both in one list.
+fn joined(board: &Board, first: Drawn, second: Drawn) -> Drawn
+    requires first { first.drawer.board ≡ board.now }
+    requires second { second.drawer.board ≡ board.now }
+    ensures drawer { result.drawer ≡ both_drawers first.drawer second.drawer }
+    ensures refused { result.refused ≡ false → (first.refused ≡ false) × (second.refused ≡ false) }
+    ensures pieces { result.refused ≡ false → result.pieces.items ≡ first.pieces.items ++ second.pieces.items }
+{
+    let Drawn {
+        drawer,
+        mut pieces,
+        refused,
+    } = first;
+    let mut more = second.pieces;
+    let full = pieces.append(&mut more).is_err();
+    Drawn {
+        drawer: board.join(drawer, second.drawer),
+        pieces,
+        refused: refused | second.refused | full,
+    }
+}
+
+/// What the crew of `crew` leaves, for as much of the verdicts as is wanted.
 pub(crate) fn crew_told<F: Finder + Sync, G: Gate + Sync, R: Threads + Sync>(
     rt: &R,
     alloc: Global,
@@ -133,54 +159,36 @@ pub(crate) fn crew_told<F: Finder + Sync, G: Gate + Sync, R: Threads + Sync>(
     drawer: Drawer,
     workers: u32,
     gate: &G,
-) -> Result<(Drawer, Vec<Piece>), AllocError>
+) -> Drawn
     requires ready { IsReady (F.index finder.now) asked.now chunk board.now drawer workers }
-    ensures drawer { IfOk result (λ r. r.0 ≡ after_crew drawer workers r.0.past r.0.numbers) }
-    ensures gained { IfOk result (λ r. GainsInAll drawer.numbers r.1.items r.0.numbers) }
-    ensures found { IfOk result (λ r. Find (IsFoundAs wanted (F.index finder.now)) asked.now chunk r.1.items) }
+    ensures { IsLeftBy (IsFoundAs wanted (F.index finder.now)) asked.now chunk drawer workers result }
 {
     if workers == 1 {
-        let Drawn {
-            drawer,
-            pieces,
-            refused,
-        } = draw_told(alloc, finder, wanted, asked, chunk, board, drawer, gate);
-        return if refused {
-            Err(AllocError)
-        } else {
-            Ok((drawer, pieces))
-        };
+        return draw_told(alloc, finder, wanted, asked, chunk, board, drawer, gate);
     }
     let half = workers / 2;
     let rest = workers - half;
     let (mine, theirs) = board.split(drawer, half - 1);
     let (first, second) = thread::join(
         rt,
-        move || -> Result<(Drawer, Vec<Piece>), AllocError>
+        move || -> Drawn
             requires { IsSync R.row × IsSync F.row × IsSync G.row × IsReady (F.index finder.now) asked.now chunk board.now theirs half }
-            ensures drawer { IfOk result (λ r. r.0 ≡ after_crew theirs half r.0.past r.0.numbers) }
-            ensures gained { IfOk result (λ r. GainsInAll theirs.numbers r.1.items r.0.numbers) }
-            ensures found { IfOk result (λ r. Find (IsFoundAs wanted (F.index finder.entry.now)) asked.entry.now chunk r.1.items) }
+            ensures { IsLeftBy (IsFoundAs wanted (F.index finder.entry.now)) asked.entry.now chunk theirs half result }
         {
             crew_told(
                 rt, alloc, finder, wanted, asked, chunk, board, theirs, half, gate,
             )
         },
-        move || -> Result<(Drawer, Vec<Piece>), AllocError>
+        move || -> Drawn
             requires { IsSync R.row × IsSync F.row × IsSync G.row × IsReady (F.index finder.now) asked.now chunk board.now mine rest }
-            ensures drawer { IfOk result (λ r. r.0 ≡ after_crew mine rest r.0.past r.0.numbers) }
-            ensures gained { IfOk result (λ r. GainsInAll mine.numbers r.1.items r.0.numbers) }
-            ensures found { IfOk result (λ r. Find (IsFoundAs wanted (F.index finder.entry.now)) asked.entry.now chunk r.1.items) }
+            ensures { IsLeftBy (IsFoundAs wanted (F.index finder.entry.now)) asked.entry.now chunk mine rest result }
         {
             crew_told(
                 rt, alloc, finder, wanted, asked, chunk, board, mine, rest, gate,
             )
         },
     );
-    let (other, mut pieces) = first?;
-    let (drawer, mut more) = second?;
-    pieces.append(&mut more)?;
-    Ok((board.join(drawer, other), pieces))
+    joined(board, second, first)
 }
 
 /// So many workers at once, each as by `draw_pieces` but on a groundwork that all share, on drawers that are split off and joined again. The pieces
@@ -207,7 +215,7 @@ pub fn crew<G: Gate + Sync, R: Threads + Sync>(
 {
     let groundwork = Groundwork::new(alloc, index)?;
     let wanted = Wanted::everything();
-    crew_told(
+    let drawn = crew_told(
         rt,
         alloc,
         &groundwork,
@@ -218,5 +226,7 @@ pub fn crew<G: Gate + Sync, R: Threads + Sync>(
         drawer,
         workers,
         gate,
-    )
+    );
+    drop(groundwork);
+    drawn.whole()
 }

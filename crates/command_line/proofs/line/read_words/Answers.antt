@@ -1,9 +1,8 @@
 use Rattle.std.proofs.Common.{◌≡◌, ◌<◌, ◌∙◌, [], length, map, refl, rules, string_bytes, subst, sym}
 use Rattle.std.proofs.lemmas.List.{length-map}
-use Rattle.std.proofs.lemmas.Result.{IfOk-weaker}
 use Rattle.clap.specs.Words.{HasKind, app_of, found_of, kind_of, rows_of}
 use Rattle.command_line.specs.Line.{line_app, line_faults}
-use Rattle.command_line.proofs.LineFacts.{accepts, arch-good, chunk-within, faults-are, is_free, nonempty, only-good, refuses-values, refuses-words, rows-are, workers-within}
+use Rattle.command_line.proofs.LineFacts.{accepts, faults-are, is_free, nonempty, refuses-values, refuses-words, rows-are}
 use Rattle.command_line.proofs.line.read_words.Goals as goal
 
 pub returns-in-Ok-clause-accepted : goal.returns-in-Ok-clause-accepted
@@ -25,26 +24,6 @@ returns-in-Ok-clause-refused c =
     let none : line_faults words ≡ [] = sym (faults-are app words words app_is refl) ∙ c.in-Ok.ensures.kinds (is_free app app_is) in
     refuses-values words (rows_of (found_of c.in-Ok.matches)) c.config_of.result some none (rows-are app words words c.in-Ok.matches app_is refl c.in-Ok.ensures.matches)
     c.config_of.ensures.refused
-
-pub returns-in-Ok-clause-architecture : goal.returns-in-Ok-clause-architecture
-returns-in-Ok-clause-architecture c =
-    let words = map string_bytes c.args.words.now in
-    IfOk-weaker c.config_of.result _ _ (arch-good words) (returns-in-Ok-clause-accepted c)
-
-pub returns-in-Ok-clause-workers : goal.returns-in-Ok-clause-workers
-returns-in-Ok-clause-workers c =
-    let words = map string_bytes c.args.words.now in
-    IfOk-weaker c.config_of.result _ _ (workers-within words) (returns-in-Ok-clause-accepted c)
-
-pub returns-in-Ok-clause-chunk : goal.returns-in-Ok-clause-chunk
-returns-in-Ok-clause-chunk c =
-    let words = map string_bytes c.args.words.now in
-    IfOk-weaker c.config_of.result _ _ (chunk-within words) (returns-in-Ok-clause-accepted c)
-
-pub returns-in-Ok-clause-only : goal.returns-in-Ok-clause-only
-returns-in-Ok-clause-only c =
-    let words = map string_bytes c.args.words.now in
-    IfOk-weaker c.config_of.result _ _ (only-good words) (returns-in-Ok-clause-accepted c)
 
 pub returns-in_ok-fault_from-in-Err-clause-refused : goal.returns-in_ok-fault_from-in-Err-clause-refused
 returns-in_ok-fault_from-in-Err-clause-refused c =

@@ -1,10 +1,11 @@
 use Rattle.std.proofs.Common.{◌∙◌, ◌+◌, ◌-◌, ◌≤◌, ◌≡◌, ℕ, List, [], arith, drop, length, refl, rules, subst, sym}
-use Rattle.std.proofs.lemmas.Result.{err_from_is_err_and}
+use Rattle.std.specs.Io.KnownBytes.{IsAtEnd}
+use Rattle.std.proofs.lemmas.Result.{IfErr-weaker, IfOk-weaker, err_from_is_err_and}
 use Rattle.deb_index.specs.Reading.{byte_limit}
 use Rattle.run_settings.specs.Settings.{settings_of}
 use Rattle.deb_index.specs.Pieces.{IsFrontOf}
-use Rattle.deb_input.specs.Pieces.{RefusesPiece, TakesLast, TakesPiece}
-use Rattle.deb_input.proofs.PieceLemmas.{fails-at-read, fails-over, fails-rest, fault-behind, reads-last, reads-none, reads-on, reads-taken}
+use Rattle.deb_input.specs.Pieces.{RefusesPiece, TakesPiece}
+use Rattle.deb_input.proofs.PieceLemmas.{fails-at-read, fails-over, fails-rest, reads-last, reads-none, reads-on, reads-taken, text-behind}
 use Rattle.deb_input.proofs.pieces.read_text.Goals as goal
 
 pub pieces-init : goal.pieces-init
@@ -24,9 +25,11 @@ returns-then-not-branch-clause-text g c =
     let more = c.in_ok-read_more.ensures.bytes in
     let reads = reads-on (settings_of c.args.config.now) (g.S.Source.remaining c.args.reader.now) (g.S.Source.remaining c.pieces.reader) (g.S.Source.remaining c.read_more.new.reader) c.pieces.front
     c.pieces.held more.0 c.read_more.new.self c.pieces.invariant.0 more.1 more.2 in
-    reads-last (settings_of c.args.config.now) (g.S.Source.remaining c.args.reader.now) (g.S.Source.remaining c.read_more.new.reader) (g.S.Source.failed c.args.reader.now) (g.S.Source.failed c.read_more.new.reader) c.pieces.front
-    c.read_more.new.self c.in_ok-outcome.outcome reads (search rules) (c.in_ok-read_more.ensures.mark ∙ c.pieces.invariant.3) (search rules)
-    (subst (λ (bytes : List ℕ). TakesLast (settings_of c.args.config.now) c.pieces.front bytes c.in_ok-outcome.outcome) c.as_slice.ensures.value c.in_ok-outcome.ensures)
+    let ends : IsAtEnd (g.S.Source.remaining c.read_more.new.reader) = search rules in
+    let within : c.pieces.front.size + length c.read_more.new.self ≤ byte_limit = search rules in
+    IfOk-weaker c.end_of.result _ _ (λ read takes. reads-last (settings_of c.args.config.now) (g.S.Source.remaining c.args.reader.now) (g.S.Source.remaining c.read_more.new.reader)
+    (g.S.Source.failed c.args.reader.now) (g.S.Source.failed c.read_more.new.reader) c.pieces.front c.read_more.new.self read.outcome reads ends (c.in_ok-read_more.ensures.mark ∙ c.pieces.invariant.3) within takes)
+    c.end_of.ensures.outcome
 
 pub returns-then-read-gt-TEXT_LIMIT-clause-refused : goal.returns-then-read-gt-TEXT_LIMIT-clause-refused
 returns-then-read-gt-TEXT_LIMIT-clause-refused g c =
@@ -46,25 +49,24 @@ pieces-preserved g c =
     c.pieces.held bytes.0 c.read_more.new.self c.pieces.invariant.0 bytes.1 bytes.2 in
     let full = c.in_ok-read_more.ensures.full.0 c.if-not-branch.false in
     let sum = c.pieces.invariant.1 in
-    let takes = subst (λ (bytes : List ℕ). TakesPiece (settings_of c.args.config.now) c.pieces.front bytes c.in-Ok.next (drop c.in-Ok.taken bytes)) c.as_slice-in-pieces.ensures.value c.in-Ok.ensures.taken in
+    let takes = subst (λ (bytes : List ℕ). TakesPiece (settings_of c.args.config.now) c.pieces.front bytes c.in-Ok.next (drop c.in-Ok.taken bytes)) c.as_slice.ensures.value c.in-Ok.ensures.taken in
     let left = subst (λ (bytes : List ℕ). TakesPiece (settings_of c.args.config.now) c.pieces.front c.read_more.new.self c.in-Ok.next bytes) (sym c.drop_front.ensures) takes in
     let p = reads-taken (settings_of c.args.config.now) (g.S.Source.remaining c.args.reader.now) (g.S.Source.remaining c.read_more.new.reader) c.pieces.front c.in-Ok.next c.read_more.new.self
     c.drop_front.new.self reads left in
     let size : c.in-Ok.next.size + length c.drop_front.new.self ≡ c.pieces.front.size + length c.read_more.new.self = p.1 in
     (p.0, omega arith, search rules, c.in_ok-read_more.ensures.mark ∙ c.pieces.invariant.3)
 
-pub returns-in_err-skip_rest-in-Err-clause-refused : goal.returns-in_err-skip_rest-in-Err-clause-refused
-returns-in_err-skip_rest-in-Err-clause-refused g c =
+pub returns-in-Err-clause-refused : goal.returns-in-Err-clause-refused
+returns-in-Err-clause-refused g c =
     let bytes = c.in_ok-read_more.ensures.bytes in
     let reads = reads-on (settings_of c.args.config.now) (g.S.Source.remaining c.args.reader.now) (g.S.Source.remaining c.pieces.reader) (g.S.Source.remaining c.read_more.new.reader) c.pieces.front
     c.pieces.held bytes.0 c.read_more.new.self c.pieces.invariant.0 bytes.1 bytes.2 in
     let full = c.in_ok-read_more.ensures.full.0 c.if-not-branch.false in
     let sum = c.pieces.invariant.1 in
-    let p = err_from_is_err_and c.from_residual-in_err-skip_rest-in-Err.result c.from_residual-in_err-skip_rest-in-Err.ensures.1 in
-    rw (p.1, p.2)
-    (fails-rest (settings_of c.args.config.now) (g.S.Source.remaining c.args.reader.now) (g.S.Source.remaining c.read_more.new.reader) (g.S.Source.failed c.args.reader.now)
-    (g.S.Source.failed c.read_more.new.reader) (g.S.Source.failed c.skip_rest.new.reader) c.pieces.front c.read_more.new.self (byte_limit - (c.pieces.read + c.min-count.result))
-    c.in_err-skip_rest-in-Err.field-0.0 reads (c.in_ok-read_more.ensures.mark ∙ c.pieces.invariant.3) (omega arith) c.in_err-skip_rest-in-Err.ensures.refused)
+    IfErr-weaker c.refused_text.result _ _ (λ fault fails. fails-rest (settings_of c.args.config.now) (g.S.Source.remaining c.args.reader.now) (g.S.Source.remaining c.read_more.new.reader)
+    (g.S.Source.failed c.args.reader.now) (g.S.Source.failed c.read_more.new.reader) (g.S.Source.failed c.refused_text.new.reader) c.pieces.front c.read_more.new.self
+    (byte_limit - (c.pieces.read + c.min-count.result)) fault reads (c.in_ok-read_more.ensures.mark ∙ c.pieces.invariant.3) (omega arith) fails)
+    c.refused_text.ensures.refused
 
 pub returns-in-Err-clause-text : goal.returns-in-Err-clause-text
 returns-in-Err-clause-text g c =
@@ -74,9 +76,8 @@ returns-in-Err-clause-text g c =
     let full = c.in_ok-read_more.ensures.full.0 c.if-not-branch.false in
     let sum = c.pieces.invariant.1 in
     let within : c.pieces.read + c.min-count.result ≤ byte_limit = search rules in
-    let rest = c.in_ok-skip_rest-in-Err.ensures.bytes in
-    let marked = c.in_ok-read_more.ensures.mark ∙ c.pieces.invariant.3 in
-    let refuses = subst (λ (bytes : List ℕ). RefusesPiece (settings_of c.args.config.now) c.pieces.front bytes c.in-Err.fault) c.as_slice-in-pieces.ensures.value c.in-Err.ensures.refused in
-    fault-behind (settings_of c.args.config.now) (g.S.Source.remaining c.args.reader.now) (g.S.Source.remaining c.read_more.new.reader) (g.S.Source.remaining c.skip_rest.new.reader)
-    (g.S.Source.failed c.args.reader.now) (g.S.Source.failed c.skip_rest.new.reader) c.pieces.front c.read_more.new.self rest.0 (byte_limit - (c.pieces.read + c.min-count.result))
-    c.in-Err.fault reads rest.1 c.in_ok-skip_rest-in-Err.ensures.end (c.in_ok-skip_rest-in-Err.ensures.mark ∙ marked) rest.2 (omega arith) (search rules) refuses
+    let refuses = subst (λ (bytes : List ℕ). RefusesPiece (settings_of c.args.config.now) c.pieces.front bytes c.in-Err.fault) c.as_slice.ensures.value c.in-Err.ensures.refused in
+    text-behind (λ read. read.outcome) (settings_of c.args.config.now) (g.S.Source.remaining c.args.reader.now) (g.S.Source.remaining c.read_more.new.reader) (g.S.Source.remaining c.refused_text.new.reader)
+    (g.S.Source.failed c.args.reader.now) (g.S.Source.failed c.read_more.new.reader) (g.S.Source.failed c.refused_text.new.reader) c.pieces.front c.read_more.new.self
+    (byte_limit - (c.pieces.read + c.min-count.result)) c.in-Err.fault c.refused_text.result reads c.refused_text.ensures.rest c.refused_text.ensures.end c.refused_text.ensures.mark
+    c.refused_text.ensures.outcome (c.in_ok-read_more.ensures.mark ∙ c.pieces.invariant.3) (omega arith) (search rules) refuses

@@ -1,4 +1,4 @@
-use Rattle.std.proofs.Common.{length, rules}
+use Rattle.std.proofs.Common.{rules}
 use Rattle.std.proofs.lemmas.List.{take_min}
 use Rattle.input_hints.specs.Stanzas.{shown}
 use Rattle.input_hints.proofs.field.shown.Goals as goal

@@ -1,32 +1,72 @@
-use Rattle.std.proofs.Common.{rules, ◌≡◌, ℕ, List, [], ◌++◌, ap, sym, subst, subst₂}
-use Rattle.std.proofs.lemmas.List.Elements.{All-append}
+use Rattle.std.proofs.Common.{◌-◌, ◌/◌, ◌∙◌, ℕ, ap, arith, rules, subst, sym}
 use Rattle.draw_board.specs.Board.{DrawerView}
-use Rattle.work_draw.specs.Checks.{AnswersEach, IsFoundAs, chunk_of}
-use Rattle.work_draw.specs.declared.pieces.Piece.{Piece}
-use Rattle.work_draw.specs.Pieces.{Find, GainsInAll}
-use Rattle.work_draw.proofs.Gathering.{gains_joined}
+use Rattle.work_draw.specs.Checks.{IsFoundAs}
+use Rattle.work_draw.specs.Pieces.{IsLeftBy}
+use Rattle.work_draw.proofs.Gathering.{left_by_both, left_by_one, mine_ready, theirs_ready}
 use Rattle.work_draw.proofs.workers.+crew_told+fn-crew_told-join+arg2+fn-crew_told-join+arg3.Goals as goal
 
-pub returns-clause-gained : goal.returns-clause-gained
-returns-clause-gained g t c =
-    let first : GainsInAll c.split-mine.result.1.numbers c.in_ok-other.pieces.items c.in_ok-other.other.numbers = search rules in
-    let second : GainsInAll c.split-mine.result.0.numbers c.in_ok-drawer.more.items c.in_ok-drawer.drawer.numbers = search rules in
-    let empty : c.split-mine.result.1.numbers ≡ [] = ap (λ (d : DrawerView). d.numbers) c.split-mine.ensures.given in
-    let same : c.split-mine.result.0.numbers ≡ c.args.drawer.numbers = ap (λ (d : DrawerView). d.numbers) c.split-mine.ensures.kept in
-    let numbers : c.join.result.numbers ≡ c.in_ok-drawer.drawer.numbers ++ c.in_ok-other.other.numbers = ap (λ (d : DrawerView). d.numbers) c.join.ensures.both in
-    let items : c.append.new.self.items ≡ c.in_ok-other.pieces.items ++ c.in_ok-drawer.more.items = c.in_ok-append.ensures.items in
-    subst₂ (λ (p : List Piece) (n : List ℕ). GainsInAll c.args.drawer.numbers p n) (sym items) (sym numbers)
-    (gains_joined c.args.drawer.numbers c.in_ok-drawer.more.items c.in_ok-other.pieces.items c.in_ok-drawer.drawer.numbers c.in_ok-other.other.numbers
-    (subst (λ (b : List ℕ). GainsInAll b c.in_ok-drawer.more.items c.in_ok-drawer.drawer.numbers) same second)
-    (subst (λ (b : List ℕ). GainsInAll b c.in_ok-other.pieces.items c.in_ok-other.other.numbers) empty first))
+pub draw_told-requires : goal.draw_told-requires
+draw_told-requires g t c = let ready = c.requires.ready in (ready.0, ready.1, ready.2, ready.3, omega arith, omega arith)
 
-pub returns-clause-found : goal.returns-clause-found
-returns-clause-found g t c =
+pub returns-then-workers-eq1 : goal.returns-then-workers-eq1
+returns-then-workers-eq1 g t c =
     let found = IsFoundAs c.args.wanted (g.F.Finder.index c.args.finder.now) in
+    let drawn = c.draw_told.result in
+    subst (λ (workers : ℕ). IsLeftBy found c.args.asked.now c.args.chunk c.args.drawer workers drawn) (sym c.if-workers-eq1.true)
+    (left_by_one found c.args.asked.now c.args.chunk c.args.drawer drawn c.draw_told.ensures.same c.draw_told.ensures.gained c.draw_told.ensures.found)
+
+pub split-mine-requires : goal.split-mine-requires
+split-mine-requires g t c = let ready = c.requires.ready in record { board = ready.0; room = omega (arith, ready.4, ready.5) }
+
+pub join-first-requires-after_bounds : goal.join-first-requires-after_bounds
+join-first-requires-after_bounds g t c κs within =
+    let ready = c.requires.ready in
+    let index = g.F.Finder.index c.args.finder.now in
     let asked = c.args.asked.now in
     let size = c.args.chunk in
-    let first : Find found asked size c.in_ok-other.pieces.items = search rules in
-    let second : Find found asked size c.in_ok-drawer.more.items = search rules in
-    let items : c.append.new.self.items ≡ c.in_ok-other.pieces.items ++ c.in_ok-drawer.more.items = c.in_ok-append.ensures.items in
-    subst (λ (l : List Piece). Find found asked size l) (sym items)
-    (All-append (λ (p : Piece). AnswersEach found (chunk_of asked size p.number) p.verdicts.items) c.in_ok-other.pieces.items c.in_ok-drawer.more.items first second)
+    let board = c.args.board.now in
+    let half = c.args.workers / 2 in
+    let rest = c.args.workers - half in
+    let theirs = theirs_ready index asked size board c.args.drawer c.args.workers half rest (omega arith) (omega arith) (omega arith) ready c.split-mine.result.1 c.split-mine.ensures.given in
+    let mine = mine_ready index asked size board c.args.drawer c.args.workers half rest (omega arith) (omega arith) (omega arith) ready c.split-mine.result.0 c.split-mine.ensures.kept in (
+      (omega (arith, c.decreases), ((λ a m. m), ((λ a m. m), ((λ a m. m), ((search rules, search rules, search rules, theirs), (search rules, search rules, search rules)))))),
+      (omega (arith, c.decreases), ((λ a m. m), ((λ a m. m), ((λ a m. m), ((search rules, search rules, search rules, mine), (search rules, search rules, search rules)))))),
+    )
+
+pub joined-requires : goal.joined-requires
+joined-requires g t c =
+    record {
+      first = c.join-first.ensures.second.same_board ∙ (ap (λ (d : DrawerView). d.board) c.split-mine.ensures.kept ∙ c.requires.ready.0);
+      second = c.join-first.ensures.first.same_board ∙ ap (λ (d : DrawerView). d.board) c.split-mine.ensures.given;
+    }
+
+pub returns : goal.returns
+returns g t c =
+    let found = IsFoundAs c.args.wanted (g.F.Finder.index c.args.finder.now) in
+    let half = c.args.workers / 2 in
+    let rest = c.args.workers - half in
+    let mine = c.split-mine.result.0 in
+    let theirs = c.split-mine.result.1 in
+    left_by_both found c.args.asked.now c.args.chunk c.args.drawer mine theirs c.args.board.now c.args.workers half rest (omega arith) c.split-mine.ensures.kept
+    c.split-mine.ensures.given (omega arith) (omega arith) c.join-first.result.1 c.join-first.result.0 c.joined.result c.join-first.ensures.second c.join-first.ensures.first
+    c.joined.ensures.drawer c.joined.ensures.refused c.joined.ensures.pieces
+
+pub join+arg2-returns : goal.join+arg2-returns
+join+arg2-returns g t c = c.crew_told.ensures
+
+pub join+arg3-returns : goal.join+arg3-returns
+join+arg3-returns g t c = c.crew_told.ensures
+
+pub join+arg2-crew_told-requires-clause-ready : goal.join+arg2-crew_told-requires-clause-ready
+join+arg2-crew_told-requires-clause-ready g t c κs within = c.requires.3
+
+pub join+arg3-crew_told-requires-clause-ready : goal.join+arg3-crew_told-requires-clause-ready
+join+arg3-crew_told-requires-clause-ready g t c κs within = c.requires.3
+
+pub fn::crew_told::join+arg2+FnOnce::call_once-join+arg2-requires : goal.fn::crew_told::join+arg2+FnOnce::call_once-join+arg2-requires
+fn::crew_told::join+arg2+FnOnce::call_once-join+arg2-requires g t c κs within =
+    (omega (arith, c.decreases), (search rules, (search rules, (search rules, (search rules, (search rules, (search rules, c.requires.1.1.1.0)))))))
+
+pub fn::crew_told::join+arg3+FnOnce::call_once-join+arg3-requires : goal.fn::crew_told::join+arg3+FnOnce::call_once-join+arg3-requires
+fn::crew_told::join+arg3+FnOnce::call_once-join+arg3-requires g t c κs within =
+    (omega (arith, c.decreases), (search rules, (search rules, (search rules, (search rules, (search rules, (search rules, c.requires.1.1.1.0)))))))

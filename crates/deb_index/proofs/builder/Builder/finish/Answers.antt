@@ -16,3 +16,6 @@ invariant_of-result c =
           (λ j. (c.deref.ensures.value j, c.deref-2.ensures.value j)) (c.in_ok-add_provided.ensures before);
       essentials = c.in_ok-essential.ensures ∙ ap essential_names (sym c.self.view_is);
     }
+
+pub returns : goal.returns
+returns c = c.self.view_is

@@ -2,6 +2,12 @@ use Rattle.std.proofs.Common.{◌++◌, ◌∷◌, ◌∙◌, [], None, false, a
 use Rattle.deb_index.proofs.EndLemmas.{row-left, still-ends}
 use Rattle.deb_index.proofs.rows.RowStore.leave_out.Goals as goal
 
+pub invariant_of-self : goal.invariant_of-self
+invariant_of-self c = rw c.reserve.ensures.items c.self.invariant
+
+pub invariant_of-self-in_err-reserve-2 : goal.invariant_of-self-in_err-reserve-2
+invariant_of-self-in_err-reserve-2 c = rw (c.reserve.ensures.items, c.reserve-2.ensures.items) c.self.invariant
+
 pub invariant_of-self-2 : goal.invariant_of-self-2
 invariant_of-self-2 c =
     let r = c.self.inside in

@@ -2,6 +2,9 @@ use Rattle.std.proofs.Common.{◌++◌, ◌∷◌, ◌∙◌, [], None, ap}
 use Rattle.deb_index.proofs.ShareLemmas.{rows-new}
 use Rattle.deb_index.proofs.rows.Rows.leave_out.Goals as goal
 
+pub invariant_of-self : goal.invariant_of-self
+invariant_of-self c = rw c.reserve.ensures.items c.self.invariant
+
 pub returns-clause-ok : goal.returns-clause-ok
 returns-clause-ok c =
     let r = c.self.inside in
