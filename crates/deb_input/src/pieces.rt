@@ -144,6 +144,7 @@ pub fn read_text<S: Source, R: Threads + Sync>(
         }
         read += count;
         if read > TEXT_LIMIT {
+            drop(front);
             return Err(RunFault::TooLong);
         }
         match take_piece(rt, alloc, config, front, held.as_slice()) {
