@@ -1,6 +1,6 @@
 //! The packages that were broken in an earlier index and are mended, and those that are gone.
 
-ghost use Rattle.std.specs.Prelude.{◌≡◌, ◌<◌, ◌&&◌, ◌∷◌, [], All, IfOk, codes, filter, length, map, not};
+ghost use Rattle.std.specs.Prelude.{◌≡◌, ◌<◌, ◌&&◌, All, IfOk, filter, length, map, not};
 ghost use Rattle.deb_index.specs.Packages.{names};
 ghost use Rattle.deb_report.specs.Since.{AreMarks, amends_of, broken_view, has_named, is_gone, is_mended, mark_of};
 ghost use Rattle.deb_report.specs.Told.{IsAskedOf, amends_view, shown_view};
@@ -84,26 +84,6 @@ fn gone_of<'b>(
     Ok(gone)
 }
 
-/// Both lists, each under its title.
-fn both<'b>(
-    alloc: Global,
-    mended: Vec<&'b BrokenPackage>,
-    gone: Vec<&'b BrokenPackage>,
-) -> Result<Vec<Amends<'b>>, AllocError>
-    ensures { IfOk result (λ lists. map amends_view lists.items ≡ (codes "mended", map (λ deb. broken_view deb.now) mended.entry.items)
-        ∷ (codes "gone", map (λ deb. broken_view deb.now) gone.entry.items) ∷ []) }
-{
-    let mended = Amends {
-        title: "mended",
-        packages: mended,
-    };
-    let gone = Amends {
-        title: "gone",
-        packages: gone,
-    };
-    Ok(vec![in alloc; mended, gone]?)
-}
-
 /// What became of the packages that were broken in an earlier index, in its order.
 #[tactic(auto, unfolding(crate::specs::Since::amends_of))]
 pub(crate) fn amends_of<'b>(
@@ -117,7 +97,13 @@ pub(crate) fn amends_of<'b>(
     requires broken { All (λ one. IsAskedOf index.now (shown_view one)) broken.now }
     ensures { IfOk result (λ lists. map amends_view lists.items ≡ amends_of index.now asked.now (map shown_view broken.now) (map broken_view before.now)) }
 {
-    let mended = mended_of(alloc, index, asked, broken, before)?;
-    let gone = gone_of(alloc, index, before)?;
-    both(alloc, mended, gone)
+    let mended = Amends {
+        title: "mended",
+        packages: mended_of(alloc, index, asked, broken, before)?,
+    };
+    let gone = Amends {
+        title: "gone",
+        packages: gone_of(alloc, index, before)?,
+    };
+    Ok(vec![in alloc; mended, gone]?)
 }

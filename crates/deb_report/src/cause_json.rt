@@ -6,7 +6,7 @@ ghost use Rattle.deb_relation.specs.Relationship.{printed};
 ghost use Rattle.deb_index.specs.Constraints.{IsOfIndex};
 ghost use Rattle.deb_report.specs.Causes.{IsCauseOf, cause_view, hits_of};
 ghost use Rattle.deb_report.specs.Json.{array, cause_json, member, near_json, needed_json, place_json, quoted, tall_array, wrong_json};
-ghost use Rattle.deb_report.specs.Near.{near_misses, near_view, similar_names};
+ghost use Rattle.deb_report.specs.Near.{near_misses, similar_names};
 ghost use Rattle.deb_report.specs.Similar.{FitsCause, IsSimilarOf, stems_in};
 ghost use Rattle.deb_report.specs.Stems.{AreSought};
 
@@ -14,7 +14,7 @@ use crate::gathered::Cause;
 use crate::hits::hits_of;
 use crate::json_parts::{IndexJson, push_package, push_relation};
 use crate::json_text::{push_array, push_number, push_quoted, push_text};
-use crate::near::{NearMiss, near_misses};
+use crate::near::near_misses;
 use crate::print::Print;
 use crate::reasons::group_field;
 use crate::similar::Similar;
@@ -91,14 +91,6 @@ impl<'n> Print<&'n [u8]> for QuotedNames {
     }
 }
 
-/// Adds the member with the similar names.
-#[tactic(auto, using(crate::proofs::JoinLemmas::joined_map), unfolding(crate::specs::Json::array))]
-fn push_names(out: &mut Vec<u8>, names: &[&[u8]]) -> Result<(), AllocError>
-    ensures { OnOk result (out.new.items ≡ out.old.items ++ codes "," ++ member (codes "similar") (array quoted (map (λ name. name.now) names.now))) }
-{
-    push_array(out, ",", "similar", &QuotedNames, names, "]")
-}
-
 /// Causes of an index, in JSON.
 #[derive(Drop)]
 struct CauseJson<'p, 'i> {
@@ -138,16 +130,19 @@ impl<'p, 'i> CauseJson<'p, 'i> {
     }
 
     /// Adds the member with the near misses.
+    #[tactic(auto, using(crate::proofs::JoinLemmas::joined_map), unfolding(crate::specs::Json::array))]
     fn push_present(&self, out: &mut Vec<u8>, constraints: &[Constraint]) -> Result<(), AllocError>
         requires { All (IsOfIndex self.now.json.now.index.now) constraints.now }
         ensures { OnOk result (out.new.items ≡ out.old.items ++ codes ","
             ++ member (codes "present") (array near_json (near_misses self.now.json.now.index.now constraints.now))) }
     {
-        let misses = near_misses(self.json.alloc, self.json.index, constraints)?;
-        self.json.push_present(out, misses.as_slice())
+        let json = self.json;
+        let misses = near_misses(json.alloc, json.index, constraints)?;
+        push_array(out, ",", "present", json, misses.as_slice(), "]")
     }
 
     /// Adds the member with the similar names.
+    #[tactic(auto, using(crate::proofs::JoinLemmas::joined_map), unfolding(crate::specs::Json::array))]
     fn push_similar(&self, out: &mut Vec<u8>, constraints: &[Constraint]) -> Result<(), AllocError>
         requires within { All (IsOfIndex self.now.json.now.index.now) constraints.now }
         requires found { IsSimilarOf self.now.json.now.index.now self.now.similar }
@@ -157,7 +152,7 @@ impl<'p, 'i> CauseJson<'p, 'i> {
     {
         let json = self.json;
         let names = self.similar.names(json.alloc, json.index, constraints)?;
-        push_names(out, names.as_slice())
+        push_array(out, ",", "similar", &QuotedNames, names.as_slice(), "]")
     }
 }
 

@@ -124,22 +124,6 @@ impl<'n> Print<&'n [u8]> for NearLines {
     }
 }
 
-/// Adds the near misses.
-#[tactic(auto, using(crate::proofs::JoinLemmas::titled_map))]
-fn push_misses(out: &mut Vec<u8>, misses: &[NearMiss<'_>]) -> Result<(), AllocError>
-    ensures { OnOk result (out.new.items ≡ out.old.items ++ titled_if (codes "  present:") near_line (map near_view misses.now)) }
-{
-    push_titled_if(out, "  present:", &NearLines, misses)
-}
-
-/// Adds the similar names.
-#[tactic(auto, using(crate::proofs::JoinLemmas::titled_map))]
-fn push_names(out: &mut Vec<u8>, names: &[&[u8]]) -> Result<(), AllocError>
-    ensures { OnOk result (out.new.items ≡ out.old.items ++ titled_if (codes "  similar:") name_line (map (λ name. name.now) names.now)) }
-{
-    push_titled_if(out, "  similar:", &NearLines, names)
-}
-
 /// Causes of an index, in lines.
 #[derive(Drop)]
 struct CauseLines<'p, 'i> {
@@ -185,16 +169,18 @@ impl<'p, 'i> CauseLines<'p, 'i> {
     }
 
     /// Adds the near misses.
+    #[tactic(auto, using(crate::proofs::JoinLemmas::titled_map))]
     fn push_present(&self, out: &mut Vec<u8>, constraints: &[Constraint]) -> Result<(), AllocError>
         requires { All (IsOfIndex self.now.lines.now.index.now) constraints.now }
         ensures { OnOk result (out.new.items ≡ out.old.items
             ++ titled_if (codes "  present:") near_line (near_misses self.now.lines.now.index.now constraints.now)) }
     {
         let misses = near_misses(self.lines.alloc, self.lines.index, constraints)?;
-        push_misses(out, misses.as_slice())
+        push_titled_if(out, "  present:", &NearLines, misses.as_slice())
     }
 
     /// Adds the similar names.
+    #[tactic(auto, using(crate::proofs::JoinLemmas::titled_map))]
     fn push_similar(&self, out: &mut Vec<u8>, constraints: &[Constraint]) -> Result<(), AllocError>
         requires within { All (IsOfIndex self.now.lines.now.index.now) constraints.now }
         requires found { IsSimilarOf self.now.lines.now.index.now self.now.similar }
@@ -204,7 +190,7 @@ impl<'p, 'i> CauseLines<'p, 'i> {
     {
         let lines = self.lines;
         let names = self.similar.names(lines.alloc, lines.index, constraints)?;
-        push_names(out, names.as_slice())
+        push_titled_if(out, "  similar:", &NearLines, names.as_slice())
     }
 }
 

@@ -111,7 +111,12 @@ pub(crate) fn needs_in(
 fn has_only(core: &[Constraint]) -> bool
     ensures { result ≡ list_any is_only core.now }
 {
-    core.iter().any(|one| matches!(one, Constraint::Only(_)))
+    for constraint in core {
+        if let Constraint::Only(_) = *constraint {
+            return true;
+        }
+    }
+    false
 }
 
 /// Adds the places of the packages that answer a need of a core.

@@ -15,7 +15,7 @@ use crate::amends::Amends;
 use crate::broken::BrokenPackage;
 use crate::cause_json::push_causes;
 use crate::content::Content;
-use crate::json_parts::{IndexJson, push_architecture, push_front, push_label, push_package};
+use crate::json_parts::{IndexJson, push_front, push_label, push_package};
 use crate::json_text::{push_any_text, push_array, push_list, push_number, push_quoted, push_text};
 use crate::print::{Print, push_all};
 use crate::reasons::reason_of;
@@ -131,7 +131,7 @@ impl<'i, 'v> Print<Shown<'v>> for Json<'i> {
     fn print(&self, out: &mut Vec<u8>, shown: &Shown<'v>) -> Result<(), AllocError> {
         let deb = self.parts.index.package(shown.place);
         push_package(out, "\n{", deb)?;
-        push_architecture(out, deb)?;
+        push_any_text(out, ",", "architecture", deb.architecture.as_slice())?;
         push_text(out, ",", "status", status_text(shown.verdict))?;
         if self.telling.config.explain {
             self.push_explanation(out, shown)?;
@@ -217,22 +217,6 @@ impl<'i> Json<'i> {
         push_array(out, ",", "report", self, content.blocks.as_slice(), "\n]")
     }
 
-    /// Adds the members that are numbers.
-    #[tactic(auto, using(crate::proofs::JoinLemmas::lines_map))]
-    fn push_numbers(&self, out: &mut Vec<u8>, content: &Content<'_>) -> Result<(), AllocError>
-        ensures { OnOk result (out.new.items ≡ out.old.items ++ flat_map (λ number. codes "," ++ number_json number) (content_view content.now).numbers) }
-    {
-        push_all(out, self, content.numbers.as_slice())
-    }
-
-    /// Adds the members that are lists.
-    #[tactic(auto, using(crate::proofs::JoinLemmas::lines_map))]
-    fn push_lists(&self, out: &mut Vec<u8>, content: &Content<'_>) -> Result<(), AllocError>
-        ensures { OnOk result (out.new.items ≡ out.old.items ++ flat_map (λ list. codes "," ++ list_json list) (content_view content.now).lists) }
-    {
-        push_all(out, self, content.lists.as_slice())
-    }
-
     /// Adds the causes, where they are told, and the end of the object.
     fn push_end(&self, out: &mut Vec<u8>, content: &Content<'_>) -> Result<(), AllocError>
         requires { IsContentOf self.now.parts.index.now content.now }
@@ -269,8 +253,8 @@ pub(crate) fn json_report(
     json.push_head(&mut out, options.as_slice())?;
     push_any_text(&mut out, "", "architecture", index.arch())?;
     json.push_blocks(&mut out, content)?;
-    json.push_numbers(&mut out, content)?;
-    json.push_lists(&mut out, content)?;
+    push_all(&mut out, &json, content.numbers.as_slice())?;
+    push_all(&mut out, &json, content.lists.as_slice())?;
     json.push_end(&mut out, content)?;
     out.extend_from_slice(b"\n")?;
     Ok(out)

@@ -6,12 +6,12 @@ ghost use Rattle.deb_relation.specs.Relationship.{printed};
 ghost use Rattle.deb_index.specs.Constraints.{IsOfIndex};
 ghost use Rattle.deb_index.specs.Packages.{package_view};
 ghost use Rattle.deb_report.specs.Near.{near_view};
-ghost use Rattle.deb_report.specs.Json.{architecture_json, array, constraint_json, label_json, label_members, member, near_json, place_json};
+ghost use Rattle.deb_report.specs.Json.{array, constraint_json, label_json, label_members, member, near_json, place_json};
 ghost use Rattle.deb_report.specs.Json.{quoted, reason_front};
-ghost use Rattle.deb_report.specs.Report.{OfRelation, group_text};
+ghost use Rattle.deb_report.specs.Report.{group_text};
 ghost use Rattle.deb_report.specs.Told.{reason_view};
 
-use crate::json_text::{push_any_text, push_array, push_text, push_title};
+use crate::json_text::{push_array, push_text, push_title};
 use crate::near::NearMiss;
 use crate::print::Print;
 use crate::reasons::{Reason, push_group, reason_of};
@@ -47,14 +47,6 @@ pub(crate) fn push_package(out: &mut Vec<u8>, lead: &str, deb: &Package) -> Resu
     push_label(out, lead, deb.name.as_slice(), deb.version.text())
 }
 
-/// Adds the member that is a package's architecture.
-#[tactic(auto, unfolding(crate::specs::Json::architecture_json))]
-pub(crate) fn push_architecture(out: &mut Vec<u8>, deb: &Package) -> Result<(), AllocError>
-    ensures { OnOk result (out.new.items ≡ out.old.items ++ codes "," ++ architecture_json (package_view deb.now)) }
-{
-    push_any_text(out, ",", "architecture", deb.architecture.as_slice())
-}
-
 impl<'i> Print<u32> for IndexJson<'i> {
     ghost fits = { λ json place. place < length json.index.now.packages };
 
@@ -78,23 +70,6 @@ pub(crate) fn push_relation(out: &mut Vec<u8>, relation: &[Atom]) -> Result<(), 
     out.extend_from_slice(b"\"")
 }
 
-/// Adds what is told of a relation of a package, up to the end of its object.
-#[tactic(auto, unfolding(crate::specs::Json::reason_front))]
-fn push_of_package(
-    out: &mut Vec<u8>,
-    kind: &[u8],
-    deb: &Package,
-    field: &[u8],
-    relation: &[Atom],
-) -> Result<(), AllocError>
-    ensures { OnOk result (out.new.items ≡ out.old.items ++ reason_front (OfRelation kind.now (package_view deb.now) field.now (map atom_view relation.now))) }
-{
-    push_text(out, "{", "kind", kind)?;
-    push_package(out, ",", deb)?;
-    push_text(out, ",", "field", field)?;
-    push_relation(out, relation)
-}
-
 /// Adds what is told of a constraint, up to the end of its object.
 #[tactic(auto, unfolding(crate::specs::Json::reason_front))]
 pub(crate) fn push_front(out: &mut Vec<u8>, reason: &Reason<'_>) -> Result<(), AllocError>
@@ -103,16 +78,20 @@ pub(crate) fn push_front(out: &mut Vec<u8>, reason: &Reason<'_>) -> Result<(), A
     match reason {
         Reason::Name { kind, name } => {
             push_text(out, "{", "kind", kind)?;
-            push_text(out, ",", "name", name)?;
+            push_text(out, ",", "name", name)
         }
         Reason::Relation {
             kind,
             deb,
             field,
             relation,
-        } => push_of_package(out, kind, deb, field, relation)?,
+        } => {
+            push_text(out, "{", "kind", kind)?;
+            push_package(out, ",", deb)?;
+            push_text(out, ",", "field", field)?;
+            push_relation(out, relation)
+        }
     }
-    Ok(())
 }
 
 impl<'i> IndexJson<'i> {
@@ -167,17 +146,5 @@ impl<'i> IndexJson<'i> {
             (array (λ entry. quoted (printed entry)) (map (λ entry. atom_view entry.now) provides.now))) }
     {
         push_array(out, ",", "provides", self, provides, "]")
-    }
-
-    /// Adds the member with the near misses.
-    #[tactic(auto, using(crate::proofs::JoinLemmas::joined_map), unfolding(crate::specs::Json::array))]
-    pub(crate) fn push_present(
-        &self,
-        out: &mut Vec<u8>,
-        misses: &[NearMiss<'_>],
-    ) -> Result<(), AllocError>
-        ensures { OnOk result (out.new.items ≡ out.old.items ++ codes "," ++ member (codes "present") (array near_json (map near_view misses.now))) }
-    {
-        push_array(out, ",", "present", self, misses, "]")
     }
 }

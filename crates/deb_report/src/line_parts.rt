@@ -1,9 +1,8 @@
 //! What lines are made of: titles, packages, and the constraints of an index.
 
-ghost use Rattle.std.specs.Prelude.{◌≡◌, ◌++◌, ◌<◌, All, OnOk, codes, decimal, length, map};
-ghost use Rattle.std.specs.List.{flat_map, join_by};
+ghost use Rattle.std.specs.Prelude.{◌≡◌, ◌++◌, ◌<◌, All, OnOk, decimal, length, map};
+ghost use Rattle.std.specs.List.{flat_map};
 ghost use Rattle.deb_relation.specs.AtomView.{atom_view};
-ghost use Rattle.deb_relation.specs.Relationship.{printed};
 ghost use Rattle.deb_index.specs.Constraints.{IsOfIndex};
 ghost use Rattle.deb_index.specs.Packages.{package_view};
 ghost use Rattle.deb_report.specs.CauseLines.{provides_text};
@@ -65,14 +64,6 @@ pub(crate) fn push_package(out: &mut Vec<u8>, deb: &Package) -> Result<(), Alloc
     push_label(out, deb.name.as_slice(), deb.version.text())
 }
 
-/// Adds entries of Provides.
-#[tactic(auto, using(crate::proofs::JoinLemmas::joined_map))]
-fn push_entries(out: &mut Vec<u8>, entries: &[&Atom]) -> Result<(), AllocError>
-    ensures { OnOk result (out.new.items ≡ out.old.items ++ join_by printed (codes ", ") (map (λ entry. atom_view entry.now) entries.now)) }
-{
-    push_joined(out, ", ", &Plainly, entries)
-}
-
 /// Adds what a package provides, where it comes near by that alone.
 #[tactic(auto, unfolding(crate::specs::CauseLines::provides_text))]
 pub(crate) fn push_provides(out: &mut Vec<u8>, provides: &[&Atom]) -> Result<(), AllocError>
@@ -80,7 +71,7 @@ pub(crate) fn push_provides(out: &mut Vec<u8>, provides: &[&Atom]) -> Result<(),
 {
     if !provides.is_empty() {
         out.extend_from_slice(b" (provides ")?;
-        push_entries(out, provides)?;
+        push_joined(out, ", ", &Plainly, provides)?;
         out.extend_from_slice(b")")?;
     }
     Ok(())
@@ -98,11 +89,12 @@ impl<'i> Print<u32> for IndexLines<'i> {
 
     ghost text = { λ lines place. place_line lines.index.now place };
 
-    #[tactic(auto, unfolding(crate::specs::Report::line, crate::specs::Report::place_line))]
+    #[tactic(auto, unfolding(crate::specs::Report::label_text, crate::specs::Report::line, crate::specs::Report::place_line))]
     fn print(&self, out: &mut Vec<u8>, place: &u32) -> Result<(), AllocError> {
-        out.extend_from_slice(b"   - ")?;
-        push_package(out, self.index.package(*place))?;
-        out.extend_from_slice(b"\n")
+        let deb = self.index.package(*place);
+        let name = deb.name.as_slice();
+        let version = deb.version.text();
+        push_texts(out, &[b"   - ", name, b" ", version, b"\n"])
     }
 }
 

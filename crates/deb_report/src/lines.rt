@@ -18,7 +18,7 @@ use crate::amends::Amends;
 use crate::broken::BrokenPackage;
 use crate::cause_lines::push_causes;
 use crate::content::Content;
-use crate::line_parts::{IndexLines, push_label, push_line, push_titled};
+use crate::line_parts::{IndexLines, push_line, push_titled};
 use crate::print::{Print, push_all, push_texts};
 use crate::shown::{Shown, status_text};
 use crate::similar::Similar;
@@ -39,29 +39,14 @@ pub(crate) struct Lines<'i> {
     pub(crate) similar: &'i Similar,
 }
 
-impl<'i> Lines<'i> {
-    /// Adds the lines of a core under a title.
-    #[tactic(auto, unfolding(crate::specs::Report::core_lines))]
-    fn push_core(
-        &self,
-        out: &mut Vec<u8>,
-        title: &str,
-        core: &[Constraint],
-    ) -> Result<(), AllocError>
-        requires { All (IsOfIndex self.now.parts.index.now) core.now }
-        ensures { OnOk result (out.new.items ≡ out.old.items ++ core_lines self.now.parts.index.now title.now core.now) }
-    {
-        push_titled(out, title, &self.parts, core)
-    }
-}
-
 impl<'i> Print<Vec<Constraint>> for Lines<'i> {
     ghost fits = { λ lines core. All (IsOfIndex lines.parts.index.now) core.items };
 
     ghost text = { λ lines core. core_lines lines.parts.index.now (codes "  also:") core.items };
 
+    #[tactic(auto, unfolding(crate::specs::Report::core_lines))]
     fn print(&self, out: &mut Vec<u8>, core: &Vec<Constraint>) -> Result<(), AllocError> {
-        self.push_core(out, "  also:", core.as_slice())
+        push_titled(out, "  also:", &self.parts, core.as_slice())
     }
 }
 
@@ -77,6 +62,7 @@ impl<'i> Lines<'i> {
     }
 
     /// Adds the first core of the package at a place.
+    #[tactic(auto, unfolding(crate::specs::Report::core_lines))]
     fn push_first(
         &self,
         out: &mut Vec<u8>,
@@ -92,7 +78,7 @@ impl<'i> Lines<'i> {
             let parts = &self.parts;
             push_walk(parts.alloc, out, parts.index, self.similar, place, core)
         } else {
-            self.push_core(out, "  reasons:", core)
+            push_titled(out, "  reasons:", &self.parts, core)
         }
     }
 
@@ -163,11 +149,11 @@ impl<'i, 'b> Print<&'b BrokenPackage> for Lines<'i> {
 
     ghost text = { λ _ deb. broken_line (broken_view deb.now) };
 
-    #[tactic(auto, unfolding(crate::specs::Report::line, crate::specs::Lines::broken_line))]
+    #[tactic(auto, unfolding(crate::specs::Report::label_text, crate::specs::Report::line, crate::specs::Lines::broken_line))]
     fn print(&self, out: &mut Vec<u8>, deb: &&'b BrokenPackage) -> Result<(), AllocError> {
-        out.extend_from_slice(b" - ")?;
-        push_label(out, deb.name.as_slice(), deb.version.as_slice())?;
-        out.extend_from_slice(b"\n")
+        let name = deb.name.as_slice();
+        let version = deb.version.as_slice();
+        push_texts(out, &[b" - ", name, b" ", version, b"\n"])
     }
 }
 
@@ -197,22 +183,6 @@ impl<'i> Lines<'i> {
         push_titled(out, "report:", self, content.blocks.as_slice())
     }
 
-    /// Adds the numbers.
-    #[tactic(auto, using(crate::proofs::JoinLemmas::lines_map))]
-    fn push_numbers(&self, out: &mut Vec<u8>, content: &Content<'_>) -> Result<(), AllocError>
-        ensures { OnOk result (out.new.items ≡ out.old.items ++ flat_map number_line (content_view content.now).numbers) }
-    {
-        push_all(out, self, content.numbers.as_slice())
-    }
-
-    /// Adds the lists.
-    #[tactic(auto, using(crate::proofs::JoinLemmas::lines_map))]
-    fn push_lists(&self, out: &mut Vec<u8>, content: &Content<'_>) -> Result<(), AllocError>
-        ensures { OnOk result (out.new.items ≡ out.old.items ++ flat_map list_lines (content_view content.now).lists) }
-    {
-        push_all(out, self, content.lists.as_slice())
-    }
-
     /// Adds the causes, where they are told.
     fn push_causes(&self, out: &mut Vec<u8>, content: &Content<'_>) -> Result<(), AllocError>
         requires { IsContentOf self.now.parts.index.now content.now }
@@ -225,7 +195,6 @@ impl<'i> Lines<'i> {
     }
 
     /// The whole report.
-    #[tactic(auto, unfolding(crate::specs::Lines::lines_text))]
     fn text(&self, content: &Content<'_>) -> Result<Vec<u8>, AllocError>
         requires content { IsContentOf self.now.parts.index.now content.now }
         requires later { AreLaterOf self.now.parts.index.now (later_view self.now.telling.later.now) }
@@ -236,8 +205,8 @@ impl<'i> Lines<'i> {
         let mut out = Vec::new(self.parts.alloc);
         push_line(&mut out, "architecture: ", self.parts.index.arch())?;
         self.push_blocks(&mut out, content)?;
-        self.push_numbers(&mut out, content)?;
-        self.push_lists(&mut out, content)?;
+        push_all(&mut out, self, content.numbers.as_slice())?;
+        push_all(&mut out, self, content.lists.as_slice())?;
         self.push_causes(&mut out, content)?;
         Ok(out)
     }

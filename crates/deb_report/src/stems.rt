@@ -24,7 +24,12 @@ fn is_numeric(byte: u8) -> bool
 fn has_digit(word: &[u8]) -> bool
     ensures { result ≡ list_any is_ascii_digit word.now }
 {
-    word.iter().any(|byte| byte.is_ascii_digit())
+    for byte in word {
+        if byte.is_ascii_digit() {
+            return true;
+        }
+    }
+    false
 }
 
 /// Whether a word is a sum that an interface is named by.

@@ -1,6 +1,6 @@
 //! What a run counts.
 
-ghost use Rattle.std.specs.Prelude.{◌≡◌, ◌-◌, ◌^◌, ◌<◌, ◌++◌, ◌∷◌, [], IfOk, OnOk, count_by, length, map};
+ghost use Rattle.std.specs.Prelude.{◌≡◌, ◌-◌, ◌^◌, ◌<◌, IfOk, count_by, length, map};
 ghost use Rattle.deb_health.specs.Verdicts.{verdict_view};
 ghost use Rattle.deb_report.specs.Report.{is_broken, numbers_of, summary_of, summary_with};
 ghost use Rattle.deb_report.specs.Told.{number_view};
@@ -40,7 +40,13 @@ fn background_count(index: &Index) -> u32
 fn broken_count(verdicts: &[Verdict]) -> usize
     ensures { result ≡ count_by is_broken (map verdict_view verdicts.now) }
 {
-    verdicts.iter().filter(|verdict| is_broken(verdict)).count()
+    let mut count = 0;
+    for verdict in verdicts {
+        if is_broken(verdict) {
+            count += 1;
+        }
+    }
+    count
 }
 
 /// The numbers of a report on the asked places, with how many are newly broken, where that is asked.
@@ -75,18 +81,19 @@ pub fn summary_of(index: &Index, asked: &[u32], verdicts: &[Verdict]) -> Summary
 }
 
 /// A number of a report, with its title.
-#[derive(Drop)]
+#[derive(Clone, Copy)]
 pub(crate) struct Number {
     pub(crate) title: &'static str,
     pub(crate) number: usize,
 }
 
-/// Adds a number.
-fn push(numbers: &mut Vec<Number>, title: &'static str, number: usize) -> Result<(), AllocError>
-    ensures { OnOk result (map number_view numbers.new.items ≡ map number_view numbers.old.items ++ (title.now, number) ∷ []) }
-{
-    numbers.push(Number { title, number })?;
-    Ok(())
+impl Number {
+    /// A number under a title.
+    fn new(title: &'static str, number: usize) -> Number
+        ensures { number_view result ≡ (title.now, number) }
+    {
+        Number { title, number }
+    }
 }
 
 /// The numbers of a report, of any count of asked places, each with its title: with a background its packages, and how many are newly broken,
@@ -104,16 +111,20 @@ pub(crate) fn numbers_of(
         numbers_of background (summary_with index.now asked.now (map verdict_view verdicts.now) newly_broken)) }
 {
     let mut numbers = Vec::new(alloc);
-    push(&mut numbers, "stanzas", index.stanzas() as usize)?;
-    push(&mut numbers, "skipped", index.skipped() as usize)?;
-    push(&mut numbers, "duplicates", index.duplicates() as usize)?;
+    numbers.extend_from_slice(&[
+        Number::new("stanzas", index.stanzas() as usize),
+        Number::new("skipped", index.skipped() as usize),
+        Number::new("duplicates", index.duplicates() as usize),
+    ])?;
     if background {
-        push(&mut numbers, "background", background_count(index) as usize)?;
+        numbers.push(Number::new("background", background_count(index) as usize))?;
     }
-    push(&mut numbers, "asked", asked.len())?;
-    push(&mut numbers, "broken", broken_count(verdicts))?;
+    numbers.extend_from_slice(&[
+        Number::new("asked", asked.len()),
+        Number::new("broken", broken_count(verdicts)),
+    ])?;
     if let Some(number) = newly_broken {
-        push(&mut numbers, "newly-broken", number)?;
+        numbers.push(Number::new("newly-broken", number))?;
     }
     Ok(numbers)
 }

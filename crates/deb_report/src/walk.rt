@@ -66,7 +66,12 @@ pub(crate) fn comers(
 pub(crate) fn are_told(told: &PlaceSet, places: &[u32]) -> bool
     ensures { result ≡ are_told told.now places.now }
 {
-    places.iter().all(|place| told.contains(*place))
+    for place in places {
+        if !told.contains(*place) {
+            return false;
+        }
+    }
+    true
 }
 
 /// What the core says of the package at a place.
@@ -253,16 +258,6 @@ pub(crate) fn hits_in(
     Ok(hits)
 }
 
-/// Adds a package, where it comes in the walk.
-fn push_coming(versions: &mut Vec<u32>, coming: &PlaceSet, version: u32) -> Result<(), AllocError>
-    ensures { OnOk result (versions.new.items ≡ versions.old.items ++ kept (members_of coming.now) version) }
-{
-    if coming.contains(version) {
-        versions.push(version)?;
-    }
-    Ok(())
-}
-
 /// The packages of the walk that have the name with a number.
 pub(crate) fn versions_coming(
     alloc: Global,
@@ -276,7 +271,9 @@ pub(crate) fn versions_coming(
     let places = index.places_named(name);
     let mut versions = Vec::new(alloc);
     for version in places {
-        push_coming(&mut versions, coming, *version)?;
+        if coming.contains(*version) {
+            versions.push(*version)?;
+        }
     }
     Ok(versions)
 }

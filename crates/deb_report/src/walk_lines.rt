@@ -1,7 +1,6 @@
 //! A core as it is walked from the package, in lines.
 
-ghost use Rattle.std.specs.Prelude.{◌≡◌, ◌<◌, ◌++◌, ◌∷◌, [], All, IfOk, OnOk, codes, length, map, reverse};
-ghost use Rattle.std.specs.List.{join_by};
+ghost use Rattle.std.specs.Prelude.{◌≡◌, ◌<◌, ◌++◌, ◌∷◌, [], All, IfOk, OnOk, length, map, reverse};
 ghost use Rattle.deb_relation.specs.AtomView.{atom_view};
 ghost use Rattle.deb_index.specs.declared.constraint.Constraint.{Constraint};
 ghost use Rattle.deb_index.specs.Constraints.{IsOfIndex};
@@ -88,14 +87,6 @@ impl<'m> Print<NearMiss<'m>> for InLine {
     }
 }
 
-/// Adds near misses, with a comma between two.
-#[tactic(auto, using(crate::proofs::JoinLemmas::joined_map))]
-fn push_near(out: &mut Vec<u8>, misses: &[NearMiss<'_>]) -> Result<(), AllocError>
-    ensures { OnOk result (out.new.items ≡ out.old.items ++ join_by near_text (codes ", ") (map near_view misses.now)) }
-{
-    push_joined(out, ", ", &InLine, misses)
-}
-
 /// Adds what comes near to a need, where something does.
 #[tactic(auto, unfolding(crate::specs::Walk::present_text))]
 fn push_present(out: &mut Vec<u8>, misses: &[NearMiss<'_>]) -> Result<(), AllocError>
@@ -103,7 +94,7 @@ fn push_present(out: &mut Vec<u8>, misses: &[NearMiss<'_>]) -> Result<(), AllocE
 {
     if !misses.is_empty() {
         out.extend_from_slice(b"; present: ")?;
-        push_near(out, misses)?;
+        push_joined(out, ", ", &InLine, misses)?;
     }
     Ok(())
 }
@@ -118,14 +109,6 @@ impl<'n> Print<&'n [u8]> for InLine {
     }
 }
 
-/// Adds names, with a comma between two.
-#[tactic(auto, using(crate::proofs::JoinLemmas::joined_map))]
-fn push_names(out: &mut Vec<u8>, names: &[&[u8]]) -> Result<(), AllocError>
-    ensures { OnOk result (out.new.items ≡ out.old.items ++ join_by (λ name. name) (codes ", ") (map (λ name. name.now) names.now)) }
-{
-    push_joined(out, ", ", &InLine, names)
-}
-
 /// Adds the names that are similar, where there are some.
 #[tactic(auto, unfolding(crate::specs::Walk::similar_text))]
 fn push_similar(out: &mut Vec<u8>, names: &[&[u8]]) -> Result<(), AllocError>
@@ -133,7 +116,7 @@ fn push_similar(out: &mut Vec<u8>, names: &[&[u8]]) -> Result<(), AllocError>
 {
     if !names.is_empty() {
         out.extend_from_slice(b"; similar: ")?;
-        push_names(out, names)?;
+        push_joined(out, ", ", &InLine, names)?;
     }
     Ok(())
 }
@@ -266,11 +249,10 @@ impl<'i> Walk<'i> {
     {
         let need = Constraint::Need(place, number);
         if is_missing(self.alloc, self.index, place, number)? {
-            self.push_missing(out, need)?;
+            self.push_missing(out, need)
         } else {
-            self.push_told(out, told, need)?;
+            self.push_told(out, told, need)
         }
-        Ok(())
     }
 
     /// Adds an essential name.

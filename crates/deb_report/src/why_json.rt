@@ -8,12 +8,11 @@ ghost use Rattle.deb_index.specs.Constraints.{IsOfIndex};
 ghost use Rattle.deb_index.specs.Packages.{name_at, need_at, places_of};
 ghost use Rattle.deb_report.specs.Causes.{hits_of};
 ghost use Rattle.deb_report.specs.Json.{answers_to, array, member, near_json, place_json, quoted, why_json};
-ghost use Rattle.deb_report.specs.Near.{near_view};
 
 use crate::hits::hits_of;
 use crate::json_parts::IndexJson;
 use crate::json_text::push_array;
-use crate::near::{NearMiss, answers_to};
+use crate::near::answers_to;
 use crate::print::Print;
 use crate::reasons::is_missing;
 use deb_index::Constraint;
@@ -47,19 +46,8 @@ fn push_alternatives(out: &mut Vec<u8>, group: &[Atom]) -> Result<(), AllocError
     push_array(out, ",", "alternatives", &Quoted, group, "]")
 }
 
-/// Adds the member with the packages that answer a need.
-#[tactic(auto, using(crate::proofs::JoinLemmas::joined_map), unfolding(crate::specs::Json::array))]
-fn push_answers(
-    json: &IndexJson<'_>,
-    out: &mut Vec<u8>,
-    answers: &[NearMiss<'_>],
-) -> Result<(), AllocError>
-    ensures { OnOk result (out.new.items ≡ out.old.items ++ codes "," ++ member (codes "met-by") (array near_json (map near_view answers.now))) }
-{
-    push_array(out, ",", "met-by", json, answers, "]")
-}
-
 /// Adds the member with the packages that answer the need with a number.
+#[tactic(auto, using(crate::proofs::JoinLemmas::joined_map), unfolding(crate::specs::Json::array))]
 fn push_met(
     json: &IndexJson<'_>,
     out: &mut Vec<u8>,
@@ -71,7 +59,7 @@ fn push_met(
         ++ member (codes "met-by") (array near_json (answers_to json.now.index.now (Constraint.Need place number)))) }
 {
     let answers = answers_to(json.alloc, json.index, Constraint::Need(place, number))?;
-    push_answers(json, out, answers.as_slice())
+    push_array(out, ",", "met-by", json, answers.as_slice(), "]")
 }
 
 /// Adds where a walk goes on from a need.
