@@ -99,4 +99,5 @@ fn each_constraint_at_its_position(rt: HostRuntime) {
     );
     let index = read(&rt, texts).expect(&rt, "a good text");
     expect_listed(&rt, &index);
+    drop(index);
 }

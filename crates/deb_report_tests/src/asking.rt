@@ -101,6 +101,13 @@ fn ask(alloc: Global, config: &mut Config, asked: &Asked<'_>) -> Result<(), Allo
     Ok(())
 }
 
+/// The configuration that asks so.
+fn config_for(alloc: Global, asked: &Asked<'_>) -> Result<Config, AllocError> {
+    let mut config = Config::usual(alloc)?;
+    ask(alloc, &mut config, asked)?;
+    Ok(config)
+}
+
 /// Whether a text is its parts, one behind the other.
 fn is_made_of(text: &[u8], parts: &[&str]) -> bool {
     let mut rest = text;
@@ -179,17 +186,18 @@ fn expect_under(
 }
 
 fn expect_on(rt: &(impl Abort + AllocGlobal), index: &Index, case: &Case) -> Result<(), Fail> {
-    let mut config = Config::usual(rt.alloc())?;
-    ask(rt.alloc(), &mut config, &case.asked)?;
-    expect_under(rt, index, case, &config)
+    let config = config_for(rt.alloc(), &case.asked)?;
+    let outcome = expect_under(rt, index, case, &config);
+    drop(config);
+    outcome
 }
 
 /// Compares the answer of a case with what it expects.
-///
-/// The index is let go here alone: to let go of one takes a proof at each way out, and its tables are many.
 pub fn expect(rt: &(impl Abort + AllocGlobal), case: &Case) -> Result<(), Fail> {
     let index = index_of(rt.alloc(), case.text, case.background)?;
-    expect_on(rt, &index, case)
+    let outcome = expect_on(rt, &index, case);
+    drop(index);
+    outcome
 }
 
 /// The places that are asked, or the name that is unknown.
@@ -220,9 +228,10 @@ fn expect_places_on(
     only: Option<&[&[u8]]>,
     wanted: Answer<'_>,
 ) -> Result<(), Fail> {
-    let mut config = Config::usual(rt.alloc())?;
-    ask(rt.alloc(), &mut config, &Asked { only, ..USUAL })?;
-    expect_answer(rt, &asked_places(rt.alloc(), index, &config), wanted)
+    let config = config_for(rt.alloc(), &Asked { only, ..USUAL })?;
+    let found = asked_places(rt.alloc(), index, &config);
+    drop(config);
+    expect_answer(rt, &found, wanted)
 }
 
 /// Compares the places that are asked of the index of a text, or the name that is unknown, with what is expected.
@@ -233,5 +242,7 @@ pub fn expect_places(
     wanted: Answer<'_>,
 ) -> Result<(), Fail> {
     let index = index_of(rt.alloc(), text, "")?;
-    expect_places_on(rt, &index, only, wanted)
+    let outcome = expect_places_on(rt, &index, only, wanted);
+    drop(index);
+    outcome
 }

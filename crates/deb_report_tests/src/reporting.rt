@@ -69,6 +69,38 @@ fn later_at(
 }
 
 /// The same of each place below a number.
+fn each_later(
+    alloc: Global,
+    workspace: &mut Workspace,
+    groundwork: &Groundwork<'_>,
+    count: u32,
+) -> Result<Vec<Vec<Vec<Constraint>>>, AllocError>
+    requires { count ≤ length groundwork.now.index.now.packages }
+    ensures { IfOk result (λ later. All (λ cores. All (λ core. All (IsOfIndex groundwork.now.index.now) core.items) cores.items) later.items) }
+{
+    let mut later = Vec::new(alloc);
+    for place in 0..count {
+        later.push(later_at(alloc, workspace, groundwork, place)?)?;
+    }
+    Ok(later)
+}
+
+/// The same, in buffers of its own.
+fn later_on(
+    alloc: Global,
+    groundwork: &Groundwork<'_>,
+    count: u32,
+) -> Result<Vec<Vec<Vec<Constraint>>>, AllocError>
+    requires { count ≤ length groundwork.now.index.now.packages }
+    ensures { IfOk result (λ later. All (λ cores. All (λ core. All (IsOfIndex groundwork.now.index.now) core.items) cores.items) later.items) }
+{
+    let mut workspace = Workspace::new(alloc)?;
+    let later = each_later(alloc, &mut workspace, groundwork, count);
+    drop(workspace);
+    later
+}
+
+/// The same, on a groundwork of its own.
 fn later_below(
     alloc: Global,
     index: &Index,
@@ -78,12 +110,9 @@ fn later_below(
     ensures { IfOk result (λ later. All (λ cores. All (λ core. All (IsOfIndex index.now) core.items) cores.items) later.items) }
 {
     let groundwork = Groundwork::new(alloc, index)?;
-    let mut workspace = Workspace::new(alloc)?;
-    let mut later = Vec::new(alloc);
-    for place in 0..count {
-        later.push(later_at(alloc, &mut workspace, &groundwork, place)?)?;
-    }
-    Ok(later)
+    let later = later_on(alloc, &groundwork, count);
+    drop(groundwork);
+    later
 }
 
 /// The report with the cores behind the first of the places below a number.
@@ -125,7 +154,9 @@ fn broken_before(
 /// The broken packages of the index of a text.
 fn broken_in(alloc: Global, text: &str, config: &Config) -> Result<Vec<BrokenPackage>, Fail> {
     let index = index_of(alloc, text, "")?;
-    Ok(broken_before(alloc, &index, config)?)
+    let before = broken_before(alloc, &index, config);
+    drop(index);
+    Ok(before?)
 }
 
 /// The places of what is newly broken since the index of an earlier text.

@@ -51,7 +51,9 @@ pub fn on_workspace(
     asked: Asked<'_>,
 ) -> Result<Counts, AllocError> {
     let mut workspace = Workspace::new(rt.alloc())?;
-    in_workspace(rt, &mut workspace, asked)
+    let counts = in_workspace(rt, &mut workspace, asked);
+    drop(workspace);
+    counts
 }
 
 fn in_workspace(
@@ -119,7 +121,9 @@ fn on_text(
     question: Question<'_>,
 ) -> Result<Counts, AllocError> {
     let index = read(rt, text, essential)?;
-    on_index(rt, workspace, &index, question)
+    let counts = on_index(rt, workspace, &index, question);
+    drop(index);
+    counts
 }
 
 fn on_index(
@@ -129,7 +133,9 @@ fn on_index(
     question: Question<'_>,
 ) -> Result<Counts, AllocError> {
     let grounded = Grounded::new(rt.alloc(), index)?;
-    on_groundwork(rt, workspace, &grounded, question)
+    let counts = on_groundwork(rt, workspace, &grounded, question);
+    drop(grounded);
+    counts
 }
 
 fn on_groundwork(

@@ -288,7 +288,10 @@ fn expect(rt: &(impl Abort + AllocGlobal), call: Call) -> Result<(), AllocError>
         workspace: Workspace::new(rt.alloc()),
         are_used: matches!(call, Call::SolveIn),
     };
-    expect_right(rt, is_right(rt.alloc(), &mut formula, &mut buffers, call))
+    let right = is_right(rt.alloc(), &mut formula, &mut buffers, call);
+    drop(formula);
+    drop(buffers);
+    expect_right(rt, right)
 }
 
 #[test]

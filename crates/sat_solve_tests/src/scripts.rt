@@ -36,6 +36,7 @@ pub fn follow(rt: &(impl Abort + AllocGlobal), formula: &mut Formula, lines: &st
         wanted: Vec::new(alloc),
     };
     follow_all(rt, alloc, formula, &mut script, lines, both);
+    drop(script);
 }
 
 fn follow_all(

@@ -175,4 +175,5 @@ fn small_formulas_as_by_trial(rt: HostRuntime) {
     for number in 0..1000 {
         expect_number(&rt, &mut workspace, number / 2, number % 2 == 1);
     }
+    drop(workspace);
 }
