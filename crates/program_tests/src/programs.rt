@@ -2,7 +2,7 @@
 
 ghost use Rattle.std.specs.Prelude.{◌≡◌, false};
 
-use debcheck::{OpenFault, Opener};
+use debcheck::{Disk, OpenFault, Opener};
 use std::process::Abort;
 use std::str::from_utf8;
 use std::thread::Threads;
@@ -337,4 +337,9 @@ fn a_background_is_opened_before_anything_is_read(rt: HostRuntime) {
         };
         expect_unread(&rt, &Cabinet::new("others", None, *fault), &case);
     }
+}
+
+#[test]
+fn the_disk_opens_no_file_that_is_not_there(rt: HostRuntime) {
+    assert!(rt; matches!(Disk(&rt).open("no such file"), Err(OpenFault::Unopened)));
 }
