@@ -1,5 +1,4 @@
-//! Tests of the public calls of `debcheck`; those of whole programs stand in `program_tests` and `screen_tests`, and what all three run on in
-//! `test_devices`.
+//! Tests of the public calls of `debcheck`; those of whole programs stand in `program_tests`, and what both run on in `test_devices`.
 //!
 //! `counted` has a writer of std's kind that counts, `tally` a gate that counts, `cases` what a run is set to and comes to. `written_lines` writes the
 //! lines of faults, `statuses` has their statuses, `runs` small runs, `since_runs` those since an earlier index, `growths` a test for each call that

@@ -3,12 +3,12 @@
 ghost use Rattle.std.specs.Prelude.{◌≡◌, false};
 
 use crate::programs::{Case, WITH_BACKGROUND, WITHOUT_BACKGROUND, run_on};
+use crate::runs::{Left, run_line};
 use debcheck::OpenFault;
 use std::process::Abort;
 use std::thread::Threads;
 use std::time::Clock;
 use test_devices::{BACKGROUND, Cabinet, Feed, Held, INDEX, Screen, sink_of, source_of};
-use test_programs::{Left, run_line};
 
 const NO_INDEX: &[u8] = b"debcheck: cannot read the index\n";
 

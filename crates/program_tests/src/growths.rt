@@ -1,10 +1,10 @@
 //! A whole program that can want memory; trials/growths runs it with each growth refused in turn.
 
+use crate::runs::{Left, ONE_BY_ONE, run_line};
 use debcheck::OpenFault;
 use std::process::Abort;
 use std::test::Fail;
 use test_devices::{CHAIN, CHAIN_REPORT, Cabinet, Screen, clock_of, sink_with_room, source_of};
-use test_programs::{Left, ONE_BY_ONE, run_line};
 
 /// Where memory is wanted behind the first chunks, the line of progress is gone, too, before that is told.
 #[test]

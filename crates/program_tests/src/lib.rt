@@ -1,7 +1,8 @@
 //! Tests of whole programs, from their words to their exit status.
 //!
-//! `programs` runs some, `more_reasons` those that tell all causes, `named_programs` those whose names stand in a file, `since_programs` those since an earlier
-//! index, `failing_devices` has each device fail in turn, `growths` a program that wants memory.
+//! `runs` runs one, on devices over memory. `programs` runs some, `more_reasons` those that tell all causes, `named_programs` those whose names stand in a
+//! file, `since_programs` those since an earlier index, `failing_devices` has each device fail in turn, `growths` a program that wants memory. What a screen
+//! shows of a program: `progress` looks at the line during a run, `hints` at the lines after it.
 #![tactic(auto)]
 
 #[cfg(test)]
@@ -9,10 +10,16 @@ mod failing_devices;
 #[cfg(test)]
 mod growths;
 #[cfg(test)]
+mod hints;
+#[cfg(test)]
 mod more_reasons;
 #[cfg(test)]
 mod named_programs;
 #[cfg(test)]
 mod programs;
+#[cfg(test)]
+mod progress;
+#[cfg(test)]
+mod runs;
 #[cfg(test)]
 mod since_programs;

@@ -2,13 +2,13 @@
 
 ghost use Rattle.std.specs.Prelude.{◌≡◌, false};
 
+use crate::runs::{Left, run_line};
 use debcheck::{Disk, OpenFault, Opener};
 use std::process::Abort;
 use std::str::from_utf8;
 use std::thread::Threads;
 use std::time::Clock;
 use test_devices::{BACKED_REPORT, BACKGROUND, Cabinet, Feed, INDEX, Screen, sink_of, source_of};
-use test_programs::{Left, run_line};
 
 /// What a program is given, its status, and what it tells: on the output where the status is 0 or 1, else on the errors. The words have a `|` before
 /// each; the background stands under the name `others`.

@@ -1,10 +1,10 @@
 //! Hints: which are told on a terminal, and that nothing else is other by them.
 
+use crate::runs::{Left, run_line};
 use debcheck::{OpenFault, Recording};
 use std::process::Abort;
 use std::thread::Threads;
 use test_devices::{BACKGROUND, Cabinet, INDEX, Screen, clock_of, sink_of, source_of};
-use test_programs::{Left, run_line};
 
 /// What a program is given, and the hint that it tells, perhaps none. The words have a `|` before each. What is in the file stands under the name `others`.
 #[derive(Clone, Copy)]

@@ -2,11 +2,11 @@
 
 ghost use Rattle.std.specs.Prelude.{◌≡◌, false};
 
+use crate::runs::{Left, ONE_BY_ONE, run_line};
 use debcheck::{Config, OpenFault, Progress, Recording};
 use std::process::Abort;
 use std::thread::Threads;
 use test_devices::{CHAIN, Cabinet, Held, Screen, clock_of, sink_of, source_of};
-use test_programs::{Left, ONE_BY_ONE, run_line};
 use work_draw::Gate;
 
 /// A check of so many packages, of which so many are seen before the first chunk, and chunks that are done of the others, each step of it so many
