@@ -163,7 +163,13 @@ fn read_index<S: Source, B: Source, R: Threads + Sync>(
         (input (S.remaining reader.old) (S.failed reader.new)) (input (B.remaining background.old) (B.failed background.new))) }
 {
     let TextRead { outcome, last } = read_text(rt, alloc, config, reader, PIECE)?;
-    let more = read_behind(alloc, config, background)?;
+    let more = match read_behind(alloc, config, background) {
+        Ok(more) => more,
+        Err(fault) => {
+            drop(outcome);
+            return Err(fault);
+        }
+    };
     let index = finish(rt, alloc, config, outcome, more.as_slice());
     let (piece, more) = (last.as_slice(), more.as_slice());
     let before = stanzas_before(alloc, config, &index, piece);

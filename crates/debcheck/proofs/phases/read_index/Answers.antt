@@ -14,7 +14,7 @@ returns-clause-index g c =
     let first = read_whole (g.S.Source.remaining c.args.reader.now) (g.S.Source.remaining c.read_text.new.reader) (g.S.Source.failed c.read_text.new.reader) read.0
     read.1.consumes read.1.ends (read.1.unfailed ∙ c.requires.reader) read.1.within in
     IfOk-weaker c.finish-index.result _ _
-    (λ index makes. accepted-as (settings_of c.args.config.now) text background read.0 c.as_slice.result.now index first (rw c.as_slice.ensures.value c.in_ok-more.ensures.bytes) (makes read.0 read.2)) c.finish-index.ensures.index
+    (λ index makes. accepted-as (settings_of c.args.config.now) text background read.0 c.as_slice.result.now index first (rw c.as_slice.ensures.value c.in-Ok.ensures.bytes) (makes read.0 read.2)) c.finish-index.ensures.index
 
 pub returns-clause-refused : goal.returns-clause-refused
 returns-clause-refused g c =
@@ -24,7 +24,7 @@ returns-clause-refused g c =
     let first = read_whole (g.S.Source.remaining c.args.reader.now) (g.S.Source.remaining c.read_text.new.reader) (g.S.Source.failed c.read_text.new.reader) read.0
     read.1.consumes read.1.ends (read.1.unfailed ∙ c.requires.reader) read.1.within in
     IfErr-weaker c.finish-index.result _ _
-    (λ fault fails. accept-fails (settings_of c.args.config.now) text background read.0 c.as_slice.result.now fault first (rw c.as_slice.ensures.value c.in_ok-more.ensures.bytes) (fails read.0 read.2)) c.finish-index.ensures.refused
+    (λ fault fails. accept-fails (settings_of c.args.config.now) text background read.0 c.as_slice.result.now fault first (rw c.as_slice.ensures.value c.in-Ok.ensures.bytes) (fails read.0 read.2)) c.finish-index.ensures.refused
 
 pub returns-clause-unbegun : goal.returns-clause-unbegun
 returns-clause-unbegun g c = IfErr-weaker c.finish-index.result _ _ (λ fault read unread. absurd (false≢true (sym read ∙ unread))) c.finish-index.ensures.read
