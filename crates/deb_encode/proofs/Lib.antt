@@ -4,6 +4,7 @@ pub mod Clearing
 pub mod Each
 pub mod EncoderLemmas
 pub mod Excluding
+pub mod Filtered
 pub mod Grouped
 pub mod IndexFacts
 pub mod OneVersion

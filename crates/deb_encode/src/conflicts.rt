@@ -43,8 +43,7 @@ impl Encoder<'_> {
             return Ok(());
         }
         let anyway = self.play.standing(other).or_out(self.clause)?;
-        self.add_unless(anyway)?;
-        Ok(())
+        self.add_unless(anyway)
     }
 
     /// Adds that a keeper is not in together with another place of a row.
@@ -97,13 +96,11 @@ impl Encoder<'_> {
         let keeper = Keeper { place, standing };
         if let Some(row) = play.index.hit_row(place, number) {
             if play.is_short(row) {
-                self.add_apart_from(keeper, row)?;
-                return Ok(());
+                return self.add_apart_from(keeper, row);
             }
         }
         let atom = play.index.apart(place, number);
         self.add_apart_among(keeper, atom, play.forced.as_slice())?;
-        self.add_apart_among(keeper, atom, play.candidates.as_slice())?;
-        Ok(())
+        self.add_apart_among(keeper, atom, play.candidates.as_slice())
     }
 }

@@ -74,7 +74,6 @@ impl Encoder<'_> {
     {
         let play = self.play;
         self.add_all_entries(play.forced.as_slice())?;
-        self.add_all_entries(play.candidates.as_slice())?;
-        Ok(())
+        self.add_all_entries(play.candidates.as_slice())
     }
 }

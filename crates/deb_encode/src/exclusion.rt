@@ -93,8 +93,7 @@ impl Encoder<'_> {
         list_variables(&play, owners, &mut exclusion.vars)?;
         list_variables(&play, places, &mut exclusion.list)?;
         own_all(self.group, &exclusion.vars, &mut exclusion.owners)?;
-        self.formula.exclude(&exclusion.owners, &exclusion.list)?;
-        Ok(())
+        self.formula.exclude(&exclusion.owners, &exclusion.list)
     }
 
     /// Adds that no owner is in together with another one of these places. Where one of them all is in anyway, no list is made.
@@ -115,12 +114,10 @@ impl Encoder<'_> {
             if !has(places, place) || owners == places {
                 return Ok(());
             }
-            self.add_apart_from(keeper, owners)?;
-            return Ok(());
+            return self.add_apart_from(keeper, owners);
         }
         if let Some(place) = first_in(&play, places) {
-            self.add_apart_from(Keeper { place, standing }, owners)?;
-            return Ok(());
+            return self.add_apart_from(Keeper { place, standing }, owners);
         }
         self.exclude_others(owners, places, exclusion)
     }

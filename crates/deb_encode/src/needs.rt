@@ -51,8 +51,7 @@ impl Encoder<'_> {
         if anyway {
             return Ok(());
         }
-        self.formula.add(self.group, self.clause)?;
-        Ok(())
+        self.formula.add(self.group, self.clause)
     }
 
     /// Adds that some package of an essential name is in. The error is want of memory.
@@ -65,8 +64,7 @@ impl Encoder<'_> {
         self.clause.clear();
         let row = play.index.places_named(name);
         let anyway = or_some(&play, row, self.clause)?;
-        self.add_unless(anyway)?;
-        Ok(())
+        self.add_unless(anyway)
     }
 
     /// Adds that of each essential name some package is in. The error is want of memory.
@@ -96,7 +94,6 @@ impl Encoder<'_> {
             return Ok(());
         }
         let anyway = or_answers(&play, place, number, self.found, self.clause)?;
-        self.add_unless(anyway)?;
-        Ok(())
+        self.add_unless(anyway)
     }
 }

@@ -148,8 +148,7 @@ fn list_meeting(play: &Play<'_>, atom: &Atom, found: &mut Vec<u32>) -> Result<()
 {
     found.clear();
     push_meeting(play.index, atom, play.forced.as_slice(), found)?;
-    push_meeting(play.index, atom, play.candidates.as_slice(), found)?;
-    Ok(())
+    push_meeting(play.index, atom, play.candidates.as_slice(), found)
 }
 
 impl Encoder<'_> {
@@ -185,7 +184,6 @@ impl Encoder<'_> {
         rivals.entries.clear();
         gather_wide(&play, play.forced.as_slice(), &mut rivals.entries)?;
         gather_wide(&play, play.candidates.as_slice(), &mut rivals.entries)?;
-        self.add_runs(&rivals.entries, &mut rivals.one)?;
-        Ok(())
+        self.add_runs(&rivals.entries, &mut rivals.one)
     }
 }

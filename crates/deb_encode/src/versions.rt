@@ -77,8 +77,7 @@ fn list_named(play: &Play<'_>, name: u32, found: &mut Vec<u32>) -> Result<(), Al
 {
     found.clear();
     push_named(play.index, name, play.forced.as_slice(), found)?;
-    push_named(play.index, name, play.candidates.as_slice(), found)?;
-    Ok(())
+    push_named(play.index, name, play.candidates.as_slice(), found)
 }
 
 /// Adds the names of those of these places that don't stand alone.
@@ -109,13 +108,11 @@ impl Encoder<'_> {
             return Ok(());
         }
         if play.is_short(row) {
-            self.add_all_apart(row, row, &mut named.exclusion)?;
-            return Ok(());
+            return self.add_all_apart(row, row, &mut named.exclusion);
         }
         list_named(&play, name, &mut named.places)?;
         let found = named.places.as_slice();
-        self.add_all_apart(found, found, &mut named.exclusion)?;
-        Ok(())
+        self.add_all_apart(found, found, &mut named.exclusion)
     }
 
     /// Adds that of each place in play at most one package of its name is in. Each name is told once. The error is want of memory.

@@ -54,8 +54,7 @@ impl Solver {
             var: problem.must,
             value: true,
             reason: Reason::Given,
-        })?;
-        Ok(())
+        })
     }
 
     /// The least variable that is free, if one is.

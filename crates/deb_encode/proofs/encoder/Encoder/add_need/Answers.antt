@@ -1,5 +1,6 @@
 use Rattle.std.proofs.Common.{length, not, refl}
 use Rattle.std.specs.List.{list_any}
+use Rattle.std.proofs.lemmas.Result.{on_ok_weaker}
 use Rattle.deb_index.specs.Packages.{need_at}
 use Rattle.deb_index.specs.Meets.{group_satisfiers}
 use Rattle.deb_encode.specs.Play.{placed}
@@ -26,12 +27,14 @@ add_unless-requires c =
     (c.in_ok-or_out.ensures (length c.args.self.now.play.candidates.now) c.standing.ensures.below) c.in_ok-anyway.ensures (length c.args.self.now.play.candidates.now) refl
 
 pub returns-clause-adds : goal.returns-clause-adds
-returns-clause-adds c = record {
-  same = same_still c.args.self.now _ c.add_unless.new.self (record { play = refl; group = refl }) c.in_ok-add_unless.ensures.adds.same;
-  adds =
-      need_added c.args.self.now.play.index.now c.args.self.now.play.forced.now c.args.self.now.play.candidates.now c.args.self.now.group c.args.self.now.formula.now c.add_unless.new.self.formula.now c.args.place (is_in c.standing.result) c.standing.ensures.says c.args.number
-      (pair_adds (length c.args.self.now.play.candidates.now) (λ vars. not (is_in c.standing.result vars))
-      (λ vars. list_any (placed c.args.self.now.play.forced.now c.args.self.now.play.candidates.now vars) (group_satisfiers c.args.self.now.play.index.now (need_at c.args.self.now.play.index.now c.args.place c.args.number)))
-      c.clear.new.self.items c.or_out.new.clause.items c.or_answers.new.clause.items c.or_answers.new.clause.items c.in_ok-or_out.field-0 c.in_ok-anyway.anyway c.if-branch.false c.clear.ensures.items refl
-      (c.in_ok-or_out.ensures (length c.args.self.now.play.candidates.now) c.standing.ensures.below) c.in_ok-anyway.ensures c.args.self.now.group c.args.self.now.formula.now c.add_unless.new.self.formula.now c.in_ok-add_unless.ensures.adds.adds);
-}
+returns-clause-adds c =
+    on_ok_weaker c.add_unless.result
+    (λ added. record {
+      same = same_still c.args.self.now _ c.add_unless.new.self (record { play = refl; group = refl }) added.same;
+      adds =
+          need_added c.args.self.now.play.index.now c.args.self.now.play.forced.now c.args.self.now.play.candidates.now c.args.self.now.group c.args.self.now.formula.now c.add_unless.new.self.formula.now c.args.place (is_in c.standing.result) c.standing.ensures.says c.args.number
+          (pair_adds (length c.args.self.now.play.candidates.now) (λ vars. not (is_in c.standing.result vars))
+          (λ vars. list_any (placed c.args.self.now.play.forced.now c.args.self.now.play.candidates.now vars) (group_satisfiers c.args.self.now.play.index.now (need_at c.args.self.now.play.index.now c.args.place c.args.number)))
+          c.clear.new.self.items c.or_out.new.clause.items c.or_answers.new.clause.items c.or_answers.new.clause.items c.in_ok-or_out.field-0 c.in_ok-anyway.anyway c.if-branch.false c.clear.ensures.items refl
+          (c.in_ok-or_out.ensures (length c.args.self.now.play.candidates.now) c.standing.ensures.below) c.in_ok-anyway.ensures c.args.self.now.group c.args.self.now.formula.now c.add_unless.new.self.formula.now added.adds);
+    }) c.add_unless.ensures.adds

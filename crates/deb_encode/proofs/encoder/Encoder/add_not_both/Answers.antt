@@ -1,4 +1,5 @@
 use Rattle.std.proofs.Common.{length, not, refl}
+use Rattle.std.proofs.lemmas.Result.{on_ok_weaker}
 use Rattle.deb_encode.specs.Play.{placed}
 use Rattle.deb_encode.specs.Standings.{is_in}
 use Rattle.deb_encode.proofs.EncoderLemmas.{same_still}
@@ -23,11 +24,13 @@ add_unless-requires c =
     (length c.args.self.now.play.candidates.now) refl
 
 pub returns-clause-adds : goal.returns-clause-adds
-returns-clause-adds c = record {
-  same = same_still c.args.self.now _ c.add_unless.new.self (record { play = refl; group = refl }) c.in_ok-add_unless.ensures.adds.same;
-  adds =
-      not_both_added c.args.self.now.group (length c.args.self.now.play.candidates.now) (is_in c.args.keeper.standing) (λ vars. placed c.args.self.now.play.forced.now c.args.self.now.play.candidates.now vars c.args.other)
-      c.clear.new.self.items c.or_out.new.clause.items c.in_ok-or_out.field-0 c.clear.ensures.items (c.in_ok-or_out.ensures (length c.args.self.now.play.candidates.now) c.requires.keeper)
-      (is_in c.standing.result) c.or_out-2.new.clause.items c.or_out-2.new.clause.items c.in_ok-anyway.anyway c.args.self.now.formula.now c.add_unless.new.self.formula.now c.if-branch.false refl c.standing.ensures.says
-      (c.in_ok-anyway.ensures (length c.args.self.now.play.candidates.now) c.standing.ensures.below) c.in_ok-add_unless.ensures.adds.adds;
-}
+returns-clause-adds c =
+    on_ok_weaker c.add_unless.result
+    (λ added. record {
+      same = same_still c.args.self.now _ c.add_unless.new.self (record { play = refl; group = refl }) added.same;
+      adds =
+          not_both_added c.args.self.now.group (length c.args.self.now.play.candidates.now) (is_in c.args.keeper.standing) (λ vars. placed c.args.self.now.play.forced.now c.args.self.now.play.candidates.now vars c.args.other)
+          c.clear.new.self.items c.or_out.new.clause.items c.in_ok-or_out.field-0 c.clear.ensures.items (c.in_ok-or_out.ensures (length c.args.self.now.play.candidates.now) c.requires.keeper)
+          (is_in c.standing.result) c.or_out-2.new.clause.items c.or_out-2.new.clause.items c.in_ok-anyway.anyway c.args.self.now.formula.now c.add_unless.new.self.formula.now c.if-branch.false refl c.standing.ensures.says
+          (c.in_ok-anyway.ensures (length c.args.self.now.play.candidates.now) c.standing.ensures.below) added.adds;
+    }) c.add_unless.ensures.adds
