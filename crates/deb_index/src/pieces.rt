@@ -90,13 +90,7 @@ impl PartialIndex {
             }
         };
         let (taken, read) = add_and_read(rt, alloc, builder, ready, &arch, piece, workers, least);
-        let builder = match taken {
-            Ok(builder) => builder,
-            Err(_) => {
-                drop(read);
-                return Err(IndexError::Memory);
-            }
-        };
+        let builder = taken?;
         let parted = match read {
             Ok(parted) => parted,
             Err(_) => {

@@ -12,7 +12,7 @@ with_piece-requires-clause-parts g c =
     let old = c.self.inside.builder in
     let ready = in_lists c.self.inside.ready.items in
     let parted = c.in-Ok-read.parted in
-    let taken : c.in-Ok-taken.builder ≡ fold with_reading old ready = search rules in
+    let taken : c.in_ok-builder.builder ≡ fold with_reading old ready = search rules in
     let text : parted.text.now ≡ c.args.piece.now = search rules in
     let parts : ArePartsOf c.in-Ok.arch.items c.args.piece.now parted.parts.items = search rules in
     let arch = c.in-Ok.ensures.items ∙ c.arch.ensures ∙ sym (ap (λ (v : IndexView). v.arch) taken ∙ arch-after old ready) in
@@ -22,7 +22,7 @@ pub with_piece-requires-clause-within : goal.with_piece-requires-clause-within
 with_piece-requires-clause-within g c =
     let old = c.self.inside.builder in
     let ready = in_lists c.self.inside.ready.items in
-    let taken : c.in-Ok-taken.builder ≡ fold with_reading old ready = search rules in
+    let taken : c.in_ok-builder.builder ≡ fold with_reading old ready = search rules in
     subst (λ (v : IndexView). IsWithin (front_of v [] c.self.inside.size)) (sym taken) c.self.invariant.within
 
 pub with_piece-requires-clause-short : goal.with_piece-requires-clause-short
@@ -34,7 +34,7 @@ pub returns-clause-accepted : goal.returns-clause-accepted
 returns-clause-accepted g c =
     let old = c.self.inside.builder in
     let ready = in_lists c.self.inside.ready.items in
-    let taken : c.in-Ok-taken.builder ≡ fold with_reading old ready = search rules in
+    let taken : c.in_ok-builder.builder ≡ fold with_reading old ready = search rules in
     let text : c.in-Ok-read.parted.text.now ≡ c.args.piece.now = search rules in
     let front = ap (λ (v : IndexView). front_of v [] c.self.inside.size) taken ∙ c.self.view_is in
     subst₂ (λ (f : FrontView) (bytes : List ℕ). IfOk c.with_piece.result (Accepts f bytes)) front text c.with_piece.ensures.accepted
@@ -43,7 +43,7 @@ pub returns-clause-refused : goal.returns-clause-refused
 returns-clause-refused g c =
     let old = c.self.inside.builder in
     let ready = in_lists c.self.inside.ready.items in
-    let taken : c.in-Ok-taken.builder ≡ fold with_reading old ready = search rules in
+    let taken : c.in_ok-builder.builder ≡ fold with_reading old ready = search rules in
     let text : c.in-Ok-read.parted.text.now ≡ c.args.piece.now = search rules in
     let front = ap (λ (v : IndexView). front_of v [] c.self.inside.size) taken ∙ c.self.view_is in
     subst₂ (λ (f : FrontView) (bytes : List ℕ). IfErr c.with_piece.result (Refuses f bytes)) front text c.with_piece.ensures.refused
