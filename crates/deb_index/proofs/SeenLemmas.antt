@@ -10,6 +10,10 @@ seen-at {A} {V} view test none xs i x within at =
     ap (λ (y : A). test (view y)) at
     ∙ sym (ap (λ (o : Option V). option_map_or test o none) (slice_get-map view xs i ∙ ap (option_map view) (slice_get-get_or xs i x within)))
 
+-- the same for a list that is seen as it is
+pub seen-there : {V B : Type 0} (test : V → B) (none : B) (xs : List V) (i : ℕ) (d : V) → i < length xs → test (get_or xs i d) ≡ option_map_or test (slice_get xs i) none
+seen-there {V} test none xs i d within = sym (ap (λ (o : Option V). option_map_or test o none) (slice_get-get_or xs i d within))
+
 -- the same past the last place
 pub seen-none : {V B : Type 0} (test : V → B) (none : B) (xs : List V) (i : ℕ) → length xs ≤ i → none ≡ option_map_or test (slice_get xs i) none
 seen-none test none [] i h = refl

@@ -48,9 +48,13 @@ pub record IsRange (index : IndexView) (from to : ℕ) : Type 0 where
 abbrev pub packages_in : IndexView → ℕ → ℕ → List PackageView
 packages_in index from to = drop from (take to index.packages)
 
--- where the rows of a package begin, once these rows stand before them
+-- where the rows of a package begin, once rows that end there stand before them
+abbrev pub start_behind : Start → Start → Start
+start_behind end s = record { group = end.group + s.group; entry = end.entry + s.entry }
+
+-- the same, once these rows stand before them
 abbrev pub behind : Links → Start → Start
-behind front s = record { group = length front.groups + s.group; entry = length front.entries + s.entry }
+behind front = start_behind (record { group = length front.groups; entry = length front.entries })
 
 -- rows, and others behind them
 pub record AreJoined (front back both : Links) : Type 0 where

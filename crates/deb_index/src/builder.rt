@@ -90,8 +90,13 @@ impl Builder {
         ensures accepted { IfOk result (λ b. read_behind self before (stanzas_of text.entry.text.now) ≡ Ok b) }
         ensures refused { IfErr result (λ e. e ≢ IndexError.Memory → read_behind self before (stanzas_of text.entry.text.now) ≡ Err e) }
     {
-        self.draft.add_text(alloc, before, text)?;
-        Ok(self)
+        match self.draft.add_text(alloc, before, text) {
+            Ok(()) => Ok(self),
+            Err(error) => {
+                drop(self.draft);
+                Err(error)
+            }
+        }
     }
 
     /// Takes in what stanzas read as, one list after the other.
@@ -103,8 +108,13 @@ impl Builder {
         requires { HaveRoom self (in_lists lists.items) }
         ensures { IfOk result (λ b. b ≡ fold with_reading self (in_lists lists.items)) }
     {
-        self.draft.add_lists(alloc, lists)?;
-        Ok(self)
+        match self.draft.add_lists(alloc, lists) {
+            Ok(()) => Ok(self),
+            Err(error) => {
+                drop(self.draft);
+                Err(error)
+            }
+        }
     }
 
     pub(crate) fn stanzas(&self) -> u32
@@ -131,13 +141,25 @@ impl Builder {
     pub(crate) fn finish(self, alloc: Global) -> Result<Unlinked, AllocError>
         ensures { IfOk result (λ index. index ≡ self) }
     {
-        let essential = self.essential_names(alloc)?;
+        let essential = match self.essential_names(alloc) {
+            Ok(essential) => essential,
+            Err(error) => {
+                drop(self.draft);
+                return Err(error);
+            }
+        };
         let Draft { mut catalog, later } = self.draft;
         drop(later);
-        catalog
+        match catalog
             .names
-            .add_provided(alloc, &catalog.arch, &catalog.packages)?;
-        Ok(Unlinked { catalog, essential })
+            .add_provided(alloc, &catalog.arch, &catalog.packages)
+        {
+            Ok(()) => Ok(Unlinked { catalog, essential }),
+            Err(error) => {
+                drop(catalog);
+                Err(error)
+            }
+        }
     }
 
     // Whether there is a package at a place, and it is marked essential.

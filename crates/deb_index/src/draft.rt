@@ -190,7 +190,14 @@ impl Draft {
         ensures added { OnOk result (draft_view self.new ≡ with_reading (draft_view self.old) (Some (package_view candidate))) }
     {
         let known = self.catalog.names.number(candidate.name.as_slice());
-        if self.contains(alloc, known, &candidate)? {
+        let is_duplicate = match self.contains(alloc, known, &candidate) {
+            Ok(is_duplicate) => is_duplicate,
+            Err(error) => {
+                drop(candidate);
+                return Err(error);
+            }
+        };
+        if is_duplicate {
             drop(candidate);
             self.catalog.duplicates += 1;
             self.catalog.stanzas += 1;

@@ -1,7 +1,8 @@
 //! The rows of places for the groups and entries of the packages, by place.
-ghost use Rattle.std.specs.Prelude.{◌≡◌, ◌<◌, ◌≤◌, ◌++◌, ◌∷◌, List, [], IfOk, OnOk, length, sum_by};
+ghost use Rattle.std.specs.Prelude.{◌≡◌, ◌+◌, ◌<◌, ◌≤◌, ◌^◌, ◌++◌, ◌∷◌, List, [], IfOk, OnOk, length, map, sum_by};
+ghost use Rattle.std.specs.List.{All};
 ghost use Rattle.deb_index.specs.Packages.{PackageView, package_at};
-ghost use Rattle.deb_index.specs.Links.{AreJoined, CanFollow, IsLinked, IsLinking, IsRange, links_of, packages_in};
+ghost use Rattle.deb_index.specs.Links.{AreJoined, CanFollow, IsLinked, IsLinking, IsRange, links_of, packages_in, start_behind};
 ghost use Rattle.deb_index.specs.Tables.{asked_count, asked_limit};
 
 use crate::lookup::Lookup;
@@ -15,6 +16,21 @@ use std::alloc::{AllocError, Global};
 pub(crate) struct Start {
     pub(crate) group: u32,
     pub(crate) entry: u32,
+}
+
+// Adds where the rows of more packages begin, behind rows that end there.
+fn push_behind(starts: &mut Vec<Start>, end: Start, more: &[Start]) -> Result<(), AllocError>
+    requires groups { All (λ s. end.group + s.group < 2 ^ 32) more.now }
+    requires entries { All (λ s. end.entry + s.entry < 2 ^ 32) more.now }
+    ensures { OnOk result (starts.new.items ≡ starts.old.items ++ map (start_behind end) more.now) }
+{
+    for start in more {
+        starts.push(Start {
+            group: end.group + start.group,
+            entry: end.entry + start.entry,
+        })?;
+    }
+    Ok(())
 }
 
 /// The rows of the packages' groups and entries, by place.
@@ -45,26 +61,38 @@ impl Links {
     }
 
     /// These rows, and behind them those of more packages.
-    pub(crate) fn followed_by(self, more: &Links) -> Result<Links, AllocError>
+    pub(crate) fn followed_by(mut self, more: &Links) -> Result<Links, AllocError>
         requires { CanFollow self more.now }
         ensures { IfOk result (AreJoined self more.now) }
     {
+        let end = Start {
+            group: self.groups.len() as u32,
+            entry: self.entries.len() as u32,
+        };
+        // The first one is the last that stands already: where the rows so far end.
+        if let Err(error) = push_behind(&mut self.starts, end, &more.starts[1..]) {
+            drop(self);
+            return Err(error);
+        }
         let Links {
-            mut starts,
+            starts,
             groups,
             entries,
         } = self;
-        let group = groups.len() as u32;
-        let entry = entries.len() as u32;
-        // The first one is the last that stands already: where the rows so far end.
-        for start in &more.starts[1..] {
-            starts.push(Start {
-                group: group + start.group,
-                entry: entry + start.entry,
-            })?;
-        }
-        let groups = groups.followed_by(&more.groups)?;
-        let entries = entries.followed_by(&more.entries)?;
+        let groups = match groups.followed_by(&more.groups) {
+            Ok(groups) => groups,
+            Err(error) => {
+                drop(entries);
+                return Err(error);
+            }
+        };
+        let entries = match entries.followed_by(&more.entries) {
+            Ok(entries) => entries,
+            Err(error) => {
+                drop(groups);
+                return Err(error);
+            }
+        };
         Ok(Links {
             starts,
             groups,

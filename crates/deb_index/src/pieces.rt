@@ -81,10 +81,23 @@ impl PartialIndex {
             size,
             ready,
         } = self;
-        let arch = Vec::from_slice(alloc, builder.arch())?;
+        let arch = match Vec::from_slice(alloc, builder.arch()) {
+            Ok(arch) => arch,
+            Err(_) => {
+                drop(builder);
+                drop(ready);
+                return Err(IndexError::Memory);
+            }
+        };
         let (taken, read) = add_and_read(rt, alloc, builder, ready, &arch, piece, workers, least);
         let builder = taken?;
-        let parted = read?;
+        let parted = match read {
+            Ok(parted) => parted,
+            Err(_) => {
+                drop(builder);
+                return Err(IndexError::Memory);
+            }
+        };
         PartialIndex::with_piece(alloc, builder, size, parted)
     }
 
@@ -103,7 +116,13 @@ impl PartialIndex {
     {
         let size = size + piece.text.len();
         if are_read(&piece.parts, (STANZA_LIMIT - builder.stanzas()) as usize) {
-            let ready = found_in(alloc, piece.parts)?;
+            let ready = match found_in(alloc, piece.parts) {
+                Ok(ready) => ready,
+                Err(_) => {
+                    drop(builder);
+                    return Err(IndexError::Memory);
+                }
+            };
             return Ok(PartialIndex {
                 builder,
                 size,
@@ -139,7 +158,13 @@ impl PartialIndex {
         } = self;
         let builder = builder.add_lists(alloc, ready)?;
         let fore = builder.end_foreground();
-        let parted = in_many(rt, alloc, fore.arch(), background, workers, least)?;
+        let parted = match in_many(rt, alloc, fore.arch(), background, workers, least) {
+            Ok(parted) => parted,
+            Err(_) => {
+                drop(fore);
+                return Err(BothError::Memory);
+            }
+        };
         let both = match fore.add_text(alloc, parted) {
             Ok(both) => both,
             Err(error) => return Err(in_back(error)),

@@ -137,7 +137,21 @@ fn links_on<R: Threads + Sync>(
             ensures { IfOk result (λ l. IsLinked unlinked.entry.now (packages_in unlinked.entry.now middle to) l) }
         { links_on(rt, alloc, unlinked, middle, to, others) },
     );
-    let links = first?;
-    let more = rest?;
-    links.followed_by(&more)
+    let links = match first {
+        Ok(links) => links,
+        Err(error) => {
+            drop(rest);
+            return Err(error);
+        }
+    };
+    let more = match rest {
+        Ok(more) => more,
+        Err(error) => {
+            drop(links);
+            return Err(error);
+        }
+    };
+    let joined = links.followed_by(&more);
+    drop(more);
+    joined
 }

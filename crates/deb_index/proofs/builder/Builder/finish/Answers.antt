@@ -13,9 +13,9 @@ invariant_of-result c =
       numbered = c.self.invariant.numbered;
       named =
           subst (λ (w : List ℕ × List Package). IsNaming (map package_view w.1) (provided_places w.0 (map package_view w.1)) c.add_provided.new.self)
-          (λ j. (c.deref.ensures.value j, c.deref-2.ensures.value j)) (c.in_ok-add_provided.ensures before);
-      essentials = c.in_ok-essential.ensures ∙ ap essential_names (sym c.self.view_is);
+          (λ j. (c.deref.ensures.value j, c.deref-2.ensures.value j)) (c.in-Ok-add_provided.ensures before);
+      essentials = c.in-Ok.ensures ∙ ap essential_names (sym c.self.view_is);
     }
 
-pub returns : goal.returns
-returns c = c.self.view_is
+pub returns-in-Ok-add_provided : goal.returns-in-Ok-add_provided
+returns-in-Ok-add_provided c = c.self.view_is

@@ -1,10 +1,19 @@
-use Rattle.std.proofs.Common.{◌≡◌, ◌≤◌, ◌<◌, ◌++◌, ◌∷◌, [], ◌∙◌, All, ap, sym, subst, length, arith}
+use Rattle.std.proofs.Common.{◌≡◌, ◌≤◌, ◌<◌, ◌++◌, ◌∷◌, [], ◌∙◌, All, ap, sym, subst, get_or, length, arith}
 use Rattle.std.specs.Prelude.{◌^◌}
-use Rattle.deb_index.specs.declared.constraint.Constraint.TheVariants.{Only}
+use Rattle.deb_index.specs.declared.constraint.Constraint.TheVariants.{Essential, Only}
 use Rattle.deb_index.specs.Packages.{essential_names, names}
 use Rattle.deb_index.specs.Constraints.{IsOfIndex, constraints_at}
 use Rattle.deb_index.proofs.ConstraintLemmas.{all-pushed, constraints-few, constraints-within, flat-more, mapped-more}
+use Rattle.deb_index.proofs.LinkLemmas.{rows-more}
 use Rattle.deb_index.proofs.index.Index.constraints.Goals as goal
+
+pub loop-name-preserved : goal.loop-name-preserved
+loop-name-preserved c =
+    let names = essential_names c.args.self.now in
+    let number = c.loop-name.name-index in
+    let items = c.essential_names-name-items in
+    let within : number < length names = omega (arith, c.loop-name-test.true, ap length items.ensures) in
+    c.in_ok-push.ensures.items ∙ (λ i. c.loop-name.invariant i ++ Essential (get_or (items.ensures i) number 0) ∷ []) ∙ rows-more (λ n. Essential n) [] names number 0 within
 
 pub loop-place-preserved : goal.loop-place-preserved
 loop-place-preserved c = c.in_ok-push_constraints.ensures ∙ (ap (λ l. l ++ constraints_at c.args.self.now c.loop-place.place) c.loop-place.invariant ∙ flat-more (constraints_at c.args.self.now) c.loop-name.found.items c.loop-place.place)

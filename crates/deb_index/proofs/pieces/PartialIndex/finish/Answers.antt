@@ -1,5 +1,4 @@
 use Rattle.std.proofs.Common.{◌≡◌, ◌≢◌, ◌∙◌, ◌+◌, ◌*◌, ◌≤◌, ℕ, List, Ok, Err, ap, sym, subst, subst₂, sum_by, refl, arith}
-use Rattle.std.proofs.lemmas.Result.{err_from_is_err_and}
 use Rattle.deb_control.specs.Stanzas.{stanzas_of}
 use Rattle.deb_index.specs.declared.error.IndexError.TheVariants.{Memory}
 use Rattle.deb_index.specs.Packages.{IndexView}
@@ -12,8 +11,8 @@ use Rattle.deb_index.proofs.pieces.PartialIndex.finish.Goals as goal
 
 pub add_text-requires-clause-parts : goal.add_text-requires-clause-parts
 add_text-requires-clause-parts g c =
-    let parts = c.in_ok-parted.parted.parts.items in
-    subst₂ (λ (a bytes : List ℕ). ArePartsOf a bytes parts) c.arch.ensures (sym c.in_ok-parted.ensures.text) c.in_ok-parted.ensures.parts
+    let parts = c.in-Ok.parted.parts.items in
+    subst₂ (λ (a bytes : List ℕ). ArePartsOf a bytes parts) c.arch.ensures (sym c.in-Ok.ensures.text) c.in-Ok.ensures.parts
 
 pub add_text-requires-clause-few : goal.add_text-requires-clause-few
 add_text-requires-clause-few g c =
@@ -25,19 +24,17 @@ add_text-requires-clause-room g c =
     let w = subst (λ (v : IndexView). IsWithin (record { index = v; size = c.self.inside.size })) (sym c.in_ok-builder.ensures) c.self.invariant.within in
     subst (λ (v : IndexView). sum_by asked_count v.packages ≤ byte_limit + 1 + 4 * v.stanzas) (sym c.end_foreground-fore.ensures) (omega (arith, w.room, w.short))
 
-pub returns-in_err-parted-clause-refused : goal.returns-in_err-parted-clause-refused
-returns-in_err-parted-clause-refused g c =
-    let p = err_from_is_err_and c.from_residual-in_err-parted.result c.from_residual-in_err-parted.ensures.1 in
-    rw (p.1, p.2) (λ other. absurd (other refl))
-
 pub returns-in-Err-clause-refused : goal.returns-in-Err-clause-refused
-returns-in-Err-clause-refused g c =
+returns-in-Err-clause-refused g c = λ other. absurd (other refl)
+
+pub returns-in-Err-add_text-clause-refused : goal.returns-in-Err-add_text-clause-refused
+returns-in-Err-add_text-clause-refused g c =
     let old : FrontView = record { index = c.in_ok-builder.builder; size = c.self.inside.size } in
     let whole_is : old ≡ c.args.self = ap (λ (v : IndexView). record { index = v; size = c.self.inside.size }) c.in_ok-builder.ensures ∙ c.self.view_is in
     let mid = c.end_foreground-fore.result in
-    let e = c.in-Err.error in
+    let e = c.in-Err-add_text.error in
     let fault : e ≢ Memory → continued mid (readings mid.arch mid.stanzas 0 (stanzas_of c.args.background.now)) ≡ Err e =
-    λ other. subst (λ (bytes : List ℕ). continued mid (readings mid.arch mid.stanzas 0 (stanzas_of bytes)) ≡ Err e) c.in_ok-parted.ensures.text (c.in-Err.ensures.refused other) in
+    λ other. subst (λ (bytes : List ℕ). continued mid (readings mid.arch mid.stanzas 0 (stanzas_of bytes)) ≡ Err e) c.in-Ok.ensures.text (c.in-Err-add_text.ensures.refused other) in
     let fails : FailsBehind old c.args.background.now c.in_back.result = λ other arch essential text is.
     let no_memory : e ≢ Memory = λ m. other (c.in_back.ensures.memory m) in
     front-back arch essential text old is mid c.end_foreground-fore.ensures c.args.background.now e (fault no_memory) ∙ ap Err (sym (c.in_back.ensures.value no_memory)) in
@@ -48,8 +45,8 @@ returns-clause-accepted g c =
     let old : FrontView = record { index = c.in_ok-builder.builder; size = c.self.inside.size } in
     let whole_is : old ≡ c.args.self = ap (λ (v : IndexView). record { index = v; size = c.self.inside.size }) c.in_ok-builder.ensures ∙ c.self.view_is in
     let mid = c.end_foreground-fore.result in
-    let whole = c.in-Ok.both in
-    let read = subst (λ (bytes : List ℕ). continued mid (readings mid.arch mid.stanzas 0 (stanzas_of bytes)) ≡ Ok whole) c.in_ok-parted.ensures.text c.in-Ok.ensures.accepted in
+    let whole = c.in-Ok-add_text.both in
+    let read = subst (λ (bytes : List ℕ). continued mid (readings mid.arch mid.stanzas 0 (stanzas_of bytes)) ≡ Ok whole) c.in-Ok.ensures.text c.in-Ok-add_text.ensures.accepted in
     let finishes : Finishes old c.args.background.now c.in_ok-index.index = λ arch essential text is.
     front-index arch essential text old is mid c.end_foreground-fore.ensures c.args.background.now whole read ∙ ap (λ (i : IndexView). Ok i) (sym (c.in_ok-index.ensures ∙ c.in_ok-unlinked.ensures)) in
     subst (λ (f : FrontView). Finishes f c.args.background.now c.in_ok-index.index) whole_is finishes

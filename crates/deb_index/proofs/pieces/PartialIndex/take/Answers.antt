@@ -11,11 +11,11 @@ pub with_piece-requires-clause-parts : goal.with_piece-requires-clause-parts
 with_piece-requires-clause-parts g c =
     let old = c.self.inside.builder in
     let ready = in_lists c.self.inside.ready.items in
-    let parted = c.in_ok-parted.parted in
+    let parted = c.in-Ok-read.parted in
     let taken : c.in_ok-builder.builder ≡ fold with_reading old ready = search rules in
     let text : parted.text.now ≡ c.args.piece.now = search rules in
-    let parts : ArePartsOf c.in_ok-arch.arch.items c.args.piece.now parted.parts.items = search rules in
-    let arch = c.in_ok-arch.ensures.items ∙ c.arch.ensures ∙ sym (ap (λ (v : IndexView). v.arch) taken ∙ arch-after old ready) in
+    let parts : ArePartsOf c.in-Ok.arch.items c.args.piece.now parted.parts.items = search rules in
+    let arch = c.in-Ok.ensures.items ∙ c.arch.ensures ∙ sym (ap (λ (v : IndexView). v.arch) taken ∙ arch-after old ready) in
     subst₂ (λ (a bytes : List ℕ). ArePartsOf a bytes parted.parts.items) arch (sym text) parts
 
 pub with_piece-requires-clause-within : goal.with_piece-requires-clause-within
@@ -27,7 +27,7 @@ with_piece-requires-clause-within g c =
 
 pub with_piece-requires-clause-short : goal.with_piece-requires-clause-short
 with_piece-requires-clause-short g c =
-    let text : c.in_ok-parted.parted.text.now ≡ c.args.piece.now = search rules in
+    let text : c.in-Ok-read.parted.text.now ≡ c.args.piece.now = search rules in
     omega (arith, ap (λ (bytes : List ℕ). length bytes) text, ap (λ (f : FrontView). f.size) c.self.view_is, c.requires.short)
 
 pub returns-clause-accepted : goal.returns-clause-accepted
@@ -35,7 +35,7 @@ returns-clause-accepted g c =
     let old = c.self.inside.builder in
     let ready = in_lists c.self.inside.ready.items in
     let taken : c.in_ok-builder.builder ≡ fold with_reading old ready = search rules in
-    let text : c.in_ok-parted.parted.text.now ≡ c.args.piece.now = search rules in
+    let text : c.in-Ok-read.parted.text.now ≡ c.args.piece.now = search rules in
     let front = ap (λ (v : IndexView). front_of v [] c.self.inside.size) taken ∙ c.self.view_is in
     subst₂ (λ (f : FrontView) (bytes : List ℕ). IfOk c.with_piece.result (Accepts f bytes)) front text c.with_piece.ensures.accepted
 
@@ -44,6 +44,6 @@ returns-clause-refused g c =
     let old = c.self.inside.builder in
     let ready = in_lists c.self.inside.ready.items in
     let taken : c.in_ok-builder.builder ≡ fold with_reading old ready = search rules in
-    let text : c.in_ok-parted.parted.text.now ≡ c.args.piece.now = search rules in
+    let text : c.in-Ok-read.parted.text.now ≡ c.args.piece.now = search rules in
     let front = ap (λ (v : IndexView). front_of v [] c.self.inside.size) taken ∙ c.self.view_is in
     subst₂ (λ (f : FrontView) (bytes : List ℕ). IfErr c.with_piece.result (Refuses f bytes)) front text c.with_piece.ensures.refused

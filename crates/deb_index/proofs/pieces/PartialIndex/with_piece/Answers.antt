@@ -22,7 +22,7 @@ invariant_of-result c =
     let most = stanza_limit - c.stanzas.result in
     let read = subst (λ (ps : List Part). AreRead most ps) c.deref.ensures.value (c.are_read.ensures c.if-are_read.true) in
     let few : v.stanzas + most ≤ stanza_limit = omega (arith, c.stanzas.ensures, c.requires.within.few) in
-    piece-kept v size most piece parts c.requires.parts read few (in_lists c.in_ok-ready.ready.items) c.in_ok-ready.ensures c.requires.within c.requires.short (size + length piece) refl
+    piece-kept v size most piece parts c.requires.parts read few (in_lists c.in-Ok.ready.items) c.in-Ok.ensures c.requires.within c.requires.short (size + length piece) refl
 
 pub returns-then-are_read-clause-accepted : goal.returns-then-are_read-clause-accepted
 returns-then-are_read-clause-accepted c =
@@ -30,11 +30,11 @@ returns-then-are_read-clause-accepted c =
     let size = c.args.size in
     let piece = c.args.piece.text.now in
     let parts = c.args.piece.parts.items in
-    let found = in_lists c.in_ok-ready.ready.items in
+    let found = in_lists c.in-Ok.ready.items in
     let most = stanza_limit - c.stanzas.result in
     let read = subst (λ (ps : List Part). AreRead most ps) c.deref.ensures.value (c.are_read.ensures c.if-are_read.true) in
     let few : v.stanzas + most ≤ stanza_limit = omega (arith, c.stanzas.ensures, c.requires.within.few) in
-    let more = piece-read v size most piece parts c.requires.parts read few found c.in_ok-ready.ensures in
+    let more = piece-read v size most piece parts c.requires.parts read few found c.in-Ok.ensures in
     λ arch essential text closed is. front-more arch essential text (front_of v [] size) is piece (front_of v found (size + length piece)) closed more refl
 
 pub returns-in_err-builder-clause-refused : goal.returns-in_err-builder-clause-refused
@@ -42,7 +42,7 @@ returns-in_err-builder-clause-refused c =
     let old = front_of c.args.builder [] c.args.size in
     let piece = c.args.piece.text.now in
     let e = c.in_err-builder.field-0.0 in
-    let p = err_from_is_err_and c.from_residual-in_err-builder.result c.from_residual-in_err-builder.ensures.1 in
+    let p = err_from_is_err_and c.from_residual.result c.from_residual.ensures.1 in
     let refuses : Refuses old piece e =
     λ other arch essential text more closed is ends. front-fault arch essential text old is piece more e closed ends (c.in_err-builder.ensures.refused other) in
     rw (p.1, p.2) refuses
