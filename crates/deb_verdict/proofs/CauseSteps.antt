@@ -1,13 +1,15 @@
 -- Cores that are found one after the other, each with its cause taken out.
-use Rattle.std.proofs.Common.{◌≡◌, ℕ, zero, suc, ◌+◌, ◌<◌, ◌≤◌, true, false, leb, List, [], ◌∷◌, ◌++◌, length, map, All, Some, slice_get, if◌then◌else◌, refl, sym, subst, ◌∙◌, ap, append_assoc, append-nil, inl, inr, arith}
+use Rattle.std.proofs.Common.{◌≡◌, ℕ, zero, suc, ◌+◌, ◌<◌, ◌≤◌, Bool, true, false, ◌&&◌, ◌||◌, eqb, leb, List, [], ◌∷◌, ◌++◌, length, map, filter, get_or, take, All, Some, slice_get, if◌then◌else◌, refl, sym, subst, ◌∙◌, ap, append_assoc, append-nil, inl, inr, arith}
 use mathlib.Core.Path.{fun_ext}
-use Rattle.std.proofs.lemmas.Bool.{cases_Bool, cases_lt, and_parts, le-leb, or_left, or_right}
-use Rattle.std.proofs.lemmas.List.{map-append}
+use Rattle.std.proofs.lemmas.Bool.{cases_Bool, cases_lt, and_parts, eqb-true, le-leb, or_left, or_right}
+use Rattle.std.proofs.lemmas.List.{map-append, take_more}
+use Rattle.std.proofs.lemmas.List.Elements.{filter-append}
 use Rattle.deb_index.specs.declared.constraint.Constraint.{Constraint}
 use Rattle.deb_index.specs.Packages.{IndexView}
 use Rattle.deb_index.specs.Constraints.{constraints_of}
 use Rattle.number_sets.specs.Sets.{NumberSet, all_of, IsWithin, members_of}
 use Rattle.number_sets.proofs.ListMembers.{members_of_at}
+use Rattle.number_sets.proofs.MembersLemmas.{members_of_push}
 use Rattle.deb_health.specs.Causes.{AreCores, AreCoresWithout, cause_at, either, is_final_at, IsFirstWithout, nothing, without}
 use Rattle.deb_health.specs.Health.{Admits, AdmitsNone, admits_none_upward, IsHopeless}
 use Rattle.deb_health.proofs.CauseLemmas.{core_has_final}
@@ -15,6 +17,58 @@ use Rattle.deb_health.proofs.CoreLemmas.{core_left, without_more, without_nothin
 use Rattle.core_extract.specs.Reduction.{left, IsRefutation}
 use Rattle.deb_verdict.proofs.FirstExists.{admits_some}
 use Rattle.deb_verdict.proofs.Whole.{all_admit_none}
+
+-- ---- a cause, one constraint of its core after the other
+
+module _ (p : Constraint → Bool) (xs : List Constraint) (i : ℕ) (d : Constraint) (inside : i < length xs) where
+  one_more : filter p (take (i + 1) xs) ≡ filter p (take i xs) ++ filter p (get_or xs i d ∷ [])
+  one_more = ap (filter p) (take_more xs i d inside) ∙ filter-append p (take i xs) (get_or xs i d ∷ [])
+
+  pub filter_keeps : p (get_or xs i d) ≡ true → filter p (take (i + 1) xs) ≡ filter p (take i xs) ++ get_or xs i d ∷ []
+  filter_keeps passes = one_more ∙ rw passes refl
+
+  pub filter_leaves : p (get_or xs i d) ≡ false → filter p (take (i + 1) xs) ≡ filter p (take i xs)
+  filter_leaves fails = one_more ∙ rw fails (append-nil (filter p (take i xs)))
+
+-- what is out, with one member more that is final
+taken_or : (out is_in here final : Bool) → (here ≡ true → final ≡ true) → ((out || (is_in && final)) || (here || false)) ≡ (out || ((is_in || (here || false)) && final))
+taken_or true is_in here final is = refl
+taken_or false true true final is = rw (is refl) refl
+taken_or false true false true is = refl
+taken_or false true false false is = refl
+taken_or false false true final is = sym (is refl)
+taken_or false false false final is = refl
+
+-- what is out, with one member more that is not final
+passed_or : (out is_in here final : Bool) → (here ≡ true → final ≡ false) → (out || (is_in && final)) ≡ (out || ((is_in || (here || false)) && final))
+passed_or true is_in here final is = refl
+passed_or false true here final is = refl
+passed_or false false true final is = sym (is refl)
+passed_or false false false final is = refl
+
+module _ (index : IndexView) (out : NumberSet) (core : List ℕ) (i : ℕ) (inside : i < length core) (k : ℕ) where
+  here_final : (final : Bool) → is_final_at index (get_or core i 0) ≡ final → eqb (get_or core i 0) k ≡ true → is_final_at index k ≡ final
+  here_final final is here = sym (ap (is_final_at index) (eqb-true (get_or core i 0) k here)) ∙ is
+
+  with_one : either out (cause_at index (take (i + 1) core)) k ≡ (out k || ((members_of (take i core) k || (eqb (get_or core i 0) k || false)) && is_final_at index k))
+  with_one =
+      ap (λ list. out k || (members_of list k && is_final_at index k)) (take_more core i 0 inside)
+      ∙ ap (λ has. out k || (has && is_final_at index k)) (members_of_push (take i core) (get_or core i 0) k)
+
+  pub cause_takes : (before : List ℕ) → is_final_at index (get_or core i 0) ≡ true → members_of before k ≡ either out (cause_at index (take i core)) k
+      → members_of (before ++ get_or core i 0 ∷ []) k ≡ either out (cause_at index (take (i + 1) core)) k
+  cause_takes before final so_far =
+      members_of_push before (get_or core i 0) k
+      ∙ (ap (λ has. has || (eqb (get_or core i 0) k || false)) so_far
+      ∙ (taken_or (out k) (members_of (take i core) k) (eqb (get_or core i 0) k) (is_final_at index k) (here_final true final)
+      ∙ sym with_one))
+
+  pub cause_passes : (before : List ℕ) → is_final_at index (get_or core i 0) ≡ false → members_of before k ≡ either out (cause_at index (take i core)) k
+      → members_of before k ≡ either out (cause_at index (take (i + 1) core)) k
+  cause_passes before not_final so_far =
+      so_far
+      ∙ (passed_or (out k) (members_of (take i core) k) (eqb (get_or core i 0) k) (is_final_at index k) (here_final false not_final)
+      ∙ sym with_one)
 
 -- ---- how many positions are not taken out
 

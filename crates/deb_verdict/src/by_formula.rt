@@ -117,7 +117,9 @@ fn refute_described(
         described.must,
         &mut workspace.marks,
     )?;
-    if found.is_some() {
+    let admits = found.is_some();
+    drop(found);
+    if admits {
         return Ok(false);
     }
     take_marked(&described.positions, &workspace.marks, &mut workspace.used)?;
@@ -163,7 +165,7 @@ pub(crate) fn refute_by_formula(
     ensures still { IfOk result (λ refuted. refuted ≡ false → workspace.new.used ≡ workspace.old.used) }
 {
     let described = take_formula(alloc, part.index, p, formula, workspace)?;
-    let refuted = refute_described(alloc, part, p, &described, workspace)?;
+    let refuted = refute_described(alloc, part, p, &described, workspace);
     *formula = Some(described);
-    Ok(refuted)
+    refuted
 }

@@ -19,6 +19,7 @@ use crate::workspace::Workspace;
 use core_extract::first_failing;
 use deb_index::Constraint;
 use std::alloc::{AllocError, Global};
+use std::mem;
 
 /// The positions, rising, of the first core of the constraints that are not taken out, where they admit no set with the package at a place.
 pub(crate) fn first_positions(
@@ -48,7 +49,7 @@ pub(crate) fn first_positions(
         formula: formula.take(),
     };
     let positions = first_failing(alloc, &mut question)?;
-    *formula = question.formula.take();
+    mem::swap(formula, &mut question.formula);
     Ok(positions)
 }
 
@@ -65,7 +66,10 @@ pub(crate) fn first_core(
     ensures first { IfOk result (λ core. IsFirstCore groundwork.now.index.now p core.items) }
     ensures within { IfOk result (λ core. All (IsOfIndex groundwork.now.index.now) core.items) }
 {
-    let positions = first_positions(alloc, workspace, groundwork, p, &[], &mut None)?;
+    let mut formula = None;
+    let found = first_positions(alloc, workspace, groundwork, p, &[], &mut formula);
+    drop(formula);
+    let positions = found?;
     let mut core = Vec::new(alloc);
     list_constraints(groundwork.index, &positions, &mut core)?;
     Ok(core)

@@ -57,13 +57,14 @@ pub(crate) fn refute_part(
         return Ok(true);
     }
     // What the package asks for may be at odds with the base set.
-    let nothing = BaseSet::empty(alloc);
-    if may_admit && is_seen_to_admit(part, p, &nothing, lacking, &mut workspace.witness)? {
+    let nothing = &mut workspace.way;
+    nothing.clear();
+    if may_admit && is_seen_to_admit(part, p, nothing, lacking, &mut workspace.witness)? {
         return Ok(false);
     }
     // Only what came against the base set may come against what its members need.
     if propagation.lacks_room(part.index, base)
-        && refute_by_forcing(part, p, &nothing, propagation, used)?
+        && refute_by_forcing(part, p, nothing, propagation, used)?
     {
         return Ok(true);
     }

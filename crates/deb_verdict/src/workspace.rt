@@ -32,7 +32,7 @@ pub struct Workspace {
     pub(crate) solver: sat_solve::Workspace,
     pub(crate) propagation: Propagation,
     pub(crate) witness: Witness,
-    /// A way from need to need, of which each refutation needs all.
+    /// A way from need to need, of which each refutation needs all; and a base set of nothing, where one is asked.
     pub(crate) way: BaseSet,
     /// A set that is grown for a package whose set need not be shown.
     pub(crate) installation: Installation,

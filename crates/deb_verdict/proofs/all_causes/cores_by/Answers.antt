@@ -1,15 +1,46 @@
-use Rattle.std.proofs.Common.{◌≡◌, ℕ, List, [], ◌∷◌, Vec, Global, All, Some, slice_get, map, sym, subst}
+use Rattle.std.proofs.Common.{◌≡◌, ℕ, List, [], ◌∷◌, Vec, Global, All, Some, slice_get, map, refl, sym, subst}
+use Rattle.std.specs.List.Sorted.{IsStrictlyIncreasing}
 use Rattle.std.proofs.lemmas.List.{map-append}
 use Rattle.std.proofs.lemmas.List.Elements.{All-push}
 use Rattle.deb_index.specs.declared.constraint.Constraint.{Constraint}
 use Rattle.deb_index.specs.Constraints.{IsOfIndex, constraints_of}
 use Rattle.deb_index.proofs.ConstraintLemmas.{constraints-within}
+use Rattle.deb_encode.proofs.AddSteps.{below_moved}
 use Rattle.number_sets.specs.Sets.{all_of, members_of}
 use Rattle.deb_health.specs.Causes.{cause_at, either, IsFirstWithout, without}
-use Rattle.deb_health.specs.Health.{Admits}
+use Rattle.deb_health.specs.Health.{Admits, AdmitsNone}
 use Rattle.deb_verdict.proofs.CauseSteps.{all_found, AreFound, fewer_left, one_found}
 use Rattle.deb_verdict.proofs.Whole.{named_all}
 use Rattle.deb_verdict.proofs.all_causes.cores_by.Goals as goal
+
+pub is_blocked-requires-clause-rising : goal.is_blocked-requires-clause-rising
+is_blocked-requires-clause-rising c =
+    let Rising : List ℕ → Type 0 = λ list. IsStrictlyIncreasing list in
+    subst Rising (sym c.deref.ensures.value) c.loop-out.invariant.rising
+
+pub is_blocked-requires-clause-formula : goal.is_blocked-requires-clause-formula
+is_blocked-requires-clause-formula c = c.loop-out.invariant.told
+
+pub first_positions-requires-clause-rising : goal.first_positions-requires-clause-rising
+first_positions-requires-clause-rising c =
+    let Rising : List ℕ → Type 0 = λ list. IsStrictlyIncreasing list in
+    subst Rising (sym c.deref-in-loop-out.ensures.value) c.loop-out.invariant.rising
+
+pub first_positions-requires-clause-formula : goal.first_positions-requires-clause-formula
+first_positions-requires-clause-formula c = c.is_blocked.ensures.formula
+
+pub first_positions-requires-clause-none : goal.first_positions-requires-clause-none
+first_positions-requires-clause-none c =
+    let None : List ℕ → Type 0 = λ list. AdmitsNone c.args.groundwork.now.index.now c.args.p (without (members_of list) all_of) in
+    subst None (sym c.deref-in-loop-out.ensures.value) (subst None c.deref.ensures.value (c.in_ok-is_blocked.ensures.none c.if-branch.true))
+
+pub take_out-requires : goal.take_out-requires
+take_out-requires c =
+    below_moved c.deref-in-loop-out-2.result.now c.in_ok-positions.positions.items _ _ c.deref-in-loop-out-2.ensures.value refl c.in_ok-positions.ensures.within
+
+pub list_constraints-requires : goal.list_constraints-requires
+list_constraints-requires c =
+    below_moved c.deref-in-loop-out-3.result.now c.in_ok-positions.positions.items _ _ c.deref-in-loop-out-3.ensures.value refl c.in_ok-positions.ensures.within
 
 pub loop-out-preserved : goal.loop-out-preserved
 loop-out-preserved c =
@@ -64,3 +95,6 @@ returns-clause-cores c =
     let One : List ℕ → Type 0 = λ list. Admits index p (without (members_of list) all_of) in
     all_found index p (members_of c.loop-out.out.items) (map (λ (core : Vec Constraint Global). core.items) c.loop-out.cores.items)
     c.loop-out.invariant.found (subst One c.deref.ensures.value (c.in_ok-is_blocked.ensures.some c.if-branch.false))
+
+pub returns-clause-within : goal.returns-clause-within
+returns-clause-within c = c.loop-out.invariant.within

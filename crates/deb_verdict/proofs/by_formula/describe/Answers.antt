@@ -21,6 +21,9 @@ list_positions-requires c = record {
       (same_below c.reach.new.members c.sort.new.self _ c.sort.ensures.same c.in_ok-reach.ensures.within);
 }
 
+pub list_constraints-requires : goal.list_constraints-requires
+list_constraints-requires c = below_moved c.deref.result.now c.list_positions.new.positions.items _ _ c.deref.ensures.value refl c.in_ok-list_positions.ensures.in_list
+
 pub count_of-requires-clause-within : goal.count_of-requires-clause-within
 count_of-requires-clause-within c =
     below_moved c.as_slice-members.result.now c.sort.new.self _ _ c.as_slice-members.ensures refl
@@ -94,3 +97,6 @@ returns-clause-tells c =
       refuted = told_refuted index c.args.p members positions constraints formula of_closure c.unwrap-must.result there;
       admitted = told_admitted index c.args.p members positions constraints formula of_closure c.unwrap-must.result there;
     }
+
+pub returns-clause-still : goal.returns-clause-still
+returns-clause-still c = refl

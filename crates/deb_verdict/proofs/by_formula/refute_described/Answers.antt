@@ -1,4 +1,4 @@
-use Rattle.std.proofs.Common.{◌≡◌, ℕ, List, Bool, Option, Some, None, true, false, map, sym, ◌∙◌, ap, subst}
+use Rattle.std.proofs.Common.{◌≡◌, ℕ, List, Bool, Option, Some, None, true, false, map, refl, sym, ◌∙◌, ap, subst}
 use Rattle.std.specs.Prelude.{is_some, IfSome, IfNone}
 use Rattle.std.proofs.lemmas.Bool.{false≢true, true≢false}
 use Rattle.number_sets.specs.Sets.{NumberSet, members_of}
@@ -16,12 +16,12 @@ none_there : {T : Type 0} (o : Option T) (Q : Type 0) → is_some o ≡ false �
 none_there (Some x) Q never holds = absurd (true≢false never)
 none_there None Q is holds = holds
 
-pub returns-then-is_some-clause-admitted : goal.returns-then-is_some-clause-admitted
-returns-then-is_some-clause-admitted c = λ is.
+pub returns-then-admits-clause-admitted : goal.returns-then-admits-clause-admitted
+returns-then-admits-clause-admitted c = λ is.
     let part : NumberSet = positions_in c.args.part.now in
     let positions : List ℕ = c.args.described.now.positions.items in
     let keep_is : c.deref-2.result.now ≡ map part positions = c.deref-2.ensures.value ∙ (c.in_ok-mark_kept.ensures ∙ ap (map part) c.deref.ensures.value) in
-    let found = some_there c.in_ok-found.found _ (sym c.is_some.ensures ∙ c.if-is_some.true) c.in_ok-found.ensures.first in
+    let found = some_there c.in_ok-found.found _ (sym c.is_some-admits.ensures ∙ c.if-admits.true) c.in_ok-found.ensures.first in
     let IsOne : List Bool → Type 0 = λ keep. IsTrueSet c.args.described.now.formula.vars c.args.described.now.formula.clauses keep c.args.described.now.must (members_of found.0.items) in
     c.requires.admitted part (members_of found.0.items) (subst IsOne keep_is found.1.0)
 
@@ -32,7 +32,7 @@ returns-clause-refuted c = λ is.
     let marks : List Bool = c.solve_marked.new.marks.items in
     let used : List ℕ = c.take_marked.new.used.items in
     let keep_is : c.deref-2.result.now ≡ map part positions = c.deref-2.ensures.value ∙ (c.in_ok-mark_kept.ensures ∙ ap (map part) c.deref.ensures.value) in
-    let none : is_some c.in_ok-found.found ≡ false = sym c.is_some.ensures ∙ c.if-is_some.false in
+    let none : is_some c.in_ok-found.found ≡ false = sym c.is_some-admits.ensures ∙ c.if-admits.false in
     let Of : List ℕ → Type 0 = λ list. IsChosen list c.deref-4.result.now (members_of used) in
     let By : List Bool → Type 0 = λ list. IsChosen positions list (members_of used) in
     let chosen : IsChosen positions marks (members_of used) = subst By c.deref-4.ensures.value (subst Of c.deref-3.ensures.value c.in_ok-take_marked.ensures) in
@@ -44,3 +44,15 @@ returns-clause-refuted c = λ is.
           sym (ap part at.3) ∙ kept_has part positions at.0 at.1 (kept at.0 at.2));
       fails = c.requires.refuted marks (members_of used) chosen (none_there c.in_ok-found.found _ none c.in_ok-found.ensures.marked);
     }
+
+pub returns-then-admits-clause-refuted : goal.returns-then-admits-clause-refuted
+returns-then-admits-clause-refuted c = λ is. absurd (false≢true is)
+
+pub returns-then-admits-clause-still : goal.returns-then-admits-clause-still
+returns-then-admits-clause-still c = λ _. refl
+
+pub returns-clause-admitted : goal.returns-clause-admitted
+returns-clause-admitted c = λ is. absurd (true≢false is)
+
+pub returns-clause-still : goal.returns-clause-still
+returns-clause-still c = λ is. absurd (true≢false is)

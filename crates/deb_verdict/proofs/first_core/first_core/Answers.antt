@@ -9,8 +9,8 @@ use Rattle.deb_verdict.proofs.CauseSteps.{hopeless_whole}
 use Rattle.deb_verdict.proofs.Whole.{named_all}
 use Rattle.deb_verdict.proofs.first_core.first_core.Goals as goal
 
-pub first_positions-requires-clause-none : goal.first_positions-requires-clause-none
-first_positions-requires-clause-none c = hopeless_whole c.args.groundwork.now.index.now c.args.p c.requires.hopeless
+pub first_positions-found-requires-clause-none : goal.first_positions-found-requires-clause-none
+first_positions-found-requires-clause-none c = hopeless_whole c.args.groundwork.now.index.now c.args.p c.requires.hopeless
 
 pub list_constraints-requires : goal.list_constraints-requires
 list_constraints-requires c = below_moved c.deref.result.now c.in_ok-positions.positions.items _ _ c.deref.ensures.value refl c.in_ok-positions.ensures.within

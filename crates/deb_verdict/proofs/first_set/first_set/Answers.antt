@@ -67,3 +67,6 @@ returns-in-None-clause-none c =
     no_answer c.args.groundwork.now.index.now c.args.p c.force.new.forced c.gather.new.self.places c.describe.new.formula.clauses c.unwrap-must.result c.in_ok-force.ensures.follows
     (enough c.args.groundwork.now.index.now (members_of c.force.new.forced) c.gather.new.self c.in_ok-gather.ensures.gathered) c.in_ok-gather.ensures.gathered.rising there c.in_ok-describe.ensures.in_group
     c.in_ok-describe.ensures.describes c.describe.new.formula.vars c.in_ok-describe.ensures.vars (rw c.in-None.is at c.in_ok-found.ensures.none)
+
+pub describe-requires-clause-forced_within : goal.describe-requires-clause-forced_within
+describe-requires-clause-forced_within c = c.in_ok-force.ensures.within

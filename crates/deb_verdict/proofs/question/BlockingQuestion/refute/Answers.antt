@@ -1,4 +1,5 @@
-use Rattle.std.proofs.Common.{ℕ, List}
+use Rattle.std.proofs.Common.{ℕ, List, refl}
+use Rattle.std.proofs.lemmas.Bool.{false≢true, true≢false}
 use Rattle.number_sets.specs.Sets.{NumberSet, members_of}
 use Rattle.core_extract.specs.Reduction.{left, listed}
 use Rattle.deb_health.specs.Causes.{without}
@@ -22,3 +23,24 @@ returns-clause-refuted c = λ _.
     refuted_without index p out part (listed sorted)
     (refuted_listed index p c.len-limit.ensures.few c.len-limit.ensures.few_asked (without out part) sorted
     (refuted_same index p (without out part) used sorted c.take_rising.ensures.same (c.in_ok-refuted.ensures.refuted c.if-not-refuted.false)))
+
+pub returns-then-lacks_needed-clause-refuted : goal.returns-then-lacks_needed-clause-refuted
+returns-then-lacks_needed-clause-refuted c = λ is. absurd (false≢true is)
+
+pub returns-then-lacks_needed-clause-still : goal.returns-then-lacks_needed-clause-still
+returns-then-lacks_needed-clause-still c = λ _. refl
+
+pub returns-then-not-refuted-clause-refuted : goal.returns-then-not-refuted-clause-refuted
+returns-then-not-refuted-clause-refuted c = λ is. absurd (false≢true is)
+
+pub returns-then-not-refuted-clause-admitted : goal.returns-then-not-refuted-clause-admitted
+returns-then-not-refuted-clause-admitted c = λ _. c.in_ok-refuted.ensures.admitted c.if-not-refuted.true
+
+pub returns-then-not-refuted-clause-still : goal.returns-then-not-refuted-clause-still
+returns-then-not-refuted-clause-still c = λ _. refl
+
+pub returns-clause-admitted : goal.returns-clause-admitted
+returns-clause-admitted c = λ is. absurd (true≢false is)
+
+pub returns-clause-still : goal.returns-clause-still
+returns-clause-still c = λ is. absurd (true≢false is)
