@@ -57,7 +57,7 @@ pub(crate) fn refute_part(
         return Ok(true);
     }
     // What the package asks for may be at odds with the base set.
-    let nothing = &mut workspace.way;
+    let nothing = &mut workspace.nothing;
     nothing.clear();
     if may_admit && is_seen_to_admit(part, p, nothing, lacking, &mut workspace.witness)? {
         return Ok(false);

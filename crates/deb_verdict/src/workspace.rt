@@ -32,8 +32,10 @@ pub struct Workspace {
     pub(crate) solver: sat_solve::Workspace,
     pub(crate) propagation: Propagation,
     pub(crate) witness: Witness,
-    /// A way from need to need, of which each refutation needs all; and a base set of nothing, where one is asked.
+    /// A way from need to need, of which each refutation needs all.
     pub(crate) way: BaseSet,
+    /// A base set of nothing.
+    pub(crate) nothing: BaseSet,
     /// A set that is grown for a package whose set need not be shown.
     pub(crate) installation: Installation,
     /// The closure of a broken package, and the constraints that speak of it.
@@ -64,6 +66,7 @@ impl Workspace {
             propagation: Propagation::new(alloc),
             witness: Witness::new(alloc),
             way: BaseSet::empty(alloc),
+            nothing: BaseSet::empty(alloc),
             installation: Installation::new(alloc, 0),
             closure: SparseSet::new(alloc),
             constraints: Vec::new(alloc),
