@@ -51,14 +51,14 @@ fn read_several(alloc: Global, text: &[u8]) -> Result<Groups, RelationError>
     ensures { Gives (λ g. g) result (groups_of text.now) }
 {
     let room = room_for(text);
-    let mut atoms = Vec::with_capacity(alloc, room).map_err(|_| RelationError::Memory)?;
-    let mut ends = Vec::with_capacity(alloc, room).map_err(|_| RelationError::Memory)?;
+    let mut atoms = Vec::with_capacity(alloc, room)?;
+    let mut ends = Vec::with_capacity(alloc, room)?;
     let mut rest = Some(text);
     'elements: while let Some(left) = rest {
         let (element, after) = cut(left, b',');
         if !piece::is_blank(element) {
             add_group(alloc, element, &mut atoms)?;
-            ends.push(atoms.len()).map_err(|_| RelationError::Memory)?;
+            ends.push(atoms.len())?;
         }
         rest = after;
     }

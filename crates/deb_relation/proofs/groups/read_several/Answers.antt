@@ -20,8 +20,8 @@ returns-in_err-add_group c =
     rw (p.1, p.2) (filled-fails group_in e (lists_from 0 (map atom_view c.elements.atoms.items) c.elements.ends.items) c.cut.result.0.now (parts_of comma (option_copied c.cut.result.1))
     (groups_of c.args.text.now) other fails (rw (c.in-Some.is, c.cut.ensures.parts) at c.elements.invariant.0))
 
-pub elements-preserved-in_ok-map_err : goal.elements-preserved-in_ok-map_err
-elements-preserved-in_ok-map_err c =
+pub elements-preserved-in_ok-push : goal.elements-preserved-in_ok-push
+elements-preserved-in_ok-push c =
     let before = map atom_view c.elements.atoms.items in
     let after = map atom_view c.add_group.new.atoms.items in
     let ends = c.elements.ends.items in
