@@ -1,30 +1,27 @@
-//! Numbers that look random, and the clauses that are drawn by them.
+//! Drawn formulas: each solve of one gives the same, whatever its buffers were used for, and marked groups admit no set.
 
-ghost use Rattle.std.specs.Prelude.{◌≡◌, ◌<◌};
+ghost use Rattle.std.specs.Prelude.{◌≡◌, ◌<◌, length};
 
-use sat_solve::{Formula, Lit};
+use sat_solve::{Formula, Lit, Owner, Workspace};
+use std::alloc::AllocGlobal;
 use std::process::Abort;
 
 /// Numbers that look random, and are the same in each run.
 #[derive(Drop)]
-pub struct Numbers {
-    pub state: u64,
+struct Numbers {
+    state: u32,
 }
 
 impl Numbers {
-    pub fn below(&mut self, bound: u32) -> u32
+    fn below(&mut self, bound: u32) -> u32
         requires { 0 < bound }
         ensures { result < bound }
     {
-        self.state = self
-            .state
-            .wrapping_mul(6_364_136_223_846_793_005)
-            .wrapping_add(1_442_695_040_888_963_407);
-        let high = (self.state / 4_294_967_296) as u32;
-        high % bound
+        self.state = self.state.wrapping_mul(1_103_515_245).wrapping_add(12_345);
+        (self.state >> 16) % bound
     }
 
-    pub fn literal(&mut self) -> Lit
+    fn literal(&mut self) -> Lit
         ensures { result.var < 5 }
     {
         Lit {
@@ -32,54 +29,69 @@ impl Numbers {
             positive: self.below(2) == 0,
         }
     }
-
-    /// How many literals a clause has: rarely none, else one to three.
-    fn size(&mut self) -> u32 {
-        if self.below(20) == 0 {
-            0
-        } else {
-            1 + self.below(3)
-        }
-    }
 }
 
-/// A clause of at most three literals.
-#[derive(Clone, Copy)]
-pub struct Small {
-    pub group: u32,
-    pub literals: [Lit; 3],
-    pub size: usize,
-}
-
-/// Adds a drawn clause to a formula of five variables and three groups, and to the clauses.
-pub fn draw_clause(
-    rt: &impl Abort,
-    numbers: &mut Numbers,
-    formula: &mut Formula,
-    clauses: &mut Vec<Small>,
-    is_full: bool,
-)
+/// Adds a drawn list with an owner, and a drawn clause, to a formula of five variables and three groups.
+fn draw(rt: &impl Abort, numbers: &mut Numbers, formula: &mut Formula)
     requires vars { formula.old.vars ≡ 5 }
     requires groups { formula.old.groups ≡ 3 }
     ensures vars { formula.new.vars ≡ 5 }
     ensures groups { formula.new.groups ≡ 3 }
 {
-    let group = numbers.below(3);
-    let (a, b, c) = (numbers.literal(), numbers.literal(), numbers.literal());
-    let size = if is_full { 3 } else { numbers.size() };
-    let added = match size {
-        0 => formula.add(group, &[]),
-        1 => formula.add(group, &[a]),
-        2 => formula.add(group, &[a, b]),
-        _ => formula.add(group, &[a, b, c]),
+    let owner = Owner {
+        group: numbers.below(3),
+        var: numbers.below(5),
     };
+    let list = [numbers.below(5), numbers.below(5)];
+    formula.exclude(&[owner], &list).expect(rt, "no memory");
+    let clause = [numbers.literal(), numbers.literal(), numbers.literal()];
+    let added = formula.add(numbers.below(3), &clause);
     added.expect(rt, "no memory");
-    let literals = [a, b, c];
-    let size = size as usize;
-    let clause = Small {
-        group,
-        literals,
-        size,
+}
+
+/// Sees that a formula of three groups has the same set, or none, by each of the solves, and none with the marked groups where it has none.
+fn expect_same(
+    rt: &(impl Abort + AllocGlobal),
+    workspace: &mut Workspace,
+    formula: &Formula,
+    keep: &[bool],
+    must: u32,
+)
+    requires keep { length keep.now ≡ formula.now.groups }
+    requires must { must < formula.now.vars }
+{
+    let mut marks = Vec::new(rt.alloc());
+    let found = formula
+        .solve_marked(rt.alloc(), workspace, keep, must, &mut marks)
+        .expect(rt, "no memory");
+    let keep = if found.is_some() {
+        keep
+    } else {
+        marks.as_slice()
     };
-    clauses.push(clause).expect(rt, "no memory");
+    let again = formula
+        .solve(rt.alloc(), keep, must)
+        .expect(rt, "no memory");
+    assert!(rt; found == again);
+}
+
+/// Sees that all solves give the same on the formula of this number, with drawn groups and a drawn variable.
+fn expect_number(rt: &(impl Abort + AllocGlobal), workspace: &mut Workspace, number: u32) {
+    let mut numbers = Numbers { state: number };
+    let mut formula = Formula::new(rt.alloc(), 5, 3).expect(rt, "no memory");
+    'rounds: for _ in 0..1 + numbers.below(5) {
+        draw(rt, &mut numbers, &mut formula);
+    }
+    let keep = [numbers.below(4) > 0, numbers.below(4) > 0, true];
+    let must = numbers.below(5);
+    expect_same(rt, workspace, &formula, &keep, must);
+}
+
+#[test]
+fn small_formulas(rt: HostRuntime) {
+    let mut workspace = Workspace::new(rt.alloc());
+    for number in 0..500 {
+        expect_number(&rt, &mut workspace, number);
+    }
+    drop(workspace);
 }

@@ -1,6 +1,6 @@
 //! Literals by their variables.
 
-ghost use Rattle.std.specs.Prelude.{◌≡◌, true, false};
+ghost use Rattle.std.specs.Prelude.{◌≡◌, true};
 
 use sat_solve::Lit;
 
@@ -11,15 +11,5 @@ pub fn lit(var: u32) -> Lit
     Lit {
         var,
         positive: true,
-    }
-}
-
-/// A variable that is out.
-pub fn not(var: u32) -> Lit
-    ensures { result ≡ record { var = var; positive = false } }
-{
-    Lit {
-        var,
-        positive: false,
     }
 }

@@ -2,70 +2,30 @@
 //!
 //! The line `0: !2 1` adds a clause to group 0: variable 2 is out, or variable 1 is in. The line `10 3 = 1 3` asks for the first
 //! set with variable 3 where group 0 is kept and group 1 is not, and says that it has the variables 1 and 3; `= none` says that
-//! there is no set, and `= none by 01` that a refutation has clauses of group 1 alone.
+//! there is no set.
 
-ghost use Rattle.std.specs.Prelude.{◌<◌, All, IfOk};
+ghost use Rattle.std.specs.Prelude.{◌<◌, All};
 
-use crate::literals::{lit, not};
-use crate::plain::Plain;
-use sat_solve::{Formula, Lit, Workspace};
-use std::alloc::{AllocError, AllocGlobal, Global};
+use sat_solve::{Formula, Lit};
+use std::alloc::AllocGlobal;
 use std::process::Abort;
 
-/// What one line leaves to the next.
-#[derive(Drop)]
-struct Script {
-    plain: Plain,
-    workspace: Workspace,
-    clause: Vec<Lit>,
-    keep: Vec<bool>,
-    marks: Vec<bool>,
-    wanted: Vec<bool>,
-}
-
-/// Adds the clauses of these lines to a formula and sees that it answers their questions so, in their order. With `both` the formula
-/// has no clauses yet, and the plain search answers the questions so, too.
-pub fn follow(rt: &(impl Abort + AllocGlobal), formula: &mut Formula, lines: &str, both: bool) {
-    let alloc = rt.alloc();
-    let mut script = Script {
-        plain: Plain::new(alloc, formula.vars()),
-        workspace: Workspace::new(alloc),
-        clause: Vec::new(alloc),
-        keep: Vec::new(alloc),
-        marks: Vec::new(alloc),
-        wanted: Vec::new(alloc),
-    };
-    follow_all(rt, alloc, formula, &mut script, lines, both);
-    drop(script);
-}
-
-fn follow_all(
-    rt: &impl Abort,
-    alloc: Global,
-    formula: &mut Formula,
-    script: &mut Script,
-    lines: &str,
-    both: bool,
-) {
+/// Adds the clauses of these lines to a formula and sees that it answers their questions so, in their order.
+pub fn follow(rt: &(impl Abort + AllocGlobal), formula: &mut Formula, lines: &str) {
     for line in lines.lines() {
-        let followed = follow_line(alloc, formula, script, line, both);
-        assert!(rt; followed.expect(rt, "no memory"), "not so: {line}");
+        assert!(rt; is_so(rt, formula, line.trim()), "not so: {line}");
     }
 }
 
-fn follow_line(
-    alloc: Global,
-    formula: &mut Formula,
-    script: &mut Script,
-    line: &str,
-    both: bool,
-) -> Result<bool, AllocError> {
+/// Adds the clause of a line, or tells whether a formula answers its question so.
+fn is_so(rt: &(impl Abort + AllocGlobal), formula: &mut Formula, line: &str) -> bool {
     if let Some((group, literals)) = line.split_once(':') {
-        add(alloc, formula, script, number_of(group.trim()), literals)
-    } else if let Some((question, answer)) = line.split_once('=') {
-        ask(alloc, formula, script, question.trim(), answer.trim(), both)
+        add(rt, formula, number_of(group), literals);
+        true
+    } else if let Some((question, answer)) = line.split_once(" = ") {
+        answers(rt, formula, question, answer)
     } else {
-        Ok(line.trim().is_empty())
+        line.is_empty()
     }
 }
 
@@ -74,123 +34,66 @@ fn number_of(word: &str) -> u32 {
     word.parse::<u32>().unwrap_or(u32::MAX)
 }
 
-/// Adds a clause of these literals to a group, if the formula has it and their variables.
-fn add(
-    alloc: Global,
-    formula: &mut Formula,
-    script: &mut Script,
-    group: u32,
-    literals: &str,
-) -> Result<bool, AllocError> {
-    let is_clause = read_clause(&mut script.clause, literals, formula.vars())?;
-    if !is_clause || group >= formula.groups() {
-        return Ok(false);
-    }
-    formula.add(group, &script.clause)?;
-    script.plain.add(alloc, group, &script.clause)?;
-    Ok(true)
+/// Adds a clause of these literals to a group.
+fn add(rt: &(impl Abort + AllocGlobal), formula: &mut Formula, group: u32, literals: &str) {
+    let clause = clause_of(rt, literals, formula.vars());
+    assert!(rt; group < formula.groups());
+    formula.add(group, &clause).expect(rt, "no memory");
 }
 
-/// Reads the literals of a text; false if one has a variable that isn't below this one.
-fn read_clause(clause: &mut Vec<Lit>, literals: &str, vars: u32) -> Result<bool, AllocError>
-    ensures { IfOk result (λ _. All (λ literal. literal.var < vars) clause.new.items) }
+/// The literals of a text, with variables below this one.
+fn clause_of(rt: &(impl Abort + AllocGlobal), literals: &str, vars: u32) -> Vec<Lit>
+    ensures { All (λ literal. literal.var < vars) result.items }
 {
-    clause.clear();
+    let mut clause = Vec::new(rt.alloc());
     'words: for word in literals.split_whitespace() {
         let literal = literal_of(word);
-        if literal.var >= vars {
-            return Ok(false);
-        }
-        clause.push(literal)?;
+        assert!(rt; literal.var < vars);
+        clause.push(literal).expect(rt, "no memory");
     }
-    Ok(true)
+    clause
 }
 
 fn literal_of(word: &str) -> Lit {
     match word.strip_prefix('!') {
-        Some(var) => not(number_of(var)),
-        None => lit(number_of(word)),
+        Some(var) => Lit::out(number_of(var)),
+        None => Lit {
+            var: number_of(word),
+            positive: true,
+        },
     }
 }
 
-/// Whether a formula can be asked so, and answers so.
-fn ask(
-    alloc: Global,
+/// Whether a formula answers so.
+fn answers(
+    rt: &(impl Abort + AllocGlobal),
     formula: &Formula,
-    script: &mut Script,
     question: &str,
     answer: &str,
-    both: bool,
-) -> Result<bool, AllocError> {
-    let (kept, must) = question.split_once(' ').unwrap_or((question, ""));
-    let must = number_of(must);
-    read_marks(&mut script.keep, kept)?;
-    if both && !is_plain(alloc, script, must, answer)? {
-        return Ok(false);
-    }
-    match answer.strip_prefix("none by ") {
-        Some(groups) => is_refuted(alloc, formula, script, must, groups),
-        None => is_solved(alloc, formula, &script.keep, must, answer),
-    }
+) -> bool {
+    let Some((kept, must)) = question.split_once(' ') else {
+        return false;
+    };
+    let (keep, must) = (marks_of(rt, kept), number_of(must));
+    assert!(rt; keep.len() == formula.groups() as usize && must < formula.vars());
+    let found = formula.solve(rt.alloc(), &keep, must);
+    is_written(&found.expect(rt, "no memory"), answer)
 }
 
-/// Whether the plain search has the first set that is written, or none.
-fn is_plain(
-    alloc: Global,
-    script: &mut Script,
-    must: u32,
-    answer: &str,
-) -> Result<bool, AllocError> {
-    let found = script.plain.solve(alloc, &script.keep, must)?;
-    Ok(is_written(&found, answer))
-}
-
-/// Whether a formula has the first set that is written, or none.
-fn is_solved(
-    alloc: Global,
-    formula: &Formula,
-    keep: &[bool],
-    must: u32,
-    answer: &str,
-) -> Result<bool, AllocError> {
-    if keep.len() != formula.groups() as usize || must >= formula.vars() {
-        return Ok(false);
-    }
-    let found = formula.solve(alloc, keep, must)?;
-    Ok(is_written(&found, answer))
-}
-
-/// Whether a formula has no set, and the groups of a refutation are those that are written.
-fn is_refuted(
-    alloc: Global,
-    formula: &Formula,
-    script: &mut Script,
-    must: u32,
-    groups: &str,
-) -> Result<bool, AllocError> {
-    if script.keep.len() != formula.groups() as usize || must >= formula.vars() {
-        return Ok(false);
-    }
-    read_marks(&mut script.wanted, groups)?;
-    let workspace = &mut script.workspace;
-    let found = formula.solve_marked(alloc, workspace, &script.keep, must, &mut script.marks)?;
-    Ok(found.is_none() && script.marks.as_slice() == script.wanted.as_slice())
-}
-
-/// Reads the marks of a text, a `1` for each that is set.
-fn read_marks(marks: &mut Vec<bool>, text: &str) -> Result<(), AllocError> {
-    marks.clear();
+/// The marks of a text, a `1` for each that is set.
+fn marks_of(rt: &(impl Abort + AllocGlobal), text: &str) -> Vec<bool> {
+    let mut marks = Vec::new(rt.alloc());
     for byte in text.bytes() {
-        marks.push(byte == b'1')?;
+        marks.push(byte == b'1').expect(rt, "no memory");
     }
-    Ok(())
+    marks
 }
 
 /// Whether this set, or that there is none, is written.
 pub fn is_written(found: &Option<Vec<u32>>, text: &str) -> bool {
     match found {
         Some(members) => are_written(members, text),
-        None => text.starts_with("none"),
+        None => text == "none",
     }
 }
 

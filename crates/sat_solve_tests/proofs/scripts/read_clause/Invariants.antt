@@ -1,5 +1,0 @@
-use Rattle.std.proofs.Common.{◌<◌, All}
-use Rattle.sat_solve_tests.proofs.scripts.read_clause.Given as goal
-
-abbrev pub invariant-words : goal.invariant-words
-invariant-words l = All (λ literal. literal.var < l.vars) l.clause.items
