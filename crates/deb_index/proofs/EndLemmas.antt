@@ -1,8 +1,9 @@
 -- Rows that lie in one list of places, one behind the other.
 use Rattle.std.proofs.Common.{◌≡◌, ◌<◌, ◌≤◌, ◌-◌, ℕ, Bool, true, false, List, [], ◌∷◌, ◌++◌, length, take, drop, get_or, Option, Some, None, refl, sym, ap, ◌∙◌, subst, arith}
 use Prim.Native.Nat.{suc, zero}
-use Rattle.std.specs.Prelude.{if◌then◌else◌}
-use Rattle.std.proofs.lemmas.List.{drop-append-le, drop_at, get_or_read, length-append, length-drop, take-append-le, take_all}
+use Rattle.std.specs.Prelude.{if◌then◌else◌, unwrap_or}
+use Rattle.std.specs.Option.{is_some, option_map}
+use Rattle.std.proofs.lemmas.List.{append-nil, drop-append-le, drop_at, get_or_read, length-append, length-drop, take-append-le, take_all}
 use Rattle.deb_index.specs.Rows.{AreEnds, rows_from}
 
 begins-within : (start count : ℕ) (ends : List ℕ) → AreEnds start count ends → start ≤ count
@@ -46,6 +47,16 @@ module _ (xs ends : List ℕ) (kept : List Bool) (h : AreEnds 0 (length xs) ends
 
   pub row-left : rows_from 0 xs (ends ++ end ∷ []) (kept ++ false ∷ []) ≡ rows_from 0 xs ends kept ++ None ∷ []
   row-left = rows-more 0 (length xs) xs ends kept end false h same
+
+  -- a row, or that it is left out, where no places are put down
+  pub row-next : {R : Type 0} (now : R → List ℕ) (row : Option R) (none places : R) (k : Bool) → places ≡ unwrap_or row none → now none ≡ [] → k ≡ is_some row → end ≡ length (xs ++ now places)
+      → rows_from 0 (xs ++ now places) (ends ++ end ∷ []) (kept ++ k ∷ []) ≡ rows_from 0 xs ends kept ++ option_map now row ∷ []
+  row-next now (Some r) none places true is empty some e = row-put (now places) e ∙ ap (λ r. rows_from 0 xs ends kept ++ Some (now r) ∷ []) is
+  row-next now (Some r) none places false is empty some e = absurd cc
+  row-next now None none places true is empty some e = absurd cc
+  row-next now None none places false is empty some e =
+      let no_more : now places ≡ [] = ap now is ∙ empty in
+      ap (λ zs. rows_from 0 (xs ++ zs) (ends ++ end ∷ []) (kept ++ false ∷ [])) no_more ∙ ap (λ zs. rows_from 0 zs (ends ++ end ∷ []) (kept ++ false ∷ [])) (append-nil xs) ∙ row-left
 
 -- ---- the row with a number
 

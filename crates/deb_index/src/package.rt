@@ -317,10 +317,12 @@ pub(crate) fn next_reading(
         Ok(None) => Ok(None),
         Ok(Some(stanza)) => {
             if total > u64::from(STANZA_LIMIT) {
+                drop(stanza);
                 return Err(IndexError::TooManyStanzas { stanza: number });
             }
-            let reading = read_fields(alloc, arch, number, &stanza)?;
-            Ok(Some(reading))
+            let reading = read_fields(alloc, arch, number, &stanza);
+            drop(stanza);
+            Ok(Some(reading?))
         }
         Err(error) => Err(stanza_fault(before, number, error)),
     }

@@ -48,11 +48,12 @@ impl<'t> RoleRows<'t> {
     ) -> Result<RoleRows<'t>, AllocError>
         ensures { IfOk result (λ r. r ≡ record { index = lookup.now; role = role; rows = [] }) }
     {
+        let memo = Memo::new(alloc, packages)?;
         Ok(RoleRows {
             lookup,
             role,
             rows: Rows::new(alloc),
-            memo: Memo::new(alloc, packages)?,
+            memo,
             found: Vec::new(alloc),
         })
     }
@@ -98,10 +99,10 @@ impl<'t> RoleRows<'t> {
             return self.add_atom(atom);
         }
         if self.lookup.has_many(group) {
-            return self.rows.leave_out();
+            return self.rows.push(None);
         }
         self.lookup.find_group(group, &mut self.found)?;
-        self.rows.push(&self.found)
+        self.rows.push(Some(&self.found))
     }
 
     // Adds the row of an atom that stands alone.
@@ -130,11 +131,11 @@ impl<'t> RoleRows<'t> {
     {
         let candidates = self.lookup.candidates(atom.name.as_slice());
         if candidates.named.len() + candidates.provided.len() > ROW_LIMIT {
-            return self.rows.leave_out();
+            return self.rows.push(None);
         }
         self.lookup
             .find(self.role, atom, candidates, &mut self.found)?;
-        self.rows.push(&self.found)
+        self.rows.push(Some(&self.found))
     }
 
     /// How many rows there are.

@@ -39,29 +39,17 @@ impl RowStore {
         }
     }
 
-    // Puts a row down, last.
-    fn push(&mut self, row: &[u32]) -> Result<(), AllocError>
-        ensures ok { OnOk result (self.new ≡ self.old ++ Some row.now ∷ []) }
+    // Puts a row down, last, or that it is left out.
+    fn push(&mut self, row: Option<&[u32]>) -> Result<(), AllocError>
+        ensures ok { OnOk result (self.new ≡ self.old ++ option_map (λ r. r.now) row.entry ∷ []) }
         ensures err { OnErr result (self.new ≡ self.old) }
     {
         // The places come last of what may be refused: none of them lies behind the last end.
         self.ends.reserve(1)?;
         self.kept.reserve(1)?;
-        self.places.extend_from_slice(row)?;
+        self.places.extend_from_slice(row.unwrap_or(&[]))?;
         self.ends.push_reserved(self.places.len());
-        self.kept.push_reserved(true);
-        Ok(())
-    }
-
-    // Puts down that the next row is left out.
-    fn leave_out(&mut self) -> Result<(), AllocError>
-        ensures ok { OnOk result (self.new ≡ self.old ++ None ∷ []) }
-        ensures err { OnErr result (self.new ≡ self.old) }
-    {
-        self.ends.reserve(1)?;
-        self.kept.reserve(1)?;
-        self.ends.push_reserved(self.places.len());
-        self.kept.push_reserved(false);
+        self.kept.push_reserved(row.is_some());
         Ok(())
     }
 
@@ -70,10 +58,7 @@ impl RowStore {
         ensures { OnOk result (self.new ≡ self.old ++ more.now) }
     {
         for number in 0..more.len() {
-            match more.get(number) {
-                Some(row) => self.push(row)?,
-                None => self.leave_out()?,
-            }
+            self.push(more.get(number))?;
         }
         Ok(())
     }
@@ -148,28 +133,15 @@ impl Rows {
         }
     }
 
-    /// Puts a row down, last.
-    pub(crate) fn push(&mut self, row: &[u32]) -> Result<(), AllocError>
+    /// Puts a row down, last, or that it is left out.
+    pub(crate) fn push(&mut self, row: Option<&[u32]>) -> Result<(), AllocError>
         requires { length self.old < 2 ^ 32 }
-        ensures ok { OnOk result (self.new ≡ self.old ++ Some row.now ∷ []) }
+        ensures ok { OnOk result (self.new ≡ self.old ++ option_map (λ r. r.now) row.entry ∷ []) }
         ensures err { OnErr result (self.new ≡ self.old) }
     {
         self.numbers.reserve(1)?;
         let number = self.store.len() as u32;
         self.store.push(row)?;
-        self.numbers.push_reserved(number);
-        Ok(())
-    }
-
-    /// Puts down that the next row is left out.
-    pub(crate) fn leave_out(&mut self) -> Result<(), AllocError>
-        requires { length self.old < 2 ^ 32 }
-        ensures ok { OnOk result (self.new ≡ self.old ++ None ∷ []) }
-        ensures err { OnErr result (self.new ≡ self.old) }
-    {
-        self.numbers.reserve(1)?;
-        let number = self.store.len() as u32;
-        self.store.leave_out()?;
         self.numbers.push_reserved(number);
         Ok(())
     }

@@ -1,4 +1,5 @@
-use Rattle.std.proofs.Common.{◌++◌, ◌∷◌, ◌∙◌, [], Some, ap}
+use Rattle.std.proofs.Common.{◌++◌, ◌∷◌, ◌∙◌, [], ap}
+use Rattle.std.specs.Option.{option_map}
 use Rattle.deb_index.proofs.ShareLemmas.{rows-new}
 use Rattle.deb_index.proofs.rows.Rows.push.Goals as goal
 
@@ -8,6 +9,6 @@ invariant_of-self c = rw c.reserve.ensures.items c.self.invariant
 pub returns-clause-ok : goal.returns-clause-ok
 returns-clause-ok c =
     let r = c.self.inside in
-    let row = c.args.row.now in
+    let row = option_map (λ r. r.now) c.args.row in
     rw (c.push_reserved.ensures.items, c.reserve.ensures.items, c.in_ok-push.ensures.ok)
-    (rows-new r.store r.numbers.items c.self.invariant.0 (Some row) c.len-number.result c.len-number.ensures ∙ ap (λ rows. rows ++ Some row ∷ []) c.self.view_is)
+    (rows-new r.store r.numbers.items c.self.invariant.0 row c.len-number.result c.len-number.ensures ∙ ap (λ rows. rows ++ row ∷ []) c.self.view_is)
