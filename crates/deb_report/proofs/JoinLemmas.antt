@@ -1,12 +1,17 @@
 -- Texts of elements, one after the other.
-use Rattle.std.proofs.Common.{◌≡◌, ◌==◌, ◌∙◌, ℕ, List, [], ◌∷◌, ◌++◌, append_assoc, ap, ap₂, codes, fold, if◌then◌else◌, map, refl, sym}
+use Rattle.std.proofs.Common.{◌≡◌, ◌==◌, ◌∙◌, ℕ, OnOk, Result, List, [], ◌∷◌, ◌++◌, append_assoc, ap, ap₂, codes, fold, if◌then◌else◌, map, refl, sym}
 use Rattle.std.proofs.lemmas.List.{length-map}
+use Rattle.std.proofs.lemmas.Result.{on_ok_weaker}
 use Rattle.std.proofs.lemmas.List.Folds.{flat_map-map}
 use Rattle.std.specs.List.{flat_map, join_by}
 use Rattle.deb_report.specs.Json.{closing, list_json, number_json, object}
-use Rattle.deb_report.specs.CauseLines.{titled_if}
+use Rattle.deb_report.specs.CauseLines.{titled_if, told_if}
 use Rattle.deb_report.specs.Report.{titled}
 use Rattle.deb_report.specs.Since.{BrokenView}
+
+-- what holds where a last call succeeds
+pub last_call : {T E P Q : Type 0} (r : Result T E) → OnOk r P → (P → Q) → OnOk r Q
+last_call r held gives = on_ok_weaker r gives held
 
 -- the texts of images
 pub joined_map : {A B : Type 0} (text : B → List ℕ) (f : A → B) (separator : List ℕ) (xs : List A) → join_by text separator (map f xs) ≡ join_by (λ x. text (f x)) separator xs
@@ -21,6 +26,12 @@ pub titled_map : {A B : Type 0} (title : List ℕ) (text : B → List ℕ) (f : 
 unfolding titled_if
 titled_map title text f [] = refl
 titled_map title text f (x ∷ xs) = ap₂ (λ (count : ℕ) (lines : List ℕ). if count == 0 then [] else titled title lines) (length-map (x ∷ xs) f) (lines_map text f (x ∷ xs))
+
+-- in one line, where there are some
+pub told_map : {A B : Type 0} (lead : List ℕ) (text : B → List ℕ) (f : A → B) (xs : List A) → told_if lead text (map f xs) ≡ told_if lead (λ x. text (f x)) xs
+unfolding told_if
+told_map lead text f [] = refl
+told_map lead text f (x ∷ xs) = ap₂ (λ (count : ℕ) (texts : List ℕ). if count == 0 then [] else (lead ++ texts)) (length-map (x ∷ xs) f) (joined_map text f (codes ", ") (x ∷ xs))
 
 -- texts behind one another
 pub in-order : (out first : List ℕ) (others : List (List ℕ)) → fold (λ text one. text ++ one) (out ++ first) others ≡ out ++ fold (λ text one. text ++ one) first others

@@ -1,5 +1,5 @@
 -- Lemmas on the walk through a core.
-use Rattle.std.proofs.Common.{◌≡◌, ◌==◌, ℕ, zero, suc, ◌+◌, ◌-◌, ◌<◌, ◌≤◌, ◌||◌, Bool, List, [], ◌∷◌, ◌++◌, All, filter, length, get_or, take, map, reverse, append-nil, refl, sym, ap, ◌∙◌, inl, inr, arith}
+use Rattle.std.proofs.Common.{◌≡◌, ◌==◌, ℕ, zero, suc, ◌+◌, ◌-◌, ◌<◌, ◌≤◌, ◌||◌, Bool, List, [], ◌∷◌, ◌++◌, All, filter, length, get_or, take, map, reverse, append-nil, refl, sym, ap, ◌∙◌, inl, inr, arith, not}
 use Rattle.std.proofs.lemmas.Bool.{cases_Bool}
 use Rattle.std.proofs.lemmas.Grind.{flat_map-append}
 use Rattle.std.proofs.lemmas.List.{append_assoc, reverse-append, take_more}
@@ -51,6 +51,22 @@ filter_all P test (x ∷ xs) all =
     elim (cases_Bool (test x)) [
       | inl passes ↦ rw passes (All-cons P x (filter test xs) (All-head P x xs all) later)
       | inr fails ↦ rw fails later
+    ]
+
+-- of what an entry hits, but for the package that has it, what comes
+pub hits-coming : (coming : NumberSet) (place : ℕ) (xs : List ℕ) → filter coming (filter (λ hit. not (hit == place)) xs) ≡ filter (is_hit coming place) xs
+hits-coming coming place [] = refl
+hits-coming coming place (x ∷ xs) =
+    let later : filter coming (filter (λ hit. not (hit == place)) xs) ≡ filter (is_hit coming place) xs = hits-coming coming place xs in
+    elim (cases_Bool (x == place)) [
+      | inl own ↦ elim (cases_Bool (coming x)) [
+        | inl comes ↦ rw (own, comes) later
+        | inr stays ↦ rw (own, stays) later
+      ]
+      | inr other ↦ elim (cases_Bool (coming x)) [
+        | inl comes ↦ rw (other, comes) (ap (λ rest. x ∷ rest) later)
+        | inr stays ↦ rw (other, stays) later
+      ]
     ]
 
 -- the packages that are hit, and the versions, are of the index

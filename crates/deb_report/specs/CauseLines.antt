@@ -13,6 +13,10 @@ use Rattle.deb_report.specs.Report.{asked_text, constraint_line, group_field, gr
 unfoldable pub titled_if : {A : Type 0} → List ℕ → (A → List ℕ) → List A → List ℕ
 titled_if title text elements = if length elements == 0 then [] else titled title (flat_map text elements)
 
+-- elements in one line, with commas between, behind what leads to them, where there are some
+unfoldable pub told_if : {A : Type 0} → List ℕ → (A → List ℕ) → List A → List ℕ
+told_if lead text elements = if length elements == 0 then [] else lead ++ join_by text (codes ", ") elements
+
 -- what is wrong: of a need its alternatives alone, which are missing
 unfoldable pub wrong_line : IndexView → Constraint → List ℕ
 wrong_line index (Need place number) = codes "   - missing: " ++ group_text (need_at index place number) ++ codes "\n"

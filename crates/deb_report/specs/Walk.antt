@@ -11,7 +11,7 @@ use Rattle.deb_index.specs.Meets.{group_satisfiers, satisfiers}
 use Rattle.deb_index.specs.Packages.{IndexView, apart_at, name_at, need_at, package_at, places_of}
 use Rattle.deb_report.specs.declared.walk.Step.{Step}
 use Rattle.deb_report.specs.declared.walk.Step.TheVariants.{Begin, Meet, Tell}
-use Rattle.deb_report.specs.CauseLines.{provides_text}
+use Rattle.deb_report.specs.CauseLines.{provides_text, told_if}
 use Rattle.deb_report.specs.Near.{NearMissView, alternatives, near_miss_at, near_misses, similar_names}
 use Rattle.deb_report.specs.Report.{asked_text, entry_field, group_field, is_missing, label_of, titled}
 
@@ -39,10 +39,6 @@ is_hit coming place hit = coming hit && not (hit == place)
 -- those that an entry of the package at a place hits in the walk
 abbrev pub hits_in : IndexView → NumberSet → ℕ → AtomText → List ℕ
 hits_in index coming place atom = filter (is_hit coming place) (satisfiers index atom)
-
--- a number where it passes
-abbrev pub kept : NumberSet → ℕ → List ℕ
-kept test number = if test number then number ∷ [] else []
 
 -- those that come and have a name
 abbrev pub versions_coming : IndexView → NumberSet → ℕ → List ℕ
@@ -140,11 +136,11 @@ near_text miss = label_of miss.deb ++ provides_text miss.provides
 
 -- what comes near to a need
 unfoldable pub present_text : List NearMissView → List ℕ
-present_text misses = if length misses == 0 then [] else codes "; present: " ++ join_by near_text (codes ", ") misses
+present_text misses = told_if (codes "; present: ") near_text misses
 
 -- names that are similar to those of a need
 unfoldable pub similar_text : List (List ℕ) → List ℕ
-similar_text names = if length names == 0 then [] else codes "; similar: " ++ join_by (λ name. name) (codes ", ") names
+similar_text names = told_if (codes "; similar: ") (λ name. name) names
 
 -- a need that nothing meets, with what comes near, and the names that are similar
 unfoldable pub missing_text : List NearMissView → List (List ℕ) → List ℕ
@@ -152,7 +148,7 @@ missing_text misses names = codes " missing" ++ present_text misses ++ similar_t
 
 -- what an entry hits
 unfoldable pub hits_text : IndexView → List ℕ → List ℕ → List ℕ
-hits_text index told places = if length places == 0 then [] else codes " hits " ++ seen_texts index told places
+hits_text index told places = told_if (codes " hits ") (seen_text index told) places
 
 -- how a need ends
 unfoldable pub need_ending : IndexView → List ℕ → Constraint → List AtomText → List ℕ

@@ -25,8 +25,7 @@ fn marks_shown(alloc: Global, index: &Index, shown: &[Shown<'_>]) -> Result<Vec<
     ensures { IfOk result (λ marks. AreMarks index.now (has_named index.now (map (λ one. one.0) (map shown_view shown.now))) marks.items) }
 {
     let places = places_of(alloc, shown)?;
-    let marks = marks_at(alloc, index, places.as_slice())?;
-    Ok(marks)
+    marks_at(alloc, index, places.as_slice())
 }
 
 /// Whether a package of this one's name is asked, and none that is broken, as marks of their names tell.

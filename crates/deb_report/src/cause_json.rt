@@ -1,20 +1,19 @@
 //! Causes in JSON.
 
-ghost use Rattle.std.specs.Prelude.{◌≡◌, ◌++◌, All, OnOk, codes, map};
+ghost use Rattle.std.specs.Prelude.{◌≡◌, ◌++◌, ◌<◌, All, OnOk, codes, length, map};
 ghost use Rattle.deb_relation.specs.AtomView.{atom_view};
 ghost use Rattle.deb_relation.specs.Relationship.{printed};
 ghost use Rattle.deb_index.specs.Constraints.{IsOfIndex};
 ghost use Rattle.deb_report.specs.Causes.{IsCauseOf, cause_view, hits_of};
 ghost use Rattle.deb_report.specs.Json.{array, cause_json, member, near_json, needed_json, place_json, quoted, tall_array, wrong_json};
-ghost use Rattle.deb_report.specs.Near.{near_misses, similar_names};
-ghost use Rattle.deb_report.specs.Similar.{FitsCause, IsSimilarOf, stems_in};
-ghost use Rattle.deb_report.specs.Stems.{AreSought};
+ghost use Rattle.deb_report.specs.Near.{near_misses, near_view, similar_names};
+ghost use Rattle.deb_report.specs.Similar.{FitsCause};
 
 use crate::gathered::Cause;
 use crate::hits::hits_of;
 use crate::json_parts::{IndexJson, push_package, push_relation};
 use crate::json_text::{push_array, push_number, push_quoted, push_text};
-use crate::near::near_misses;
+use crate::near::{NearMiss, near_misses};
 use crate::print::Print;
 use crate::reasons::group_field;
 use crate::similar::Similar;
@@ -77,11 +76,7 @@ impl<'p, 'i> Print<Constraint> for NeededJson<'p, 'i> {
     }
 }
 
-/// Names as texts of JSON.
-#[derive(Drop)]
-struct QuotedNames;
-
-impl<'n> Print<&'n [u8]> for QuotedNames {
+impl<'i, 'n> Print<&'n [u8]> for IndexJson<'i> {
     ghost fits = { λ _ _. Unit {0} };
 
     ghost text = { λ _ name. quoted name.now };
@@ -99,60 +94,37 @@ struct CauseJson<'p, 'i> {
 }
 
 impl<'p, 'i> CauseJson<'p, 'i> {
-    /// Adds the members with what is wrong, and with who needs it.
-    #[tactic(auto, unfolding(crate::specs::Json::array))]
-    fn push_wrong(&self, out: &mut Vec<u8>, cause: &Cause) -> Result<(), AllocError>
-        requires { IsCauseOf self.now.json.now.index.now (cause_view cause.now) }
-        ensures { OnOk result (out.new.items ≡ ((out.old.items
-            ++ codes ",") ++ member (codes "reasons") (array (wrong_json self.now.json.now.index.now) cause.now.constraints.items))
-            ++ codes "," ++ member (codes "needed-by") (array (needed_json self.now.json.now.index.now) cause.now.needs.items)) }
+    /// Adds a cause: what is wrong, who needs it, the packages that stand in the way, what comes near, and what is broken.
+    #[tactic(auto, unfolding(crate::specs::Json::cause_json, crate::specs::Json::array))]
+    fn push_cause(
+        &self,
+        out: &mut Vec<u8>,
+        cause: &Cause,
+        hits: &[u32],
+        misses: &[NearMiss<'_>],
+        names: &[&[u8]],
+    ) -> Result<(), AllocError>
+        requires cause { IsCauseOf self.now.json.now.index.now (cause_view cause.now) }
+        requires hits { hits.now ≡ hits_of self.now.json.now.index.now cause.now.constraints.items }
+        requires within { All (λ place. place < length self.now.json.now.index.now.packages) hits.now }
+        requires misses { map near_view misses.now ≡ near_misses self.now.json.now.index.now cause.now.constraints.items }
+        requires names { map (λ name. name.now) names.now ≡ similar_names self.now.json.now.index.now cause.now.constraints.items }
+        ensures { OnOk result (out.new.items ≡ out.old.items ++ cause_json self.now.json.now.index.now (cause_view cause.now)) }
     {
         let json = self.json;
         let constraints = cause.constraints.as_slice();
-        push_array(out, ",", "reasons", &WrongJson { json }, constraints, "]")?;
         let needs = cause.needs.as_slice();
-        push_array(out, ",", "needed-by", &NeededJson { json }, needs, "]")
-    }
-
-    /// Adds the members with the packages that stand in the way.
-    #[tactic(auto, unfolding(crate::specs::Json::array))]
-    fn push_packages(&self, out: &mut Vec<u8>, cause: &Cause) -> Result<(), AllocError>
-        requires { IsCauseOf self.now.json.now.index.now (cause_view cause.now) }
-        ensures { OnOk result (out.new.items ≡ ((out.old.items
-            ++ codes ",") ++ member (codes "hits")
-            (array (place_json self.now.json.now.index.now) (hits_of self.now.json.now.index.now cause.now.constraints.items)))
-            ++ codes "," ++ member (codes "versions") (array (place_json self.now.json.now.index.now) cause.now.versions.items)) }
-    {
-        let json = self.json;
-        let hits = hits_of(json.alloc, json.index, cause.constraints.as_slice())?;
-        push_array(out, ",", "hits", json, hits.as_slice(), "]")?;
-        push_array(out, ",", "versions", json, cause.versions.as_slice(), "]")
-    }
-
-    /// Adds the member with the near misses.
-    #[tactic(auto, using(crate::proofs::JoinLemmas::joined_map), unfolding(crate::specs::Json::array))]
-    fn push_present(&self, out: &mut Vec<u8>, constraints: &[Constraint]) -> Result<(), AllocError>
-        requires { All (IsOfIndex self.now.json.now.index.now) constraints.now }
-        ensures { OnOk result (out.new.items ≡ out.old.items ++ codes ","
-            ++ member (codes "present") (array near_json (near_misses self.now.json.now.index.now constraints.now))) }
-    {
-        let json = self.json;
-        let misses = near_misses(json.alloc, json.index, constraints)?;
-        push_array(out, ",", "present", json, misses.as_slice(), "]")
-    }
-
-    /// Adds the member with the similar names.
-    #[tactic(auto, using(crate::proofs::JoinLemmas::joined_map), unfolding(crate::specs::Json::array))]
-    fn push_similar(&self, out: &mut Vec<u8>, constraints: &[Constraint]) -> Result<(), AllocError>
-        requires within { All (IsOfIndex self.now.json.now.index.now) constraints.now }
-        requires found { IsSimilarOf self.now.json.now.index.now self.now.similar }
-        requires sought { AreSought self.now.json.now.index.now (stems_in self.now.similar) constraints.now }
-        ensures { OnOk result (out.new.items ≡ out.old.items ++ codes ","
-            ++ member (codes "similar") (array quoted (similar_names self.now.json.now.index.now constraints.now))) }
-    {
-        let json = self.json;
-        let names = self.similar.names(json.alloc, json.index, constraints)?;
-        push_array(out, ",", "similar", &QuotedNames, names.as_slice(), "]")
+        push_number(json.alloc, out, "\n{", "packages", cause.places.len())?;
+        push_number(json.alloc, out, ",", "frees", cause.frees)?;
+        push_array(out, ",", "reasons", &WrongJson { json }, constraints, "]")?;
+        push_array(out, ",", "needed-by", &NeededJson { json }, needs, "]")?;
+        push_array(out, ",", "hits", json, hits, "]")?;
+        push_array(out, ",", "versions", json, cause.versions.as_slice(), "]")?;
+        push_array(out, ",", "present", json, misses, "]")?;
+        push_array(out, ",", "similar", json, names, "]")?;
+        push_array(out, ",", "broken", json, cause.places.as_slice(), "]")?;
+        out.extend_from_slice(b"}")?;
+        Ok(())
     }
 }
 
@@ -161,19 +133,13 @@ impl<'p, 'i> Print<Cause> for CauseJson<'p, 'i> {
 
     ghost text = { λ printer cause. cause_json printer.json.now.index.now (cause_view cause) };
 
-    #[tactic(auto, unfolding(crate::specs::Json::cause_json, crate::specs::Json::array))]
     fn print(&self, out: &mut Vec<u8>, cause: &Cause) -> Result<(), AllocError> {
         let json = self.json;
         let constraints = cause.constraints.as_slice();
-        push_number(json.alloc, out, "\n{", "packages", cause.places.len())?;
-        push_number(json.alloc, out, ",", "frees", cause.frees)?;
-        self.push_wrong(out, cause)?;
-        self.push_packages(out, cause)?;
-        self.push_present(out, constraints)?;
-        self.push_similar(out, constraints)?;
-        push_array(out, ",", "broken", json, cause.places.as_slice(), "]")?;
-        out.extend_from_slice(b"}")?;
-        Ok(())
+        let hits = hits_of(json.alloc, json.index, constraints)?;
+        let misses = near_misses(json.alloc, json.index, constraints)?;
+        let names = self.similar.names(json.alloc, json.index, constraints)?;
+        self.push_cause(out, cause, &hits, &misses, &names)
     }
 }
 

@@ -1,14 +1,13 @@
 //! Causes in lines.
 
-ghost use Rattle.std.specs.Prelude.{◌≡◌, ◌++◌, All, OnOk, Some, codes, decimal, length, map};
+ghost use Rattle.std.specs.Prelude.{◌≡◌, ◌++◌, ◌<◌, All, OnOk, Some, codes, decimal, length, map};
 ghost use Rattle.std.specs.List.{flat_map};
 ghost use Rattle.deb_index.specs.Constraints.{IsOfIndex};
 ghost use Rattle.deb_report.specs.CauseLines.{cause_text, causes_text, name_line, near_line, needed_line, titled_if, wrong_line};
 ghost use Rattle.deb_report.specs.Causes.{IsCauseOf, cause_view, hits_of};
 ghost use Rattle.deb_report.specs.Near.{near_misses, near_view, similar_names};
 ghost use Rattle.deb_report.specs.Report.{line, place_line, titled};
-ghost use Rattle.deb_report.specs.Similar.{FitsCause, IsSimilarOf, stems_in};
-ghost use Rattle.deb_report.specs.Stems.{AreSought};
+ghost use Rattle.deb_report.specs.Similar.{FitsCause};
 
 use crate::gathered::Cause;
 use crate::hits::hits_of;
@@ -132,65 +131,35 @@ struct CauseLines<'p, 'i> {
 }
 
 impl<'p, 'i> CauseLines<'p, 'i> {
-    /// Adds what is wrong, and who needs it.
-    fn push_wrong(&self, out: &mut Vec<u8>, cause: &Cause) -> Result<(), AllocError>
-        requires { IsCauseOf self.now.lines.now.index.now (cause_view cause.now) }
-        ensures { OnOk result (out.new.items ≡ (out.old.items
-            ++ titled (codes "  reasons:") (flat_map (wrong_line self.now.lines.now.index.now) cause.now.constraints.items))
-            ++ titled_if (codes "  needed-by:") (needed_line self.now.lines.now.index.now) cause.now.needs.items) }
+    /// Adds a cause: what is wrong, who needs it, the packages that stand in the way, what comes near, and what is broken.
+    fn push_cause(
+        &self,
+        out: &mut Vec<u8>,
+        cause: &Cause,
+        hits: &[u32],
+        misses: &[NearMiss<'_>],
+        names: &[&[u8]],
+    ) -> Result<(), AllocError>
+        requires cause { IsCauseOf self.now.lines.now.index.now (cause_view cause.now) }
+        requires hits { hits.now ≡ hits_of self.now.lines.now.index.now cause.now.constraints.items }
+        requires within { All (λ place. place < length self.now.lines.now.index.now.packages) hits.now }
+        requires misses { map near_view misses.now ≡ near_misses self.now.lines.now.index.now cause.now.constraints.items }
+        requires names { map (λ name. name.now) names.now ≡ similar_names self.now.lines.now.index.now cause.now.constraints.items }
+        ensures { OnOk result (out.new.items ≡ out.old.items ++ cause_text self.now.lines.now.index.now (cause_view cause.now)) }
     {
         let lines = self.lines;
-        push_titled(
-            out,
-            "  reasons:",
-            &WrongLines { lines },
-            cause.constraints.as_slice(),
-        )?;
-        push_titled_if(
-            out,
-            "  needed-by:",
-            &NeededLines { lines },
-            cause.needs.as_slice(),
-        )?;
-        Ok(())
-    }
-
-    /// Adds the packages that stand in the way.
-    fn push_packages(&self, out: &mut Vec<u8>, cause: &Cause) -> Result<(), AllocError>
-        requires { IsCauseOf self.now.lines.now.index.now (cause_view cause.now) }
-        ensures { OnOk result (out.new.items ≡ out.old.items
-            ++ titled_if (codes "  hits:") (place_line self.now.lines.now.index.now) (hits_of self.now.lines.now.index.now cause.now.constraints.items)
-            ++ titled_if (codes "  versions:") (place_line self.now.lines.now.index.now) cause.now.versions.items) }
-    {
-        let lines = self.lines;
-        let hits = hits_of(lines.alloc, lines.index, cause.constraints.as_slice())?;
-        push_titled_if(out, "  hits:", lines, hits.as_slice())?;
-        push_titled_if(out, "  versions:", lines, cause.versions.as_slice())
-    }
-
-    /// Adds the near misses.
-    #[tactic(auto, using(crate::proofs::JoinLemmas::titled_map))]
-    fn push_present(&self, out: &mut Vec<u8>, constraints: &[Constraint]) -> Result<(), AllocError>
-        requires { All (IsOfIndex self.now.lines.now.index.now) constraints.now }
-        ensures { OnOk result (out.new.items ≡ out.old.items
-            ++ titled_if (codes "  present:") near_line (near_misses self.now.lines.now.index.now constraints.now)) }
-    {
-        let misses = near_misses(self.lines.alloc, self.lines.index, constraints)?;
-        push_titled_if(out, "  present:", &NearLines, misses.as_slice())
-    }
-
-    /// Adds the similar names.
-    #[tactic(auto, using(crate::proofs::JoinLemmas::titled_map))]
-    fn push_similar(&self, out: &mut Vec<u8>, constraints: &[Constraint]) -> Result<(), AllocError>
-        requires within { All (IsOfIndex self.now.lines.now.index.now) constraints.now }
-        requires found { IsSimilarOf self.now.lines.now.index.now self.now.similar }
-        requires sought { AreSought self.now.lines.now.index.now (stems_in self.now.similar) constraints.now }
-        ensures { OnOk result (out.new.items ≡ out.old.items
-            ++ titled_if (codes "  similar:") name_line (similar_names self.now.lines.now.index.now constraints.now)) }
-    {
-        let lines = self.lines;
-        let names = self.similar.names(lines.alloc, lines.index, constraints)?;
-        push_titled_if(out, "  similar:", &NearLines, names.as_slice())
+        let constraints = cause.constraints.as_slice();
+        let needs = cause.needs.as_slice();
+        push_line(out, " -", b"")?;
+        push_count(lines.alloc, out, "  packages: ", cause.places.len())?;
+        push_count(lines.alloc, out, "  frees: ", cause.frees)?;
+        push_titled(out, "  reasons:", &WrongLines { lines }, constraints)?;
+        push_titled_if(out, "  needed-by:", &NeededLines { lines }, needs)?;
+        push_titled_if(out, "  hits:", lines, hits)?;
+        push_titled_if(out, "  versions:", lines, cause.versions.as_slice())?;
+        push_titled_if(out, "  present:", &NearLines, misses)?;
+        push_titled_if(out, "  similar:", &NearLines, names)?;
+        push_titled(out, "  broken:", lines, cause.places.as_slice())
     }
 }
 
@@ -199,19 +168,13 @@ impl<'p, 'i> Print<Cause> for CauseLines<'p, 'i> {
 
     ghost text = { λ printer cause. cause_text printer.lines.now.index.now (cause_view cause) };
 
-    #[tactic(auto, unfolding(crate::specs::CauseLines::cause_text))]
     fn print(&self, out: &mut Vec<u8>, cause: &Cause) -> Result<(), AllocError> {
-        let alloc = self.lines.alloc;
+        let lines = self.lines;
         let constraints = cause.constraints.as_slice();
-        push_line(out, " -", b"")?;
-        push_count(alloc, out, "  packages: ", cause.places.len())?;
-        push_count(alloc, out, "  frees: ", cause.frees)?;
-        self.push_wrong(out, cause)?;
-        self.push_packages(out, cause)?;
-        self.push_present(out, constraints)?;
-        self.push_similar(out, constraints)?;
-        push_titled(out, "  broken:", self.lines, cause.places.as_slice())?;
-        Ok(())
+        let hits = hits_of(lines.alloc, lines.index, constraints)?;
+        let misses = near_misses(lines.alloc, lines.index, constraints)?;
+        let names = self.similar.names(lines.alloc, lines.index, constraints)?;
+        self.push_cause(out, cause, &hits, &misses, &names)
     }
 }
 
@@ -229,6 +192,5 @@ pub(crate) fn push_causes(
     push_count(lines.alloc, out, "causes: ", causes.len())?;
     let similar = similar_to_causes(lines.alloc, lines.index, causes)?;
     let printer = CauseLines { lines, similar };
-    push_all(out, &printer, causes)?;
-    Ok(())
+    push_all(out, &printer, causes)
 }

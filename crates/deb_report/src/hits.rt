@@ -23,7 +23,7 @@ fn push_others(places: &[u32], own: u32, hits: &mut Vec<u32>) -> Result<(), Allo
 }
 
 /// Adds the places of the packages that an entry hits, without the package that has it.
-fn push_hit(
+pub(crate) fn push_hit(
     alloc: Global,
     index: &Index,
     place: u32,

@@ -110,16 +110,26 @@ impl<'i> IndexJson<'i> {
     }
 }
 
+impl<'i> Print<Atom> for IndexJson<'i> {
+    ghost fits = { λ _ _. Unit {0} };
+
+    ghost text = { λ _ atom. quoted (printed (atom_view atom)) };
+
+    #[tactic(auto, unfolding(crate::specs::Json::quoted))]
+    fn print(&self, out: &mut Vec<u8>, atom: &Atom) -> Result<(), AllocError> {
+        out.extend_from_slice(b"\"")?;
+        atom.append_to(out)?;
+        out.extend_from_slice(b"\"")
+    }
+}
+
 impl<'i, 'm> Print<&'m Atom> for IndexJson<'i> {
     ghost fits = { λ _ _. Unit {0} };
 
     ghost text = { λ _ atom. quoted (printed (atom_view atom.now)) };
 
-    #[tactic(auto, unfolding(crate::specs::Json::quoted))]
     fn print(&self, out: &mut Vec<u8>, atom: &&'m Atom) -> Result<(), AllocError> {
-        out.extend_from_slice(b"\"")?;
-        atom.append_to(out)?;
-        out.extend_from_slice(b"\"")
+        self.print(out, *atom)
     }
 }
 

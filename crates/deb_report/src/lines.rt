@@ -57,8 +57,7 @@ impl<'i> Lines<'i> {
         ensures { OnOk result (out.new.items ≡
             out.old.items ++ flat_map (core_lines self.now.parts.index.now (codes "  also:")) (also_at (telling_view self.now.telling) place)) }
     {
-        push_all(out, self, self.telling.also_at(place))?;
-        Ok(())
+        push_all(out, self, self.telling.also_at(place))
     }
 
     /// Adds the first core of the package at a place.
@@ -165,8 +164,7 @@ impl<'i, 'b> Print<Amends<'b>> for Lines<'i> {
     #[tactic(auto, using(crate::proofs::JoinLemmas::lines_map), unfolding(crate::specs::Lines::list_lines))]
     fn print(&self, out: &mut Vec<u8>, amends: &Amends<'b>) -> Result<(), AllocError> {
         out.extend_from_slice(amends.title.as_bytes())?;
-        push_titled(out, ":", self, amends.packages.as_slice())?;
-        Ok(())
+        push_titled(out, ":", self, amends.packages.as_slice())
     }
 }
 

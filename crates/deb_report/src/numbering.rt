@@ -12,16 +12,6 @@ pub(crate) struct Numbering {
     texts: IndexSet<Vec<u32>>,
 }
 
-/// A number in 32 bits. There is no memory for so many texts that one doesn't fit.
-fn narrow(number: usize) -> Result<u32, AllocError>
-    ensures { IfOk result (λ narrow. narrow ≡ number) }
-{
-    if number > u32::MAX as usize {
-        return Err(AllocError);
-    }
-    Ok(number as u32)
-}
-
 impl Numbering {
     ghost use Rattle.std.specs.Prelude.{[]};
     ghost use Rattle.deb_report.specs.Numbering.{texts_of, with_text};
@@ -42,28 +32,16 @@ impl Numbering {
         self.texts.len()
     }
 
-    /// The place of a text, which goes last where it is new.
-    fn place(&mut self, alloc: Global, text: &[u32]) -> Result<usize, AllocError>
-        ensures texts { OnOk result (texts_of self.new ≡ with_text (texts_of self.old) text.now) }
-        ensures place { IfOk result (λ place. number_in text.now (texts_of self.new) ≡ Some place) }
-    {
-        match self.texts.get_index_of(text) {
-            Some(place) => Ok(place),
-            None => {
-                let place = self.texts.len();
-                let copy = text.to_vec(alloc)?;
-                self.texts.insert(copy)?;
-                Ok(place)
-            }
-        }
-    }
-
     /// The number of a text, which goes last where it is new.
-    pub(crate) fn number(&mut self, alloc: Global, text: &[u32]) -> Result<u32, AllocError>
-        ensures texts { OnOk result (texts_of self.new ≡ with_text (texts_of self.old) text.now) }
-        ensures number { IfOk result (λ number. number_in text.now (texts_of self.new) ≡ Some number) }
+    pub(crate) fn number(&mut self, text: Vec<u32>) -> Result<u32, AllocError>
+        ensures texts { OnOk result (texts_of self.new ≡ with_text (texts_of self.old) text.items) }
+        ensures number { IfOk result (λ number. number_in text.items (texts_of self.new) ≡ Some number) }
     {
-        let place = self.place(alloc, text)?;
-        narrow(place)
+        let (place, _) = self.texts.insert_full(text)?;
+        // There is no memory for so many texts that the place of one doesn't fit.
+        if place > u32::MAX as usize {
+            return Err(AllocError);
+        }
+        Ok(place as u32)
     }
 }

@@ -4,6 +4,7 @@ ghost use Rattle.std.specs.Prelude.{◌≡◌, ◌++◌, ℕ, List, All, OnOk};
 ghost use Rattle.std.specs.List.{flat_map, join_by};
 ghost use Rattle.deb_relation.specs.AtomView.{atom_view};
 ghost use Rattle.deb_relation.specs.Relationship.{printed};
+ghost use Rattle.deb_report.specs.CauseLines.{told_if};
 
 use deb_relation::Atom;
 use std::alloc::AllocError;
@@ -51,6 +52,24 @@ pub(crate) fn push_all<T, P: Print<T>>(
     ensures { OnOk result (out.new.items ≡ out.old.items ++ flat_map (P.text printer.now) elements.now) }
 {
     push_joined(out, "", printer, elements)
+}
+
+/// Adds the texts of elements with commas between, behind what leads to them, where there are some.
+#[tactic(auto, unfolding(crate::specs::CauseLines::told_if))]
+pub(crate) fn push_some<T, P: Print<T>>(
+    out: &mut Vec<u8>,
+    lead: &str,
+    printer: &P,
+    elements: &[T],
+) -> Result<(), AllocError>
+    requires { All (P.fits printer.now) elements.now }
+    ensures { OnOk result (out.new.items ≡ out.old.items ++ told_if lead.now (P.text printer.now) elements.now) }
+{
+    if !elements.is_empty() {
+        out.extend_from_slice(lead.as_bytes())?;
+        push_joined(out, ", ", printer, elements)?;
+    }
+    Ok(())
 }
 
 /// Adds texts.

@@ -67,6 +67,5 @@ pub fn newly_broken(
 {
     let failures = shown_of(alloc, asked, verdicts, Show::Failures)?;
     let news = news_of(alloc, index, failures.as_slice(), before)?;
-    let places = places_of(alloc, news.as_slice())?;
-    Ok(places)
+    places_of(alloc, news.as_slice())
 }

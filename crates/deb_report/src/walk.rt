@@ -2,13 +2,14 @@
 
 ghost use Rattle.std.specs.Prelude.{◌≡◌, ◌<◌, ◌++◌, ℕ, All, IfOk, OnOk, filter, length, map, reverse};
 ghost use Rattle.deb_index.specs.Constraints.{IsOfIndex};
-ghost use Rattle.deb_index.specs.Packages.{apart_at, names};
+ghost use Rattle.deb_index.specs.Packages.{apart_at};
 ghost use Rattle.deb_index.specs.declared.constraint.Constraint.{Constraint};
 ghost use Rattle.number_sets.specs.Sets.{members_of};
 ghost use Rattle.deb_report.specs.declared.walk.Step.{Step};
-ghost use Rattle.deb_report.specs.Walk.{are_told, begin_step, brought, comers, depth_of, essential_step, first_steps, hits_in, is_hit, kept};
-ghost use Rattle.deb_report.specs.Walk.{met_steps, only_step, own_steps, versions_coming};
+ghost use Rattle.deb_report.specs.Walk.{are_told, begin_step, brought, comers, depth_of, essential_step, first_steps, hits_in};
+ghost use Rattle.deb_report.specs.Walk.{met_steps, only_step, own_steps};
 
+use crate::hits::push_hit;
 use crate::own::OwnTable;
 use crate::place_set::PlaceSet;
 use deb_index::{Constraint, Index};
@@ -212,29 +213,21 @@ pub(crate) fn first_steps(
     Ok(steps)
 }
 
-/// Adds a package that an entry of the package at a place hits, where it comes in the walk.
-fn push_hit(hits: &mut Vec<u32>, coming: &PlaceSet, place: u32, hit: u32) -> Result<(), AllocError>
-    ensures { OnOk result (hits.new.items ≡ hits.old.items ++ kept (is_hit (members_of coming.now) place) hit) }
-{
-    if coming.contains(hit) && hit != place {
-        hits.push(hit)?;
-    }
-    Ok(())
-}
-
-/// Adds those of some packages that an entry of the package at a place hits, where they come in the walk.
-fn push_hits(
-    hits: &mut Vec<u32>,
+/// Those of some packages that come in the walk.
+pub(crate) fn those_coming(
+    alloc: Global,
     coming: &PlaceSet,
-    place: u32,
     places: &[u32],
-) -> Result<(), AllocError>
-    ensures { OnOk result (hits.new.items ≡ hits.old.items ++ filter (is_hit (members_of coming.now) place) places.now) }
+) -> Result<Vec<u32>, AllocError>
+    ensures { IfOk result (λ those. those.items ≡ filter (members_of coming.now) places.now) }
 {
-    for hit in places {
-        push_hit(hits, coming, place, *hit)?;
+    let mut those = Vec::new(alloc);
+    for place in places {
+        if coming.contains(*place) {
+            those.push(*place)?;
+        }
     }
-    Ok(())
+    Ok(those)
 }
 
 /// The packages of the walk that an entry of the package at a place hits.
@@ -249,31 +242,6 @@ pub(crate) fn hits_in(
     ensures { IfOk result (λ hits. hits.items ≡ hits_in index.now (members_of coming.now) place (apart_at index.now place number)) }
 {
     let mut hits = Vec::new(alloc);
-    if let Some(row) = index.hit_row(place, number) {
-        push_hits(&mut hits, coming, place, row)?;
-        return Ok(hits);
-    }
-    let found = index.satisfiers(alloc, index.apart(place, number))?;
-    push_hits(&mut hits, coming, place, found.as_slice())?;
-    Ok(hits)
-}
-
-/// The packages of the walk that have the name with a number.
-pub(crate) fn versions_coming(
-    alloc: Global,
-    index: &Index,
-    coming: &PlaceSet,
-    name: u32,
-) -> Result<Vec<u32>, AllocError>
-    requires { name < length (names index.now) }
-    ensures { IfOk result (λ versions. versions.items ≡ versions_coming index.now (members_of coming.now) name) }
-{
-    let places = index.places_named(name);
-    let mut versions = Vec::new(alloc);
-    for version in places {
-        if coming.contains(*version) {
-            versions.push(*version)?;
-        }
-    }
-    Ok(versions)
+    push_hit(alloc, index, place, number, &mut hits)?;
+    those_coming(alloc, coming, hits.as_slice())
 }

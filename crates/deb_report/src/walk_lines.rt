@@ -11,19 +11,19 @@ ghost use Rattle.deb_report.specs.Near.{near_misses, near_view, similar_names};
 ghost use Rattle.deb_report.specs.Similar.{FitsWalk, IsSimilarOf, stems_in};
 ghost use Rattle.deb_report.specs.Stems.{AreSought};
 ghost use Rattle.deb_report.specs.Walk.{IsStepOf, are_told, brought, own_steps, step_limit, steps_behind, told_behind, walk_text};
-ghost use Rattle.deb_report.specs.Walk.{above_text, constraint_text, hits_text, lead, missing_text, near_text, need_ending, present_text};
-ghost use Rattle.deb_report.specs.Walk.{package_line, package_text, seen_text, seen_texts, similar_text, step_text, walk_lines};
+ghost use Rattle.deb_report.specs.Walk.{above_text, constraint_text, lead, missing_text, near_text, need_ending, present_text};
+ghost use Rattle.deb_report.specs.Walk.{package_line, package_text, seen_text, similar_text, step_text, walk_lines};
 
 use crate::line_parts::{push_asked, push_line, push_package, push_provides};
 use crate::near::{NearMiss, answer_at, near_misses};
 use crate::own::OwnTable;
 use crate::place_set::PlaceSet;
-use crate::print::{Print, push_joined, push_texts};
+use crate::print::{Print, push_joined, push_some, push_texts};
 use crate::reasons::{entry_field, group_field, is_missing, push_group};
 use crate::similar::Similar;
 use crate::walk::{
     Step, are_told, brought, comers, first_steps, hits_in, met_steps, own_steps, put_before,
-    versions_coming,
+    those_coming,
 };
 use deb_index::{Constraint, Index, Package};
 use deb_relation::Atom;
@@ -87,18 +87,6 @@ impl<'m> Print<NearMiss<'m>> for InLine {
     }
 }
 
-/// Adds what comes near to a need, where something does.
-#[tactic(auto, unfolding(crate::specs::Walk::present_text))]
-fn push_present(out: &mut Vec<u8>, misses: &[NearMiss<'_>]) -> Result<(), AllocError>
-    ensures { OnOk result (out.new.items ≡ out.old.items ++ present_text (map near_view misses.now)) }
-{
-    if !misses.is_empty() {
-        out.extend_from_slice(b"; present: ")?;
-        push_joined(out, ", ", &InLine, misses)?;
-    }
-    Ok(())
-}
-
 impl<'n> Print<&'n [u8]> for InLine {
     ghost fits = { λ _ _. Unit {0} };
 
@@ -107,49 +95,6 @@ impl<'n> Print<&'n [u8]> for InLine {
     fn print(&self, out: &mut Vec<u8>, name: &&'n [u8]) -> Result<(), AllocError> {
         out.extend_from_slice(name)
     }
-}
-
-/// Adds the names that are similar, where there are some.
-#[tactic(auto, unfolding(crate::specs::Walk::similar_text))]
-fn push_similar(out: &mut Vec<u8>, names: &[&[u8]]) -> Result<(), AllocError>
-    ensures { OnOk result (out.new.items ≡ out.old.items ++ similar_text (map (λ name. name.now) names.now)) }
-{
-    if !names.is_empty() {
-        out.extend_from_slice(b"; similar: ")?;
-        push_joined(out, ", ", &InLine, names)?;
-    }
-    Ok(())
-}
-
-/// Adds packages that may be told already, with a comma between two.
-fn push_seen(
-    out: &mut Vec<u8>,
-    index: &Index,
-    told: &PlaceSet,
-    places: &[u32],
-) -> Result<(), AllocError>
-    requires { All (λ place. place < length index.now.packages) places.now }
-    ensures { OnOk result (out.new.items ≡ out.old.items ++ seen_texts index.now told.now places.now) }
-{
-    push_joined(out, ", ", &Seen { index, told }, places)
-}
-
-/// Adds what an entry hits.
-#[tactic(auto, unfolding(crate::specs::Walk::hits_text))]
-fn push_hits(
-    out: &mut Vec<u8>,
-    index: &Index,
-    told: &PlaceSet,
-    places: &[u32],
-) -> Result<(), AllocError>
-    requires { All (λ place. place < length index.now.packages) places.now }
-    ensures { OnOk result (out.new.items ≡ out.old.items ++ hits_text index.now told.now places.now) }
-{
-    if !places.is_empty() {
-        out.extend_from_slice(b" hits ")?;
-        push_seen(out, index, told, places)?;
-    }
-    Ok(())
 }
 
 /// Adds the line of a package.
@@ -198,16 +143,18 @@ impl<'i> Walk<'i> {
         push_above(out, are_told(told, places))
     }
 
-    /// Adds what comes near to a need.
+    /// Adds what comes near to a need, where something does.
+    #[tactic(auto, using(crate::proofs::JoinLemmas::told_map), unfolding(crate::specs::Walk::present_text))]
     fn push_near_to(&self, out: &mut Vec<u8>, need: Constraint) -> Result<(), AllocError>
         requires { IsOfIndex self.now.index.now need }
         ensures { OnOk result (out.new.items ≡ out.old.items ++ present_text (near_misses self.now.index.now (need ∷ []))) }
     {
         let misses = near_misses(self.alloc, self.index, slice::from_ref(&need))?;
-        push_present(out, misses.as_slice())
+        push_some(out, "; present: ", &InLine, misses.as_slice())
     }
 
-    /// Adds the names that are similar to those of a need.
+    /// Adds the names that are similar to those of a need, where there are some.
+    #[tactic(auto, using(crate::proofs::JoinLemmas::told_map), unfolding(crate::specs::Walk::similar_text))]
     fn push_similar_to(&self, out: &mut Vec<u8>, need: Constraint) -> Result<(), AllocError>
         requires within { IsOfIndex self.now.index.now need }
         requires found { IsSimilarOf self.now.index.now self.now.similar.now }
@@ -217,7 +164,7 @@ impl<'i> Walk<'i> {
         let names = self
             .similar
             .names(self.alloc, self.index, slice::from_ref(&need))?;
-        push_similar(out, names.as_slice())
+        push_some(out, "; similar: ", &InLine, names.as_slice())
     }
 
     /// Adds that nothing meets a need, with what comes near and what is similar.
@@ -268,8 +215,7 @@ impl<'i> Walk<'i> {
             out.old.items ++ constraint_text self.now.index.now (members_of self.now.coming.now) told.now (Constraint.Essential name)) }
     {
         push_texts(out, &[b"essential: ", self.index.name_text(name)])?;
-        self.push_told(out, told, Constraint::Essential(name))?;
-        Ok(())
+        self.push_told(out, told, Constraint::Essential(name))
     }
 
     /// Adds a need.
@@ -296,7 +242,7 @@ impl<'i> Walk<'i> {
     }
 
     /// Adds an entry.
-    #[tactic(auto, unfolding(crate::specs::Walk::constraint_text))]
+    #[tactic(auto, unfolding(crate::specs::Walk::constraint_text, crate::specs::Walk::hits_text))]
     fn push_entry(
         &self,
         out: &mut Vec<u8>,
@@ -317,7 +263,11 @@ impl<'i> Walk<'i> {
             entry_field(deb, number).as_bytes(),
             slice::from_ref(entry),
         )?;
-        push_hits(out, self.index, told, hits.as_slice())
+        let seen = Seen {
+            index: self.index,
+            told,
+        };
+        push_some(out, " hits ", &seen, hits.as_slice())
     }
 
     /// Adds the versions of a name.
@@ -327,9 +277,13 @@ impl<'i> Walk<'i> {
         ensures { OnOk result (out.new.items ≡
             out.old.items ++ constraint_text self.now.index.now (members_of self.now.coming.now) told.now (Constraint.Only name)) }
     {
-        let versions = versions_coming(self.alloc, self.index, self.coming, name)?;
+        let versions = those_coming(self.alloc, self.coming, self.index.places_named(name))?;
         out.extend_from_slice(b"versions: ")?;
-        push_seen(out, self.index, told, versions.as_slice())
+        let seen = Seen {
+            index: self.index,
+            told,
+        };
+        push_joined(out, ", ", &seen, versions.as_slice())
     }
 
     /// Adds what the core says.

@@ -13,38 +13,10 @@ use crate::hits::hits_of;
 use crate::json_parts::IndexJson;
 use crate::json_text::push_array;
 use crate::near::answers_to;
-use crate::print::Print;
 use crate::reasons::is_missing;
 use deb_index::Constraint;
-use deb_relation::Atom;
 use std::alloc::AllocError;
 use std::slice;
-
-/// Atoms as texts of JSON.
-#[derive(Drop)]
-struct Quoted;
-
-impl Print<Atom> for Quoted {
-    ghost fits = { λ _ _. Unit {0} };
-
-    ghost text = { λ _ atom. quoted (printed (atom_view atom)) };
-
-    #[tactic(auto, unfolding(crate::specs::Json::quoted))]
-    fn print(&self, out: &mut Vec<u8>, atom: &Atom) -> Result<(), AllocError> {
-        out.extend_from_slice(b"\"")?;
-        atom.append_to(out)?;
-        out.extend_from_slice(b"\"")
-    }
-}
-
-/// Adds the member with the alternatives of a need.
-#[tactic(auto, using(crate::proofs::JoinLemmas::joined_map), unfolding(crate::specs::Json::array))]
-fn push_alternatives(out: &mut Vec<u8>, group: &[Atom]) -> Result<(), AllocError>
-    ensures { OnOk result (out.new.items ≡
-        out.old.items ++ codes "," ++ member (codes "alternatives") (array (λ atom. quoted (printed atom)) (map atom_view group.now))) }
-{
-    push_array(out, ",", "alternatives", &Quoted, group, "]")
-}
 
 /// Adds the member with the packages that answer the need with a number.
 #[tactic(auto, using(crate::proofs::JoinLemmas::joined_map), unfolding(crate::specs::Json::array))]
@@ -74,11 +46,17 @@ fn push_need(
     ensures { OnOk result (out.new.items ≡ out.old.items ++ why_json json.now.index.now (Constraint.Need place number)) }
 {
     if is_missing(json.alloc, json.index, place, number)? {
-        push_alternatives(out, json.index.need(place, number))?;
+        push_array(
+            out,
+            ",",
+            "alternatives",
+            json,
+            json.index.need(place, number),
+            "]",
+        )
     } else {
-        push_met(json, out, place, number)?;
+        push_met(json, out, place, number)
     }
-    Ok(())
 }
 
 /// Adds the packages that an entry hits.

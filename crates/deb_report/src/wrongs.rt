@@ -71,8 +71,7 @@ pub(crate) fn number_of(
     ensures texts { OnOk result (texts_of said.new ≡ with_text (texts_of said.old) (says index.now constraint)) }
     ensures number { IfOk result (λ number. number_in (says index.now constraint) (texts_of said.new) ≡ Some number) }
 {
-    let text = says_of(alloc, index, constraint)?;
-    said.number(alloc, text.as_slice())
+    said.number(says_of(alloc, index, constraint)?)
 }
 
 /// The numbers of what the final constraints of a core say, in their order.
@@ -137,7 +136,7 @@ impl Wrongs {
     {
         let mut key = numbers_said(alloc, index, core, &mut self.said)?;
         sort_once(&mut key);
-        let number = self.causes.number(alloc, key.as_slice())?;
+        let number = self.causes.number(key)?;
         Ok(number)
     }
 }

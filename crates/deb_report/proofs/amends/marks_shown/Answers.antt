@@ -1,4 +1,5 @@
 use Rattle.std.proofs.Common.{◌<◌, ◌∙◌, ℕ, List, All, length, subst, sym}
+use Rattle.std.proofs.lemmas.Result.{IfOk-weaker}
 use Rattle.deb_report.specs.Since.{AreMarks, has_named}
 use Rattle.deb_report.proofs.ReportLemmas.{places-within}
 use Rattle.deb_report.proofs.amends.marks_shown.Goals as goal
@@ -9,4 +10,6 @@ marks_at-requires c =
 
 pub returns : goal.returns
 returns c =
-    subst (λ (ps : List ℕ). AreMarks c.args.index.now (has_named c.args.index.now ps) c.in_ok-marks.marks.items) (c.as_slice.ensures.value ∙ c.in_ok-places.ensures) c.in_ok-marks.ensures
+    IfOk-weaker c.marks_at.result _ _
+    (λ marks are. subst (λ (ps : List ℕ). AreMarks c.args.index.now (has_named c.args.index.now ps) marks.items) (c.as_slice.ensures.value ∙ c.in_ok-places.ensures) are)
+    c.marks_at.ensures

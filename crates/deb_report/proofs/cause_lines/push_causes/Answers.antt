@@ -5,7 +5,7 @@ use Rattle.deb_report.specs.declared.gathered.Cause.{Cause}
 use Rattle.deb_report.specs.CauseLines.{cause_text}
 use Rattle.deb_report.specs.Causes.{cause_view}
 use Rattle.deb_report.specs.Report.{line}
-use Rattle.deb_report.proofs.JoinLemmas.{lines_map}
+use Rattle.deb_report.proofs.JoinLemmas.{last_call, lines_map}
 use Rattle.deb_report.proofs.cause_lines.push_causes.Goals as goal
 
 pub push_all-requires : goal.push_all-requires
@@ -15,5 +15,6 @@ pub returns : goal.returns
 returns c =
     let index = c.args.lines.now.index.now in
     let causes = c.args.causes.now in
-    rw (c.in_ok-push_all.ensures, c.in_ok-push_count.ensures, length-map causes cause_view, lines_map (cause_text index) cause_view causes)
-    (append_assoc c.args.out.now.items (line (codes "causes: ") (decimal (length causes))) (flat_map (λ (cause : Cause). cause_text index (cause_view cause)) causes))
+    last_call c.push_all.result c.push_all.ensures (λ is.
+    rw (is, c.in_ok-push_count.ensures, length-map causes cause_view, lines_map (cause_text index) cause_view causes)
+    (append_assoc c.args.out.now.items (line (codes "causes: ") (decimal (length causes))) (flat_map (λ (cause : Cause). cause_text index (cause_view cause)) causes)))

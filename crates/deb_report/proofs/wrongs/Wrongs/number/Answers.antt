@@ -20,9 +20,8 @@ returns c =
     let new = texts_of c.numbers_said.new.said in
     let keys_old = texts_of c.args.self.now.causes in
     let keys_new = texts_of c.number.new.self in
-    let key : (texts : List (List ℕ)) → StandOnce texts → IsFront new texts → c.as_slice.result.now ≡ key_of index texts cause =
-    λ texts once begins. c.as_slice.ensures.value
-    ∙ numbers-key index texts cause c.in_ok-key.key.items c.sort_once.new.numbers.items once (c.in_ok-key.ensures.numbers texts begins) c.sort_once.ensures.rising c.sort_once.ensures.same in
+    let key : (texts : List (List ℕ)) → StandOnce texts → IsFront new texts → c.sort_once.new.numbers.items ≡ key_of index texts cause =
+    λ texts once begins. numbers-key index texts cause c.in_ok-key.key.items c.sort_once.new.numbers.items once (c.in_ok-key.ensures.numbers texts begins) c.sort_once.ensures.rising c.sort_once.ensures.same in
     record {
       said = subst (λ added. Grows old new added) (sym (append-nil (map (says index) cause))) c.in_ok-key.ensures.grown;
       causes = λ texts once begins. grows-one keys_old keys_new (key_of index texts cause) (c.in_ok-number.ensures.texts ∙ ap (with_text keys_old) (key texts once begins));
