@@ -1,6 +1,6 @@
 -- What a command line asks for.
 use Rattle.std.specs.Prelude.{◌≡◌, ◌≢◌, ◌⊎◌, ℕ, ◌==◌, nat_le, Bool, true, false, not, ◌&&◌, ◌||◌}
-use Rattle.std.specs.Prelude.{List, [], ◌∷◌, length, Some, None, codes, if◌then◌else◌, is_some, map, ◌++◌, Option, string_bytes}
+use Rattle.std.specs.Prelude.{List, [], ◌∷◌, length, Some, None, codes, if◌then◌else◌, is_some, map, ◌++◌, MatchResult, Option, Result, string_bytes}
 use Rattle.std.specs.Char.{is_ascii_digit}
 use Rattle.std.specs.List.{list_all, list_any, slice_split}
 use Rattle.std.specs.Option.{option_map, option_map_or, unwrap_or}
@@ -9,7 +9,6 @@ use Rattle.std.specs.Str.Parse.{digits_value}
 use Rattle.clap.specs.Lexer.{strip_byte}
 use Rattle.clap.specs.Words.{App, Row, Rule, Text, fault_of, first_of, found_of, matches_of, new_app, new_rule, rows_of}
 use Rattle.clap.specs.declared.parser.matches.ArgMatches.{ArgMatches}
-use Rattle.clap.specs.declared.builder.action.ArgAction.{ArgAction}
 use Rattle.clap.specs.declared.builder.action.ArgAction.TheVariants as action
 use Rattle.clap.specs.declared.error.kind.ErrorKind.{ErrorKind}
 use Rattle.clap.specs.declared.error.kind.ErrorKind.TheVariants as kind
@@ -19,7 +18,7 @@ use Rattle.run_settings.specs.declared.config.Format.{Format}
 use Rattle.run_settings.specs.declared.config.Format.TheVariants as form
 use Rattle.command_line.specs.declared.line.TheConstants.{VERSION_LINE}
 use Rattle.command_line.specs.declared.line.Values.{Values}
-use Rattle.command_line.specs.declared.options.Valued.{Valued}
+use Rattle.command_line.specs.declared.options.LineOption.{LineOption}
 use Rattle.run_settings.specs.declared.config.Show.{Show}
 use Rattle.run_settings.specs.declared.config.Show.TheVariants.{All, Failures, Successes}
 use Rattle.command_line.specs.declared.line.LineFault.{LineFault}
@@ -80,18 +79,16 @@ other_rules = flag_rule (codes "explain") ∷ flag_rule (codes "failures") ∷ f
     ∷ flag_rule (codes "all-reasons")
     ∷ flag_rule (codes "why") ∷ flag_rule (codes "ignore-essential") ∷ flag_rule (codes "strict") ∷ flag_rule (codes "quiet") ∷ help_rule ∷ version_rule ∷ []
 
--- what an option with a value says of itself
-abbrev pub valued_rule : Valued → Rule
-valued_rule option = record (value_rule option.name.now) { required = option.required; defaults = map (λ text. text.now) option.usual.now }
-
--- those without one but for those that ask for a text in the place of a run
-abbrev pub flag_rules : List Rule
-flag_rules = flag_rule (codes "explain") ∷ flag_rule (codes "failures") ∷ flag_rule (codes "successes") ∷ flag_rule (codes "causes")
-    ∷ flag_rule (codes "all-reasons") ∷ flag_rule (codes "why") ∷ flag_rule (codes "ignore-essential") ∷ flag_rule (codes "strict") ∷ flag_rule (codes "quiet") ∷ []
-
--- an option that asks for one
-abbrev pub call_rule : Text → ℕ → ArgAction → Rule
-call_rule name short text = record (flag_rule name) { short = Some short; action = Some text }
+-- what an option of the table says of itself
+abbrev pub option_rule : LineOption → Rule
+option_rule option = record (new_rule option.name.now) {
+  long = Some option.name.now;
+  short = option.short;
+  action = Some option.action;
+  value_names = length option.value.now;
+  required = option.required;
+  defaults = map (λ text. text.now) option.usual.now;
+}
 
 -- the program's command with these options, whose words come without the program's name
 abbrev pub app_with : List Rule → App
@@ -269,6 +266,10 @@ RefusesLine [] fault = fault ≡ Memory
 RefusesLine (word ∷ words) (Refused text) = is_refused (word ∷ words) ≡ true
 RefusesLine (word ∷ words) (Help text) = (asks_help (word ∷ words) ≡ true) ⊎ ((asks_version (word ∷ words) ≡ true) × (string_bytes text ≡ version_line))
 RefusesLine (word ∷ words) Memory = Unit {0}
+
+-- what is read of the options where a test of them holds; it is refused where the test fails
+abbrev pub IsReadIf : {T E : Type 0} → Bool → Result T E → (T → Type 0) → Type 0
+IsReadIf good read Is = MatchResult read (λ value. (good ≡ true) × Is value) (λ _. good ≡ false)
 
 -- a refusal of a value, and no text for the output
 abbrev pub IsRefusal : LineFault → Type 0

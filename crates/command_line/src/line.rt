@@ -1,15 +1,15 @@
 //! What the words of a command line ask for.
 
-ghost use Rattle.std.specs.Prelude.{◌≡◌, ◌<◌, ◌≤◌, ℕ, All, IfOk, IfErr, IfSome, OnOk, codes, is_some, map, option_map, string_bytes, true, false};
+ghost use Rattle.std.specs.Prelude.{◌≡◌, ◌<◌, ◌≤◌, ℕ, All, IfOk, IfErr, IfSome, OnOk, codes, is_none, is_some, map, option_map, string_bytes, true};
 ghost use Rattle.std.specs.Prelude.{unwrap_or};
 ghost use Rattle.std.specs.List.{list_all};
 ghost use Rattle.std.specs.Str.Parse.{digits_value};
 ghost use Rattle.clap.specs.Words.{first_of, kind_of};
 ghost use Rattle.deb_relation.specs.Relationship.{is_name};
 ghost use Rattle.run_settings.specs.Settings.{is_architecture, settings_of};
-ghost use Rattle.command_line.specs.Line.{Accepts, AreValuesOf, IsFaultOf, IsRefusal, RefusesLine, RefusesUnless, asked_by, file_named, format_of};
-ghost use Rattle.command_line.specs.Line.{has_good_file, has_good_names, has_good_reasons, has_good_since, has_good_values, is_count, is_good_list, is_set};
-ghost use Rattle.command_line.specs.Line.{line_status_of, listed_in, names_in, request_of, rows_in, show_of, tells_more_reasons, value_of};
+ghost use Rattle.command_line.specs.Line.{Accepts, AreValuesOf, IsFaultOf, IsReadIf, IsRefusal, RefusesLine, RefusesUnless, asked_by, file_named, format_of};
+ghost use Rattle.command_line.specs.Line.{has_good_file, has_good_names, has_good_reasons, has_good_since, has_good_values, is_count, is_good_list};
+ghost use Rattle.command_line.specs.Line.{line_status_of, listed_in, request_of, rows_in, is_set, show_of, tells_more_reasons, value_of};
 ghost use Rattle.command_line.specs.declared.line.LineFault.TheVariants.{Memory};
 
 use crate::options::{command, given, is_set, value_of};
@@ -19,7 +19,6 @@ use clap::ArgMatches;
 use clap::error::ErrorKind;
 use run_settings::{CHUNK_LIMIT, Config, Format, Show};
 use std::alloc::{AllocError, AllocFailed, Global};
-use thiserror::Error;
 
 /// What `--version` writes: the name of the program and its version.
 pub const VERSION_LINE: &str = "debcheck 1.0.0\n";
@@ -27,20 +26,14 @@ pub const VERSION_LINE: &str = "debcheck 1.0.0\n";
 // The most workers that a run takes, as `work_draw` has it.
 const WORKER_LIMIT: u32 = 64;
 
-// How a refusal names the option for the names that are asked.
-const ONLY: &str = "--checkonly <N1,N2,..>";
-
 /// Why a command line gives no configuration.
-#[derive(Debug, Drop, Error)]
+#[derive(Debug, Drop)]
 pub enum LineFault {
     /// A word or a value isn't of the form that the program takes. The text for standard error says what is wrong and what is allowed.
-    #[error("the command line is refused")]
     Refused { text: String },
     /// Help or the version was asked for: the text for standard output.
-    #[error("help or the version was asked for")]
     Help { text: String },
     /// Some growth was refused.
-    #[error("out of memory")]
     Memory,
 }
 
@@ -101,142 +94,155 @@ fn fault_from(alloc: Global, error: &clap::Error) -> Result<LineFault, AllocErro
     })
 }
 
-// The refusal with this text; want of memory where there was none for it.
-fn refused(text: Result<String, AllocError>) -> LineFault
-    ensures told { OnOk text (IsRefusal result) }
-    ensures fault { RefusesUnless false result }
+// Why what an option says is refused.
+#[derive(Drop)]
+enum Refusal<'a> {
+    // Its value isn't of its form; what is allowed.
+    Value {
+        option: &'static str,
+        value: &'a str,
+        allowed: &'static str,
+    },
+    // It isn't taken beside `--successes`; behind that, where it is all the same.
+    BesideSuccesses {
+        option: &'static str,
+        but: &'static str,
+    },
+}
+
+// What is said of it.
+fn fault_of(alloc: Global, refusal: &Refusal<'_>) -> Result<LineFault, AllocError>
+    ensures { IfOk result IsRefusal }
 {
-    match text {
-        Ok(text) => LineFault::Refused { text },
-        Err(_) => LineFault::Memory,
+    let text = match refusal {
+        Refusal::Value {
+            option,
+            value,
+            allowed,
+        } => format!(in alloc;
+            "error: invalid value {value:?} for '{option}': {allowed}\n\nFor more information, try '--help'.\n"
+        )?,
+        Refusal::BesideSuccesses { option, but } => format!(in alloc;
+            "error: the argument '{option}' cannot be used with '--successes'{but}\n\nFor more information, try '--help'.\n"
+        )?,
+    };
+    Ok(LineFault::Refused { text })
+}
+
+fn architecture<'a>(matches: &ArgMatches<'a>) -> Result<&'a str, Refusal<'a>>
+    ensures { IsReadIf (is_architecture (value_of (codes "arch") (rows_in matches.now))) result
+        (λ arch. arch.now ≡ value_of (codes "arch") (rows_in matches.now)) }
+{
+    let value = value_of(matches, "arch");
+    if is_architecture(value) {
+        return Ok(value);
     }
+    Err(Refusal::Value {
+        option: "--arch <A>",
+        value,
+        allowed: "one or more letters, digits and -, neither all nor any",
+    })
 }
 
-// The refusal of a value that isn't of its option's form.
-fn refusal(alloc: Global, option: &str, value: &str, allowed: &str) -> LineFault
-    ensures { RefusesUnless false result }
-{
-    refused(format!(in alloc;
-        "error: invalid value {value:?} for '{option}': {allowed}\n\nFor more information, try '--help'.\n"
-    ))
-}
-
-fn architecture<'a>(alloc: Global, matches: &ArgMatches<'a>) -> Result<&'a str, LineFault>
-    ensures value { IfOk result (λ arch. arch.now ≡ value_of (codes "arch") (rows_in matches.now)) }
-    ensures good { OnOk result (is_architecture (value_of (codes "arch") (rows_in matches.now)) ≡ true) }
-    ensures refused { IfErr result (RefusesUnless (is_architecture (value_of (codes "arch") (rows_in matches.now)))) }
-{
-    let arch = value_of(matches, "arch");
-    if is_architecture(arch) {
-        return Ok(arch);
-    }
-    let allowed = "one or more letters, digits and -, neither all nor any";
-    Err(refusal(alloc, "--arch <A>", arch, allowed))
-}
-
-fn workers(alloc: Global, matches: &ArgMatches<'_>) -> Result<u32, LineFault>
-    ensures value { IfOk result (λ count. count ≡ digits_value 10 (value_of (codes "workers") (rows_in matches.now))) }
-    ensures good { OnOk result (is_count 64 (value_of (codes "workers") (rows_in matches.now)) ≡ true) }
-    ensures refused { IfErr result (RefusesUnless (is_count 64 (value_of (codes "workers") (rows_in matches.now)))) }
+fn workers<'a>(matches: &ArgMatches<'a>) -> Result<u32, Refusal<'a>>
+    ensures { IsReadIf (is_count 64 (value_of (codes "workers") (rows_in matches.now))) result
+        (λ count. count ≡ digits_value 10 (value_of (codes "workers") (rows_in matches.now))) }
 {
     let value = value_of(matches, "workers");
-    match count_of(value, WORKER_LIMIT) {
-        Some(count) => Ok(count),
-        None => Err(refusal(alloc, "--workers <N>", value, "a number from 1 to 64")),
-    }
+    count_of(value, WORKER_LIMIT).ok_or(Refusal::Value {
+        option: "--workers <N>",
+        value,
+        allowed: "a number from 1 to 64",
+    })
 }
 
-fn chunk(alloc: Global, matches: &ArgMatches<'_>) -> Result<u32, LineFault>
-    ensures value { IfOk result (λ count. count ≡ digits_value 10 (value_of (codes "chunk") (rows_in matches.now))) }
-    ensures good { OnOk result (is_count 1000000 (value_of (codes "chunk") (rows_in matches.now)) ≡ true) }
-    ensures refused { IfErr result (RefusesUnless (is_count 1000000 (value_of (codes "chunk") (rows_in matches.now)))) }
+fn chunk<'a>(matches: &ArgMatches<'a>) -> Result<u32, Refusal<'a>>
+    ensures { IsReadIf (is_count 1000000 (value_of (codes "chunk") (rows_in matches.now))) result
+        (λ count. count ≡ digits_value 10 (value_of (codes "chunk") (rows_in matches.now))) }
 {
     let value = value_of(matches, "chunk");
-    match count_of(value, CHUNK_LIMIT) {
-        Some(count) => Ok(count),
-        None => Err(refusal(alloc, "--chunk <K>", value, "a number from 1 to 1000000")),
-    }
+    count_of(value, CHUNK_LIMIT).ok_or(Refusal::Value {
+        option: "--chunk <K>",
+        value,
+        allowed: "a number from 1 to 1000000",
+    })
 }
 
-// Refuses what isn't names with commas between them.
-fn check_names(alloc: Global, list: &str) -> Result<(), LineFault>
-    ensures good { OnOk result (list_all is_name (names_in list.now) ≡ true) }
-    ensures refused { IfErr result (RefusesUnless (list_all is_name (names_in list.now))) }
+// What is wrong with a list that is neither names with commas between them nor the name of a file behind an `@`.
+fn wrong_list(list: &str) -> Option<Refusal<'_>>
+    ensures { is_none result ≡ is_good_list list.now }
 {
-    let allowed = "package names with commas between them, or @ and the name of a file";
-    match wrong_part(list) {
-        Some(part) => Err(refusal(alloc, ONLY, part, allowed)),
-        None => Ok(()),
-    }
-}
-
-// Refuses what is neither that nor the name of a file behind an `@`.
-fn check_list(alloc: Global, list: &str) -> Result<(), LineFault>
-    ensures good { OnOk result (is_good_list list.now ≡ true) }
-    ensures refused { IfErr result (RefusesUnless (is_good_list list.now)) }
-{
-    match file_in(list) {
-        Some("") => Err(refusal(alloc, ONLY, list, "the name of a file behind @")),
-        Some(_) => Ok(()),
-        None => check_names(alloc, list),
-    }
+    let (value, allowed) = match file_in(list) {
+        Some("") => (list, "the name of a file behind @"),
+        Some(_) => return None,
+        None => (
+            wrong_part(list)?,
+            "package names with commas between them, or @ and the name of a file",
+        ),
+    };
+    Some(Refusal::Value {
+        option: "--checkonly <N1,N2,..>",
+        value,
+        allowed,
+    })
 }
 
 // What is given of the names that are asked: a list of them, or the name of a file behind an `@`.
-fn asked<'a>(alloc: Global, matches: &ArgMatches<'a>) -> Result<Option<&'a str>, LineFault>
-    ensures value { IfOk result (λ list. option_map (λ text. text.now) list ≡ first_of (codes "checkonly") (rows_in matches.now)) }
-    ensures good { OnOk result (has_good_names (rows_in matches.now) ≡ true) }
-    ensures refused { IfErr result (RefusesUnless (has_good_names (rows_in matches.now))) }
+fn asked<'a>(matches: &ArgMatches<'a>) -> Result<Option<&'a str>, Refusal<'a>>
+    ensures { IsReadIf (has_good_names (rows_in matches.now)) result
+        (λ list. option_map (λ text. text.now) list ≡ first_of (codes "checkonly") (rows_in matches.now)) }
 {
     let list = given(matches, "checkonly");
-    if let Some(text) = list {
-        check_list(alloc, text)?;
+    match list.and_then(wrong_list) {
+        Some(refusal) => Err(refusal),
+        None => Ok(list),
     }
-    Ok(list)
 }
 
 // The name of the file that an option takes; `shown` is the option as a refusal names it.
 fn file<'a>(
-    alloc: Global,
     matches: &ArgMatches<'a>,
     option: &str,
-    shown: &str,
-) -> Result<Option<&'a str>, LineFault>
-    ensures value { IfOk result (λ file. option_map (λ name. name.now) file ≡ first_of option.now (rows_in matches.now)) }
-    ensures good { OnOk result (has_good_file option.now (rows_in matches.now) ≡ true) }
-    ensures refused { IfErr result (RefusesUnless (has_good_file option.now (rows_in matches.now))) }
+    shown: &'static str,
+) -> Result<Option<&'a str>, Refusal<'a>>
+    ensures { IsReadIf (has_good_file option.now (rows_in matches.now)) result
+        (λ file. option_map (λ name. name.now) file ≡ first_of option.now (rows_in matches.now)) }
 {
     match given(matches, option) {
-        Some("") => Err(refusal(alloc, shown, "", "the name of a file")),
+        Some("") => Err(Refusal::Value {
+            option: shown,
+            value: "",
+            allowed: "the name of a file",
+        }),
         file => Ok(file),
     }
 }
 
 // The name of the earlier index's file. With one, packages that can be installed are not asked for.
-fn earlier<'a>(alloc: Global, matches: &ArgMatches<'a>) -> Result<Option<&'a str>, LineFault>
-    ensures value { IfOk result (λ file. option_map (λ name. name.now) file ≡ first_of (codes "since") (rows_in matches.now)) }
-    ensures good { OnOk result (has_good_since (rows_in matches.now) ≡ true) }
-    ensures refused { IfErr result (RefusesUnless (has_good_since (rows_in matches.now))) }
+fn earlier<'a>(matches: &ArgMatches<'a>) -> Result<Option<&'a str>, Refusal<'a>>
+    ensures { IsReadIf (has_good_since (rows_in matches.now)) result
+        (λ file. option_map (λ name. name.now) file ≡ first_of (codes "since") (rows_in matches.now)) }
 {
-    let since = file(alloc, matches, "since", "--since <FILE>")?;
+    let since = file(matches, "since", "--since <FILE>")?;
     if since.is_some() && is_set(matches, "successes") {
-        let text =
-            "error: the argument '--since <FILE>' cannot be used with '--successes'\n\nFor more information, try '--help'.\n";
-        return Err(refused(String::from_str(alloc, text)));
+        return Err(Refusal::BesideSuccesses {
+            option: "--since <FILE>",
+            but: "",
+        });
     }
     Ok(since)
 }
 
-fn report_format(alloc: Global, matches: &ArgMatches<'_>) -> Result<Format, LineFault>
-    ensures value { IfOk result (λ f. f ≡ unwrap_or (format_of (value_of (codes "format") (rows_in matches.now))) Format.Text) }
-    ensures good { OnOk result (is_some (format_of (value_of (codes "format") (rows_in matches.now))) ≡ true) }
-    ensures refused { IfErr result (RefusesUnless (is_some (format_of (value_of (codes "format") (rows_in matches.now))))) }
+fn report_format<'a>(matches: &ArgMatches<'a>) -> Result<Format, Refusal<'a>>
+    ensures { IsReadIf (is_some (format_of (value_of (codes "format") (rows_in matches.now)))) result
+        (λ f. f ≡ unwrap_or (format_of (value_of (codes "format") (rows_in matches.now))) Format.Text) }
 {
     let value = value_of(matches, "format");
-    match format_of(value) {
-        Some(form) => Ok(form),
-        None => Err(refusal(alloc, "--format <FORM>", value, "text or json")),
-    }
+    format_of(value).ok_or(Refusal::Value {
+        option: "--format <FORM>",
+        value,
+        allowed: "text or json",
+    })
 }
 
 // Whether reasons are told beside the first ones, or as they are walked; both mean that blocks explain.
@@ -247,29 +253,26 @@ fn tells_more_reasons(matches: &ArgMatches<'_>) -> bool
 }
 
 // The refusal of an option that tells of packages that cannot be installed alone, where those that can be are asked for alone.
-fn untold(alloc: Global, matches: &ArgMatches<'_>) -> LineFault
-    ensures { RefusesUnless false result }
-{
+fn untold(matches: &ArgMatches<'_>) -> Refusal<'static> {
     let option = if is_set(matches, "why") {
         "--why"
     } else {
         "--all-reasons"
     };
-    refused(format!(in alloc;
-        "error: the argument '{option}' cannot be used with '--successes' unless '--failures' is there, too\n\nFor more information, try '--help'.\n"
-    ))
+    Refusal::BesideSuccesses {
+        option,
+        but: " unless '--failures' is there, too",
+    }
 }
 
 // Which packages are shown.
-fn show(alloc: Global, matches: &ArgMatches<'_>) -> Result<Show, LineFault>
-    ensures value { IfOk result (λ shown.
+fn show<'a>(matches: &ArgMatches<'a>) -> Result<Show, Refusal<'a>>
+    ensures { IsReadIf (has_good_reasons (rows_in matches.now)) result (λ shown.
         shown ≡ show_of (is_set (codes "failures") (rows_in matches.now)) (is_set (codes "successes") (rows_in matches.now))) }
-    ensures good { OnOk result (has_good_reasons (rows_in matches.now) ≡ true) }
-    ensures refused { IfErr result (RefusesUnless (has_good_reasons (rows_in matches.now))) }
 {
     match (is_set(matches, "failures"), is_set(matches, "successes")) {
         (true, false) => Ok(Show::Failures),
-        (false, true) if tells_more_reasons(matches) => Err(untold(alloc, matches)),
+        (false, true) if tells_more_reasons(matches) => Err(untold(matches)),
         (false, true) => Ok(Show::Successes),
         _ => Ok(Show::All),
     }
@@ -290,20 +293,18 @@ pub(crate) struct Values<'a> {
 }
 
 // The values of the options, each of its form.
-fn checked_values<'a>(alloc: Global, matches: &ArgMatches<'a>) -> Result<Values<'a>, LineFault>
-    ensures values { IfOk result (AreValuesOf (rows_in matches.now)) }
-    ensures good { OnOk result (has_good_values (rows_in matches.now) ≡ true) }
-    ensures refused { IfErr result (RefusesUnless (has_good_values (rows_in matches.now))) }
+fn checked_values<'a>(matches: &ArgMatches<'a>) -> Result<Values<'a>, Refusal<'a>>
+    ensures { IsReadIf (has_good_values (rows_in matches.now)) result (AreValuesOf (rows_in matches.now)) }
 {
     Ok(Values {
-        arch: architecture(alloc, matches)?,
-        workers: workers(alloc, matches)?,
-        chunk: chunk(alloc, matches)?,
-        show: show(alloc, matches)?,
-        asked: asked(alloc, matches)?,
-        bg: file(alloc, matches, "bg", "--bg <FILE>")?,
-        since: earlier(alloc, matches)?,
-        format: report_format(alloc, matches)?,
+        arch: architecture(matches)?,
+        workers: workers(matches)?,
+        chunk: chunk(matches)?,
+        show: show(matches)?,
+        asked: asked(matches)?,
+        bg: file(matches, "bg", "--bg <FILE>")?,
+        since: earlier(matches)?,
+        format: report_format(matches)?,
     })
 }
 
@@ -375,8 +376,10 @@ fn config_of(alloc: Global, matches: &ArgMatches<'_>) -> Result<Config, LineFaul
     ensures request { IfOk result (λ config. request_of config ≡ asked_by (rows_in matches.now)) }
     ensures refused { IfErr result (RefusesUnless (has_good_values (rows_in matches.now))) }
 {
-    let values = checked_values(alloc, matches)?;
-    Ok(config_with(alloc, matches, &values)?)
+    match checked_values(matches) {
+        Ok(values) => Ok(config_with(alloc, matches, &values)?),
+        Err(refusal) => Err(fault_of(alloc, &refusal)?),
+    }
 }
 
 // The configuration that the words ask for.

@@ -1,17 +1,20 @@
 //! The options of the command line, as `clap` reads them.
 
-ghost use Rattle.std.specs.Prelude.{◌≡◌, ◌++◌, IfOk, [], false, option_map};
+ghost use Rattle.std.specs.Prelude.{◌≡◌, IfOk, [], false, option_map};
 ghost use Rattle.clap.specs.Words.{app_of, first_of, rule_of};
-ghost use Rattle.command_line.specs.Line.{app_with, call_rule, flag_rule, flag_rules, is_set, line_app, rows_in, value_of, value_rules, valued_rule};
+ghost use Rattle.command_line.specs.Line.{app_with, is_set, line_app, option_rule, rows_in, value_of};
 
 use clap::{Arg, ArgAction, ArgMatches, Command};
 use std::alloc::{AllocError, Global};
 
-// An option with a value.
-pub(crate) struct Valued {
+// An option.
+pub(crate) struct LineOption {
     name: &'static str,
-    // What help calls its value.
-    value: &'static str,
+    // Its name of one letter, if it has one.
+    short: Option<char>,
+    action: ArgAction,
+    // What help calls its value, if it takes one.
+    value: &'static [&'static str],
     // Whether it has to be said.
     required: bool,
     // Its value where it isn't said, if it has one.
@@ -20,118 +23,148 @@ pub(crate) struct Valued {
     help: &'static str,
 }
 
-// The options with a value, as help lists them.
-static VALUED: [Valued; 7] = [
-    Valued {
+// What options without a value have in common.
+const FLAG: LineOption = LineOption {
+    name: "",
+    short: None,
+    action: ArgAction::SetTrue,
+    value: &[],
+    required: false,
+    usual: &[],
+    help: "",
+};
+
+// What options with a value have in common.
+const VALUED: LineOption = LineOption {
+    action: ArgAction::Set,
+    ..FLAG
+};
+
+// The options, as help lists them.
+static OPTIONS: [LineOption; 18] = [
+    LineOption {
         name: "arch",
-        value: "A",
+        value: &["A"],
         required: true,
-        usual: &[],
         help: "The architecture: letters, digits and -, neither all nor any",
+        ..VALUED
     },
-    Valued {
+    LineOption {
         name: "bg",
-        value: "FILE",
-        required: false,
-        usual: &[],
+        value: &["FILE"],
         help: "A second index, whose packages may be used and are not checked",
+        ..VALUED
     },
-    Valued {
+    LineOption {
         name: "since",
-        value: "FILE",
-        required: false,
-        usual: &[],
+        value: &["FILE"],
         help: "An earlier index; tells what is newly broken since it, and nothing else",
+        ..VALUED
     },
-    Valued {
+    LineOption {
         name: "checkonly",
-        value: "N1,N2,..",
-        required: false,
-        usual: &[],
+        value: &["N1,N2,.."],
         help: "Checks the packages of these names alone",
+        ..VALUED
     },
-    Valued {
+    LineOption {
         name: "format",
-        value: "FORM",
-        required: false,
+        value: &["FORM"],
         usual: &["text"],
         help: "The form of the report, text or json",
+        ..VALUED
     },
-    Valued {
+    LineOption {
         name: "workers",
-        value: "N",
-        required: false,
+        value: &["N"],
         usual: &["4"],
         help: "How many workers check, 1 to 64",
+        ..VALUED
     },
-    Valued {
+    LineOption {
         name: "chunk",
-        value: "K",
-        required: false,
+        value: &["K"],
         usual: &["64"],
         help: "How many packages a worker takes at once, 1 to 1000000",
+        ..VALUED
+    },
+    LineOption {
+        name: "explain",
+        help: "Tells the set that was found, or the reasons why there is none",
+        ..FLAG
+    },
+    LineOption {
+        name: "failures",
+        help: "Shows the packages that cannot be installed",
+        ..FLAG
+    },
+    LineOption {
+        name: "successes",
+        help: "Shows the packages that can be installed",
+        ..FLAG
+    },
+    LineOption {
+        name: "causes",
+        help: "Tells what is wrong in the end, each cause with the packages that it breaks",
+        ..FLAG
+    },
+    LineOption {
+        name: "all-reasons",
+        help: "Tells the reasons of all causes of a package, and not of the first alone",
+        ..FLAG
+    },
+    LineOption {
+        name: "why",
+        help: "Tells reasons as they are walked from the package",
+        ..FLAG
+    },
+    LineOption {
+        name: "ignore-essential",
+        help: "Asks for no essential packages in a set",
+        ..FLAG
+    },
+    LineOption {
+        name: "strict",
+        help: "Ends with a fault where nothing is asked, and so does --since by itself",
+        ..FLAG
+    },
+    LineOption {
+        name: "quiet",
+        help: "Shows no progress and no hints on a terminal",
+        ..FLAG
+    },
+    LineOption {
+        name: "help",
+        short: Some('h'),
+        action: ArgAction::Help,
+        help: "Prints this help",
+        ..FLAG
+    },
+    LineOption {
+        name: "version",
+        short: Some('V'),
+        action: ArgAction::Version,
+        help: "Prints the program's version",
+        ..FLAG
     },
 ];
 
-// The options without a value, each with what help says of it, as it lists them.
-static FLAGS: [(&str, &str); 9] = [
-    (
-        "explain",
-        "Tells the set that was found, or the reasons why there is none",
-    ),
-    ("failures", "Shows the packages that cannot be installed"),
-    ("successes", "Shows the packages that can be installed"),
-    (
-        "causes",
-        "Tells what is wrong in the end, each cause with the packages that it breaks",
-    ),
-    (
-        "all-reasons",
-        "Tells the reasons of all causes of a package, and not of the first alone",
-    ),
-    ("why", "Tells reasons as they are walked from the package"),
-    (
-        "ignore-essential",
-        "Asks for no essential packages in a set",
-    ),
-    (
-        "strict",
-        "Ends with a fault where nothing is asked, and so does --since by itself",
-    ),
-    ("quiet", "Shows no progress and no hints on a terminal"),
-];
-
-// Such an option as `clap` takes it.
-fn valued_option<'a>(alloc: Global, option: &'static Valued) -> Arg<'a>
-    ensures rule { rule_of result ≡ valued_rule option.now }
+// An option as `clap` takes it.
+fn argument<'a>(alloc: Global, option: &'static LineOption) -> Arg<'a>
+    ensures rule { rule_of result ≡ option_rule option.now }
     ensures local { result.global ≡ false }
 {
-    Arg::new(alloc, option.name)
+    let argument = Arg::new(alloc, option.name)
         .long(option.name)
-        .action(ArgAction::Set)
-        .value_name(option.value)
+        .action(option.action)
+        .value_names(option.value)
         .help(option.help)
         .required(option.required)
-        .default_values(option.usual)
-}
-
-// An option without a value.
-fn flag<'a>(alloc: Global, name: &'a str, help: &'a str) -> Arg<'a>
-    ensures rule { rule_of result ≡ flag_rule name.now }
-    ensures local { result.global ≡ false }
-{
-    Arg::new(alloc, name)
-        .long(name)
-        .action(ArgAction::SetTrue)
-        .help(help)
-}
-
-// An option with a short name, too, which asks for a text in the place of a run.
-fn call<'a>(alloc: Global, name: &'a str, short: char, text: ArgAction, help: &'a str) -> Arg<'a>
-    ensures rule { rule_of result ≡ call_rule name.now short text }
-    ensures local { result.global ≡ false }
-{
-    flag(alloc, name, help).short(short).action(text)
+        .default_values(option.usual);
+    match option.short {
+        Some(short) => argument.short(short),
+        None => argument,
+    }
 }
 
 // The program's command without options.
@@ -146,41 +179,15 @@ fn bare<'a>(alloc: Global) -> Command<'a>
         .disable_help_flag(true)
 }
 
-// The program's command with the options that have values.
-fn with_values<'a>(alloc: Global) -> Result<Command<'a>, AllocError>
-    ensures { IfOk result (λ command. app_of command ≡ app_with value_rules) }
-{
-    let mut command = bare(alloc);
-    for option in &VALUED {
-        command = command.arg(valued_option(alloc, option))?;
-    }
-    Ok(command)
-}
-
-// The same with the options that have none behind these.
-fn with_flags<'a>(alloc: Global) -> Result<Command<'a>, AllocError>
-    ensures { IfOk result (λ command. app_of command ≡ app_with (value_rules ++ flag_rules)) }
-{
-    let mut command = with_values(alloc)?;
-    for &(name, help) in &FLAGS {
-        command = command.arg(flag(alloc, name, help))?;
-    }
-    Ok(command)
-}
-
 // The program's command.
 pub(crate) fn command<'a>(alloc: Global) -> Result<Command<'a>, AllocError>
     ensures { IfOk result (λ command. app_of command ≡ line_app) }
 {
-    with_flags(alloc)?
-        .arg(call(alloc, "help", 'h', ArgAction::Help, "Prints this help"))?
-        .arg(call(
-            alloc,
-            "version",
-            'V',
-            ArgAction::Version,
-            "Prints the program's version",
-        ))
+    let mut command = bare(alloc);
+    for option in &OPTIONS {
+        command = command.arg(argument(alloc, option))?;
+    }
+    Ok(command)
 }
 
 // The value of an option, where it has one.

@@ -1,9 +1,9 @@
 //! The lines that tell what may be wrong.
 
-ghost use Rattle.std.specs.Prelude.{◌≡◌, ◌++◌, IfOk, OnOk};
+ghost use Rattle.std.specs.Prelude.{◌≡◌, ◌++◌, IfOk};
 ghost use Rattle.std.specs.List.{flat_map};
 ghost use Rattle.std.specs.Option.{option_copied};
-ghost use Rattle.input_hints.specs.Texts.{advice, around, by_command, command, complaint, hint_line, input_name, remedy};
+ghost use Rattle.input_hints.specs.Texts.{advice, around, command, complaint, hint_line, input_name, remedy};
 
 use crate::hint::{Compression, Hint};
 use std::alloc::{AllocError, Global};
@@ -102,24 +102,17 @@ fn around(input: Input) -> (&'static [u8], &'static [u8])
     }
 }
 
-// The program on what a command writes.
-#[tactic(auto, unfolding(crate::specs::Texts::by_command))]
-fn push_by_command(line: &mut Vec<u8>, input: Input, command: &[u8]) -> Result<(), AllocError>
-    ensures { OnOk result (line.new.items ≡ line.old.items ++ by_command input command.now) }
-{
-    let (before, behind) = around(input);
-    line.extend_from_slice(before)?;
-    line.extend_from_slice(command)?;
-    line.extend_from_slice(behind)
-}
-
-#[tactic(auto, unfolding(crate::specs::Texts::remedy))]
-fn push_remedy(line: &mut Vec<u8>, input: Input, hint: Hint) -> Result<(), AllocError>
-    ensures { OnOk result (line.new.items ≡ line.old.items ++ remedy input hint) }
+// What to do, in three parts: a command between what stands before and behind it, or where there is none, what else to do.
+#[tactic(auto, unfolding(crate::specs::Texts::by_command, crate::specs::Texts::remedy))]
+fn remedy(input: Input, hint: Hint) -> (&'static [u8], &'static [u8], &'static [u8])
+    ensures { result.0.now ++ result.1.now ++ result.2.now ≡ remedy input hint }
 {
     match command(hint) {
-        Some(command) => push_by_command(line, input, command),
-        None => line.extend_from_slice(advice(hint)),
+        Some(command) => {
+            let (before, behind) = around(input);
+            (before, command, behind)
+        }
+        None => (b"", advice(hint), b""),
     }
 }
 
@@ -130,9 +123,12 @@ fn push_remedy(line: &mut Vec<u8>, input: Input, hint: Hint) -> Result<(), Alloc
 pub fn hint_line(alloc: Global, input: Input, hint: Hint) -> Result<Vec<u8>, AllocError>
     ensures { IfOk result (λ line. line.items ≡ hint_line input hint) }
 {
-    let what = complaint(hint);
-    let mut line = line_of(alloc, &[b"hint: ", input_name(input), b" ", what, b": "])?;
-    push_remedy(&mut line, input, hint)?;
-    line.push(b'\n')?;
-    Ok(line)
+    let (name, what) = (input_name(input), complaint(hint));
+    let (before, todo, behind) = remedy(input, hint);
+    line_of(
+        alloc,
+        &[
+            b"hint: ", name, b" ", what, b": ", before, todo, behind, b"\n",
+        ],
+    )
 }
