@@ -4,11 +4,8 @@ ghost use Rattle.std.specs.Prelude.{◌≡◌, ◌≤◌, ◌||◌, ℕ, Bool, L
 ghost use Rattle.std.specs.Io.KnownBytes.{Keeps, ReadConsumes, WriteAppends};
 ghost use Rattle.devices.specs.Devices.{is_stuck};
 
-use thiserror::Error;
-
 /// A device could not read or write.
-#[derive(Clone, Copy, Debug, Error, PartialEq, Eq)]
-#[error("the device failed")]
+#[derive(Clone, Copy)]
 pub struct DeviceFault;
 
 /// What a run reads from. A contract sees the bytes that are left in it, where it tells them, and a mark that some read failed, which stays.
