@@ -19,6 +19,7 @@ use clap::ArgMatches;
 use clap::error::ErrorKind;
 use run_settings::{CHUNK_LIMIT, Config, Format, Show};
 use std::alloc::{AllocError, AllocFailed, Global};
+use thiserror::Error;
 
 /// What `--version` writes: the name of the program and its version.
 pub const VERSION_LINE: &str = "debcheck 1.0.0\n";
@@ -27,13 +28,16 @@ pub const VERSION_LINE: &str = "debcheck 1.0.0\n";
 const WORKER_LIMIT: u32 = 64;
 
 /// Why a command line gives no configuration.
-#[derive(Debug, Drop)]
+#[derive(Debug, Drop, Error)]
 pub enum LineFault {
     /// A word or a value isn't of the form that the program takes. The text for standard error says what is wrong and what is allowed.
+    #[error("the command line is refused")]
     Refused { text: String },
     /// Help or the version was asked for: the text for standard output.
+    #[error("help or the version was asked for")]
     Help { text: String },
     /// Some growth was refused.
+    #[error("out of memory")]
     Memory,
 }
 

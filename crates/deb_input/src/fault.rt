@@ -7,42 +7,59 @@ ghost use Rattle.deb_input.specs.declared.fault.RunFault.TheVariants.{Memory};
 use crate::strict::Slip;
 use deb_index::IndexError;
 use std::alloc::{AllocError, AllocFailed, Global};
+use thiserror::Error;
 
 /// Why there is no report, or no whole one. The first cause in this order is told, but for those of the names that are asked, which go before all
 /// others, and for want of memory, which may come at any time before writing.
-#[derive(Debug, Drop)]
+#[derive(Debug, Drop, Error)]
 pub enum RunFault {
     /// The reader failed.
+    #[error("cannot read the index")]
     Read,
     /// The text has more than `deb_index::TEXT_LIMIT` bytes.
+    #[error("the index is too long")]
     TooLong,
     /// The reader of the background failed.
+    #[error("cannot read the background")]
     BackgroundRead,
     /// The background has more than `deb_index::TEXT_LIMIT` bytes.
+    #[error("the background is too long")]
     BackgroundTooLong,
     /// The reader of the earlier index failed.
+    #[error("cannot read the earlier index")]
     EarlierRead,
     /// The earlier index has more than `deb_index::TEXT_LIMIT` bytes.
+    #[error("the earlier index is too long")]
     EarlierTooLong,
     /// The file of the names that are asked can't be opened, or its reader failed.
+    #[error("cannot read the names")]
     NamesRead,
     /// It has more than `deb_index::TEXT_LIMIT` bytes.
+    #[error("the names are too many")]
     NamesTooLong,
     /// A line of it is no package name: the first such line, counted from 1.
+    #[error("names: line {line}: bad name")]
     BadNameLine { line: u64 },
     /// A stanza of the index has a fault: the first that has one. Never want of memory, which is `Memory`.
+    #[error("{0}")]
     Index(IndexError),
     /// A stanza of the background has a fault: the first that has one, counted from 1 in the background. Never want of memory.
+    #[error("background: {0}")]
     Background(IndexError),
     /// A stanza of the earlier index has a fault: the first that has one. Never want of memory.
+    #[error("earlier index: {0}")]
     Earlier(IndexError),
     /// No package of the index has this name, whatever the background has: the first such name of those that were asked.
+    #[error("unknown package")]
     UnknownAsked { name: Vec<u8> },
     /// Nothing is asked of the index, or nothing that is in it, and the run is strict.
+    #[error("nothing is asked of the index")]
     Slipped(Slip),
     /// Some growth was refused.
+    #[error("out of memory")]
     Memory,
     /// The writer failed, or took no byte: a front of the report was written.
+    #[error("cannot write the report")]
     Write,
 }
 

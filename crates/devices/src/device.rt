@@ -7,7 +7,7 @@ ghost use Rattle.devices.specs.Devices.{is_stuck};
 use thiserror::Error;
 
 /// A device could not read or write.
-#[derive(Clone, Copy, Debug, Error, PartialEq, Eq)]
+#[derive(Clone, Copy, Debug, Error)]
 #[error("the device failed")]
 pub struct DeviceFault;
 

@@ -13,7 +13,7 @@ use std::io::ErrorKind;
 use thiserror::Error;
 
 /// Why a file is not opened.
-#[derive(Clone, Copy, Debug, Error, PartialEq, Eq)]
+#[derive(Clone, Copy, Debug, Error)]
 pub enum OpenFault {
     /// Nothing stands there that may be read.
     #[error("the file cannot be opened")]
@@ -21,6 +21,15 @@ pub enum OpenFault {
     /// Some growth was refused.
     #[error("out of memory")]
     Memory,
+}
+
+impl From<io::Error> for OpenFault {
+    fn from(error: io::Error) -> OpenFault {
+        match error.kind() {
+            ErrorKind::OutOfMemory => OpenFault::Memory,
+            _ => OpenFault::Unopened,
+        }
+    }
 }
 
 /// Opens files by their names. A contract sees, where it is told, what stands under a name: bytes, or nothing that can be opened.
@@ -42,21 +51,14 @@ pub trait Opener {
 #[derive(Drop)]
 pub struct Disk<'a, R>(pub &'a R);
 
-// Opens a file for reading. An opened file gets the number of a standard stream that is closed; a copy of it gets none of these three numbers.
-fn open_apart<R: Files>(rt: &R, name: &str) -> io::Result<R::File> {
-    File::open(rt, name)?.try_clone()
-}
-
 impl<R: Files> Opener for Disk<'_, R> {
     type File = Recording<Std<R::File>>;
 
     ghost named = { λ _ _. None };
 
     fn open(&self, name: &str) -> Result<Recording<Std<R::File>>, OpenFault> {
-        match open_apart(self.0, name) {
-            Ok(file) => Ok(Recording::new(Std::new(file))),
-            Err(error) if error.kind() == ErrorKind::OutOfMemory => Err(OpenFault::Memory),
-            Err(_) => Err(OpenFault::Unopened),
-        }
+        // An opened file gets the number of a standard stream that is closed; a copy of it gets none of these three numbers.
+        let file = File::open(self.0, name)?.try_clone()?;
+        Ok(Recording::new(Std::new(file)))
     }
 }

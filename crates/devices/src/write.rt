@@ -17,11 +17,9 @@ pub fn write_all<K: Sink>(writer: &mut K, bytes: &[u8]) -> Result<(), DeviceFaul
     let mut rest = bytes;
     while !rest.is_empty() {
         match writer.write_some(rest) {
-            Err(_) => return Err(DeviceFault),
-            Ok(0) => return Err(DeviceFault),
+            Err(_) | Ok(0) => return Err(DeviceFault),
             Ok(count) => rest = &rest[count..],
         }
     }
-    writer.flush_all()?;
-    Ok(())
+    writer.flush_all()
 }
