@@ -1,7 +1,6 @@
 //! Worked texts: how many stanzas they have, or why they are refused, and values of their fields.
 
 use crate::fields::{expect_values, has_next, outcome_of};
-use crate::folded::FOLDED;
 use deb_control::{ControlError, Reader};
 use std::alloc::AllocError;
 use std::process::Abort;
@@ -20,7 +19,7 @@ Version: 1
 Architecture: all
 ";
 
-static OUTCOMES: [(&[u8], Result<usize, ControlError>); 16] = [
+static OUTCOMES: [(&[u8], Result<usize, ControlError>); 19] = [
     // what is refused
     (
         b"Package: a\nPackage: b\nno colon here\n",
@@ -48,6 +47,9 @@ static OUTCOMES: [(&[u8], Result<usize, ControlError>); 16] = [
     (b"", Ok(0)),
     (b"# a\n\n# b", Ok(0)),
     (b"\n \t\n\nA: b\n\t \n# c\n \nD: e\n#f\nG: h\n\n# i", Ok(2)),
+    (b"A: b\n\nx: y", Ok(2)),
+    (b"A: b\n\n\n\nx: y\n z\n\nw: v\n", Ok(3)),
+    (b"A: b\n\n#\nx: y\n#", Ok(2)),
     (
         b"A: b\n \r\nC: d\n\r\n",
         Err(ControlError::BadLine { stanza: 1 }),
@@ -133,7 +135,7 @@ type Value = (usize, &'static str, Option<&'static str>);
 
 /// Texts, how many stanzas they have, and values of these. Each of one slot is found behind those of its slot, and `Ax`, which has that slot,
 /// too, is absent; an empty one counts as absent.
-static VALUES: [(&[u8], usize, &[Value]); 4] = [
+static VALUES: [(&[u8], usize, &[Value]); 3] = [
     (
         b"ab: 1\nv: 2\nA1: 3\n",
         1,
@@ -154,14 +156,6 @@ static VALUES: [(&[u8], usize, &[Value]); 4] = [
         ],
     ),
     (b"e: \n", 1, &[(0, "e", None)]),
-    (
-        FOLDED,
-        3,
-        &[
-            (0, "depends", Some("b,\n c (< 2)\n ,")),
-            (0, "essential", None),
-        ],
-    ),
 ];
 
 #[test]

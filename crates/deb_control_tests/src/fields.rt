@@ -30,19 +30,6 @@ pub fn has_fields(stanza: &Stanza, wanted: &[(&str, &str)]) -> bool {
     true
 }
 
-/// Whether there are as many stanzas, each with its names and values.
-pub fn have_fields(found: &[Stanza], wanted: &[&[(&str, &str)]]) -> bool {
-    if found.len() != wanted.len() {
-        return false;
-    }
-    for (stanza, fields) in found.iter().zip(wanted.iter()) {
-        if !has_fields(stanza, *fields) {
-            return false;
-        }
-    }
-    true
-}
-
 /// Whether a field has this value, or, where none is wanted, counts as absent.
 fn has_value(stanza: &Stanza, name: &str, wanted: Option<&str>) -> bool {
     match (stanza.field(name), wanted) {
@@ -61,7 +48,8 @@ fn have_values(found: &[Stanza], wanted: &[(usize, &str, Option<&str>)]) -> bool
     true
 }
 
-fn stand(
+/// Whether a text has so many stanzas, and fields of them, each by its stanza's number, have these values.
+pub fn stand(
     alloc: Global,
     text: &[u8],
     count: usize,
@@ -71,7 +59,7 @@ fn stand(
     Ok(found.len() == count && have_values(&found, wanted))
 }
 
-/// A text has so many stanzas, and fields of them, each by its stanza's number, have these values.
+/// Sees that the stanzas of a text, and their fields, `stand` so.
 pub fn expect_values(
     rt: &(impl Abort + AllocGlobal),
     text: &[u8],

@@ -29,3 +29,11 @@ pub static FOLDED_FIELDS: [&[(&str, &str)]; 3] = [
     &[("Package", "b"), ("Version", "1"), ("Architecture", "all")],
     &[("Package", "c"), ("Version", "2"), ("Architecture", "all")],
 ];
+
+/// The values of some of these fields, by the stanza's number.
+pub static FOLDED_VALUES: [(usize, &str, Option<&str>); 4] = [
+    (0, "depends", Some("b,\n c (< 2)\n ,")),
+    (0, "essential", None),
+    (1, "package", Some("b")),
+    (2, "VERSION", Some("2")),
+];

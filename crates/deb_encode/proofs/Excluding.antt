@@ -222,6 +222,15 @@ module _ (forced candidates owners places : List ℕ) (place : ℕ) (is_in : mem
 
 -- ---- the variables of places, one place after the other
 
+pub numbers_none : (candidates list : List ℕ) → list ≡ [] → AreNumbersOf candidates [] list
+numbers_none candidates list empty =
+    let For : List ℕ → Type 0 = λ some. AreNumbersOf candidates [] some in
+    subst For (sym empty) (record {
+      below = All-nil (λ number. number < length candidates);
+      among = λ number never. absurd (false≢true never);
+      all = λ number below never. absurd (false≢true never);
+    })
+
 module _ (candidates places : List ℕ) (i : ℕ) (inside : i < length places) where
   pub numbers_more : IsStrictlyIncreasing candidates → (before after : List ℕ) (var : ℕ) → slice_get candidates var ≡ Some (get_or places i 0) → after ≡ before ++ var ∷ []
       → AreNumbersOf candidates (take i places) before → AreNumbersOf candidates (take (i + 1) places) after

@@ -69,13 +69,6 @@ fn first_in(play: &Play<'_>, places: &[u32]) -> Option<u32>
     None
 }
 
-/// Whether a place is one of these.
-fn has(places: &[u32], place: u32) -> bool
-    ensures { result ≡ members_of places.now place }
-{
-    places.iter().any(|other| *other == place)
-}
-
 impl Encoder<'_> {
     /// Adds that no owner is in together with another one of these places, where none of them all is in anyway.
     fn exclude_others(
@@ -111,7 +104,7 @@ impl Encoder<'_> {
         if let Some(place) = first_in(&play, owners) {
             let keeper = Keeper { place, standing };
             self.add_apart_from(keeper, places)?;
-            if !has(places, place) || owners == places {
+            if !places.contains(&place) || owners == places {
                 return Ok(());
             }
             return self.add_apart_from(keeper, owners);

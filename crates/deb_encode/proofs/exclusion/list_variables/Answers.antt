@@ -1,6 +1,9 @@
-use Rattle.deb_encode.proofs.Excluding.{numbers_more, numbers_passed}
+use Rattle.deb_encode.proofs.Excluding.{numbers_none, numbers_more, numbers_passed}
 use Rattle.deb_encode.proofs.exclusion.list_variables.Goals as goal
 use Rattle.deb_encode.proofs.exclusion.list_variables.Goals.{in-Some+in_ok-push, in_default}
+
+pub loop-place-init : goal.loop-place-init
+loop-place-init c = numbers_none c.args.play.now.candidates.now c.clear.new.self.items c.clear.ensures.items
 
 pub loop-place-preserved : goal.loop-place-preserved
 loop-place-preserved c =
