@@ -19,7 +19,6 @@ use crate::reach::reach;
 use crate::workspace::Workspace;
 use deb_encode::{Play, encode_each};
 use deb_index::Index;
-use number_sets::SparseSet;
 use sat_solve::Formula;
 use std::alloc::{AllocError, Global};
 
@@ -35,7 +34,7 @@ fn describe(
     ensures tells { IfOk result (Tells index.now p) }
     ensures still { OnOk result (workspace.new.used ≡ workspace.old.used) }
 {
-    let nothing = SparseSet::new(alloc);
+    workspace.nothing.clear();
     let mut positions = Vec::new(alloc);
     reach(alloc, index, p, &mut workspace.closure)?;
     workspace.closure.sort();
@@ -43,7 +42,7 @@ fn describe(
     list_positions(index, members, &mut positions)?;
     list_constraints(index, &positions, &mut workspace.constraints)?;
     let mut formula = Formula::new(alloc, count_of(index, members), positions.len() as u32)?;
-    let play = Play::new(index, &nothing, &workspace.closure, &[]);
+    let play = Play::new(index, &workspace.nothing.members, &workspace.closure, &[]);
     encode_each(
         &play,
         &workspace.constraints,

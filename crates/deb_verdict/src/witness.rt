@@ -1,7 +1,7 @@
 //! A set of packages that meets a part of the constraints, found without a search. Whether the set that grew meets the part is looked up, and
 //! no claim rests on how it grew.
 
-ghost use Rattle.std.specs.Prelude.{◌≡◌, ℕ, ◌<◌, true, All, IfOk, length};
+ghost use Rattle.std.specs.Prelude.{◌≡◌, ℕ, ◌<◌, true, All, length};
 ghost use Rattle.number_sets.specs.Sets.{members_of};
 ghost use Rattle.deb_health.specs.Health.{Admits};
 ghost use Rattle.deb_verdict.specs.BaseSets.{HasRoom, IsBase};
@@ -13,7 +13,6 @@ use crate::growth::Witness;
 use crate::part::Part;
 use deb_index::Index;
 use number_sets::SparseSet;
-use std::alloc::{AllocError, Global};
 
 /// How many sets are tried at most.
 const TRIES: u32 = 16;
@@ -70,29 +69,29 @@ pub(crate) fn is_seen_to_admit(
     base: &BaseSet,
     lacking: &SparseSet,
     witness: &mut Witness,
-) -> Result<bool, AllocError>
+) -> bool
     requires place { p < length part.now.index.now.packages }
     requires base { IsBase part.now.index.now base.now }
-    ensures { IfOk result (λ seen. seen ≡ true → Admits part.now.index.now p (positions_in part.now)) }
+    ensures { result ≡ true → Admits part.now.index.now p (positions_in part.now) }
 {
     witness.start();
     if !base.has_room(part.index, p) {
-        return Ok(false);
+        return false;
     }
     for _ in 0..TRIES {
-        let mut amiss = witness.grow(part, base, lacking, p)?;
+        let mut amiss = witness.grow(part, base, lacking, p);
         if amiss.is_none() {
             if is_witness(part, p, base, &witness.set) {
-                return Ok(true);
+                return true;
             }
             amiss = place_amiss(part, base, &witness.set);
         }
         let Some(place) = amiss else {
-            return Ok(false);
+            return false;
         };
-        if !witness.rule_out(part.index, place)? {
-            return Ok(false);
+        if !witness.rule_out(part.index, place) {
+            return false;
         }
     }
-    Ok(false)
+    false
 }
