@@ -35,9 +35,9 @@ fn describe(
     ensures still { OnOk result (workspace.new.used ≡ workspace.old.used) }
 {
     workspace.nothing.clear();
-    let mut positions = Vec::new(alloc);
     reach(alloc, index, p, &mut workspace.closure)?;
     workspace.closure.sort();
+    let mut positions = Vec::new(alloc);
     let members = workspace.closure.as_slice();
     list_positions(index, members, &mut positions)?;
     list_constraints(index, &positions, &mut workspace.constraints)?;

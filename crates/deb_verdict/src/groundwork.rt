@@ -116,15 +116,6 @@ fn force_all(alloc: Global, index: &Index) -> Result<SparseSet, AllocError>
     Ok(forced)
 }
 
-/// Finds places that no healthy set has, since they lack a need.
-fn find_lacking_places(alloc: Global, index: &Index) -> Result<SparseSet, AllocError>
-    ensures { IfOk result (λ hopeless. AreHopeless index.now (members_of hopeless)) }
-{
-    let mut hopeless = SparseSet::new(alloc);
-    find_lacking(index, &mut hopeless)?;
-    Ok(hopeless)
-}
-
 /// Places that no healthy set has: these, or all places, where each package of some essential name is among these.
 fn spread(alloc: Global, index: &Index, lacking: &SparseSet) -> Result<SparseSet, AllocError>
     requires { AreHopeless index.now (members_of lacking.now) }
@@ -144,7 +135,8 @@ impl<'a> Groundwork<'a> {
         let alone = mark_alone(alloc, index)?;
         let forced = force_all(alloc, index)?;
         let met = mark_met(alloc, index, &forced)?;
-        let lacking = find_lacking_places(alloc, index)?;
+        let mut lacking = SparseSet::new(alloc);
+        find_lacking(index, &mut lacking)?;
         let hopeless = spread(alloc, index, &lacking)?;
         let base = BaseSet::find(alloc, index, &lacking);
         Ok(Groundwork {

@@ -95,24 +95,16 @@ fn lacks_essential(index: &Index, hopeless: &SparseSet) -> bool
     false
 }
 
-/// Puts in all places, where each of them is hopeless.
-fn insert_all(index: &Index, hopeless: &mut SparseSet) -> Result<(), AllocError>
-    requires { (place : ℕ) → IsHopeless index.now place }
-    ensures { OnOk result (AreHopeless index.now (members_of hopeless.new)) }
-{
-    for place in 0..index.len() {
-        hopeless.insert(place)?;
-    }
-    Ok(())
-}
-
 /// Puts in all places where all packages of an essential name are hopeless.
 pub(crate) fn spread_by_essential(index: &Index, hopeless: &mut SparseSet) -> Result<(), AllocError>
     requires { AreHopeless index.now (members_of hopeless.old) }
     ensures { OnOk result (AreHopeless index.now (members_of hopeless.new)) }
 {
-    if lacks_essential(index, hopeless) {
-        insert_all(index, hopeless)?;
+    if !lacks_essential(index, hopeless) {
+        return Ok(());
+    }
+    for place in 0..index.len() {
+        hopeless.insert(place)?;
     }
     Ok(())
 }

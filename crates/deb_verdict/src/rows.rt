@@ -34,14 +34,24 @@ impl Places for SparseSet {
 pub(crate) fn has_any<P: Places>(set: &P, row: &[u32]) -> bool
     ensures { result ≡ list_any (P.members set.now) row.now }
 {
-    row.iter().any(|place| set.has(*place))
+    for place in row {
+        if set.has(*place) {
+            return true;
+        }
+    }
+    false
 }
 
 /// Whether all places of a row are in.
 pub(crate) fn has_all(set: &SparseSet, row: &[u32]) -> bool
     ensures { result ≡ list_all (members_of set.now) row.now }
 {
-    row.iter().all(|place| set.contains(*place))
+    for place in row {
+        if !set.contains(*place) {
+            return false;
+        }
+    }
+    true
 }
 
 /// A place of a row, other than this one, that is in.
