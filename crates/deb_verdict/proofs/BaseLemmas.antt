@@ -6,10 +6,10 @@ use Rattle.std.specs.Str.{bytes_eq}
 use Rattle.std.proofs.lemmas.Bool.{both_ways, cases_Bool, false≢true, or_cases, or_left}
 use Rattle.std.proofs.lemmas.List.Elements.{All-nil}
 use Rattle.std.proofs.lemmas.Option.{slice_get-get_or}
-use Rattle.deb_index.specs.declared.constraint.Constraint.TheVariants.{Essential}
-use Rattle.deb_index.specs.Packages.{IndexView, no_package, package_at, is_named, name_at, places_of, need_at, apart_at}
+use Rattle.deb_index.specs.declared.constraint.Constraint.TheVariants.{Essential, Apart}
+use Rattle.deb_index.specs.Packages.{IndexView, no_package, package_at, is_named, name_at, places_of, need_at, aparts_at, apart_at}
 use Rattle.deb_index.specs.Meets.{group_satisfiers, meets, satisfiers}
-use Rattle.deb_index.specs.Constraints.{has_name, hits}
+use Rattle.deb_index.specs.Constraints.{Holds, has_name, hits}
 use Rattle.deb_index.proofs.FirstLemmas.{name-itself}
 use Rattle.deb_index.proofs.MemberLemmas.{below-places_where}
 use Rattle.number_sets.specs.Sets.{NumberSet, members_of, IsWithin}
@@ -21,7 +21,8 @@ use Rattle.deb_health.specs.Health.{MeetsAt}
 use Rattle.deb_encode.proofs.IndexFacts.{member_named, member_satisfiers}
 use Rattle.deb_verdict.specs.declared.base_set.BaseSet.{BaseSet}
 use Rattle.deb_verdict.specs.declared.part.Part.{Part}
-use Rattle.deb_verdict.specs.BaseSets.{HasHits, HasRoom, IsBase, StandsIn}
+use Rattle.deb_verdict.specs.BaseSets.{HasHits, HasRoom, IsBase}
+use Rattle.deb_verdict.specs.Groundwork.{HasAnswers}
 use Rattle.deb_verdict.specs.Parts.{positions_in, HasNoEarlier, MeetsAsked, MeetsAskedOf}
 use Rattle.deb_verdict.proofs.GroundworkLemmas.{answered_by_row}
 use Rattle.deb_verdict.proofs.Healthy.{name_is, numbered}
@@ -33,9 +34,17 @@ empty_is_base index base empty =
     let Within : List ℕ → Type 0 = λ list. All (λ place. place < length index.packages) list in
     record {
       within = subst Within (sym empty) (All-nil (λ place. place < length index.packages));
-      stand = λ place is_in. absurd (never place is_in);
+      needs = λ place is_in. absurd (never place is_in);
+      aparts = λ place j is_in. absurd (never place is_in);
+      once = λ place is_in. absurd (never place is_in);
       hit = λ place is_in. absurd (never place is_in);
     }
+
+-- the set has what the package at a place asks for, and no earlier package of its name
+pub record StandsIn (index : IndexView) (set : NumberSet) (place : ℕ) : Type 0 where
+  pub needs : HasAnswers index set place
+  pub aparts : (j : ℕ) → j < length (aparts_at index place) → Holds index set (Apart place j)
+  pub once : HasNoEarlier index set place
 
 -- what each of a list has, up to its end
 pub base_of : (index : IndexView) (base : BaseSet) (list : List ℕ) (count : ℕ) → list ≡ base.members → length list ≤ count
@@ -45,10 +54,13 @@ pub base_of : (index : IndexView) (base : BaseSet) (list : List ℕ) (count : �
     → IsBase index base
 base_of index base list count list_is past within stand hit =
     let Stand : List ℕ → Type 0 = λ items. (q : ℕ) → members_of items q ≡ true → StandsIn index (members_of base.members) q in
+    let each : Stand base.members = subst Stand list_is (of_members (StandsIn index (members_of base.members)) list count past stand) in
     let Hit : List ℕ → Type 0 = λ items. (q : ℕ) → members_of items q ≡ true → HasHits index (members_of base.hit) q in
     record {
       within = within;
-      stand = subst Stand list_is (of_members (StandsIn index (members_of base.members)) list count past stand);
+      needs = λ place is_in. (each place is_in).needs;
+      aparts = λ place j is_in. (each place is_in).aparts j;
+      once = λ place is_in. (each place is_in).once;
       hit = subst Hit list_is (of_members (HasHits index (members_of base.hit)) list count past hit);
     }
 
@@ -102,22 +114,21 @@ module _ (part : Part) (base : BaseSet) (is_base : IsBase part.index.now base) (
     stays_once : (q : ℕ) → members_of base.members q ≡ true → HasNoEarlier part.index.now on_base q
     stays_once q based is_in r less version r_in =
         elim (or_cases (members_of base.members r) (members_of more r) r_in) [
-          | inl r_based ↦ (is_base.stand q based).once based r less version r_based
+          | inl r_based ↦ is_base.once q based based r less version r_based
           | inr r_more ↦ false≢true (sym ((room r r_more).unnamed q (turned part.index.now q r (is_place q based) version)) ∙ based)
         ]
 
     pub stays : (q : ℕ) → members_of base.members q ≡ true → MeetsAskedOf part on_base q
     stays q based =
         let index = part.index.now in
-        let stands = is_base.stand q based in
         let at = numbered index q (is_place q based) in
         record {
           needs = λ j inside asked is_in.
-              (let found = answered_by_row index (members_of base.members) q j (group_satisfiers index (need_at index q j)) refl (stands.needs j inside) in
+              (let found = answered_by_row index (members_of base.members) q j (group_satisfiers index (need_at index q j)) refl (is_base.needs q based j inside) in
               (found.0, or_left (members_of base.members found.0) (members_of more found.0) found.1, found.2));
           aparts = λ j inside asked is_in r r_in hit.
               elim (or_cases (members_of base.members r) (members_of more r) r_in) [
-                | inl r_based ↦ stands.aparts j inside based r r_based hit
+                | inl r_based ↦ is_base.aparts q j based inside based r r_based hit
                 | inr r_more ↦ absurd (false≢true (sym (room r r_more).unhit ∙ is_base.hit q based j r inside hit))
               ];
           once = (at.0, at.1, at.2, λ asked. stays_once q based);

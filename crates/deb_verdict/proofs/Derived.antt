@@ -1,5 +1,6 @@
 -- What the steps of a refutation give, one after another.
 use Rattle.std.proofs.Common.{◌≡◌, ◌≢◌, ℕ, ◌<◌, true, false, eqb, ◌||◌, List, [], ◌∷◌, ◌++◌, length, Some, slice_get, refl, sym, subst, ◌∙◌, ap, inl, inr}
+use Rattle.std.specs.List.{list_any}
 use Rattle.std.specs.Option.{option_map_or}
 use Rattle.std.specs.Str.{bytes_eq}
 use Rattle.std.proofs.lemmas.Bool.{false≢true, or_cases, or_left, or_right, eqb-true, eq-eqb}
@@ -11,10 +12,11 @@ use Rattle.deb_index.specs.Constraints.{constraints_of, has_name}
 use Rattle.deb_index.proofs.FirstLemmas.{name-itself}
 use Rattle.deb_index.proofs.PositionLemmas.{essential_position}
 use Rattle.number_sets.specs.Sets.{NumberSet, members_of, IsWithin}
+use Rattle.number_sets.proofs.ListMembers.{member_any}
 use Rattle.number_sets.proofs.MembersLemmas.{members_of_push}
 use Rattle.deb_verdict.specs.declared.derivation.Outcome.{Outcome}
 use Rattle.deb_verdict.specs.declared.derivation.Outcome.TheVariants.{Forced, Contradiction}
-use Rattle.deb_verdict.specs.Deriving.{row_of, Comes, Gives}
+use Rattle.deb_verdict.specs.Deriving.{row_of, Gives}
 use Rattle.deb_health.specs.Health.{AdmitsNone, MeetsAt}
 use Rattle.number_sets.specs.SparseSets.{with_number}
 use Rattle.core_extract.specs.Reduction.{IsRefutation}
@@ -25,14 +27,12 @@ use Rattle.deb_verdict.proofs.ReachLemmas.{essential_below}
 
 -- ---- one constraint
 
--- a set that has a place of the row has what the row leaves
-row_comes : (set : NumberSet) (outcome : Outcome) (q : ℕ) → members_of (row_of outcome) q ≡ true → set q ≡ true → Comes set outcome
-row_comes set (Forced place) q is_in has =
-    elim (or_cases (eqb place q) false is_in) [
-      | inl here ↦ ap set (eqb-true place q here) ∙ has
-      | inr never ↦ absurd (false≢true never)
-    ]
-row_comes set Contradiction q never has = absurd (false≢true never)
+-- a set that has a place of a row of one has that one
+only_has : (set : NumberSet) (q : ℕ) → list_any set (q ∷ []) ≡ true → set q ≡ true
+only_has set q has = elim (or_cases (set q) false has) [
+  | inl here ↦ here
+  | inr never ↦ absurd (false≢true never)
+]
 
 module _ (index : IndexView) where
   -- an essential name is a name
@@ -46,7 +46,7 @@ module _ (index : IndexView) where
     constraint = Essential number;
     stands = essential_position index i number at;
     gives = λ set has holds.
-        row_comes set outcome holds.0 (sym (ap (λ list. members_of list holds.0) row_is) ∙ (member_named index number holds.0 ∙ holds.2)) holds.1;
+        member_any set (row_of outcome) holds.0 holds.1 (sym (ap (λ list. members_of list holds.0) row_is) ∙ (member_named index number holds.0 ∙ holds.2));
   }
 
   -- its own name
@@ -63,7 +63,7 @@ module _ (index : IndexView) where
       stands = stands;
       gives = λ set has holds.
           (let found = holds (has place is_in) in
-          row_comes set outcome found.0 (sym (ap (λ list. members_of list found.0) row_is) ∙ (member_answers index place j found.0 ∙ found.2)) found.1);
+          member_any set (row_of outcome) found.0 found.1 (sym (ap (λ list. members_of list found.0) row_is) ∙ (member_answers index place j found.0 ∙ found.2)));
     }
 
     pub only_gives : (first second number position : ℕ) → slice_get (constraints_of index) position ≡ Some (Only number) → first < length index.packages → second < length index.packages
@@ -73,7 +73,7 @@ module _ (index : IndexView) where
       constraint = Only number;
       stands = stands;
       gives = λ set has holds.
-          apart (holds second first (has second is_too) (has first is_in) (named_itself second number inside_too also) (named_itself first number inside named));
+          absurd (apart (holds second first (has second is_too) (has first is_in) (named_itself second number inside_too also) (named_itself first number inside named)));
     }
 
 -- ---- steps
@@ -106,7 +106,8 @@ module _ (index : IndexView) (p : ℕ) (part : NumberSet) where
 
   module _ (positions forced : List ℕ) (position : ℕ) (derived : IsDerived index p part positions forced) (has : part position ≡ true) where
     -- what a set that meets the constraints of all steps has
-    step_gives : (outcome : Outcome) → Gives index (members_of forced) position outcome → (set : NumberSet) → set p ≡ true → MeetsAt index set (members_of (positions ++ position ∷ [])) → Comes set outcome
+    step_gives : (outcome : Outcome) → Gives index (members_of forced) position outcome → (set : NumberSet) → set p ≡ true → MeetsAt index set (members_of (positions ++ position ∷ []))
+        → list_any set (row_of outcome) ≡ true
     step_gives outcome gives set has_p meets =
         let old = derived.follows set has_p (λ k constraint asked there. meets k constraint (push_old positions position k asked) there) in
         gives.gives set old (meets position gives.constraint (push_new positions position) gives.stands)
@@ -123,7 +124,7 @@ module _ (index : IndexView) (p : ℕ) (part : NumberSet) where
               λ number is_in.
               elim (with_number_only forced q number is_in) [
                 | inl before ↦ old number before
-                | inr here ↦ ap set (sym here) ∙ step_gives (Forced q) gives set has_p meets
+                | inr here ↦ ap set (sym here) ∙ only_has set q (step_gives (Forced q) gives set has_p meets)
               ]);
         }))
 
@@ -133,5 +134,5 @@ module _ (index : IndexView) (p : ℕ) (part : NumberSet) where
         subst (λ list. IsRefutation (AdmitsNone index p) part (members_of list)) (sym pushed)
         (record {
           within = push_within part positions position derived.within has;
-          fails = λ admits. step_gives Contradiction gives admits.0 admits.1 admits.2;
+          fails = λ admits. false≢true (step_gives Contradiction gives admits.0 admits.1 admits.2);
         })

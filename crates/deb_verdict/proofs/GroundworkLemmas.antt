@@ -8,10 +8,10 @@ use Rattle.deb_index.specs.Packages.{IndexView, package_at, places_of, aparts_at
 use Rattle.deb_index.specs.Meets.{satisfiers, group_satisfiers}
 use Rattle.deb_index.specs.Constraints.{answers, hits}
 use Rattle.number_sets.specs.Sets.{NumberSet, members_of, MarksOnly, IsWithin}
-use Rattle.deb_verdict.specs.Groundwork.{IsInAll, KeepsForced}
+use Rattle.deb_verdict.specs.Groundwork.{KeepsForced}
 use Rattle.deb_encode.specs.Alone.{IsAlone}
 use Rattle.number_sets.specs.SparseSets.{AreNumbers, Grows, with_number}
-use Rattle.deb_health.specs.Health.{IsInstallation}
+use Rattle.deb_health.specs.Health.{IsHealthy, IsInstallation}
 use Rattle.deb_verdict.proofs.Forcing.{member_answers}
 use Rattle.deb_encode.proofs.IndexFacts.{member_satisfiers}
 use Rattle.number_sets.proofs.Placing.{numbers_empty, grows_with, grows_keeps, with_number_has, with_number_only}
@@ -36,12 +36,12 @@ pub hits_only : (index : IndexView) (place j : ℕ) (row : List ℕ) → row ≡
 hits_only index place j row row_is holds q hit =
     eqb-true q place (all_member (λ other. eqb other place) row q holds (ap (λ list. members_of list q) row_is ∙ (member_satisfiers index (apart_at index place j) q ∙ hit)))
 
-pub stands_alone : (index : IndexView) (place count : ℕ) (row : List ℕ) (only : Bool) → length (aparts_at index place) ≤ count
+pub stands_alone : (index : IndexView) (place count : ℕ) (row : List ℕ) → length (aparts_at index place) ≤ count
     → ((j : ℕ) → j < count → (q : ℕ) → hits index place j q ≡ true → q ≡ place)
-    → row ≡ places_of index (package_at index place).name → only ≡ list_all (λ other. eqb other place) row → only ≡ true → IsAlone index place
-stands_alone index place count row only past none row_is only_is is_only = record {
+    → row ≡ places_of index (package_at index place).name → list_all (λ other. eqb other place) row ≡ true → IsAlone index place
+stands_alone index place count row past none row_is is_only = record {
   hits_none = λ j inside. none j (omega (arith, inside, past));
-  only = λ q named. eqb-true q place (all_member (λ other. eqb other place) row q (sym only_is ∙ is_only) (ap (λ list. members_of list q) row_is ∙ named));
+  only = λ q named. eqb-true q place (all_member (λ other. eqb other place) row q is_only (ap (λ list. members_of list q) row_is ∙ named));
 }
 
 -- ---- marks
@@ -75,7 +75,8 @@ empty_are_places count places empty =
     let Are : List ℕ → Type 0 = λ list. AreNumbers count list in
     subst Are (sym empty) (numbers_empty count)
 
-pub forced_in_all : (index : IndexView) (start between after : List ℕ) → start ≡ [] → KeepsForced index start between → KeepsForced index between after → IsInAll index (members_of after)
+pub forced_in_all : (index : IndexView) (start between after : List ℕ) → start ≡ [] → KeepsForced index start between → KeepsForced index between after
+    → (set : NumberSet) → IsHealthy index set → IsWithin (members_of after) set
 forced_in_all index start between after empty first second set healthy =
     second.forced set healthy (first.forced set healthy (λ q is_in. absurd (false≢true (sym (ap (λ list. members_of list q) empty) ∙ is_in))))
 
@@ -95,7 +96,8 @@ module _ (index : IndexView) (p : ℕ) (forced row empty extended started : List
     pub first_start : members_of after p ≡ true
     first_start = grows_keeps (length index.packages) started after keeps.grows p (ap (λ list. members_of list p) started_is ∙ with_number_has extended p)
 
-    pub first_forced : IsInAll index (members_of forced) → ((q : ℕ) → members_of extended q ≡ true → (members_of empty q ≡ true) ⊎ (members_of row q ≡ true))
+    pub first_forced : ((set : NumberSet) → IsHealthy index set → IsWithin (members_of forced) set)
+        → ((q : ℕ) → members_of extended q ≡ true → (members_of empty q ≡ true) ⊎ (members_of row q ≡ true))
         → (set : NumberSet) → IsInstallation index p set → IsWithin (members_of after) set
     first_forced in_all only set installed =
         keeps.forced set installed.0 (λ q is_in.

@@ -7,24 +7,30 @@ use Rattle.deb_index.specs.Packages.{IndexView, package_at, places_of, needs_at,
 use Rattle.deb_index.specs.Constraints.{Holds, IsOfIndex, constraints_of}
 use Rattle.deb_index.proofs.ConstraintLemmas.{constraints-within}
 use Rattle.deb_index.proofs.PositionLemmas.{one_position}
-use Rattle.number_sets.specs.Sets.{NumberSet, members_of, IsWithin}
+use Rattle.number_sets.specs.Sets.{NumberSet, all_of, members_of, IsWithin}
 use Rattle.number_sets.specs.SparseSets.{with_number}
 use Rattle.number_sets.proofs.MembersLemmas.{members_of_push}
 use Rattle.number_sets.proofs.Placing.{grows_keeps, grows_with, with_number_has, with_number_only}
 use Rattle.core_extract.specs.Reduction.{left}
 use Rattle.deb_health.specs.Causes.{either, without}
 use Rattle.deb_health.specs.Health.{AdmitsNone, MeetsAt, admits_none_upward}
-use Rattle.deb_health.proofs.CoreLemmas.{without_has, without_left, without_within}
+use Rattle.deb_health.proofs.CoreLemmas.{without_has, without_left}
 use Rattle.deb_encode.proofs.IndexFacts.{All-at}
 use Rattle.deb_verdict.specs.declared.base_set.BaseSet.{BaseSet}
 use Rattle.deb_verdict.specs.declared.part.Part.{Part}
 use Rattle.deb_verdict.specs.BaseSets.{HasHits, HasRoom, IsBase}
-use Rattle.deb_verdict.specs.Needed.{all_but, all_in_but, AreNeeded, AreNeededIn, IsWay, LacksOne}
+use Rattle.deb_verdict.specs.Needed.{AreNeeded, IsWay}
 use Rattle.deb_verdict.specs.Parts.{positions_in, MeetsAsked, MeetsAskedOf, StandsOnce}
 use Rattle.deb_verdict.proofs.BaseLemmas.{stays, turned}
 use Rattle.deb_verdict.proofs.WitnessLemmas.{only_held}
 
 -- ---- a set that lacks one need
+
+-- the set meets what the part asks of the package at a place, but one need
+pub record LacksOne (part : Part) (set : NumberSet) (place number : ℕ) : Type 0 where
+  pub needs : (j : ℕ) → j < length (needs_at part.index.now place) → (j ≡ number → ⊥) → MeetsAsked part set (Need place j)
+  pub aparts : (j : ℕ) → j < length (aparts_at part.index.now place) → MeetsAsked part set (Apart place j)
+  pub once : StandsOnce part set place
 
 module _ (part : Part) (set : NumberSet) (place number : ℕ) (lacks : LacksOne part set place number)
     (each : (q : ℕ) → set q ≡ true → (q ≡ place → ⊥) → MeetsAskedOf part set q) where
@@ -53,7 +59,7 @@ module _ (part : Part) (set : NumberSet) (place number : ℕ) (lacks : LacksOne 
       ]
 
   pub held_but : (u : ℕ) → slice_get (constraints_of part.index.now) u ≡ Some (Need place number) → ((n : ℕ) → MeetsAsked part set (Essential n))
-      → MeetsAt part.index.now set (all_in_but u part)
+      → MeetsAt part.index.now set (λ k. positions_in part k && not (eqb k u))
   held_but u stands essentials k constraint has there = by constraint there (All-at (IsOfIndex part.index.now) (constraints_of part.index.now) k constraint (constraints-within part.index.now) there)
     where
       asked : positions_in part k ≡ true
@@ -80,7 +86,7 @@ module _ (part : Part) (p : ℕ) (base : BaseSet) where
   -- the set that a way makes lacks its last need alone, which is needed
   pub needed_at : (way : BaseSet) (place number u : ℕ) → IsBase part.index.now base → IsWay part p base way place
       → LacksOne part (either (members_of base.members) (members_of way.members)) place number
-      → slice_get (constraints_of part.index.now) u ≡ Some (Need place number) → AdmitsNone part.index.now p (all_in_but u part) → ⊥
+      → slice_get (constraints_of part.index.now) u ≡ Some (Need place number) → AdmitsNone part.index.now p (λ k. positions_in part k && not (eqb k u)) → ⊥
   needed_at way place number u is_base is_way lacks stands none =
       let set : NumberSet = either (members_of base.members) (members_of way.members) in
       none (
@@ -214,10 +220,10 @@ module _ (part : Part) (p : ℕ) (base : BaseSet) where
 -- ---- what needed positions say of parts
 
 -- one position more
-pub needed_pushed : (part : Part) (p : ℕ) (before after : List ℕ) (u : ℕ) → after ≡ before ++ u ∷ [] → AreNeededIn part p before
-    → (AdmitsNone part.index.now p (all_in_but u part) → ⊥) → AreNeededIn part p after
+pub needed_pushed : (part : Part) (p : ℕ) (before after : List ℕ) (u : ℕ) → after ≡ before ++ u ∷ [] → AreNeeded part.index.now p (positions_in part) before
+    → (AdmitsNone part.index.now p (λ k. positions_in part k && not (eqb k u)) → ⊥) → AreNeeded part.index.now p (positions_in part) after
 needed_pushed part p before after u pushed so_far here v is_in =
-    let Needed : ℕ → Type 0 = λ k. AdmitsNone part.index.now p (all_in_but k part) → ⊥ in
+    let Needed : ℕ → Type 0 = λ v. AdmitsNone part.index.now p (λ k. positions_in part k && not (eqb k v)) → ⊥ in
     elim (or_cases (members_of before v) (eqb u v || false) (sym (ap (λ list. members_of list v) pushed ∙ members_of_push before u v) ∙ is_in)) [
       | inl old ↦ so_far v old
       | inr new ↦ elim (or_cases (eqb u v) false new) [
@@ -229,27 +235,27 @@ needed_pushed part p before after u pushed so_far here v is_in =
 -- of all that isn't out
 pub needed_of_all : (index : IndexView) (p : ℕ) (out kept : NumberSet) (found needed : List ℕ)
     → ((u : ℕ) → members_of found u ≡ true → AdmitsNone index p (λ k. without out (left kept 0) k && not (eqb k u)) → ⊥)
-    → ((k : ℕ) → members_of needed k ≡ members_of found k) → AreNeeded index p out needed
+    → ((k : ℕ) → members_of needed k ≡ members_of found k) → AreNeeded index p (without out all_of) needed
 needed_of_all index p out kept found needed are same u is_in none =
     are u (sym (same u) ∙ is_in)
-    (admits_none_upward index p (without out (all_but u)) (λ k. without out (left kept 0) k && not (eqb k u))
-    (λ k is_left.
+    (admits_none_upward index p (λ k. without out all_of k && not (eqb k u)) (λ k. without out (left kept 0) k && not (eqb k u))
+    (λ k both.
+    let parts = and_parts (without out all_of k) (not (eqb k u)) both in
     and_from (without out (left kept 0) k) (not (eqb k u))
-    (without_has out (left kept 0) k (or_right (kept k) (leb 0 k) (le-leb 0 k (omega arith))) (without_left out (all_but u) k is_left))
-    (without_within out (all_but u) k is_left))
+    (without_has out (left kept 0) k (or_right (kept k) (leb 0 k) (le-leb 0 k (omega arith))) (without_left out all_of k parts.0)) parts.1)
     none)
 
 -- what lacks one admits a set
-pub lacking_admits : (index : IndexView) (p : ℕ) (out positions : NumberSet) (needed : List ℕ) → AreNeeded index p out needed
+pub lacking_admits : (index : IndexView) (p : ℕ) (out positions : NumberSet) (needed : List ℕ) → AreNeeded index p (without out all_of) needed
     → (u : ℕ) × (members_of needed u ≡ true) × (without out positions u ≡ false) → AdmitsNone index p (without out positions) → ⊥
 lacking_admits index p out positions needed are lacks none =
     let u : ℕ = lacks.0 in
     are u lacks.1
-    (admits_none_upward index p (without out positions) (without out (all_but u))
+    (admits_none_upward index p (without out positions) (λ k. without out all_of k && not (eqb k u))
     (λ k has.
     let other : eqb k u ≡ false = elim (cases_Bool (eqb k u)) [
       | inl same ↦ absurd (both_ways (without out positions u) lacks.2 (sym (ap (without out positions) (eqb-true k u same)) ∙ has))
       | inr apart ↦ apart
     ] in
-    without_has out (all_but u) k (ap not other) (without_left out positions k has))
+    and_from (without out all_of k) (not (eqb k u)) (without_has out all_of k refl (without_left out positions k has)) (ap not other))
     none)

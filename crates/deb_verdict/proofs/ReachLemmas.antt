@@ -14,12 +14,16 @@ use Rattle.deb_index.specs.Constraints.{has_name, answers}
 use Rattle.deb_index.proofs.MemberLemmas.{below-places_where, member-places_where}
 use Rattle.number_sets.specs.Sets.{NumberSet, members_of, IsWithin, all_below}
 use Rattle.deb_verdict.specs.Closure.{IsClosed, IsClosure}
-use Rattle.deb_verdict.specs.Reach.{Joins, meeting_any}
+use Rattle.deb_verdict.specs.Reach.{Joins}
 use Rattle.number_sets.proofs.ListMembers.{take_whole, below_members}
 use Rattle.deb_encode.proofs.IndexFacts.{member_named, named_is_place, answers_is_place}
 use Rattle.deb_verdict.proofs.JoinLemmas.{joins_as, joins_both, joins_keep, joins_more}
 use Rattle.number_sets.proofs.SparseSetLemmas.{few_below}
 use Rattle.deb_verdict.proofs.Reaching.{IsReaching, IsVisit, visit_reaches, reached}
+
+-- the places that meet an alternative of one of the groups, as a need
+abbrev pub meeting_any : IndexView → List (List AtomText) → NumberSet
+meeting_any index groups q = list_any (λ group. list_any (meets_need_at index q) group) groups
 
 -- ---- what comes in
 

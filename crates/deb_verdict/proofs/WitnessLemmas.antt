@@ -1,7 +1,8 @@
 -- Sets that are seen to meet a part of the constraints.
-use Rattle.std.proofs.Common.{◌≡◌, ℕ, ◌<◌, ◌≤◌, Bool, true, false, not, ◌&&◌, ltb, eqb, List, length, get_or, Some, slice_get, sym, subst, ◌∙◌, ap, inl, inr, arith}
+use Rattle.std.proofs.Common.{◌≡◌, ℕ, ◌<◌, ◌≤◌, Bool, true, false, not, List, length, get_or, Option, Some, None, slice_get, sym, subst, ◌∙◌, ap, arith}
+use Rattle.std.specs.Prelude.{is_some, IfNone}
 use Rattle.std.specs.List.{list_any}
-use Rattle.std.proofs.lemmas.Bool.{cases_Bool, false≢true, and_from, both_ways, lt-ltb, eqb-true}
+use Rattle.std.proofs.lemmas.Bool.{false≢true}
 use Rattle.deb_index.specs.declared.constraint.Constraint.{Constraint}
 use Rattle.deb_index.specs.declared.constraint.Constraint.TheVariants.{Essential, Need, Apart, Only}
 use Rattle.deb_index.specs.Packages.{IndexView, package_at, names, name_at, places_of, essential_names, apart_at}
@@ -14,10 +15,19 @@ use Rattle.deb_health.specs.Health.{MeetsAt}
 use Rattle.deb_verdict.specs.Parts.{HasNoEarlier}
 use Rattle.deb_verdict.specs.declared.part.Part.{Part}
 use Rattle.deb_verdict.specs.Parts.{positions_in, IsAsked, MeetsAsked, MeetsAskedOf, StandsOnce}
-use Rattle.number_sets.proofs.ListMembers.{members_of_at, any_member, member_any, contains_member}
+use Rattle.number_sets.proofs.ListMembers.{members_of_at, any_member, contains_member}
 use Rattle.deb_verdict.proofs.Healthy.{only_says, name_is}
 use Rattle.deb_encode.proofs.IndexFacts.{All-at, IsRight, all_right, member_named, member_satisfiers}
 use Rattle.deb_verdict.proofs.Names.{one_number}
+
+-- what is said where nothing was found, and nothing was
+pub if_none : (P : Type 0) (found : Option ℕ) (none : Bool) → is_some found ≡ not none → none ≡ true → IfNone found P → P
+if_none P None none said holds it = it
+if_none P (Some q) none said holds it = absurd (false≢true (sym (said ∙ ap not holds)))
+
+pub none_then : (P Q : Type 0) (found : Option ℕ) → (P → Q) → IfNone found P → IfNone found Q
+none_then P Q None then it = then it
+none_then P Q (Some q) then it = it
 
 -- what each number of a list has, up to its end, each member has
 pub of_members : (P : ℕ → Type 0) (xs : List ℕ) (count : ℕ) → length xs ≤ count → ((k : ℕ) → k < count → P (get_or xs k 0)) → (q : ℕ) → members_of xs q ≡ true → P q
@@ -33,20 +43,9 @@ module _ (index : IndexView) (set : NumberSet) where
       let at = any_member set row holds in
       (at.0, at.1, sym (member_named index number at.0) ∙ (sym (ap (λ list. members_of list at.0) row_is) ∙ at.2))
 
-  pub apart_held : (place j : ℕ) (row : List ℕ) → row ≡ satisfiers index (apart_at index place j) → list_any (λ other. not (eqb other place) && set other) row ≡ false → Holds index set (Apart place j)
-  apart_held place j row row_is none has q is_in hit =
-      let listed : members_of row q ≡ true = ap (λ list. members_of list q) row_is ∙ (member_satisfiers index (apart_at index place j) q ∙ hit) in
-      elim (cases_Bool (eqb q place)) [
-        | inl same ↦ eqb-true q place same
-        | inr other ↦
-            absurd (both_ways (list_any (λ other. not (eqb other place) && set other) row) none
-            (member_any (λ other. not (eqb other place) && set other) row q (and_from (not (eqb q place)) (set q) (ap not other) is_in) listed))
-      ]
-
-  pub earlier_held : (place : ℕ) (row : List ℕ) → row ≡ places_of index (package_at index place).name → list_any (λ other. ltb other place && set other) row ≡ false → HasNoEarlier index set place
-  earlier_held place row row_is none has q less is_version is_in =
-      both_ways (list_any (λ other. ltb other place && set other) row) none
-      (member_any (λ other. ltb other place && set other) row q (and_from (ltb q place) (set q) (lt-ltb q place less) is_in) (ap (λ list. members_of list q) row_is ∙ is_version))
+  pub apart_held : (place j : ℕ) (row : List ℕ) → row ≡ satisfiers index (apart_at index place j) → ((q : ℕ) → members_of row q ≡ true → set q ≡ true → q ≡ place) → Holds index set (Apart place j)
+  apart_held place j row row_is only has q is_in hit =
+      only q (ap (λ list. members_of list q) row_is ∙ (member_satisfiers index (apart_at index place j) q ∙ hit)) is_in
 
 -- ---- what is asked of it
 

@@ -8,20 +8,16 @@ use Rattle.deb_verdict.specs.Groundwork.{HasAnswers}
 use Rattle.deb_verdict.specs.Parts.{HasNoEarlier}
 use Rattle.deb_verdict.specs.declared.base_set.BaseSet.{BaseSet}
 
--- the set has what the package at a place asks for, and no earlier package of its name
-pub record StandsIn (index : IndexView) (set : NumberSet) (place : ℕ) : Type 0 where
-  pub needs : HasAnswers index set place
-  pub aparts : (j : ℕ) → j < length (aparts_at index place) → Holds index set (Apart place j)
-  pub once : HasNoEarlier index set place
-
 -- the set has all places that an entry of the package at a place hits
 abbrev pub HasHits : IndexView → NumberSet → ℕ → Type 0
 HasHits index set place = (j q : ℕ) → j < length (aparts_at index place) → hits index place j q ≡ true → set q ≡ true
 
--- each member stands in the set, and what an entry of one hits is told
+-- the set has what each member asks for, and no earlier package of its name, and what an entry of one hits is told
 pub record IsBase (index : IndexView) (base : BaseSet) : Type 0 where
   pub within : All (λ place. place < length index.packages) base.members
-  pub stand : (place : ℕ) → members_of base.members place ≡ true → StandsIn index (members_of base.members) place
+  pub needs : (place : ℕ) → members_of base.members place ≡ true → HasAnswers index (members_of base.members) place
+  pub aparts : (place j : ℕ) → members_of base.members place ≡ true → j < length (aparts_at index place) → Holds index (members_of base.members) (Apart place j)
+  pub once : (place : ℕ) → members_of base.members place ≡ true → HasNoEarlier index (members_of base.members) place
   pub hit : (place : ℕ) → members_of base.members place ≡ true → HasHits index (members_of base.hit) place
 
 -- no entry of a member hits the place, and no member has its name

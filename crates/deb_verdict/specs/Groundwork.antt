@@ -7,10 +7,6 @@ use Rattle.number_sets.specs.Sets.{NumberSet, members_of, IsWithin}
 use Rattle.number_sets.specs.SparseSets.{Grows}
 use Rattle.deb_health.specs.Health.{IsHealthy}
 
--- each healthy set has these places
-abbrev pub IsInAll : IndexView → NumberSet → Type 0
-IsInAll index forced = (set : NumberSet) → IsHealthy index set → IsWithin forced set
-
 -- places came to the list; each healthy set that has what it had has all that it has now
 pub record KeepsForced (index : IndexView) (before after : List ℕ) : Type 0 where
   pub grows : Grows (length index.packages) before after

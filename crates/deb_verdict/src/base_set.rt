@@ -1,17 +1,17 @@
 //! A large set of packages of an index, each with what it asks for: what a question looks for grows on it, and need not be found anew for each one.
 
-ghost use Rattle.std.specs.Prelude.{◌≡◌, [], ◌<◌, true, All, IfOk, OnOk, length};
-ghost use Rattle.number_sets.specs.Sets.{members_of, IsWithin};
+ghost use Rattle.std.specs.Prelude.{◌≡◌, [], ◌<◌, true, All, length};
+ghost use Rattle.number_sets.specs.Sets.{members_of};
 ghost use Rattle.deb_health.specs.Causes.{either};
-ghost use Rattle.deb_verdict.specs.BaseSets.{HasHits, HasRoom, IsBase, StandsIn};
+ghost use Rattle.deb_verdict.specs.BaseSets.{HasRoom, IsBase};
 
 use crate::answering::are_answered;
 use crate::check::has_no_earlier;
 use crate::installation::{Installation, weight_of_all};
-use crate::rows::{FEW, Places, has_any, stands_apart};
+use crate::rows::{Places, has_free_name, stands_apart, take_hits};
 use deb_index::Index;
 use number_sets::SparseSet;
-use std::alloc::{AllocError, Global};
+use std::alloc::Global;
 
 /// How often at most, in all, as much as the whole index comes to the set, or is taken out again.
 const TIMES: u64 = 2;
@@ -39,35 +39,6 @@ impl Places for OnBase<'_> {
     }
 }
 
-/// Whether a set has what the package at a place asks for, and no earlier one of its name. `false` where there is too much to look at.
-fn stands_in(index: &Index, set: &SparseSet, place: u32) -> bool
-    requires { place < length index.now.packages }
-    ensures { result ≡ true → StandsIn index.now (members_of set.now) place }
-{
-    if !are_answered(index, set, place) {
-        return false;
-    }
-    if !stands_apart(index, set, place) {
-        return false;
-    }
-    has_no_earlier(index, set, place)
-}
-
-/// Takes in what the entries of a package hit. `false` where that is too much for a row.
-pub(crate) fn take_hits(index: &Index, place: u32, hit: &mut SparseSet) -> Result<bool, AllocError>
-    requires { place < length index.now.packages }
-    ensures keeps { OnOk result (IsWithin (members_of hit.old) (members_of hit.new)) }
-    ensures has { IfOk result (λ all. all ≡ true → HasHits index.now (members_of hit.new) place) }
-{
-    for number in 0..index.apart_count(place) {
-        let Some(row) = index.hit_row(place, number) else {
-            return Ok(false);
-        };
-        hit.extend(row)?;
-    }
-    Ok(true)
-}
-
 impl BaseSet {
     /// No places, and no room yet.
     pub(crate) fn empty(alloc: Global) -> BaseSet
@@ -89,33 +60,33 @@ impl BaseSet {
     }
 
     /// These places, if each is seen to have what its package asks for among them; else none.
-    fn of(alloc: Global, index: &Index, members: SparseSet) -> Result<BaseSet, AllocError>
+    fn of(alloc: Global, index: &Index, members: SparseSet) -> BaseSet
         requires { All (λ place. place < length index.now.packages) members }
-        ensures { IfOk result (IsBase index.now) }
+        ensures { IsBase index.now result }
     {
         let mut hit = SparseSet::new(alloc);
         for place in members.as_slice() {
-            if !stands_in(index, &members, *place) || !take_hits(index, *place, &mut hit)? {
-                return Ok(BaseSet::empty(alloc));
+            if !are_answered(index, &members, *place)
+                || !stands_apart(index, &members, *place)
+                || !has_no_earlier(index, &members, *place)
+                || !take_hits(index, *place, &mut hit)
+            {
+                return BaseSet::empty(alloc);
             }
         }
-        Ok(BaseSet { members, hit })
+        BaseSet { members, hit }
     }
 
     /// A package of each essential name, if there can be, and of all others those that fit, each with what it asks for. What lacks a need is not
     /// tried.
-    pub(crate) fn find(
-        alloc: Global,
-        index: &Index,
-        hopeless: &SparseSet,
-    ) -> Result<BaseSet, AllocError>
-        ensures { IfOk result (IsBase index.now) }
+    pub(crate) fn find(alloc: Global, index: &Index, hopeless: &SparseSet) -> BaseSet
+        ensures { IsBase index.now result }
     {
         let spare = weight_of_all(index).saturating_mul(TIMES);
         let mut installation = Installation::new(alloc, spare);
-        installation.add_essentials(index, hopeless)?;
+        installation.add_essentials(index, hopeless);
         for place in 0..index.len() {
-            installation.add(index, hopeless, place)?;
+            installation.add(index, hopeless, place);
         }
         BaseSet::of(alloc, index, installation.members)
     }
@@ -129,7 +100,6 @@ impl BaseSet {
         if self.hit.contains(place) {
             return false;
         }
-        let versions = index.versions_of(place);
-        versions.len() <= FEW as usize && !has_any(&self.members, versions)
+        has_free_name(index, &self.members, place)
     }
 }

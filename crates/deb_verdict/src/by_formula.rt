@@ -19,7 +19,6 @@ use crate::reach::reach;
 use crate::workspace::Workspace;
 use deb_encode::{Play, encode_each};
 use deb_index::Index;
-use number_sets::SparseSet;
 use sat_solve::Formula;
 use std::alloc::{AllocError, Global};
 
@@ -35,15 +34,15 @@ fn describe(
     ensures tells { IfOk result (Tells index.now p) }
     ensures still { OnOk result (workspace.new.used ≡ workspace.old.used) }
 {
-    let nothing = SparseSet::new(alloc);
-    let mut positions = Vec::new(alloc);
+    workspace.nothing.clear();
     reach(alloc, index, p, &mut workspace.closure)?;
     workspace.closure.sort();
+    let mut positions = Vec::new(alloc);
     let members = workspace.closure.as_slice();
     list_positions(index, members, &mut positions)?;
     list_constraints(index, &positions, &mut workspace.constraints)?;
     let mut formula = Formula::new(alloc, count_of(index, members), positions.len() as u32)?;
-    let play = Play::new(index, &nothing, &workspace.closure, &[]);
+    let play = Play::new(index, &workspace.nothing.members, &workspace.closure, &[]);
     encode_each(
         &play,
         &workspace.constraints,

@@ -93,13 +93,6 @@ pub(crate) fn meets_aparts<P: Places>(part: &Part<'_>, set: &P, place: u32) -> b
     true
 }
 
-/// Whether the set has an earlier place of a row.
-fn has_earlier_in<P: Places>(set: &P, row: &[u32], place: u32) -> bool
-    ensures { result ≡ list_any (λ other. ltb other place && P.members set.now other) row.now }
-{
-    row.iter().any(|other| *other < place && set.has(*other))
-}
-
 /// Whether the set has no earlier package of the name of the one at a place. `false` where there are many of the name.
 pub(crate) fn has_no_earlier<P: Places>(index: &Index, set: &P, place: u32) -> bool
     requires { place < length index.now.packages }
@@ -109,7 +102,12 @@ pub(crate) fn has_no_earlier<P: Places>(index: &Index, set: &P, place: u32) -> b
     if row.len() > FEW as usize {
         return false;
     }
-    !has_earlier_in(set, row, place)
+    for other in row {
+        if *other < place && set.has(*other) {
+            return false;
+        }
+    }
+    true
 }
 
 /// Whether the set has no earlier package of the name of the one at a place, where the part asks that one alone is in.

@@ -5,17 +5,9 @@ ghost use Rattle.deb_index.specs.Packages.{needs_at};
 
 use crate::base_set::OnBase;
 use crate::part::Part;
-use crate::rows::{FEW, has_all, has_any};
+use crate::rows::{FEW, has_all, has_free_name};
 use deb_index::Index;
 use number_sets::SparseSet;
-
-/// Whether more than the base set has a package of the name of the one at a place. `false` where there are many of the name.
-fn has_version(index: &Index, set: &SparseSet, place: u32) -> bool
-    requires { place < length index.now.packages }
-{
-    let row = index.versions_of(place);
-    row.len() <= FEW as usize && has_any(set, row)
-}
 
 /// Whether nothing answers a need that the part asks for, or only what lacks a need itself.
 fn is_unanswerable(part: &Part<'_>, lacking: &SparseSet, place: u32, number: u32) -> bool
@@ -34,7 +26,7 @@ fn is_fit(part: &Part<'_>, set: &OnBase<'_>, lacking: &SparseSet, place: u32) ->
     requires { place < length part.now.index.now.packages }
 {
     let index = part.index;
-    if !set.base.has_room(index, place) || has_version(index, set.more, place) {
+    if !set.base.has_room(index, place) || !has_free_name(index, set.more, place) {
         return false;
     }
     for number in 0..index.need_count(place).min(FEW) {

@@ -1,6 +1,6 @@
 //! A refutation of a part of the constraints as a list of steps, and its check.
 
-ghost use Rattle.std.specs.Prelude.{◌≡◌, ◌≢◌, ℕ, ◌<◌, true, IfOk, IfSome, length};
+ghost use Rattle.std.specs.Prelude.{◌≡◌, ◌≢◌, ℕ, ◌<◌, true, IfSome, length};
 ghost use Rattle.number_sets.specs.Sets.{NumberSet, members_of};
 ghost use Rattle.deb_index.specs.Packages.{names, name_at, places_of, needs_at, aparts_at, need_at};
 ghost use Rattle.deb_index.specs.Meets.{group_satisfiers};
@@ -11,7 +11,6 @@ ghost use Rattle.deb_verdict.specs.Deriving.{row_of, Gives};
 use crate::part::Part;
 use deb_index::Index;
 use number_sets::SparseSet;
-use std::alloc::AllocError;
 
 /// A step of a refutation: a constraint, and the places that it is held against.
 #[derive(Clone, Copy)]
@@ -172,31 +171,38 @@ fn conclude(index: &Index, step: Step, forced: &SparseSet) -> Option<Conclusion>
 }
 
 /// Whether the steps, each with a constraint of the part, lead from the package at a place to a contradiction. `positions` then has their
-/// constraints; `forced` is a buffer.
+/// constraints; `forced` is a buffer. `false`, too, for want of memory.
 pub(crate) fn is_refutation(
     part: &Part<'_>,
     p: u32,
     steps: &[Step],
     forced: &mut SparseSet,
     positions: &mut Vec<u32>,
-) -> Result<bool, AllocError>
-    ensures { IfOk result (λ holds. holds ≡ true → IsRefutedBy positions.new.items part.now p) }
+) -> bool
+    ensures { result ≡ true → IsRefutedBy positions.new.items part.now p }
 {
     forced.clear();
-    forced.insert(p)?;
     positions.clear();
+    let Ok(()) = forced.insert(p) else {
+        return false;
+    };
     for step in steps {
         let Some(found) = conclude(part.index, *step, forced) else {
-            return Ok(false);
+            return false;
         };
         if !part.has(found.position) {
-            return Ok(false);
+            return false;
         }
-        positions.push(found.position)?;
-        match found.outcome {
-            Outcome::Forced(place) => forced.insert(place)?,
-            Outcome::Contradiction => return Ok(true),
-        }
+        let Ok(()) = positions.push(found.position) else {
+            return false;
+        };
+        let place = match found.outcome {
+            Outcome::Forced(place) => place,
+            Outcome::Contradiction => return true,
+        };
+        let Ok(()) = forced.insert(place) else {
+            return false;
+        };
     }
-    Ok(false)
+    false
 }

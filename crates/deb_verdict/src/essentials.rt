@@ -39,27 +39,6 @@ fn search_each(
     Ok(())
 }
 
-/// Puts in packages of an essential name that no healthy set has, where the base set has none of the name. So many are searched for at most, and
-/// answered is how many more may be.
-fn search_name(
-    alloc: Global,
-    groundwork: &Groundwork<'_>,
-    places: &[u32],
-    most: usize,
-    workspace: &mut Workspace,
-    hopeless: &mut SparseSet,
-) -> Result<usize, AllocError>
-    requires places { All (λ place. place < length groundwork.now.index.now.packages) places.now }
-    requires hopeless { AreHopeless groundwork.now.index.now (members_of hopeless.old) }
-    ensures { OnOk result (AreHopeless groundwork.now.index.now (members_of hopeless.new)) }
-{
-    if places.len() > most || has_any(&groundwork.base.members, places) {
-        return Ok(most);
-    }
-    search_each(alloc, groundwork, places, workspace, hopeless)?;
-    Ok(most - places.len())
-}
-
 /// Puts in packages of essential names that no healthy set has: those of the names that the base set lacks are searched for.
 fn search_names(
     alloc: Global,
@@ -74,7 +53,11 @@ fn search_names(
     let mut most = SEARCHES;
     for name in index.essential_names() {
         let places = index.places_named(*name);
-        most = search_name(alloc, groundwork, places, most, workspace, hopeless)?;
+        if places.len() > most || has_any(&groundwork.base.members, places) {
+            continue;
+        }
+        search_each(alloc, groundwork, places, workspace, hopeless)?;
+        most -= places.len();
     }
     Ok(())
 }

@@ -8,9 +8,9 @@ ghost use Rattle.deb_index.specs.Constraints.{hits};
 ghost use Rattle.number_sets.specs.Sets.{NumberSet, members_of, MarksOnly, IsWithin};
 ghost use Rattle.number_sets.specs.SparseSets.{AreNumbers};
 ghost use Rattle.deb_verdict.specs.BaseSets.{IsBase};
-ghost use Rattle.deb_verdict.specs.Groundwork.{IsInAll, HasAnswers};
+ghost use Rattle.deb_verdict.specs.Groundwork.{HasAnswers};
 ghost use Rattle.deb_encode.specs.Alone.{IsAlone};
-ghost use Rattle.deb_health.specs.Health.{IsHopeless, IsInstallation};
+ghost use Rattle.deb_health.specs.Health.{IsHealthy, IsHopeless, IsInstallation};
 ghost use Rattle.deb_verdict.specs.Hopeless.{AreHopeless};
 
 use crate::answering::are_answered;
@@ -40,7 +40,7 @@ pub struct Groundwork<'a> {
     /// Places that lack a need, or need without a choice what does, whatever essential names lack.
     pub(crate) lacking: SparseSet,
     ghost places: { AreNumbers (length index.now.packages) forced } by { Prim.hlevel props },
-    ghost in_all: { IsInAll index.now (members_of forced) },
+    ghost in_all: { (set : NumberSet) → IsHealthy index.now set → IsWithin (members_of forced) set },
     ghost in_none: { AreHopeless index.now (members_of hopeless) },
     ghost marks_met: { MarksOnly (HasAnswers index.now (members_of forced)) met.items },
     ghost marks_alone: { MarksOnly (IsAlone index.now) alone.items },
@@ -49,9 +49,13 @@ pub struct Groundwork<'a> {
 
 /// Whether a row has no place but one.
 fn has_only(row: &[u32], place: u32) -> bool
-    ensures { result ≡ list_all (λ other. other == place) row.now }
+    ensures { result ≡ true → list_all (λ other. other == place) row.now ≡ true }
 {
-    row.iter().all(|other| *other == place)
+    match row {
+        [] => true,
+        [only] => *only == place,
+        _ => false,
+    }
 }
 
 /// Whether an entry hits no place but its own. `false` where what it hits is too much for a row.
@@ -104,21 +108,12 @@ fn mark_alone(alloc: Global, index: &Index) -> Result<Vec<bool>, AllocError>
 /// Finds places that are in every healthy set.
 fn force_all(alloc: Global, index: &Index) -> Result<SparseSet, AllocError>
     ensures places { IfOk result (λ forced. AreNumbers (length index.now.packages) forced) }
-    ensures in_all { IfOk result (λ forced. IsInAll index.now (members_of forced)) }
+    ensures in_all { IfOk result (λ forced. (set : NumberSet) → IsHealthy index.now set → IsWithin (members_of forced) set) }
 {
     let mut forced = SparseSet::new(alloc);
     force_essential(index, &mut forced)?;
     force_from(index, &[], 0, &mut forced)?;
     Ok(forced)
-}
-
-/// Finds places that no healthy set has, since they lack a need.
-fn find_lacking_places(alloc: Global, index: &Index) -> Result<SparseSet, AllocError>
-    ensures { IfOk result (λ hopeless. AreHopeless index.now (members_of hopeless)) }
-{
-    let mut hopeless = SparseSet::new(alloc);
-    find_lacking(index, &mut hopeless)?;
-    Ok(hopeless)
 }
 
 /// Places that no healthy set has: these, or all places, where each package of some essential name is among these.
@@ -140,9 +135,10 @@ impl<'a> Groundwork<'a> {
         let alone = mark_alone(alloc, index)?;
         let forced = force_all(alloc, index)?;
         let met = mark_met(alloc, index, &forced)?;
-        let lacking = find_lacking_places(alloc, index)?;
+        let mut lacking = SparseSet::new(alloc);
+        find_lacking(index, &mut lacking)?;
         let hopeless = spread(alloc, index, &lacking)?;
-        let base = BaseSet::find(alloc, index, &lacking)?;
+        let base = BaseSet::find(alloc, index, &lacking);
         Ok(Groundwork {
             index,
             forced,

@@ -1,18 +1,18 @@
 //! A set of packages that grows on a base set without a search: each need takes what is in, or else one of its answers. No claim rests on
-//! how it grows.
+//! how it grows, so for want of memory it grows no further.
 
-ghost use Rattle.std.specs.Prelude.{◌<◌, All, OnOk, length};
+ghost use Rattle.std.specs.Prelude.{◌≡◌, ◌<◌, true, All, IfNone, length};
 ghost use Rattle.deb_index.specs.Packages.{needs_at};
-ghost use Rattle.number_sets.specs.SparseSets.{AreNumbers, Grows};
+ghost use Rattle.number_sets.specs.SparseSets.{AreNumbers, Grows, with_number};
 
 use crate::base_set::{BaseSet, OnBase};
 use crate::choice::choose;
 use crate::derivation::has_need;
 use crate::part::Part;
-use crate::rows::has_any;
+use crate::rows::{has_all, has_any};
 use deb_index::Index;
 use number_sets::SparseSet;
-use std::alloc::{AllocError, Global};
+use std::alloc::Global;
 
 /// What a place of a set came for: a need of an earlier place.
 #[derive(Clone, Copy)]
@@ -52,6 +52,16 @@ impl Witness {
         has_any(&base.members, row) || has_any(&self.set, row)
     }
 
+    /// Puts in a place.
+    fn take(&mut self, place: u32, cause: Option<Cause>) -> bool
+        ensures { result ≡ true → self.new.set ≡ with_number self.old.set place }
+    {
+        let Ok(()) = self.set.insert(place) else {
+            return false;
+        };
+        self.causes.push(cause).is_ok()
+    }
+
     /// Puts in a place of the row. `false` where it has none that may lead somewhere.
     fn take_one(
         &mut self,
@@ -60,21 +70,17 @@ impl Witness {
         lacking: &SparseSet,
         row: &[u32],
         cause: Option<Cause>,
-    ) -> Result<bool, AllocError>
+    ) -> bool
         requires { All (λ q. q < length part.now.index.now.packages) row.now }
-        ensures { OnOk result (Grows (length part.now.index.now.packages) self.old.set self.new.set) }
+        ensures { result ≡ true → Grows (length part.now.index.now.packages) self.old.set self.new.set }
     {
         let set = OnBase {
             base,
             more: &self.set,
         };
         match choose(part, &set, &self.unfit, lacking, row) {
-            Some(place) => {
-                self.set.insert(place)?;
-                self.causes.push(cause)?;
-                Ok(true)
-            }
-            None => Ok(false),
+            Some(place) => self.take(place, cause),
+            None => false,
         }
     }
 
@@ -86,21 +92,18 @@ impl Witness {
         lacking: &SparseSet,
         place: u32,
         number: u32,
-    ) -> Result<bool, AllocError>
+    ) -> bool
         requires place { place < length part.now.index.now.packages }
         requires number { number < length (needs_at part.now.index.now place) }
-        ensures { OnOk result (Grows (length part.now.index.now.packages) self.old.set self.new.set) }
+        ensures { result ≡ true → Grows (length part.now.index.now.packages) self.old.set self.new.set }
     {
-        let index = part.index;
-        let row = index.answer_row(place, number);
-        if row.is_some_and(|row| self.has_any(base, row))
-            || !part.has(index.need_position(place, number))
-        {
-            return Ok(true);
-        }
-        match row {
-            Some(row) => self.take_one(part, base, lacking, row, Some(Cause { place, number })),
-            None => Ok(false),
+        let position = part.index.need_position(place, number);
+        match part.index.answer_row(place, number) {
+            Some(row) if !self.has_any(base, row) && part.has(position) => {
+                self.take_one(part, base, lacking, row, Some(Cause { place, number }))
+            }
+            Some(_) => true,
+            None => !part.has(position),
         }
     }
 
@@ -111,26 +114,21 @@ impl Witness {
         base: &BaseSet,
         lacking: &SparseSet,
         place: u32,
-    ) -> Result<bool, AllocError>
+    ) -> bool
         requires { place < length part.now.index.now.packages }
-        ensures { OnOk result (Grows (length part.now.index.now.packages) self.old.set self.new.set) }
+        ensures { result ≡ true → Grows (length part.now.index.now.packages) self.old.set self.new.set }
     {
         for number in 0..part.index.need_count(place) {
-            if !self.take_answer(part, base, lacking, place, number)? {
-                return Ok(false);
+            if !self.take_answer(part, base, lacking, place, number) {
+                return false;
             }
         }
-        Ok(true)
+        true
     }
 
     /// Puts in a package of each essential name that the part asks for.
-    fn take_essentials(
-        &mut self,
-        part: &Part<'_>,
-        base: &BaseSet,
-        lacking: &SparseSet,
-    ) -> Result<bool, AllocError>
-        ensures { OnOk result (Grows (length part.now.index.now.packages) self.old.set self.new.set) }
+    fn take_essentials(&mut self, part: &Part<'_>, base: &BaseSet, lacking: &SparseSet) -> bool
+        ensures { result ≡ true → Grows (length part.now.index.now.packages) self.old.set self.new.set }
     {
         let index = part.index;
         // An essential name is a name, so its number fits 32 bits.
@@ -138,33 +136,28 @@ impl Witness {
         for (position, name) in index.essential_names().iter().enumerate() {
             let row = index.places_named(*name);
             if part.has(position as u32) && !self.has_any(base, row) {
-                if !self.take_one(part, base, lacking, row, None)? {
-                    return Ok(false);
+                if !self.take_one(part, base, lacking, row, None) {
+                    return false;
                 }
             }
         }
-        Ok(true)
+        true
     }
 
     /// Puts in what the places of the set need, as long as places come. Where a need isn't answered, the place that has it.
-    fn take_needs(
-        &mut self,
-        part: &Part<'_>,
-        base: &BaseSet,
-        lacking: &SparseSet,
-    ) -> Result<Option<u32>, AllocError>
+    fn take_needs(&mut self, part: &Part<'_>, base: &BaseSet, lacking: &SparseSet) -> Option<u32>
         requires { AreNumbers (length part.now.index.now.packages) self.old.set }
-        ensures { OnOk result (Grows (length part.now.index.now.packages) self.old.set self.new.set) }
+        ensures { IfNone result (Grows (length part.now.index.now.packages) self.old.set self.new.set) }
     {
         let mut visited = 0;
         while visited < self.set.as_slice().len() {
             let place = self.set.as_slice()[visited];
-            if !self.take_answers(part, base, lacking, place)? {
-                return Ok(Some(place));
+            if !self.take_answers(part, base, lacking, place) {
+                return Some(place);
             }
             visited += 1;
         }
-        Ok(None)
+        None
     }
 
     /// Makes a set of the package at a place and what the part asks for with it. Where something wasn't found, the place that needs it.
@@ -174,19 +167,16 @@ impl Witness {
         base: &BaseSet,
         lacking: &SparseSet,
         p: u32,
-    ) -> Result<Option<u32>, AllocError>
+    ) -> Option<u32>
         requires { p < length part.now.index.now.packages }
-        ensures { OnOk result (AreNumbers (length part.now.index.now.packages) self.new.set) }
+        ensures { IfNone result (AreNumbers (length part.now.index.now.packages) self.new.set) }
     {
         self.set.clear();
         self.causes.clear();
-        self.set.insert(p)?;
-        self.causes.push(None)?;
-        if !self.take_essentials(part, base, lacking)? {
-            return Ok(Some(p));
+        if !self.take(p, None) || !self.take_essentials(part, base, lacking) {
+            return Some(p);
         }
-        let amiss = self.take_needs(part, base, lacking)?;
-        Ok(amiss)
+        self.take_needs(part, base, lacking)
     }
 
     /// Whether what a place came for has another answer that may lead somewhere.
@@ -195,7 +185,7 @@ impl Witness {
             return false;
         }
         match index.answer_row(cause.place, cause.number) {
-            Some(row) => row.iter().any(|other| !self.unfit.contains(*other)),
+            Some(row) => !has_all(&self.unfit, row),
             None => false,
         }
     }
@@ -208,18 +198,20 @@ impl Witness {
 
     /// Rules out a place, and what it came for, as long as that has no other answer. `false` where all of the way to the first place is ruled
     /// out.
-    pub(crate) fn rule_out(&mut self, index: &Index, place: u32) -> Result<bool, AllocError> {
+    pub(crate) fn rule_out(&mut self, index: &Index, place: u32) -> bool {
         let mut place = place;
         for _ in 0..self.causes.len() {
-            self.unfit.insert(place)?;
+            if self.unfit.insert(place).is_err() {
+                return false;
+            }
             let Some(cause) = self.cause_of(place) else {
-                return Ok(false);
+                return false;
             };
             if self.has_another(index, cause) {
-                return Ok(true);
+                return true;
             }
             place = cause.place;
         }
-        Ok(false)
+        false
     }
 }

@@ -53,39 +53,17 @@ fn visit(index: &Index, place: u32, hopeless: &mut SparseSet) -> Result<(), Allo
     Ok(())
 }
 
-/// Visits all places in rising order.
-fn visit_rising(index: &Index, hopeless: &mut SparseSet) -> Result<(), AllocError>
-    requires { AreHopeless index.now (members_of hopeless.old) }
-    ensures { OnOk result (AreHopeless index.now (members_of hopeless.new)) }
-{
-    for place in 0..index.len() {
-        visit(index, place, hopeless)?;
-    }
-    Ok(())
-}
-
-/// Visits all places in falling order.
-fn visit_falling(index: &Index, hopeless: &mut SparseSet) -> Result<(), AllocError>
+/// Visits all places, in rising order or in falling order.
+fn visit_all(index: &Index, falling: bool, hopeless: &mut SparseSet) -> Result<(), AllocError>
     requires { AreHopeless index.now (members_of hopeless.old) }
     ensures { OnOk result (AreHopeless index.now (members_of hopeless.new)) }
 {
     let count = index.len();
-    for behind in 0..count {
-        visit(index, count - 1 - behind, hopeless)?;
+    for step in 0..count {
+        let place = if falling { count - 1 - step } else { step };
+        visit(index, place, hopeless)?;
     }
     Ok(())
-}
-
-/// Visits all places, in rising order and in falling order by turns.
-fn visit_all(index: &Index, pass: u32, hopeless: &mut SparseSet) -> Result<(), AllocError>
-    requires { AreHopeless index.now (members_of hopeless.old) }
-    ensures { OnOk result (AreHopeless index.now (members_of hopeless.new)) }
-{
-    if pass % 2 == 0 {
-        visit_rising(index, hopeless)
-    } else {
-        visit_falling(index, hopeless)
-    }
 }
 
 /// Finds places that no healthy set has since a need of theirs lacks an answer that some has, pass by pass, until none comes. After the last
@@ -96,7 +74,7 @@ pub(crate) fn find_lacking(index: &Index, hopeless: &mut SparseSet) -> Result<()
 {
     for pass in 0..PASSES {
         let known = hopeless.as_slice().len();
-        visit_all(index, pass, hopeless)?;
+        visit_all(index, pass % 2 == 1, hopeless)?;
         if hopeless.as_slice().len() == known {
             return Ok(());
         }
@@ -117,24 +95,16 @@ fn lacks_essential(index: &Index, hopeless: &SparseSet) -> bool
     false
 }
 
-/// Puts in all places, where each of them is hopeless.
-fn insert_all(index: &Index, hopeless: &mut SparseSet) -> Result<(), AllocError>
-    requires { (place : ℕ) → IsHopeless index.now place }
-    ensures { OnOk result (AreHopeless index.now (members_of hopeless.new)) }
-{
-    for place in 0..index.len() {
-        hopeless.insert(place)?;
-    }
-    Ok(())
-}
-
 /// Puts in all places where all packages of an essential name are hopeless.
 pub(crate) fn spread_by_essential(index: &Index, hopeless: &mut SparseSet) -> Result<(), AllocError>
     requires { AreHopeless index.now (members_of hopeless.old) }
     ensures { OnOk result (AreHopeless index.now (members_of hopeless.new)) }
 {
-    if lacks_essential(index, hopeless) {
-        insert_all(index, hopeless)?;
+    if !lacks_essential(index, hopeless) {
+        return Ok(());
+    }
+    for place in 0..index.len() {
+        hopeless.insert(place)?;
     }
     Ok(())
 }

@@ -1,7 +1,7 @@
 //! Places that some healthy set is seen to have: the base set and a few more for all, or three for one package, are found without a search, and each
 //! is looked up to be healthy.
 
-ghost use Rattle.std.specs.Prelude.{◌≡◌, ◌<◌, true, All, IfOk, OnOk, length};
+ghost use Rattle.std.specs.Prelude.{◌≡◌, ◌<◌, true, All, IfOk, length};
 ghost use Rattle.number_sets.specs.Sets.{members_of, MarksOnly};
 ghost use Rattle.deb_health.specs.Health.{IsHealthy, IsInstallable};
 
@@ -44,25 +44,25 @@ fn grow(
     start: u32,
     lead: Lead,
     installation: &mut Installation,
-) -> Result<bool, AllocError>
+) -> bool
     requires asked { All (λ place. place < length groundwork.now.index.now.packages) asked.now }
     requires start { start < length groundwork.now.index.now.packages }
     requires marks { length marks.now ≡ length groundwork.now.index.now.packages }
-    ensures { OnOk result (All (λ member. member < length groundwork.now.index.now.packages) installation.new.members) }
+    ensures { All (λ member. member < length groundwork.now.index.now.packages) installation.new.members }
 {
     installation.clear(lead);
-    if !installation.add(groundwork.index, &groundwork.hopeless, start)? {
-        return Ok(false);
+    if !installation.add(groundwork.index, &groundwork.hopeless, start) {
+        return false;
     }
-    if !installation.add_essentials(groundwork.index, &groundwork.hopeless)? {
-        return Ok(true);
+    if !installation.add_essentials(groundwork.index, &groundwork.hopeless) {
+        return true;
     }
     for place in asked {
         if !marks[*place as usize] {
-            installation.add(groundwork.index, &groundwork.hopeless, *place)?;
+            installation.add(groundwork.index, &groundwork.hopeless, *place);
         }
     }
-    Ok(true)
+    true
 }
 
 /// Marks the places of a set where it is seen to be healthy.
@@ -80,41 +80,6 @@ fn mark_healthy(index: &Index, set: &SparseSet, marks: &mut [bool])
     }
 }
 
-/// Makes a set with a package, and marks its places where it is seen to be healthy. `false` where the package doesn't fit by itself.
-fn mark_set(
-    groundwork: &Groundwork<'_>,
-    asked: &[u32],
-    start: u32,
-    lead: Lead,
-    installation: &mut Installation,
-    marks: &mut [bool],
-) -> Result<bool, AllocError>
-    requires asked { All (λ place. place < length groundwork.now.index.now.packages) asked.now }
-    requires start { start < length groundwork.now.index.now.packages }
-    requires count { length marks.old ≡ length groundwork.now.index.now.packages }
-    requires marks { MarksOnly (IsInstallable groundwork.now.index.now) marks.old }
-    ensures count { OnOk result (length marks.new ≡ length groundwork.now.index.now.packages) }
-    ensures marks { OnOk result (MarksOnly (IsInstallable groundwork.now.index.now) marks.new) }
-{
-    if !grow(groundwork, asked, marks, start, lead, installation)? {
-        return Ok(false);
-    }
-    mark_healthy(groundwork.index, &installation.members, marks);
-    Ok(true)
-}
-
-/// Marks for all places, none of them set.
-fn no_marks(alloc: Global, index: &Index) -> Result<Vec<bool>, AllocError>
-    ensures count { IfOk result (λ marks. length marks.items ≡ length index.now.packages) }
-    ensures marks { IfOk result (λ marks. MarksOnly (IsInstallable index.now) marks.items) }
-{
-    let mut marks = Vec::with_capacity(alloc, index.len() as usize)?;
-    for _ in 0..index.len() {
-        marks.push(false)?;
-    }
-    Ok(marks)
-}
-
 /// The lead of a large set, by how many were found before it.
 fn lead_of(sets: u32) -> Lead {
     if sets % 2 == 0 {
@@ -130,51 +95,33 @@ fn mark_sets(
     asked: &[u32],
     installation: &mut Installation,
     marks: &mut [bool],
-) -> Result<(), AllocError>
+)
     requires asked { All (λ place. place < length groundwork.now.index.now.packages) asked.now }
     requires count { length marks.old ≡ length groundwork.now.index.now.packages }
     requires marks { MarksOnly (IsInstallable groundwork.now.index.now) marks.old }
-    ensures count { OnOk result (length marks.new ≡ length groundwork.now.index.now.packages) }
-    ensures marks { OnOk result (MarksOnly (IsInstallable groundwork.now.index.now) marks.new) }
+    ensures count { length marks.new ≡ length groundwork.now.index.now.packages }
+    ensures marks { MarksOnly (IsInstallable groundwork.now.index.now) marks.new }
 {
     let mut sets = 0;
     for place in asked {
-        if sets < SETS
-            && !marks[*place as usize]
-            && mark_set(
-                groundwork,
-                asked,
-                *place,
-                lead_of(sets),
-                installation,
-                marks,
-            )?
-        {
+        if sets >= SETS {
+            return;
+        }
+        if marks[*place as usize] {
+            continue;
+        }
+        if grow(
+            groundwork,
+            asked,
+            marks,
+            *place,
+            lead_of(sets),
+            installation,
+        ) {
+            mark_healthy(groundwork.index, &installation.members, marks);
             sets += 1;
         }
     }
-    Ok(())
-}
-
-/// Marks places that are seen to be installable.
-fn mark_installable(
-    alloc: Global,
-    groundwork: &Groundwork<'_>,
-    asked: &[u32],
-    marks: &mut [bool],
-) -> Result<(), AllocError>
-    requires asked { All (λ place. place < length groundwork.now.index.now.packages) asked.now }
-    requires count { length marks.old ≡ length groundwork.now.index.now.packages }
-    requires marks { MarksOnly (IsInstallable groundwork.now.index.now) marks.old }
-    ensures count { OnOk result (length marks.new ≡ length groundwork.now.index.now.packages) }
-    ensures marks { OnOk result (MarksOnly (IsInstallable groundwork.now.index.now) marks.new) }
-{
-    mark_healthy(groundwork.index, &groundwork.base.members, marks);
-    let spare = weight_of_all(groundwork.index).saturating_mul(TIMES);
-    let mut installation = Installation::new(alloc, spare);
-    let marked = mark_sets(groundwork, asked, &mut installation, marks);
-    drop(installation);
-    marked
 }
 
 /// Marks, by place, packages of the groundwork's index that some healthy set is seen to have; others may be installable, too. The base set of the
@@ -193,8 +140,12 @@ pub fn find_installable(
     ensures marks { IfOk result (λ marks. MarksOnly (IsInstallable groundwork.now.index.now) marks.items) }
     ensures count { IfOk result (λ marks. length marks.items ≡ length groundwork.now.index.now.packages) }
 {
-    let mut marks = no_marks(alloc, groundwork.index)?;
-    mark_installable(alloc, groundwork, asked, &mut marks)?;
+    let index = groundwork.index;
+    let mut marks = vec![in alloc; false; index.len() as usize]?;
+    mark_healthy(index, &groundwork.base.members, &mut marks);
+    let mut installation = Installation::new(alloc, weight_of_all(index).saturating_mul(TIMES));
+    mark_sets(groundwork, asked, &mut installation, &mut marks);
+    drop(installation);
     Ok(marks)
 }
 
@@ -204,19 +155,19 @@ fn is_seen_in(
     p: u32,
     lead: Lead,
     installation: &mut Installation,
-) -> Result<bool, AllocError>
+) -> bool
     requires { p < length groundwork.now.index.now.packages }
-    ensures { IfOk result (λ seen. seen ≡ true → IsInstallable groundwork.now.index.now p) }
+    ensures { result ≡ true → IsInstallable groundwork.now.index.now p }
 {
     installation.clear(lead);
     installation.spare = SPARE_OF_ONE;
-    if !installation.add(groundwork.index, &groundwork.hopeless, p)?
-        || !installation.add_essentials(groundwork.index, &groundwork.hopeless)?
+    if !installation.add(groundwork.index, &groundwork.hopeless, p)
+        || !installation.add_essentials(groundwork.index, &groundwork.hopeless)
     {
-        return Ok(false);
+        return false;
     }
     let members = &installation.members;
-    Ok(members.contains(p) && is_healthy(groundwork.index, members))
+    members.contains(p) && is_healthy(groundwork.index, members)
 }
 
 /// Whether the package at a place is seen to be installable, without a search: three sets are grown for it, each by another lead.
@@ -224,14 +175,14 @@ pub(crate) fn is_seen_installable(
     groundwork: &Groundwork<'_>,
     p: u32,
     installation: &mut Installation,
-) -> Result<bool, AllocError>
+) -> bool
     requires { p < length groundwork.now.index.now.packages }
-    ensures { IfOk result (λ seen. seen ≡ true → IsInstallable groundwork.now.index.now p) }
+    ensures { result ≡ true → IsInstallable groundwork.now.index.now p }
 {
     for lead in [Lead::First, Lead::LastOfName, Lead::Last] {
-        if is_seen_in(groundwork, p, lead, installation)? {
-            return Ok(true);
+        if is_seen_in(groundwork, p, lead, installation) {
+            return true;
         }
     }
-    Ok(false)
+    false
 }

@@ -1,15 +1,15 @@
 //! A set of packages that grows: each need takes what is in, or else an answer that fits, tried in the order of a lead. No claim rests on how it
-//! grew.
+//! grew, so for want of memory it grows no further.
 
-ghost use Rattle.std.specs.Prelude.{◌≡◌, [], ◌<◌, All, OnOk, length, take};
-ghost use Rattle.deb_index.specs.Packages.{aparts_at, needs_at};
+ghost use Rattle.std.specs.Prelude.{◌≡◌, [], ◌<◌, All, length, take};
+ghost use Rattle.deb_index.specs.Packages.{needs_at};
 
 use crate::answering::{ALTERNATIVES, BEARERS, bearer, has_answer};
-use crate::rows::{FEW, has_any, stands_apart};
+use crate::rows::{has_any, has_free_name, stands_apart, take_hits};
 use deb_index::Index;
 use deb_relation::Atom;
 use number_sets::SparseSet;
-use std::alloc::{AllocError, Global};
+use std::alloc::Global;
 
 /// How often at most a package is tried in one set.
 const TRIES: u32 = 8;
@@ -68,14 +68,6 @@ pub(crate) fn weight_of_all(index: &Index) -> u64 {
     sum
 }
 
-/// Whether no member has the name of a package. `false` where very many packages have it.
-fn has_free_name(index: &Index, members: &SparseSet, place: u32) -> bool
-    requires { place < length index.now.packages }
-{
-    let versions = index.versions_of(place);
-    versions.len() <= FEW as usize && !has_any(members, versions)
-}
-
 /// Whether no later place has the name of the package at a place.
 fn is_last_of_name(index: &Index, place: u32) -> bool
     requires { place < length index.now.packages }
@@ -115,147 +107,120 @@ impl Installation {
     }
 
     /// Whether a package may come to the members.
-    fn fits(&mut self, index: &Index, hopeless: &SparseSet, place: u32) -> Result<bool, AllocError>
+    fn fits(&mut self, index: &Index, hopeless: &SparseSet, place: u32) -> bool
         requires { place < length index.now.packages }
-        ensures { OnOk result (self.new.members ≡ self.old.members) }
+        ensures { self.new.members ≡ self.old.members }
     {
         if self.barred.contains(place) || self.unfit.contains(place) || hopeless.contains(place) {
-            return Ok(false);
+            return false;
         }
         if has_free_name(index, &self.members, place) && stands_apart(index, &self.members, place) {
-            return Ok(true);
+            return true;
         }
-        self.unfit.insert(place)?;
-        Ok(false)
-    }
-
-    /// Bars what an entry of a package hits.
-    fn bar(&mut self, index: &Index, place: u32, number: u32) -> Result<(), AllocError>
-        requires place { place < length index.now.packages }
-        requires number { number < length (aparts_at index.now place) }
-        ensures { OnOk result (self.new.members ≡ self.old.members) }
-    {
-        let Some(row) = index.hit_row(place, number) else {
-            return Ok(());
-        };
-        for other in row {
-            if *other != place {
-                self.barred.insert(*other)?;
-            }
-        }
-        Ok(())
+        let _noted = self.unfit.insert(place);
+        false
     }
 
     /// Puts a package in.
-    fn insert(&mut self, index: &Index, place: u32) -> Result<(), AllocError>
+    fn insert(&mut self, index: &Index, place: u32)
         requires place { place < length index.now.packages }
         requires members { All (λ member. member < length index.now.packages) self.old.members }
-        ensures { OnOk result (All (λ member. member < length index.now.packages) self.new.members) }
+        ensures { All (λ member. member < length index.now.packages) self.new.members }
     {
         self.spare = self.spare.saturating_sub(weight(index, place));
-        self.members.insert(place)?;
-        for number in 0..index.apart_count(place) {
-            self.bar(index, place, number)?;
+        let _barred = take_hits(index, place, &mut self.barred);
+        let Ok(()) = self.members.insert(place) else {
+            self.members.clear();
+            self.spare = 0;
+            return;
+        };
+    }
+
+    /// Puts a package in, if it fits.
+    fn take(&mut self, index: &Index, hopeless: &SparseSet, place: u32) -> bool
+        requires place { place < length index.now.packages }
+        requires members { All (λ member. member < length index.now.packages) self.old.members }
+        ensures { All (λ member. member < length index.now.packages) self.new.members }
+    {
+        let fits = self.fits(index, hopeless, place);
+        if fits {
+            self.insert(index, place);
         }
-        Ok(())
+        fits
     }
 
     /// Puts in the first place of a row that fits and is the last one of its name. `false` where none is.
-    fn take_last_of_name(
-        &mut self,
-        index: &Index,
-        hopeless: &SparseSet,
-        row: &[u32],
-    ) -> Result<bool, AllocError>
+    fn take_last_of_name(&mut self, index: &Index, hopeless: &SparseSet, row: &[u32]) -> bool
         requires row { All (λ place. place < length index.now.packages) row.now }
         requires members { All (λ member. member < length index.now.packages) self.old.members }
-        ensures { OnOk result (All (λ member. member < length index.now.packages) self.new.members) }
+        ensures { All (λ member. member < length index.now.packages) self.new.members }
     {
         for place in row {
-            if is_last_of_name(index, *place) && self.fits(index, hopeless, *place)? {
-                self.insert(index, *place)?;
-                return Ok(true);
+            if is_last_of_name(index, *place) && self.take(index, hopeless, *place) {
+                return true;
             }
         }
-        Ok(false)
+        false
     }
 
     /// Puts in the place of a row that fits and is tried first, where none is in. `false` where none fits.
-    fn take_one(
-        &mut self,
-        index: &Index,
-        hopeless: &SparseSet,
-        row: &[u32],
-    ) -> Result<bool, AllocError>
+    fn take_one(&mut self, index: &Index, hopeless: &SparseSet, row: &[u32]) -> bool
         requires row { All (λ place. place < length index.now.packages) row.now }
         requires members { All (λ member. member < length index.now.packages) self.old.members }
-        ensures { OnOk result (All (λ member. member < length index.now.packages) self.new.members) }
+        ensures { All (λ member. member < length index.now.packages) self.new.members }
     {
         if has_any(&self.members, row) {
-            return Ok(true);
+            return true;
         }
         if let Lead::LastOfName = self.lead {
-            if self.take_last_of_name(index, hopeless, row)? {
-                return Ok(true);
+            if self.take_last_of_name(index, hopeless, row) {
+                return true;
             }
         }
         for tried in 0..row.len() {
             let place = row[self.lead.number(tried, row.len())];
-            if self.fits(index, hopeless, place)? {
-                self.insert(index, place)?;
-                return Ok(true);
+            if self.take(index, hopeless, place) {
+                return true;
             }
         }
-        Ok(false)
+        false
     }
 
     /// Puts in the first bearer of an alternative's name that meets it and fits. `false` where none of those that are looked at does.
-    fn take_bearer(
-        &mut self,
-        index: &Index,
-        hopeless: &SparseSet,
-        atom: &Atom,
-    ) -> Result<bool, AllocError>
+    fn take_bearer(&mut self, index: &Index, hopeless: &SparseSet, atom: &Atom) -> bool
         requires members { All (λ member. member < length index.now.packages) self.old.members }
-        ensures { OnOk result (All (λ member. member < length index.now.packages) self.new.members) }
+        ensures { All (λ member. member < length index.now.packages) self.new.members }
     {
         let named = index.places_of(atom.name.as_slice());
         let provided = index.provides_of(atom.name.as_slice());
         for number in 0..BEARERS {
             let Some(place) = bearer(named, provided, number) else {
-                return Ok(false);
+                return false;
             };
-            if index.meets_need(place, atom) && self.fits(index, hopeless, place)? {
-                self.insert(index, place)?;
-                return Ok(true);
+            if index.meets_need(place, atom) && self.take(index, hopeless, place) {
+                return true;
             }
         }
-        Ok(false)
+        false
     }
 
     /// Puts in a bearer of an alternative's name that answers a need, where none is in. `false` where none of those that are looked at fits.
-    fn take_any(
-        &mut self,
-        index: &Index,
-        hopeless: &SparseSet,
-        place: u32,
-        number: u32,
-    ) -> Result<bool, AllocError>
+    fn take_any(&mut self, index: &Index, hopeless: &SparseSet, place: u32, number: u32) -> bool
         requires place { place < length index.now.packages }
         requires number { number < length (needs_at index.now place) }
         requires members { All (λ member. member < length index.now.packages) self.old.members }
-        ensures { OnOk result (All (λ member. member < length index.now.packages) self.new.members) }
+        ensures { All (λ member. member < length index.now.packages) self.new.members }
     {
         if has_answer(index, &self.members, place, number) {
-            return Ok(true);
+            return true;
         }
         let alternatives = index.need(place, number);
         for tried in 0..alternatives.len().min(ALTERNATIVES) {
-            if self.take_bearer(index, hopeless, &alternatives[tried])? {
-                return Ok(true);
+            if self.take_bearer(index, hopeless, &alternatives[tried]) {
+                return true;
             }
         }
-        Ok(false)
+        false
     }
 
     /// Puts in an answer of a need that has `most` answers at most. `false` where none is seen to fit.
@@ -266,44 +231,38 @@ impl Installation {
         place: u32,
         number: u32,
         most: usize,
-    ) -> Result<bool, AllocError>
+    ) -> bool
         requires place { place < length index.now.packages }
         requires number { number < length (needs_at index.now place) }
         requires members { All (λ member. member < length index.now.packages) self.old.members }
-        ensures { OnOk result (All (λ member. member < length index.now.packages) self.new.members) }
+        ensures { All (λ member. member < length index.now.packages) self.new.members }
     {
         match index.answer_row(place, number) {
             Some(row) if row.len() <= most => self.take_one(index, hopeless, row),
             None if most == usize::MAX => self.take_any(index, hopeless, place, number),
-            _ => Ok(true),
+            _ => true,
         }
     }
 
     /// Puts in an answer of each need of a package that has `most` answers at most. `false` where none is seen to fit.
-    fn take_answers(
-        &mut self,
-        index: &Index,
-        hopeless: &SparseSet,
-        place: u32,
-        most: usize,
-    ) -> Result<bool, AllocError>
+    fn take_answers(&mut self, index: &Index, hopeless: &SparseSet, place: u32, most: usize) -> bool
         requires place { place < length index.now.packages }
         requires members { All (λ member. member < length index.now.packages) self.old.members }
-        ensures { OnOk result (All (λ member. member < length index.now.packages) self.new.members) }
+        ensures { All (λ member. member < length index.now.packages) self.new.members }
     {
         for number in 0..index.need_count(place) {
-            if !self.take_answer(index, hopeless, place, number, most)? {
-                return Ok(false);
+            if !self.take_answer(index, hopeless, place, number, most) {
+                return false;
             }
         }
-        Ok(true)
+        true
     }
 
     /// Goes through the needs of one member: first through those with one answer alone, of all members. A member with a need that nothing
     /// answers which fits doesn't fit itself.
-    fn step(&mut self, index: &Index, hopeless: &SparseSet) -> Result<bool, AllocError>
+    fn step(&mut self, index: &Index, hopeless: &SparseSet) -> bool
         requires members { All (λ member. member < length index.now.packages) self.old.members }
-        ensures { OnOk result (All (λ member. member < length index.now.packages) self.new.members) }
+        ensures { All (λ member. member < length index.now.packages) self.new.members }
     {
         let members = self.members.as_slice();
         let (place, most) = if self.forced < members.len() {
@@ -313,30 +272,30 @@ impl Installation {
             self.answered += 1;
             (members[self.answered - 1], usize::MAX)
         } else {
-            return Ok(true);
+            return true;
         };
-        let answered = self.take_answers(index, hopeless, place, most)?;
+        let answered = self.take_answers(index, hopeless, place, most);
         if !answered {
-            self.unfit.insert(place)?;
+            let _noted = self.unfit.insert(place);
         }
-        Ok(answered)
+        answered
     }
 
     /// Goes through the needs of all members, as long as members come. `false` where one isn't answered.
-    fn complete(&mut self, index: &Index, hopeless: &SparseSet) -> Result<bool, AllocError>
+    fn complete(&mut self, index: &Index, hopeless: &SparseSet) -> bool
         requires members { All (λ member. member < length index.now.packages) self.old.members }
-        ensures { OnOk result (All (λ member. member < length index.now.packages) self.new.members) }
+        ensures { All (λ member. member < length index.now.packages) self.new.members }
     {
         // Each member is gone through twice.
         for _ in 0..u64::from(index.len()) * 2 {
-            if !self.step(index, hopeless)? {
-                return Ok(false);
+            if !self.step(index, hopeless) {
+                return false;
             }
-            if self.answered == self.members.as_slice().len() {
-                return Ok(true);
+            if self.answered >= self.members.as_slice().len() {
+                return true;
             }
         }
-        Ok(false)
+        false
     }
 
     /// Takes out all members but the first ones.
@@ -350,88 +309,69 @@ impl Installation {
     }
 
     /// Puts a package in with what it needs, once. `false` where that isn't found: then the members are what they were.
-    fn try_once(
-        &mut self,
-        index: &Index,
-        hopeless: &SparseSet,
-        place: u32,
-    ) -> Result<bool, AllocError>
+    fn try_once(&mut self, index: &Index, hopeless: &SparseSet, place: u32) -> bool
         requires place { place < length index.now.packages }
         requires members { All (λ member. member < length index.now.packages) self.old.members }
-        ensures { OnOk result (All (λ member. member < length index.now.packages) self.new.members) }
+        ensures { All (λ member. member < length index.now.packages) self.new.members }
     {
         let members = self.members.as_slice().len();
         let barred = self.barred.as_slice().len();
-        self.insert(index, place)?;
-        if self.complete(index, hopeless)? {
-            return Ok(true);
+        self.insert(index, place);
+        if self.complete(index, hopeless) {
+            return true;
         }
         self.take_back(members, barred);
-        Ok(false)
+        false
     }
 
     /// Puts a package in with what it needs. `false` where that isn't found: then the members are what they were.
     ///
     /// Each try that fails shows a package that doesn't fit, and the next one goes without it.
-    pub(crate) fn add(
-        &mut self,
-        index: &Index,
-        hopeless: &SparseSet,
-        place: u32,
-    ) -> Result<bool, AllocError>
+    pub(crate) fn add(&mut self, index: &Index, hopeless: &SparseSet, place: u32) -> bool
         requires place { place < length index.now.packages }
         requires members { All (λ member. member < length index.now.packages) self.old.members }
-        ensures { OnOk result (All (λ member. member < length index.now.packages) self.new.members) }
+        ensures { All (λ member. member < length index.now.packages) self.new.members }
     {
         if self.members.contains(place) {
-            return Ok(true);
+            return true;
         }
         for _ in 0..TRIES {
-            if self.spare == 0 || !self.fits(index, hopeless, place)? {
-                return Ok(false);
+            if self.spare == 0 || !self.fits(index, hopeless, place) {
+                return false;
             }
-            if self.try_once(index, hopeless, place)? {
-                return Ok(true);
+            if self.try_once(index, hopeless, place) {
+                return true;
             }
         }
-        self.unfit.insert(place)?;
-        Ok(false)
+        let _noted = self.unfit.insert(place);
+        false
     }
 
     /// Puts in the first of these packages that can be, with what it needs.
-    fn add_one(
-        &mut self,
-        index: &Index,
-        hopeless: &SparseSet,
-        row: &[u32],
-    ) -> Result<bool, AllocError>
+    fn add_one(&mut self, index: &Index, hopeless: &SparseSet, row: &[u32]) -> bool
         requires row { All (λ place. place < length index.now.packages) row.now }
         requires members { All (λ member. member < length index.now.packages) self.old.members }
-        ensures { OnOk result (All (λ member. member < length index.now.packages) self.new.members) }
+        ensures { All (λ member. member < length index.now.packages) self.new.members }
     {
         for place in row {
-            if self.add(index, hopeless, *place)? {
-                return Ok(true);
+            if self.add(index, hopeless, *place) {
+                return true;
             }
         }
-        Ok(false)
+        false
     }
 
     /// Puts in a package of each essential name, with what it needs. `false` where that isn't found.
-    pub(crate) fn add_essentials(
-        &mut self,
-        index: &Index,
-        hopeless: &SparseSet,
-    ) -> Result<bool, AllocError>
+    pub(crate) fn add_essentials(&mut self, index: &Index, hopeless: &SparseSet) -> bool
         requires members { All (λ member. member < length index.now.packages) self.old.members }
-        ensures { OnOk result (All (λ member. member < length index.now.packages) self.new.members) }
+        ensures { All (λ member. member < length index.now.packages) self.new.members }
     {
         for name in index.essential_names() {
             let row = index.places_named(*name);
-            if !has_any(&self.members, row) && !self.add_one(index, hopeless, row)? {
-                return Ok(false);
+            if !has_any(&self.members, row) && !self.add_one(index, hopeless, row) {
+                return false;
             }
         }
-        Ok(true)
+        true
     }
 }

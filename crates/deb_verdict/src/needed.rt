@@ -7,18 +7,18 @@ ghost use Rattle.std.specs.Prelude.{◌≡◌, ◌≢◌, ℕ, ◌<◌, true, If
 ghost use Rattle.std.specs.List.Sorted.{IsStrictlyIncreasing};
 ghost use Rattle.deb_index.specs.declared.constraint.Constraint.TheVariants.{Need};
 ghost use Rattle.deb_index.specs.Packages.{needs_at};
-ghost use Rattle.number_sets.specs.Sets.{members_of};
-ghost use Rattle.deb_health.specs.Causes.{either};
+ghost use Rattle.number_sets.specs.Sets.{all_of, members_of};
+ghost use Rattle.deb_health.specs.Causes.{either, without};
 ghost use Rattle.deb_verdict.specs.BaseSets.{IsBase};
-ghost use Rattle.deb_verdict.specs.Needed.{AreNeeded, AreNeededIn, IsWay, LacksOne};
-ghost use Rattle.deb_verdict.specs.Parts.{MeetsAsked};
+ghost use Rattle.deb_verdict.specs.Needed.{AreNeeded, IsWay};
+ghost use Rattle.deb_verdict.specs.Parts.{positions_in, MeetsAsked};
 
-use crate::base_set::{BaseSet, OnBase, take_hits};
+use crate::base_set::{BaseSet, OnBase};
 use crate::check::{meets_aparts, meets_essentials, meets_need, meets_place, stands_once};
 use crate::derivation::{Outcome, need_outcome};
 use crate::groundwork::Groundwork;
 use crate::part::Part;
-use crate::rows::Places;
+use crate::rows::{Places, take_hits};
 use number_sets::sort_once;
 use std::alloc::{AllocError, Global};
 
@@ -41,66 +41,59 @@ fn only_open<P: Places>(part: &Part<'_>, set: &P, place: u32) -> Option<u32>
     open
 }
 
-/// The one need that a place lacks in a set, where the part asks for it and all else that it asks of the place is met.
-fn lacking_need<P: Places>(part: &Part<'_>, set: &P, place: u32) -> Option<u32>
-    requires { place < length part.now.index.now.packages }
-    ensures { IfSome result (λ number. (number < length (needs_at part.now.index.now place)) × LacksOne part.now (P.members set.now) place number) }
-{
-    let number = only_open(part, set, place)?;
-    if !meets_aparts(part, set, place) || !stands_once(part, set, place) {
-        return None;
-    }
-    Some(number)
-}
-
-/// Begins a way at a place. `false` where the base set has no room for it, or lacks an essential name.
-fn begin(part: &Part<'_>, base: &BaseSet, way: &mut BaseSet, p: u32) -> Result<bool, AllocError>
+/// Begins a way at a place. `false` where the base set has no room for it, or lacks an essential name, and for want of memory.
+fn begin(part: &Part<'_>, base: &BaseSet, way: &mut BaseSet, p: u32) -> bool
     requires { p < length part.now.index.now.packages }
-    ensures { IfOk result (λ begun. begun ≡ true → IsWay part.now p base.now way.new p) }
+    ensures { result ≡ true → IsWay part.now p base.now way.new p }
 {
     way.clear();
-    way.members.insert(p)?;
+    let Ok(()) = way.members.insert(p) else {
+        return false;
+    };
     if !base.has_room(part.index, p) {
-        return Ok(false);
+        return false;
     }
     let set = OnBase {
         base,
         more: &way.members,
     };
-    Ok(meets_essentials(part, &set))
+    meets_essentials(part, &set)
 }
 
-/// Puts the one answer of a need of the last place behind it. `None` where there are others, or where it is in the way of an earlier place.
+/// Puts the one answer of a need of the last place behind it. `None` where there are others, or where it is in the way of an earlier place, and
+/// for want of memory.
 fn follow(
     part: &Part<'_>,
     base: &BaseSet,
     way: &mut BaseSet,
     place: u32,
     number: u32,
-) -> Result<Option<u32>, AllocError>
+) -> Option<u32>
     requires place { place < length part.now.index.now.packages }
     requires number { number < length (needs_at part.now.index.now place) }
-    ensures { IfOk result (λ found. IfSome found (λ next. (p : ℕ) → IsWay part.now p base.now way.old place → IsWay part.now p base.now way.new next)) }
+    ensures { IfSome result (λ next. (p : ℕ) → IsWay part.now p base.now way.old place → IsWay part.now p base.now way.new next) }
 {
     let index = part.index;
     let Some(Outcome::Forced(next)) = need_outcome(index, place, number) else {
-        return Ok(None);
+        return None;
     };
-    if next >= index.len() || !take_hits(index, place, &mut way.hit)? {
-        return Ok(None);
+    if next >= index.len() || !take_hits(index, place, &mut way.hit) {
+        return None;
     }
     if !base.has_room(index, next) || !way.has_room(index, next) {
-        return Ok(None);
+        return None;
     }
-    way.members.insert(next)?;
+    let Ok(()) = way.members.insert(next) else {
+        return None;
+    };
     let set = OnBase {
         base,
         more: &way.members,
     };
     if !meets_place(part, &set, place) {
-        return Ok(None);
+        return None;
     }
-    Ok(Some(next))
+    Some(next)
 }
 
 /// Goes from need to need, and writes down where the needs stand.
@@ -113,10 +106,10 @@ fn walk(
 ) -> Result<(), AllocError>
     requires place { p < length part.now.index.now.packages }
     requires base { IsBase part.now.index.now base.now }
-    requires so_far { AreNeededIn part.now p needed.old.items }
-    ensures { OnOk result (AreNeededIn part.now p needed.new.items) }
+    requires so_far { AreNeeded part.now.index.now p (positions_in part.now) needed.old.items }
+    ensures { OnOk result (AreNeeded part.now.index.now p (positions_in part.now) needed.new.items) }
 {
-    if !begin(part, base, way, p)? {
+    if !begin(part, base, way, p) {
         return Ok(());
     }
     let mut place = p;
@@ -125,11 +118,14 @@ fn walk(
             base,
             more: &way.members,
         };
-        let Some(number) = lacking_need(part, &set, place) else {
+        let Some(number) = only_open(part, &set, place) else {
             return Ok(());
         };
+        if !meets_aparts(part, &set, place) || !stands_once(part, &set, place) {
+            return Ok(());
+        }
         needed.push(part.index.need_position(place, number))?;
-        let Some(next) = follow(part, base, way, place, number)? else {
+        let Some(next) = follow(part, base, way, place, number) else {
             return Ok(());
         };
         place = next;
@@ -148,7 +144,7 @@ pub(crate) fn find_needed(
     requires place { p < length groundwork.now.index.now.packages }
     requires rising { IsStrictlyIncreasing out.now }
     ensures rising { IfOk result (λ needed. IsStrictlyIncreasing needed.items) }
-    ensures needed { IfOk result (λ needed. AreNeeded groundwork.now.index.now p (members_of out.now) needed.items) }
+    ensures needed { IfOk result (λ needed. AreNeeded groundwork.now.index.now p (without (members_of out.now) all_of) needed.items) }
 {
     let part = Part {
         index: groundwork.index,

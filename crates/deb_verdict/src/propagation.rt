@@ -1,17 +1,19 @@
 //! Refutes a part of the constraints by forcing alone: what the package asks for with no choice, down to a contradiction. Members of a base set are
-//! passed over, since each has what it asks for.
+//! passed over, since each has what it asks for. Where memory is wanting no contradiction is seen.
 
-ghost use Rattle.std.specs.Prelude.{◌≡◌, ℕ, ◌<◌, true, false, IfOk, OnOk, length};
-ghost use Rattle.deb_index.specs.Packages.{names, needs_at, aparts_at};
-ghost use Rattle.number_sets.specs.SparseSets.{AreNumbers, Grows};
+ghost use Rattle.std.specs.Prelude.{◌≡◌, ℕ, ◌<◌, true, false, All, IfSome, length};
+ghost use Rattle.deb_index.specs.Packages.{aparts_at};
+ghost use Rattle.number_sets.specs.SparseSets.{AreNumbers};
+ghost use Rattle.deb_verdict.specs.Deriving.{row_of};
 ghost use Rattle.deb_verdict.specs.Parts.{IsRefutedBy};
 
 use crate::base_set::BaseSet;
 use crate::derivation::{Outcome, Step, is_refutation, name_outcome, need_outcome};
 use crate::part::Part;
+use crate::rows::other_in;
 use deb_index::Index;
 use number_sets::SparseSet;
-use std::alloc::{AllocError, Global};
+use std::alloc::Global;
 use std::mem;
 
 /// The buffers of propagation.
@@ -31,23 +33,13 @@ pub(crate) struct Propagation {
     positions: Vec<u32>,
 }
 
-/// A place of a row, other than this one, that is in.
-fn other_in(row: &[u32], place: u32, forced: &SparseSet) -> Option<u32> {
-    for other in row {
-        if *other != place && forced.contains(*other) {
-            return Some(*other);
-        }
-    }
-    None
-}
-
 /// Another place that is in and that an entry hits. `None` where what it hits is too much for a row.
 fn hit_in(index: &Index, place: u32, number: u32, forced: &SparseSet) -> Option<u32>
     requires place { place < length index.now.packages }
     requires number { number < length (aparts_at index.now place) }
 {
     match index.hit_row(place, number) {
-        Some(row) => other_in(row, place, forced),
+        Some(row) => other_in(forced, row, place),
         None => None,
     }
 }
@@ -60,7 +52,7 @@ fn version_in(index: &Index, place: u32, forced: &SparseSet) -> Option<u32>
     if row.len() > forced.as_slice().len() {
         return None;
     }
-    other_in(row, place, forced)
+    other_in(forced, row, place)
 }
 
 /// A constraint of the part that keeps a place that is in from another one.
@@ -148,130 +140,98 @@ impl Propagation {
         }
     }
 
-    /// A step forces a place, unless an earlier one did, or it is in the base set.
-    fn force(&mut self, base: &BaseSet, place: u32, cause: Step) -> Result<(), AllocError>
-        ensures { OnOk result ((count : ℕ) → place < count → Grows count self.old.forced self.new.forced) }
+    /// Takes in what a step gives: a place, unless an earlier step forced it, or it is in the base set. `true`: the step contradicts.
+    fn take(&mut self, base: &BaseSet, outcome: Option<Outcome>, step: Step) -> bool
+        ensures { (count : ℕ) → IfSome outcome (λ gives. All (λ place. place < count) (row_of gives)) → AreNumbers count self.old.forced
+            → AreNumbers count self.new.forced }
     {
-        if !base.members.contains(place) && !self.forced.contains(place) {
-            self.forced.insert(place)?;
-            self.causes.push(cause)?;
+        let Some(gives) = outcome else {
+            return false;
+        };
+        let place = match gives {
+            Outcome::Forced(place) => place,
+            Outcome::Contradiction => return true,
+        };
+        if base.members.contains(place) || self.forced.contains(place) {
+            return false;
         }
-        Ok(())
-    }
-
-    /// Forces what alone answers a need, if the part has it. `true`: nothing answers it.
-    fn force_need(
-        &mut self,
-        part: &Part<'_>,
-        base: &BaseSet,
-        place: u32,
-        number: u32,
-    ) -> Result<bool, AllocError>
-        requires place { place < length part.now.index.now.packages }
-        requires number { number < length (needs_at part.now.index.now place) }
-        ensures { OnOk result (Grows (length part.now.index.now.packages) self.old.forced self.new.forced) }
-    {
-        let index = part.index;
-        if !part.has(index.need_position(place, number)) {
-            return Ok(false);
-        }
-        match need_outcome(index, place, number) {
-            Some(Outcome::Forced(only)) => {
-                self.force(base, only, Step::Need(place, number))?;
-                Ok(false)
-            }
-            Some(Outcome::Contradiction) => Ok(true),
-            None => Ok(false),
-        }
+        let Ok(()) = self.forced.insert(place) else {
+            self.forced.clear();
+            return false;
+        };
+        let _noted = self.causes.push(step);
+        false
     }
 
     /// Forces what alone answers a need of a place. A need that nothing answers is a contradiction. Last needs go first, since the first core lacks
     /// early constraints.
-    fn visit(
-        &mut self,
-        part: &Part<'_>,
-        base: &BaseSet,
-        place: u32,
-    ) -> Result<Option<Step>, AllocError>
-        requires { place < length part.now.index.now.packages }
-        ensures { OnOk result (Grows (length part.now.index.now.packages) self.old.forced self.new.forced) }
+    fn visit(&mut self, part: &Part<'_>, base: &BaseSet, place: u32) -> Option<Step>
+        requires place { place < length part.now.index.now.packages }
+        requires forced { AreNumbers (length part.now.index.now.packages) self.old.forced }
+        ensures { AreNumbers (length part.now.index.now.packages) self.new.forced }
     {
         for number in (0..part.index.need_count(place)).rev() {
-            if self.force_need(part, base, place, number)? {
-                return Ok(Some(Step::Need(place, number)));
+            if !part.has(part.index.need_position(place, number)) {
+                continue;
+            }
+            let step = Step::Need(place, number);
+            if self.take(base, need_outcome(part.index, place, number), step) {
+                return Some(step);
             }
         }
-        Ok(None)
+        None
     }
 
     /// Forces from the first places on that are not visited, and looks for a contradiction.
-    fn propagate(
-        &mut self,
-        part: &Part<'_>,
-        base: &BaseSet,
-        start: usize,
-    ) -> Result<Option<Step>, AllocError>
+    fn propagate(&mut self, part: &Part<'_>, base: &BaseSet, start: usize) -> Option<Step>
         requires { AreNumbers (length part.now.index.now.packages) self.old.forced }
-        ensures { OnOk result (AreNumbers (length part.now.index.now.packages) self.new.forced) }
+        ensures { AreNumbers (length part.now.index.now.packages) self.new.forced }
     {
         let mut visited = start;
         while visited < self.forced.as_slice().len() {
             let place = self.forced.as_slice()[visited];
-            if let Some(step) = self.visit(part, base, place)? {
-                return Ok(Some(step));
+            if let Some(step) = self.visit(part, base, place) {
+                return Some(step);
             }
             visited += 1;
         }
-        Ok(conflict_in(part, &self.forced))
-    }
-
-    /// Forces the package of an essential name that has one only, if the part has the name.
-    fn force_name(
-        &mut self,
-        part: &Part<'_>,
-        base: &BaseSet,
-        number: u32,
-        name: u32,
-    ) -> Result<(), AllocError>
-        requires { name < length (names part.now.index.now) }
-        ensures { OnOk result (Grows (length part.now.index.now.packages) self.old.forced self.new.forced) }
-    {
-        if !part.has(number) {
-            return Ok(());
-        }
-        if let Some(Outcome::Forced(only)) = name_outcome(part.index, name) {
-            self.force(base, only, Step::Essential(number))?;
-        }
-        Ok(())
+        conflict_in(part, &self.forced)
     }
 
     /// Forces the packages of essential names that have one only.
-    fn force_essential(&mut self, part: &Part<'_>, base: &BaseSet) -> Result<(), AllocError>
-        ensures { OnOk result (Grows (length part.now.index.now.packages) self.old.forced self.new.forced) }
+    fn force_essential(&mut self, part: &Part<'_>, base: &BaseSet)
+        requires { AreNumbers (length part.now.index.now.packages) self.old.forced }
+        ensures { AreNumbers (length part.now.index.now.packages) self.new.forced }
     {
         let index = part.index;
         let _names = index.name_count();
         for (number, name) in index.essential_names().iter().enumerate() {
-            self.force_name(part, base, number as u32, *name)?;
+            let number = number as u32;
+            if !part.has(number) {
+                continue;
+            }
+            self.take(base, name_outcome(index, *name), Step::Essential(number));
         }
-        Ok(())
     }
 
     /// The step that contradicts, where forcing leads to one. What the package itself asks for goes first.
-    fn find(&mut self, part: &Part<'_>, base: &BaseSet, p: u32) -> Result<Option<Step>, AllocError>
+    fn find(&mut self, part: &Part<'_>, base: &BaseSet, p: u32) -> Option<Step>
         requires { p < length part.now.index.now.packages }
-        ensures { OnOk result (AreNumbers (length part.now.index.now.packages) self.new.forced) }
+        ensures { AreNumbers (length part.now.index.now.packages) self.new.forced }
     {
         self.forced.clear();
         self.causes.clear();
-        self.forced.insert(p)?;
-        if let Some(step) = self.propagate(part, base, 0)? {
-            return Ok(Some(step));
+        let Ok(()) = self.forced.insert(p) else {
+            self.forced.clear();
+            return None;
+        };
+        if let Some(step) = self.propagate(part, base, 0) {
+            return Some(step);
         }
         let visited = self.forced.as_slice().len();
-        self.force_essential(part, base)?;
+        self.force_essential(part, base);
         if self.forced.as_slice().len() == visited {
-            return Ok(None);
+            return None;
         }
         self.propagate(part, base, visited)
     }
@@ -288,22 +248,23 @@ impl Propagation {
         false
     }
 
-    /// Writes down the steps that a contradiction rests on.
-    fn derive(&mut self, conflict: Step) -> Result<(), AllocError>
-        ensures { OnOk result (self.new.forced ≡ self.old.forced) }
+    /// Writes down the steps that a contradiction rests on. `false` for want of memory.
+    fn derive(&mut self, conflict: Step) -> bool
+        ensures { self.new.forced ≡ self.old.forced }
     {
         self.needed.clear();
-        self.needed.resize(self.causes.len(), false)?;
+        let Ok(()) = self.needed.resize(self.causes.len(), false) else {
+            return false;
+        };
         mark_places(&self.forced, conflict, &mut self.needed);
         mark_causes(&self.forced, &self.causes, &mut self.needed);
         self.steps.clear();
         for (cause, is_needed) in self.causes.iter().zip(&self.needed) {
-            if *is_needed {
-                self.steps.push(*cause)?;
+            if *is_needed && self.steps.push(*cause).is_err() {
+                return false;
             }
         }
-        self.steps.push(conflict)?;
-        Ok(())
+        self.steps.push(conflict).is_ok()
     }
 }
 
@@ -314,9 +275,9 @@ pub(crate) fn refute_by_last_steps(
     p: u32,
     buffers: &mut Propagation,
     used: &mut Vec<u32>,
-) -> Result<bool, AllocError>
-    ensures refuted { IfOk result (λ refuted. refuted ≡ true → IsRefutedBy used.new.items part.now p) }
-    ensures still { IfOk result (λ refuted. refuted ≡ false → used.new.items ≡ used.old.items) }
+) -> bool
+    ensures refuted { result ≡ true → IsRefutedBy used.new.items part.now p }
+    ensures still { result ≡ false → used.new.items ≡ used.old.items }
     ensures forced { buffers.new.forced ≡ buffers.old.forced }
 {
     let holds = is_refutation(
@@ -325,12 +286,11 @@ pub(crate) fn refute_by_last_steps(
         &buffers.steps,
         &mut buffers.checked,
         &mut buffers.positions,
-    )?;
-    if !holds {
-        return Ok(false);
+    );
+    if holds {
+        mem::swap(&mut buffers.positions, used);
     }
-    mem::swap(&mut buffers.positions, used);
-    Ok(true)
+    holds
 }
 
 /// Whether a part of the constraints is seen to admit no set with the package at a place, by forcing alone, and none but what is beside the base
@@ -341,15 +301,14 @@ pub(crate) fn refute_by_forcing(
     base: &BaseSet,
     buffers: &mut Propagation,
     used: &mut Vec<u32>,
-) -> Result<bool, AllocError>
+) -> bool
     requires { p < length part.now.index.now.packages }
-    ensures refuted { IfOk result (λ refuted. refuted ≡ true → IsRefutedBy used.new.items part.now p) }
-    ensures still { IfOk result (λ refuted. refuted ≡ false → used.new.items ≡ used.old.items) }
-    ensures forced { OnOk result (AreNumbers (length part.now.index.now.packages) buffers.new.forced) }
+    ensures refuted { result ≡ true → IsRefutedBy used.new.items part.now p }
+    ensures still { result ≡ false → used.new.items ≡ used.old.items }
+    ensures forced { AreNumbers (length part.now.index.now.packages) buffers.new.forced }
 {
-    let Some(conflict) = buffers.find(part, base, p)? else {
-        return Ok(false);
+    let Some(conflict) = buffers.find(part, base, p) else {
+        return false;
     };
-    buffers.derive(conflict)?;
-    refute_by_last_steps(part, p, buffers, used)
+    buffers.derive(conflict) && refute_by_last_steps(part, p, buffers, used)
 }

@@ -3,7 +3,8 @@
 ghost use Rattle.std.specs.Prelude.{◌≡◌, ℕ, ◌<◌, true, false, IfOk, length};
 ghost use Rattle.std.specs.Option.{ForSome};
 ghost use Rattle.std.specs.List.Sorted.{IsStrictlyIncreasing};
-ghost use Rattle.number_sets.specs.Sets.{members_of};
+ghost use Rattle.number_sets.specs.Sets.{all_of, members_of};
+ghost use Rattle.deb_health.specs.Causes.{without};
 ghost use Rattle.deb_health.specs.Health.{AdmitsNone};
 ghost use Rattle.deb_verdict.specs.BaseSets.{IsBase};
 ghost use Rattle.deb_verdict.specs.Needed.{AreNeeded};
@@ -45,26 +46,26 @@ pub(crate) fn refute_part(
     let propagation = &mut workspace.propagation;
     let used = &mut workspace.used;
     // What broke the last package often breaks this one.
-    if refute_by_last_steps(part, p, propagation, used)? {
+    if refute_by_last_steps(part, p, propagation, used) {
         return Ok(true);
     }
     // Each package whose core is looked for is broken, so only without some constraints is there a set.
     let may_admit = part.may_lack_one();
-    if may_admit && is_seen_to_admit(part, p, base, lacking, &mut workspace.witness)? {
+    if may_admit && is_seen_to_admit(part, p, base, lacking, &mut workspace.witness) {
         return Ok(false);
     }
-    if refute_by_forcing(part, p, base, propagation, used)? {
+    if refute_by_forcing(part, p, base, propagation, used) {
         return Ok(true);
     }
     // What the package asks for may be at odds with the base set.
     let nothing = &mut workspace.nothing;
     nothing.clear();
-    if may_admit && is_seen_to_admit(part, p, nothing, lacking, &mut workspace.witness)? {
+    if may_admit && is_seen_to_admit(part, p, nothing, lacking, &mut workspace.witness) {
         return Ok(false);
     }
     // Only what came against the base set may come against what its members need.
     if propagation.lacks_room(part.index, base)
-        && refute_by_forcing(part, p, nothing, propagation, used)?
+        && refute_by_forcing(part, p, nothing, propagation, used)
     {
         return Ok(true);
     }
@@ -108,7 +109,7 @@ pub(crate) struct Blocking<'a> {
     ghost place: { p < length groundwork.now.index.now.packages },
     ghost rising: { IsStrictlyIncreasing out.now },
     ghost needed_rising: { IsStrictlyIncreasing needed.now },
-    ghost all_needed: { AreNeeded groundwork.now.index.now p (members_of out.now) needed.now },
+    ghost all_needed: { AreNeeded groundwork.now.index.now p (without (members_of out.now) all_of) needed.now },
     ghost used_rising: { IsStrictlyIncreasing used.items },
     ghost told: { ForSome formula (Tells groundwork.now.index.now p) },
 }
@@ -117,7 +118,6 @@ impl<'a> Question for Blocking<'a> {
     ghost use Rattle.std.specs.Prelude.{◌≡◌, refl};
     ghost use Rattle.std.proofs.Common.{◌∙◌};
     ghost use Rattle.number_sets.specs.Sets.{members_of};
-    ghost use Rattle.deb_health.specs.Causes.{without};
     ghost use Rattle.deb_health.proofs.CoreLemmas.{without_upward};
     ghost use Rattle.deb_health.specs.Health.{AdmitsNone};
     ghost use Rattle.core_extract.specs.Reduction.{listed};

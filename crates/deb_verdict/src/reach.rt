@@ -3,10 +3,11 @@
 ghost use Rattle.std.specs.Prelude.{◌≡◌, ◌<◌, ◌||◌, ◌==◌, [], All, OnOk, length};
 ghost use Rattle.std.specs.List.{list_any};
 ghost use Rattle.deb_index.specs.Packages.{needs_at, essential_names};
-ghost use Rattle.deb_index.specs.Constraints.{has_name, answers};
+ghost use Rattle.deb_index.specs.Meets.{meets_need_at};
+ghost use Rattle.deb_index.specs.Constraints.{has_name};
 ghost use Rattle.number_sets.specs.Sets.{members_of};
 ghost use Rattle.deb_verdict.specs.Closure.{IsClosure};
-ghost use Rattle.deb_verdict.specs.Reach.{Joins, meeting_any};
+ghost use Rattle.deb_verdict.specs.Reach.{Joins};
 
 use deb_index::Index;
 use number_sets::SparseSet;
@@ -22,22 +23,6 @@ fn insert_all(places: &[u32], members: &mut SparseSet) -> Result<(), AllocError>
     Ok(())
 }
 
-/// Puts in the places that answer a group of the package at a place.
-fn insert_answers(
-    index: &Index,
-    place: u32,
-    number: u32,
-    found: &mut Vec<u32>,
-    members: &mut SparseSet,
-) -> Result<(), AllocError>
-    requires place { place < length index.now.packages }
-    requires number { number < length (needs_at index.now place) }
-    ensures { OnOk result (Joins (answers index.now place number) members.old members.new) }
-{
-    let row = index.answers(place, number, found)?;
-    insert_all(row, members)
-}
-
 /// Puts in the places that answer a group of the package at a place, for all its groups.
 fn visit(
     index: &Index,
@@ -46,10 +31,11 @@ fn visit(
     members: &mut SparseSet,
 ) -> Result<(), AllocError>
     requires { place < length index.now.packages }
-    ensures { OnOk result (Joins (meeting_any index.now (needs_at index.now place)) members.old members.new) }
+    ensures { OnOk result (Joins (λ q. list_any (list_any (meets_need_at index.now q)) (needs_at index.now place)) members.old members.new) }
 {
     for number in 0..index.need_count(place) {
-        insert_answers(index, place, number, found, members)?;
+        let row = index.answers(place, number, found)?;
+        insert_all(row, members)?;
     }
     Ok(())
 }

@@ -1,55 +1,28 @@
 //! A set of packages that meets a part of the constraints, found without a search. Whether the set that grew meets the part is looked up, and
 //! no claim rests on how it grew.
 
-ghost use Rattle.std.specs.Prelude.{◌≡◌, ℕ, ◌<◌, true, All, IfOk, length};
+ghost use Rattle.std.specs.Prelude.{◌≡◌, ℕ, ◌<◌, true, All, IfNone, length};
 ghost use Rattle.number_sets.specs.Sets.{members_of};
+ghost use Rattle.deb_health.specs.Causes.{either};
 ghost use Rattle.deb_health.specs.Health.{Admits};
 ghost use Rattle.deb_verdict.specs.BaseSets.{HasRoom, IsBase};
-ghost use Rattle.deb_verdict.specs.Parts.{positions_in};
+ghost use Rattle.deb_verdict.specs.Parts.{positions_in, MeetsAskedOf};
 
 use crate::base_set::{BaseSet, OnBase};
-use crate::check::{meets_essentials, meets_place, meets_places};
+use crate::check::{meets_essentials, meets_place};
 use crate::growth::Witness;
 use crate::part::Part;
-use deb_index::Index;
 use number_sets::SparseSet;
-use std::alloc::{AllocError, Global};
 
 /// How many sets are tried at most.
 const TRIES: u32 = 16;
 
-/// Whether a base set has room for each of some places.
-fn has_room(index: &Index, base: &BaseSet, places: &[u32]) -> bool
-    requires { All (λ q. q < length index.now.packages) places.now }
-    ensures { result ≡ true → (q : ℕ) → members_of places.now q ≡ true → HasRoom index.now base.now q }
-{
-    for place in places {
-        if !base.has_room(index, *place) {
-            return false;
-        }
-    }
-    true
-}
-
-/// Whether places on a base set are the package at a place and others, and are seen to meet the part.
-fn is_witness(part: &Part<'_>, p: u32, base: &BaseSet, more: &SparseSet) -> bool
-    requires base { IsBase part.now.index.now base.now }
-    requires more { All (λ q. q < length part.now.index.now.packages) more.now }
-    ensures { result ≡ true → Admits part.now.index.now p (positions_in part.now) }
-{
-    let set = OnBase { base, more };
-    if !more.contains(p) || !has_room(part.index, base, more.as_slice()) {
-        return false;
-    }
-    if !meets_essentials(part, &set) {
-        return false;
-    }
-    meets_places(part, &set, more.as_slice())
-}
-
 /// A place that has no room on a base set, or doesn't meet what the part asks of it.
 fn place_amiss(part: &Part<'_>, base: &BaseSet, more: &SparseSet) -> Option<u32>
     requires { All (λ q. q < length part.now.index.now.packages) more.now }
+    ensures room { IfNone result ((q : ℕ) → members_of more.now q ≡ true → HasRoom part.now.index.now base.now q) }
+    ensures meets { IfNone result ((q : ℕ) → members_of more.now q ≡ true
+        → MeetsAskedOf part.now (either (members_of base.now.members) (members_of more.now)) q) }
 {
     let set = OnBase { base, more };
     for place in more.as_slice() {
@@ -58,6 +31,18 @@ fn place_amiss(part: &Part<'_>, base: &BaseSet, more: &SparseSet) -> Option<u32>
         }
     }
     None
+}
+
+/// Whether places on a base set, with which nothing is amiss, are the package at a place and others, and have the essential names that the part
+/// asks for.
+fn is_witness(part: &Part<'_>, p: u32, base: &BaseSet, more: &SparseSet) -> bool
+    requires base { IsBase part.now.index.now base.now }
+    requires room { (q : ℕ) → members_of more.now q ≡ true → HasRoom part.now.index.now base.now q }
+    requires meets { (q : ℕ) → members_of more.now q ≡ true → MeetsAskedOf part.now (either (members_of base.now.members) (members_of more.now)) q }
+    ensures { result ≡ true → Admits part.now.index.now p (positions_in part.now) }
+{
+    let set = OnBase { base, more };
+    more.contains(p) && meets_essentials(part, &set)
 }
 
 /// Whether a set with the package at a place is seen to meet a part of the constraints.
@@ -70,29 +55,26 @@ pub(crate) fn is_seen_to_admit(
     base: &BaseSet,
     lacking: &SparseSet,
     witness: &mut Witness,
-) -> Result<bool, AllocError>
+) -> bool
     requires place { p < length part.now.index.now.packages }
     requires base { IsBase part.now.index.now base.now }
-    ensures { IfOk result (λ seen. seen ≡ true → Admits part.now.index.now p (positions_in part.now)) }
+    ensures { result ≡ true → Admits part.now.index.now p (positions_in part.now) }
 {
     witness.start();
     if !base.has_room(part.index, p) {
-        return Ok(false);
+        return false;
     }
     for _ in 0..TRIES {
-        let mut amiss = witness.grow(part, base, lacking, p)?;
-        if amiss.is_none() {
-            if is_witness(part, p, base, &witness.set) {
-                return Ok(true);
-            }
-            amiss = place_amiss(part, base, &witness.set);
-        }
-        let Some(place) = amiss else {
-            return Ok(false);
+        let place = match witness.grow(part, base, lacking, p) {
+            Some(place) => place,
+            None => match place_amiss(part, base, &witness.set) {
+                Some(place) => place,
+                None => return is_witness(part, p, base, &witness.set),
+            },
         };
-        if !witness.rule_out(part.index, place)? {
-            return Ok(false);
+        if !witness.rule_out(part.index, place) {
+            return false;
         }
     }
-    Ok(false)
+    false
 }

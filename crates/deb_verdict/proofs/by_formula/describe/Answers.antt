@@ -91,7 +91,7 @@ returns-clause-tells c =
       stand = subst Stand c.deref.ensures.value (c.in_ok-list_constraints.ensures ∙ ap (map (λ (x : Constraint). Some x)) (sym c.deref-2.ensures.value));
       tells =
           tells_moved c.new-play.result.index.now index c.new-play.result.forced.now [] c.new-play.result.candidates.now members constraints formula.clauses
-          c.new-play.ensures.index (c.new-play.ensures.forced ∙ c.new-nothing.ensures) c.new-play.ensures.candidates c.in_ok-encode_each.ensures.tells;
+          c.new-play.ensures.index (c.new-play.ensures.forced ∙ c.clear.ensures.members) c.new-play.ensures.candidates c.in_ok-encode_each.ensures.tells;
     } in
     record {
       refuted = told_refuted index c.args.p members positions constraints formula of_closure c.unwrap-must.result there;

@@ -9,8 +9,8 @@ pub places_named-places-requires : goal.places_named-places-requires
 places_named-places-requires c =
     essential_below c.args.groundwork.now.index.now c.essential_names-name-items.result.now c.essential_names-name-items.ensures c.loop-name.name-index c.loop-name-test.true
 
-pub search_name-requires-clause-places : goal.search_name-requires-clause-places
-search_name-requires-clause-places c =
+pub search_each-requires-clause-places : goal.search_each-requires-clause-places
+search_each-requires-clause-places c =
     let count : ℕ = length c.args.groundwork.now.index.now.packages in
     let name : ℕ = get_or c.essential_names-name-items.result.now c.loop-name.name-index 0 in
     All-same (λ place. place < count) c.places_named-places.result.now (places_of c.args.groundwork.now.index.now (name_at c.args.groundwork.now.index.now name)) c.places_named-places.ensures

@@ -6,65 +6,65 @@ use Rattle.deb_verdict.proofs.question.refute_part.Goals as goal
 pub is_seen_to_admit-requires-then-may_admit-2-clause-base : goal.is_seen_to_admit-requires-then-may_admit-2-clause-base
 is_seen_to_admit-requires-then-may_admit-2-clause-base c = empty_is_base c.args.part.now.index.now c.clear.new.self c.clear.ensures.members
 
-pub returns-then-branch-clause-refuted : goal.returns-then-branch-clause-refuted
-returns-then-branch-clause-refuted c = λ _. c.in_ok-refute_by_last_steps.ensures.refuted c.if-branch.true
+pub returns-then-refute_by_last_steps-clause-refuted : goal.returns-then-refute_by_last_steps-clause-refuted
+returns-then-refute_by_last_steps-clause-refuted c = λ _. c.refute_by_last_steps.ensures.refuted c.if-refute_by_last_steps.true
 
-pub returns-then-branch-clause-admitted : goal.returns-then-branch-clause-admitted
-returns-then-branch-clause-admitted c = λ is. absurd (true≢false is)
+pub returns-then-refute_by_last_steps-clause-admitted : goal.returns-then-refute_by_last_steps-clause-admitted
+returns-then-refute_by_last_steps-clause-admitted c = λ is. absurd (true≢false is)
 
-pub returns-then-branch-clause-still : goal.returns-then-branch-clause-still
-returns-then-branch-clause-still c = λ is. absurd (true≢false is)
+pub returns-then-refute_by_last_steps-clause-still : goal.returns-then-refute_by_last_steps-clause-still
+returns-then-refute_by_last_steps-clause-still c = λ is. absurd (true≢false is)
 
-pub returns-then-branch-clause-formula : goal.returns-then-branch-clause-formula
-returns-then-branch-clause-formula c = c.requires.formula
+pub returns-then-refute_by_last_steps-clause-formula : goal.returns-then-refute_by_last_steps-clause-formula
+returns-then-refute_by_last_steps-clause-formula c = c.requires.formula
 
-pub returns-then-branch-2-clause-refuted : goal.returns-then-branch-2-clause-refuted
-returns-then-branch-2-clause-refuted c = λ is. absurd (false≢true is)
+pub returns-then-is_seen_to_admit-clause-refuted : goal.returns-then-is_seen_to_admit-clause-refuted
+returns-then-is_seen_to_admit-clause-refuted c = λ is. absurd (false≢true is)
 
-pub returns-then-branch-2-clause-admitted : goal.returns-then-branch-2-clause-admitted
-returns-then-branch-2-clause-admitted c = λ _ none. none (c.in_ok-is_seen_to_admit.ensures c.if-branch-2.true)
+pub returns-then-is_seen_to_admit-clause-admitted : goal.returns-then-is_seen_to_admit-clause-admitted
+returns-then-is_seen_to_admit-clause-admitted c = λ _ none. none (c.is_seen_to_admit.ensures c.if-is_seen_to_admit.true)
 
-pub returns-then-branch-2-clause-still : goal.returns-then-branch-2-clause-still
-returns-then-branch-2-clause-still c = λ _. c.in_ok-refute_by_last_steps.ensures.still c.if-branch.false
+pub returns-then-is_seen_to_admit-clause-still : goal.returns-then-is_seen_to_admit-clause-still
+returns-then-is_seen_to_admit-clause-still c = λ _. c.refute_by_last_steps.ensures.still c.if-refute_by_last_steps.false
 
-pub returns-then-branch-2-clause-formula : goal.returns-then-branch-2-clause-formula
-returns-then-branch-2-clause-formula c = c.requires.formula
+pub returns-then-is_seen_to_admit-clause-formula : goal.returns-then-is_seen_to_admit-clause-formula
+returns-then-is_seen_to_admit-clause-formula c = c.requires.formula
 
-pub returns-then-branch-3-clause-refuted : goal.returns-then-branch-3-clause-refuted
-returns-then-branch-3-clause-refuted c = λ _. c.in_ok-refute_by_forcing.ensures.refuted c.if-branch-3.true
+pub returns-then-refute_by_forcing-clause-refuted : goal.returns-then-refute_by_forcing-clause-refuted
+returns-then-refute_by_forcing-clause-refuted c = λ _. c.refute_by_forcing.ensures.refuted c.if-refute_by_forcing.true
 
-pub returns-then-branch-3-clause-admitted : goal.returns-then-branch-3-clause-admitted
-returns-then-branch-3-clause-admitted c = λ is. absurd (true≢false is)
+pub returns-then-refute_by_forcing-clause-admitted : goal.returns-then-refute_by_forcing-clause-admitted
+returns-then-refute_by_forcing-clause-admitted c = λ is. absurd (true≢false is)
 
-pub returns-then-branch-3-clause-still : goal.returns-then-branch-3-clause-still
-returns-then-branch-3-clause-still c = λ is. absurd (true≢false is)
+pub returns-then-refute_by_forcing-clause-still : goal.returns-then-refute_by_forcing-clause-still
+returns-then-refute_by_forcing-clause-still c = λ is. absurd (true≢false is)
 
-pub returns-then-branch-3-clause-formula : goal.returns-then-branch-3-clause-formula
-returns-then-branch-3-clause-formula c = c.requires.formula
+pub returns-then-refute_by_forcing-clause-formula : goal.returns-then-refute_by_forcing-clause-formula
+returns-then-refute_by_forcing-clause-formula c = c.requires.formula
 
-pub returns-then-branch-4-clause-refuted : goal.returns-then-branch-4-clause-refuted
-returns-then-branch-4-clause-refuted c = λ is. absurd (false≢true is)
+pub returns-then-is_seen_to_admit-2-clause-refuted : goal.returns-then-is_seen_to_admit-2-clause-refuted
+returns-then-is_seen_to_admit-2-clause-refuted c = λ is. absurd (false≢true is)
 
-pub returns-then-branch-4-clause-admitted : goal.returns-then-branch-4-clause-admitted
-returns-then-branch-4-clause-admitted c = λ _ none. none (c.in_ok-is_seen_to_admit-2.ensures c.if-branch-4.true)
+pub returns-then-is_seen_to_admit-2-clause-admitted : goal.returns-then-is_seen_to_admit-2-clause-admitted
+returns-then-is_seen_to_admit-2-clause-admitted c = λ _ none. none (c.is_seen_to_admit-then-may_admit-2.ensures c.if-is_seen_to_admit-2.true)
 
-pub returns-then-branch-4-clause-still : goal.returns-then-branch-4-clause-still
-returns-then-branch-4-clause-still c = λ _. c.in_ok-refute_by_forcing.ensures.still c.if-branch-3.false ∙ c.in_ok-refute_by_last_steps.ensures.still c.if-branch.false
+pub returns-then-is_seen_to_admit-2-clause-still : goal.returns-then-is_seen_to_admit-2-clause-still
+returns-then-is_seen_to_admit-2-clause-still c = λ _. c.refute_by_forcing.ensures.still c.if-refute_by_forcing.false ∙ c.refute_by_last_steps.ensures.still c.if-refute_by_last_steps.false
 
-pub returns-then-branch-4-clause-formula : goal.returns-then-branch-4-clause-formula
-returns-then-branch-4-clause-formula c = c.requires.formula
+pub returns-then-is_seen_to_admit-2-clause-formula : goal.returns-then-is_seen_to_admit-2-clause-formula
+returns-then-is_seen_to_admit-2-clause-formula c = c.requires.formula
 
-pub returns-then-branch-5-clause-refuted : goal.returns-then-branch-5-clause-refuted
-returns-then-branch-5-clause-refuted c = λ _. c.in_ok-refute_by_forcing-2.ensures.refuted c.if-branch-5.true
+pub returns-then-refute_by_forcing-2-clause-refuted : goal.returns-then-refute_by_forcing-2-clause-refuted
+returns-then-refute_by_forcing-2-clause-refuted c = λ _. c.refute_by_forcing-then-lacks_room.ensures.refuted c.if-refute_by_forcing-2.true
 
-pub returns-then-branch-5-clause-admitted : goal.returns-then-branch-5-clause-admitted
-returns-then-branch-5-clause-admitted c = λ is. absurd (true≢false is)
+pub returns-then-refute_by_forcing-2-clause-admitted : goal.returns-then-refute_by_forcing-2-clause-admitted
+returns-then-refute_by_forcing-2-clause-admitted c = λ is. absurd (true≢false is)
 
-pub returns-then-branch-5-clause-still : goal.returns-then-branch-5-clause-still
-returns-then-branch-5-clause-still c = λ is. absurd (true≢false is)
+pub returns-then-refute_by_forcing-2-clause-still : goal.returns-then-refute_by_forcing-2-clause-still
+returns-then-refute_by_forcing-2-clause-still c = λ is. absurd (true≢false is)
 
-pub returns-then-branch-5-clause-formula : goal.returns-then-branch-5-clause-formula
-returns-then-branch-5-clause-formula c = c.requires.formula
+pub returns-then-refute_by_forcing-2-clause-formula : goal.returns-then-refute_by_forcing-2-clause-formula
+returns-then-refute_by_forcing-2-clause-formula c = c.requires.formula
 
 pub returns-clause-refuted : goal.returns-clause-refuted
 returns-clause-refuted c = c.refute_by_formula.ensures.refuted

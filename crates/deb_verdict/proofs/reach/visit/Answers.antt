@@ -3,9 +3,10 @@ use Rattle.std.proofs.lemmas.Bool.{false≢true}
 use Rattle.std.specs.List.{list_any}
 use Rattle.number_sets.proofs.ListMembers.{take_whole}
 use Rattle.deb_relation.specs.Relationship.{AtomText}
-use Rattle.deb_index.specs.Packages.{needs_at}
+use Rattle.deb_index.specs.Packages.{needs_at, need_at}
 use Rattle.deb_index.specs.Meets.{meets_need_at}
-use Rattle.deb_verdict.specs.Reach.{Joins, meeting_any}
+use Rattle.deb_verdict.specs.Reach.{Joins}
+use Rattle.deb_verdict.proofs.ReachLemmas.{meeting_any, row_joined}
 use Rattle.deb_verdict.proofs.JoinLemmas.{joins_none, joins_more}
 use Rattle.deb_verdict.proofs.reach.visit.Goals as goal
 
@@ -15,8 +16,9 @@ loop-number-init c = joins_none (meeting_any c.args.index.now []) c.args.members
 pub loop-number-preserved : goal.loop-number-preserved
 loop-number-preserved c =
     joins_more (λ q group. list_any (meets_need_at c.args.index.now q) group) (needs_at c.args.index.now c.args.place) c.loop-number.number []
-    c.args.members.now c.loop-number.members c.insert_answers.new.members (omega (arith, c.loop-number-test.true, c.need_count-number-end.ensures))
-    c.loop-number.invariant c.in_ok-insert_answers.ensures
+    c.args.members.now c.loop-number.members c.insert_all.new.members (omega (arith, c.loop-number-test.true, c.need_count-number-end.ensures))
+    c.loop-number.invariant
+    (row_joined c.args.index.now (need_at c.args.index.now c.args.place c.loop-number.number) c.in_ok-row.row.now c.loop-number.members c.insert_all.new.members c.in_ok-row.ensures c.in_ok-insert_all.ensures)
 
 pub returns : goal.returns
 returns c =

@@ -1,12 +1,8 @@
 use Rattle.std.proofs.Common.{◌∙◌, sym}
-use Rattle.std.proofs.lemmas.Bool.{not-true}
-use Rattle.deb_verdict.proofs.BaseLemmas.{no_version}
 use Rattle.deb_verdict.proofs.base_set.BaseSet.has_room.Goals as goal
 
-pub returns-then-versions : goal.returns-then-versions
-returns-then-versions c = λ none. record {
+pub returns : goal.returns
+returns c = λ free. record {
   unhit = sym c.contains.ensures ∙ c.if-contains.false;
-  unnamed =
-      no_version c.args.index.now c.args.self.now.members c.versions_of-versions.result.now c.args.place c.versions_of-versions.ensures
-      (sym c.has_any.ensures ∙ not-true c.has_any.result none);
+  unnamed = c.has_free_name.ensures free;
 }

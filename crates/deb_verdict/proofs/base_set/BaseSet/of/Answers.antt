@@ -1,7 +1,7 @@
 use Rattle.std.proofs.Common.{ℕ, List, get_or}
 use Rattle.number_sets.specs.Sets.{members_of}
-use Rattle.deb_verdict.specs.BaseSets.{HasHits, StandsIn}
-use Rattle.deb_verdict.proofs.BaseLemmas.{base_of}
+use Rattle.deb_verdict.specs.BaseSets.{HasHits}
+use Rattle.deb_verdict.proofs.BaseLemmas.{base_of, StandsIn}
 use Rattle.deb_verdict.proofs.GatherLemmas.{more_below}
 use Rattle.deb_verdict.proofs.base_set.BaseSet.of.Goals as goal
 
@@ -15,10 +15,14 @@ loop-place-preserved c =
     let Then : ℕ → Type 0 = λ k. HasHits index (members_of before) (get_or items k 0) in
     let Now : ℕ → Type 0 = λ k. HasHits index (members_of after) (get_or items k 0) in
     record {
-      stand = more_below Stands Stands c.loop-place.place-index (λ k below stands. stands) c.loop-place.invariant.stand (c.stands_in.ensures c.if-not-stands_in.false);
+      stand = more_below Stands Stands c.loop-place.place-index (λ k below stands. stands) c.loop-place.invariant.stand record {
+        needs = c.are_answered.ensures c.if-not-are_answered.false;
+        aparts = c.stands_apart.ensures c.if-not-stands_apart.false;
+        once = c.has_no_earlier.ensures c.if-not-has_no_earlier.false;
+      };
       hit =
-          more_below Then Now c.loop-place.place-index (λ k below then j q inside hit. c.in_ok-take_hits.ensures.keeps q (then j q inside hit)) c.loop-place.invariant.hit
-          (c.in_ok-take_hits.ensures.has c.if-not-branch.false);
+          more_below Then Now c.loop-place.place-index (λ k below then j q inside hit. c.take_hits.ensures.keeps c.if-not-take_hits.false q (then j q inside hit)) c.loop-place.invariant.hit
+          (c.take_hits.ensures.has c.if-not-take_hits.false);
     }
 
 pub returns : goal.returns

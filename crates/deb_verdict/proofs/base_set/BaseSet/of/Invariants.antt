@@ -1,6 +1,7 @@
 use Rattle.std.proofs.Common.{ℕ, ◌<◌, get_or}
 use Rattle.number_sets.specs.Sets.{members_of}
-use Rattle.deb_verdict.specs.BaseSets.{HasHits, StandsIn}
+use Rattle.deb_verdict.specs.BaseSets.{HasHits}
+use Rattle.deb_verdict.proofs.BaseLemmas.{StandsIn}
 use Rattle.deb_verdict.proofs.base_set.BaseSet.of.Given as goal
 
 abbrev pub invariant-loop-place : goal.invariant-loop-place

@@ -1,19 +1,18 @@
 use Rattle.std.proofs.Common.{◌≡◌, ◌∙◌, ap, List, ℕ, length, []}
 use Rattle.number_sets.specs.SparseSets.{with_number}
 use Rattle.number_sets.proofs.Placing.{numbers_first}
+use Rattle.deb_verdict.proofs.WitnessLemmas.{none_then}
 use Rattle.deb_verdict.proofs.growth.Witness.grow.Goals as goal
-
-pub returns-then-not-branch : goal.returns-then-not-branch
-returns-then-not-branch c =
-    let first : c.insert.new.self ≡ with_number [] c.args.p = c.in_ok-insert.ensures ∙ ap (λ (list : List ℕ). with_number list c.args.p) c.clear.ensures in
-    c.in_ok-take_essentials.ensures.places (numbers_first (length c.args.part.now.index.now.packages) c.args.p c.insert.new.self c.requires first)
 
 pub take_needs-requires : goal.take_needs-requires
 take_needs-requires c =
-    let first : c.insert.new.self ≡ with_number [] c.args.p = c.in_ok-insert.ensures ∙ ap (λ (list : List ℕ). with_number list c.args.p) c.clear.ensures in
-    c.in_ok-take_essentials.ensures.places (numbers_first (length c.args.part.now.index.now.packages) c.args.p c.insert.new.self c.requires first)
+    let first : c.take.new.self.set ≡ with_number [] c.args.p = c.take.ensures c.if-not-take.false ∙ ap (λ (list : List ℕ). with_number list c.args.p) c.clear.ensures in
+    (c.take_essentials.ensures c.if-not-take_essentials.false).places (numbers_first (length c.args.part.now.index.now.packages) c.args.p c.take.new.self.set c.requires first)
 
 pub returns : goal.returns
 returns c =
-    let first : c.insert.new.self ≡ with_number [] c.args.p = c.in_ok-insert.ensures ∙ ap (λ (list : List ℕ). with_number list c.args.p) c.clear.ensures in
-    c.in_ok-amiss.ensures.places (c.in_ok-take_essentials.ensures.places (numbers_first (length c.args.part.now.index.now.packages) c.args.p c.insert.new.self c.requires first))
+    let first : c.take.new.self.set ≡ with_number [] c.args.p = c.take.ensures c.if-not-take.false ∙ ap (λ (list : List ℕ). with_number list c.args.p) c.clear.ensures in
+    none_then _ _ c.take_needs.result
+    (λ grows. grows.places ((c.take_essentials.ensures c.if-not-take_essentials.false).places
+    (numbers_first (length c.args.part.now.index.now.packages) c.args.p c.take.new.self.set c.requires first)))
+    c.take_needs.ensures

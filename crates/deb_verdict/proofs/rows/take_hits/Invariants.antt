@@ -1,7 +1,7 @@
 use Rattle.std.proofs.Common.{◌≡◌, ℕ, ◌<◌, true}
 use Rattle.deb_index.specs.Constraints.{hits}
 use Rattle.number_sets.specs.Sets.{members_of, IsWithin}
-use Rattle.deb_verdict.proofs.base_set.take_hits.Given as goal
+use Rattle.deb_verdict.proofs.rows.take_hits.Given as goal
 
 abbrev pub invariant-loop-number : goal.invariant-loop-number
 invariant-loop-number l = record {
