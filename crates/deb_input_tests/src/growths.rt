@@ -1,6 +1,6 @@
 //! One test for each call that can want memory; trials/growths runs them with each growth of memory refused in turn.
 
-use crate::pieces::{LISTING, TEXT, comes_to};
+use crate::pieces::{TEXT, comes_to};
 use crate::whole_texts::told_by;
 use deb_input::{RunFault, fault_line, read_all, read_names};
 use std::alloc::AllocError;
@@ -49,8 +49,11 @@ fn expect_read(
 /// A text in many pieces.
 #[test]
 fn of_read_pieces(rt: HostRuntime) -> Result<(), AllocError> {
-    let told = comes_to(&rt, &mut source_of(TEXT, 11), 1, LISTING)?;
-    assert!(rt; told);
+    let told = comes_to(&rt, &mut source_of(TEXT, 11), 1);
+    if told == "no memory" {
+        return Err(AllocError);
+    }
+    assert!(rt; told == "the text");
     Ok(())
 }
 
