@@ -89,8 +89,8 @@ const LINES: [(RunFault, &str); 23] = [
     (RunFault::Memory, "debcheck: out of memory\n"),
 ];
 
-fn has_line(alloc: Global, fault: &RunFault, wanted: &str) -> bool {
-    match fault_line(alloc, fault) {
+fn has_line(alloc: Global, fault: RunFault, wanted: &str) -> bool {
+    match fault_line(alloc, &fault) {
         Ok(line) => line.as_slice() == wanted.as_bytes(),
         Err(_) => false,
     }
@@ -99,6 +99,6 @@ fn has_line(alloc: Global, fault: &RunFault, wanted: &str) -> bool {
 #[test]
 fn faults_have_their_lines(rt: HostRuntime) {
     for (fault, line) in LINES {
-        assert!(rt; has_line(rt.alloc(), &fault, line), "{line}");
+        assert!(rt; has_line(rt.alloc(), fault, line), "{line}");
     }
 }

@@ -35,14 +35,14 @@ fn expect_read(
     reader.fails = fails;
     let outcome = read_all(rt.alloc(), &mut reader, 3);
     let told = told_by(&outcome);
-    if told == b"no memory".as_slice() {
+    let lacks_memory = told == b"no memory".as_slice();
+    let is_wanted = told == wanted.as_bytes();
+    drop(outcome);
+    if lacks_memory {
         assert!(rt; !reader.failed);
         return Err(AllocError);
     }
-    assert!(rt;
-        told == wanted.as_bytes() && reader.reads == reads,
-        "{wanted}"
-    );
+    assert!(rt; is_wanted && reader.reads == reads, "{wanted}");
     Ok(())
 }
 

@@ -81,7 +81,11 @@ pub fn comes_to(
     let Ok(config) = Config::usual(rt.alloc()) else {
         return "no memory";
     };
-    told_by(&read_pieces(rt, rt.alloc(), &config, reader, &[], piece))
+    let outcome = read_pieces(rt, rt.alloc(), &config, reader, &[], piece);
+    drop(config);
+    let told = told_by(&outcome);
+    drop(outcome);
+    told
 }
 
 /// How many bytes a piece has at least: from one to more than the text has.
