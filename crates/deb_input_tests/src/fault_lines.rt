@@ -5,111 +5,100 @@ use deb_input::{RunFault, Slip, fault_line};
 use std::alloc::Global;
 use std::process::Abort;
 
-/// Whether the fault's line has `before` and `what` behind the program's name.
-fn says(alloc: Global, fault: RunFault, before: &str, what: &str) -> bool {
-    match format!(in alloc; "debcheck: {before}{what}\n") {
-        Ok(wanted) => has_line(alloc, &fault, wanted.as_bytes()),
-        Err(_) => false,
-    }
-}
-
-fn has_line(alloc: Global, fault: &RunFault, wanted: &[u8]) -> bool {
-    match fault_line(alloc, fault) {
-        Ok(line) => line.as_slice() == wanted,
-        Err(_) => false,
-    }
-}
-
-/// The faults of a stanza, and what is said of each.
-const STANZA_FAULTS: [(IndexError, &str); 7] = [
-    (IndexError::BadLine { stanza: 1 }, "stanza 1: bad line"),
+/// Faults with their lines, but for those that tell a name; those of a stanza are told alike of each text.
+const LINES: [(RunFault, &str); 23] = [
     (
-        IndexError::RepeatedField { stanza: 20 },
-        "stanza 20: repeated field",
+        RunFault::Index(IndexError::BadLine { stanza: 1 }),
+        "debcheck: stanza 1: bad line\n",
     ),
     (
-        IndexError::MissingField { stanza: 3 },
-        "stanza 3: missing field",
-    ),
-    (IndexError::BadName { stanza: 4 }, "stanza 4: bad name"),
-    (
-        IndexError::BadVersion { stanza: 5 },
-        "stanza 5: bad version",
+        RunFault::Index(IndexError::RepeatedField { stanza: 20 }),
+        "debcheck: stanza 20: repeated field\n",
     ),
     (
-        IndexError::BadRelation {
+        RunFault::Index(IndexError::MissingField { stanza: 3 }),
+        "debcheck: stanza 3: missing field\n",
+    ),
+    (
+        RunFault::Index(IndexError::BadName { stanza: 4 }),
+        "debcheck: stanza 4: bad name\n",
+    ),
+    (
+        RunFault::Index(IndexError::BadVersion { stanza: 5 }),
+        "debcheck: stanza 5: bad version\n",
+    ),
+    (
+        RunFault::Index(IndexError::BadRelation {
             stanza: 6,
             field: RelField::PreDepends,
-        },
-        "stanza 6: bad relation in Pre-Depends",
+        }),
+        "debcheck: stanza 6: bad relation in Pre-Depends\n",
     ),
     (
-        IndexError::TooManyStanzas { stanza: 4_194_305 },
-        "stanza 4194305: too many stanzas",
+        RunFault::Index(IndexError::TooManyStanzas { stanza: 4_194_305 }),
+        "debcheck: stanza 4194305: too many stanzas\n",
     ),
+    (
+        RunFault::Background(IndexError::BadLine { stanza: 1 }),
+        "debcheck: background: stanza 1: bad line\n",
+    ),
+    (
+        RunFault::Earlier(IndexError::BadRelation {
+            stanza: 6,
+            field: RelField::PreDepends,
+        }),
+        "debcheck: earlier index: stanza 6: bad relation in Pre-Depends\n",
+    ),
+    (
+        RunFault::Slipped(Slip::NoStanza),
+        "debcheck: the index is empty\n",
+    ),
+    (
+        RunFault::Slipped(Slip::OtherArchitectures),
+        "debcheck: no stanza is of this architecture or of all\n",
+    ),
+    (
+        RunFault::Slipped(Slip::NothingAsked),
+        "debcheck: nothing is asked\n",
+    ),
+    (
+        RunFault::BadNameLine { line: 30 },
+        "debcheck: names: line 30: bad name\n",
+    ),
+    (RunFault::Read, "debcheck: cannot read the index\n"),
+    (RunFault::TooLong, "debcheck: the index is too long\n"),
+    (
+        RunFault::BackgroundRead,
+        "debcheck: cannot read the background\n",
+    ),
+    (
+        RunFault::BackgroundTooLong,
+        "debcheck: the background is too long\n",
+    ),
+    (
+        RunFault::EarlierRead,
+        "debcheck: cannot read the earlier index\n",
+    ),
+    (
+        RunFault::EarlierTooLong,
+        "debcheck: the earlier index is too long\n",
+    ),
+    (RunFault::NamesRead, "debcheck: cannot read the names\n"),
+    (RunFault::NamesTooLong, "debcheck: the names are too many\n"),
+    (RunFault::Write, "debcheck: cannot write the report\n"),
+    (RunFault::Memory, "debcheck: out of memory\n"),
 ];
 
-/// Whether the fault of a name has its line.
-fn says_unknown(alloc: Global) -> bool {
-    match Vec::from_slice(alloc, b"zz") {
-        Ok(name) => says(
-            alloc,
-            RunFault::UnknownAsked { name },
-            "",
-            "unknown package zz",
-        ),
+fn has_line(alloc: Global, fault: RunFault, wanted: &str) -> bool {
+    match fault_line(alloc, &fault) {
+        Ok(line) => line.as_slice() == wanted.as_bytes(),
         Err(_) => false,
     }
 }
 
-/// Whether the fault of a stanza has its line in each text.
-fn says_in_each_text(alloc: Global, fault: IndexError, what: &str) -> bool {
-    says(alloc, RunFault::Index(fault), "", what)
-        && says(alloc, RunFault::Background(fault), "background: ", what)
-        && says(alloc, RunFault::Earlier(fault), "earlier index: ", what)
-}
-
-/// The fault's line has this behind the program's name.
-fn expect(rt: &(impl Abort + AllocGlobal), fault: RunFault, what: &str) {
-    assert!(rt; says(rt.alloc(), fault, "", what), "{what}");
-}
-
 #[test]
-fn faults_of_stanzas_have_their_lines(rt: HostRuntime) {
-    for (fault, what) in STANZA_FAULTS {
-        assert!(rt; says_in_each_text(rt.alloc(), fault, what), "{what}");
+fn faults_have_their_lines(rt: HostRuntime) {
+    for (fault, line) in LINES {
+        assert!(rt; has_line(rt.alloc(), fault, line), "{line}");
     }
-}
-
-#[test]
-fn faults_of_a_run_have_their_lines(rt: HostRuntime) {
-    let other = "no stanza is of this architecture or of all";
-    expect(&rt, RunFault::Slipped(Slip::NoStanza), "the index is empty");
-    expect(&rt, RunFault::Slipped(Slip::OtherArchitectures), other);
-    expect(
-        &rt,
-        RunFault::Slipped(Slip::NothingAsked),
-        "nothing is asked",
-    );
-    let bad = RunFault::BadNameLine { line: 30 };
-    expect(&rt, bad, "names: line 30: bad name");
-    assert!(rt; says_unknown(rt.alloc()), "the name");
-    expect(&rt, RunFault::Read, "cannot read the index");
-    expect(&rt, RunFault::TooLong, "the index is too long");
-    expect(&rt, RunFault::BackgroundRead, "cannot read the background");
-    expect(
-        &rt,
-        RunFault::BackgroundTooLong,
-        "the background is too long",
-    );
-    expect(&rt, RunFault::EarlierRead, "cannot read the earlier index");
-    expect(
-        &rt,
-        RunFault::EarlierTooLong,
-        "the earlier index is too long",
-    );
-    expect(&rt, RunFault::NamesRead, "cannot read the names");
-    expect(&rt, RunFault::NamesTooLong, "the names are too many");
-    expect(&rt, RunFault::Write, "cannot write the report");
-    expect(&rt, RunFault::Memory, "out of memory");
 }

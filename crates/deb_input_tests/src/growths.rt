@@ -1,6 +1,6 @@
 //! One test for each call that can want memory; trials/growths runs them with each growth of memory refused in turn.
 
-use crate::pieces::{LISTING, TEXT, comes_to};
+use crate::pieces::{TEXT, comes_to};
 use crate::whole_texts::told_by;
 use deb_input::{RunFault, fault_line, read_all, read_names};
 use std::alloc::AllocError;
@@ -35,22 +35,25 @@ fn expect_read(
     reader.fails = fails;
     let outcome = read_all(rt.alloc(), &mut reader, 3);
     let told = told_by(&outcome);
-    if told == b"no memory".as_slice() {
+    let lacks_memory = told == b"no memory".as_slice();
+    let is_wanted = told == wanted.as_bytes();
+    drop(outcome);
+    if lacks_memory {
         assert!(rt; !reader.failed);
         return Err(AllocError);
     }
-    assert!(rt;
-        told == wanted.as_bytes() && reader.reads == reads,
-        "{wanted}"
-    );
+    assert!(rt; is_wanted && reader.reads == reads, "{wanted}");
     Ok(())
 }
 
 /// A text in many pieces.
 #[test]
 fn of_read_pieces(rt: HostRuntime) -> Result<(), AllocError> {
-    let told = comes_to(&rt, &mut source_of(TEXT, 11), 1, LISTING)?;
-    assert!(rt; told);
+    let told = comes_to(&rt, &mut source_of(TEXT, 11), 1);
+    if told == "no memory" {
+        return Err(AllocError);
+    }
+    assert!(rt; told == "the text");
     Ok(())
 }
 

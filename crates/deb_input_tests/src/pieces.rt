@@ -40,60 +40,52 @@ Package: e
 Version: 1
 Architecture: all";
 
-/// The counts of an index, and the name and the version of each package.
-fn listing(alloc: Global, index: &Index) -> Result<String, AllocError> {
-    let mut told = format!(in alloc;
-        "{} {} {} {}",
-        index.stanzas(),
-        index.skipped(),
-        index.duplicates(),
-        index.foreground()
-    )?;
+/// Its packages, each with its version.
+static PACKAGES: [(&str, &str); 4] = [("a", "1"), ("b", "2"), ("d", "1:2-3"), ("e", "1")];
+
+/// Whether an index has these packages, and so many stanzas, some of other architectures and duplicates.
+fn has(index: &Index, packages: &[(&str, &str)], counts: [u32; 3]) -> bool {
     for place in 0..index.len() {
         let package = index.package(place);
-        let name = str::from_utf8(package.name.as_slice()).unwrap_or("?");
-        let version = str::from_utf8(package.version.text()).unwrap_or("?");
-        write!(told, ", {name} {version}")?;
+        let (name, version) = (package.name.as_slice(), package.version.text());
+        match packages.get(place as usize) {
+            Some(wanted) if wanted.0.as_bytes() == name && wanted.1.as_bytes() == version => {}
+            _ => return false,
+        }
     }
-    Ok(told)
+    index.len() as usize == packages.len()
+        && [index.stanzas(), index.skipped(), index.duplicates()] == counts
 }
 
-pub const LISTING: &str = "6 1 1 4, a 1, b 2, d 1:2-3, e 1";
-
-/// Whether this is seen of an index, or this word tells the fault that is told in its place.
-fn is_told(
-    alloc: Global,
-    outcome: &Result<Index, RunFault>,
-    wanted: &str,
-) -> Result<bool, AllocError> {
+/// Words for what reading a text came to.
+fn told_by(outcome: &Result<Index, RunFault>) -> &'static str {
     match outcome {
-        Ok(index) => Ok(listing(alloc, index)?.as_str() == wanted),
-        Err(RunFault::Memory) => Err(AllocError),
-        Err(fault) => Ok(word_for(fault) == wanted),
+        Ok(index) if has(index, &PACKAGES, [6, 1, 1]) => "the text",
+        Ok(index) if has(index, &PACKAGES[..1], [1, 0, 0]) => "one package",
+        Ok(_) => "another index",
+        Err(RunFault::Memory) => "no memory",
+        Err(RunFault::Read) => "failed",
+        Err(RunFault::Index(IndexError::MissingField { stanza: 2 })) => "missing field in stanza 2",
+        Err(_) => "another fault",
     }
 }
 
-fn word_for(fault: &RunFault) -> &'static str {
-    match fault {
-        RunFault::Read => "failed",
-        RunFault::Index(IndexError::MissingField { stanza: 2 }) => "missing field in stanza 2",
-        _ => "another fault",
-    }
-}
-
-/// Whether reading all that is left in pieces of at least so many bytes, with nothing behind it, comes to this.
+/// What reading all that is left in pieces of at least so many bytes, with nothing behind it, comes to.
 pub fn comes_to(
     rt: &(impl Threads + Sync + AllocGlobal),
     reader: &mut Feed<'_>,
     piece: usize,
-    wanted: &str,
-) -> Result<bool, AllocError>
+) -> &'static str
     requires { 0 < piece }
 {
-    let config = Config::usual(rt.alloc())?;
+    let Ok(config) = Config::usual(rt.alloc()) else {
+        return "no memory";
+    };
     let outcome = read_pieces(rt, rt.alloc(), &config, reader, &[], piece);
     drop(config);
-    is_told(rt.alloc(), &outcome, wanted)
+    let told = told_by(&outcome);
+    drop(outcome);
+    told
 }
 
 /// How many bytes a piece has at least: from one to more than the text has.
@@ -106,7 +98,7 @@ fn expect(
     piece: usize,
     wanted: &str,
 ) {
-    let told = piece > 0 && matches!(comes_to(rt, &mut reader, piece, wanted), Ok(true));
+    let told = piece > 0 && comes_to(rt, &mut reader, piece) == wanted;
     assert!(rt; told && reader.rest.is_empty(), "pieces of {piece} bytes");
 }
 
@@ -114,7 +106,7 @@ fn expect(
 fn pieces_of_any_size_make_the_index_of_the_text(rt: HostRuntime) {
     for piece in PIECES {
         for step in [1, 7, 1000] {
-            expect(&rt, source_of(TEXT, step), piece, LISTING);
+            expect(&rt, source_of(TEXT, step), piece, "the text");
         }
     }
 }
@@ -124,9 +116,9 @@ fn a_reader_fails_behind_each_byte(rt: HostRuntime) {
     for count in 0..=TEXT.len() {
         let mut reader = source_of(&TEXT[..count], 1);
         reader.fails = true;
-        let told = comes_to(&rt, &mut reader, 8, "failed");
+        let told = comes_to(&rt, &mut reader, 8);
         assert!(rt;
-            matches!(told, Ok(true)) && reader.reads as usize == count + 1,
+            told == "failed" && reader.reads as usize == count + 1,
             "behind {count} bytes"
         );
     }
@@ -165,8 +157,7 @@ fn long_stanza(alloc: Global) -> Result<String, AllocError> {
 /// As much again is read before each try to cut it: so there are few tries.
 fn is_read_in_few_steps(rt: &(impl Threads + Sync + AllocGlobal), text: &[u8]) -> bool {
     let mut reader = source_of(text, 1_000_000);
-    let told = comes_to(rt, &mut reader, 1, "1 0 0 1, a 1");
-    matches!(told, Ok(true)) && reader.reads <= 16
+    comes_to(rt, &mut reader, 1) == "one package" && reader.reads <= 16
 }
 
 #[test]

@@ -6,6 +6,7 @@ use deb_input::{Slip, hint_of, slip_of};
 use input_hints::RunHint;
 use run_settings::Config;
 use std::alloc::{AllocError, Global};
+use std::process::Abort;
 
 /// A stanza of another architecture.
 const ELSEWHERE: &[u8] = b"Package: a\nVersion: 1\nArchitecture: i386\n";
@@ -21,36 +22,43 @@ fn settings(alloc: Global, strict: bool, since: bool) -> Result<Config, AllocErr
 }
 
 /// The slip of a run that asks these places of a text.
-fn slip_in(
-    alloc: Global,
-    text: &[u8],
-    strict: bool,
-    since: bool,
-    asked: &[u32],
-) -> Option<Option<Slip>> {
+fn slip_in(alloc: Global, config: &Config, text: &[u8], asked: &[u32]) -> Option<Option<Slip>> {
     if text.len() > 1_000 || asked.len() > 1_000 {
         return None;
     }
-    let config = settings(alloc, strict, since).ok()?;
-    let index = Index::read(alloc, text, "amd64", true).ok()?;
-    Some(slip_of(&config, &index, asked))
+    match Index::read(alloc, text, "amd64", true) {
+        Ok(index) => {
+            let slip = slip_of(config, &index, asked);
+            drop(index);
+            Some(slip)
+        }
+        Err(_) => None,
+    }
 }
 
 /// A text, which places are asked, and the slip of a strict run.
-const SLIPS: [(&[u8], &[u32], Option<Slip>); 4] = [
+static SLIPS: [(&[u8], &[u32], Option<Slip>); 4] = [
     (b"", &[], Some(Slip::NoStanza)),
     (ELSEWHERE, &[], Some(Slip::OtherArchitectures)),
     (TEXT, &[], Some(Slip::NothingAsked)),
     (TEXT, &[0, 2], None),
 ];
 
+/// These are the slips of a run, or it has none, as it isn't strict.
+fn expect_slips(rt: &(impl Abort + AllocGlobal), config: &Config, is_strict: bool) {
+    for (text, asked, slip) in &SLIPS {
+        let wanted = if is_strict { *slip } else { None };
+        assert!(rt; slip_in(rt.alloc(), config, text, asked) == Some(wanted));
+    }
+}
+
 #[test]
 fn a_strict_run_slips_where_nothing_is_asked(rt: HostRuntime) {
-    for (text, asked, wanted) in SLIPS {
-        for (strict, since) in [(true, false), (false, true), (true, true)] {
-            assert!(rt; slip_in(rt.alloc(), text, strict, since, asked) == Some(wanted));
+    for (strict, since) in [(false, false), (true, false), (false, true), (true, true)] {
+        match settings(rt.alloc(), strict, since) {
+            Ok(config) => expect_slips(&rt, &config, strict || since),
+            Err(_) => panic!(rt; "no memory"),
         }
-        assert!(rt; slip_in(rt.alloc(), text, false, false, asked) == Some(None));
     }
 }
 
