@@ -1,6 +1,6 @@
 //! Boards, and drawers that split, draw, join and close.
 
-ghost use Rattle.std.specs.Prelude.{◌≡◌, All};
+ghost use Rattle.std.specs.Prelude.{◌≡◌};
 
 use std::alloc::{AllocError, Global};
 use std::thread;
@@ -8,7 +8,7 @@ use std::thread::Threads;
 use work_draw::{Board, Drawer, new_board};
 
 /// How many numbers a board has, what its drawer draws of them, and whether that closes it.
-pub const DEALS: [(u32, &[Option<u32>], bool); 3] = [
+pub static DEALS: [(u32, &[Option<u32>], bool); 3] = [
     (3, &[Some(0), Some(1), Some(2), None, None], true),
     (0, &[None], true),
     (3, &[Some(0)], false),
@@ -42,18 +42,13 @@ pub fn deals(
 }
 
 /// Whether a board that dealt all its numbers stays open without one of its drawers.
-fn stays_open(alloc: Global) -> Result<bool, AllocError> {
+pub fn stays_open(alloc: Global) -> Result<bool, AllocError> {
     let (board, drawer) = new_board(alloc, 3)?;
     let (mut drawer, other) = board.split(drawer, 2);
     drop(other);
     let drawn = draws(&board, &mut drawer, &[Some(0), Some(1), Some(2), None]);
     let done = drawer.is_done();
     Ok(!board.close(drawer) && drawn && done)
-}
-
-#[test]
-fn does_not_close_without_all_drawers(rt: HostRuntime) {
-    assert!(rt; matches!(stays_open(rt.alloc()), Ok(true)));
 }
 
 /// Draws all numbers that are left. How often each came of a thousand is handed back, too.
@@ -98,55 +93,4 @@ pub fn shares_a_thousand(rt: &(impl Threads + Sync + AllocGlobal)) -> Result<boo
     let both = drawer.held() == 2;
     let closed = board.close(drawer);
     Ok(last.is_none() && both && closed && is_each_once(&first.1, &second.1))
-}
-
-/// Splits a drawer into halves, and these again, until nothing of them is spare. One is handed back, the others are added where there is memory.
-fn split_up(board: &Board, drawer: Drawer, others: &mut Vec<Drawer>) -> Drawer
-    requires own { drawer.board ≡ board.now }
-    requires others { All (λ d. d.board ≡ board.now) others.old.items }
-    ensures own { result.board ≡ board.now }
-    ensures others { All (λ d. d.board ≡ board.now) others.new.items }
-{
-    if drawer.spare() == 0 {
-        return drawer;
-    }
-    let give = (drawer.spare() - 1) / 2;
-    let (kept, given) = board.split(drawer, give);
-    let kept = split_up(board, kept, others);
-    let given = split_up(board, given, others);
-    drop(others.push(given));
-    kept
-}
-
-/// Draws once from each part and joins it into a drawer; also whether the first ten draws took the numbers in their order, and the others none.
-fn draw_from_each(board: &Board, first: Drawer, parts: Vec<Drawer>) -> (Drawer, bool)
-    requires own { first.board ≡ board.now }
-    requires others { All (λ d. d.board ≡ board.now) parts.items }
-    ensures { result.0.board ≡ board.now }
-{
-    let mut whole = first;
-    let mut fine = board.draw(&mut whole) == Some(0);
-    let mut next = 1u32;
-    for mut part in parts {
-        fine &= board.draw(&mut part) == if next < 10 { Some(next) } else { None };
-        whole = board.join(whole, part);
-        next = next.saturating_add(1);
-    }
-    (whole, fine)
-}
-
-/// Whether 64 drawers of a board of ten numbers draw once each, and close it together.
-fn draw_once_each(alloc: Global) -> Result<bool, AllocError> {
-    let (board, drawer) = new_board(alloc, 10)?;
-    let mut others = Vec::new(alloc);
-    let first = split_up(&board, drawer, &mut others);
-    let all = others.len() == 63;
-    let (whole, fine) = draw_from_each(&board, first, others);
-    let joined = whole.spare() == 0 && whole.held() == 64 && whole.is_done();
-    Ok(board.close(whole) && all && fine && joined)
-}
-
-#[test]
-fn sixty_four_drawers_draw_once_each(rt: HostRuntime) {
-    assert!(rt; matches!(draw_once_each(rt.alloc()), Ok(true)));
 }

@@ -3,7 +3,7 @@
 ghost use Rattle.std.specs.Prelude.{◌≡◌, ◌<◌, ◌≤◌, All, length};
 
 use crate::examples::{check_places, ground_of, index_of};
-use crate::found::{find_as_alone, finds_cores};
+use crate::found::finds_cores;
 use crate::pieces::{are_both, are_pieces_behind, are_sets, are_statuses};
 use crate::tally::{Hold, Tally};
 use deb_index::Index;
@@ -31,8 +31,6 @@ pub enum Call<'a> {
     Statuses(&'a [bool]),
     /// `find_cores` by so many workers: cores that are written so at each place of the index.
     Cores(u32, &'a [&'a str]),
-    /// The same by each number of workers: what `cores_in` finds.
-    CoresAsAlone,
 }
 
 /// Whether the call has its answer, and no memory was wanted.
@@ -75,9 +73,7 @@ fn answers_on(
         Call::HeldSets(hold) => finds_held_sets(rt, index, asked, hold),
         Call::Pieces => finds_pieces(rt, index),
         Call::PiecesByTwo => finds_pieces_by_two(rt, index),
-        Call::Statuses(_) | Call::Cores(..) | Call::CoresAsAlone => {
-            answers_on_ground(rt, index, asked, call)
-        }
+        Call::Statuses(_) | Call::Cores(..) => answers_on_ground(rt, index, asked, call),
     }
 }
 
@@ -97,7 +93,6 @@ fn answers_on_ground(
         Call::Cores(workers, written) if 0 < workers && workers <= 64 => {
             finds_cores(rt, &groundwork, asked, workers, written)
         }
-        Call::CoresAsAlone => find_as_alone(rt, &groundwork, asked),
         _ => Ok(false),
     };
     drop(groundwork);

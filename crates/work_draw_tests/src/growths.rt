@@ -1,6 +1,6 @@
 //! One test for each call that can want memory; trials/growths runs them with each growth refused in turn.
 
-use crate::boards::{DEALS, deals, shares_a_thousand};
+use crate::boards::{DEALS, deals, shares_a_thousand, stays_open};
 use crate::calls::{Call, answers};
 use crate::examples::THREE_PACKAGES;
 use crate::pieces::{are_sets, piece_of};
@@ -10,28 +10,29 @@ use std::process::Abort;
 use std::thread::Threads;
 use work_draw::gather;
 
-/// Boards of one drawer, and one of a thousand numbers that two threads share.
+/// Boards of one drawer, one that lost a drawer, and one of a thousand numbers that two threads share.
 #[test]
 fn of_new_board(rt: HostRuntime) -> Result<(), AllocError> {
-    for (total, wanted, closes) in DEALS {
-        assert!(rt;
-            deals(rt.alloc(), total, wanted, closes)?,
-            "a board of {total}"
-        );
+    let mut fine = true;
+    for (total, wanted, closes) in &DEALS {
+        fine &= deals(rt.alloc(), *total, *wanted, *closes)?;
     }
-    assert!(rt; shares_a_thousand(&rt)?, "a board of a thousand");
+    fine &= stays_open(rt.alloc())?;
+    fine &= shares_a_thousand(&rt)?;
+    assert!(rt; fine);
     Ok(())
 }
 
-/// The pieces came in the other order.
+/// The pieces came out of order, and one has no verdict.
 #[test]
 fn of_gather(rt: HostRuntime) -> Result<(), AllocError> {
     let alloc = rt.alloc();
     let mut pieces = Vec::new(alloc);
-    pieces.push(piece_of(alloc, 1, &[1])?)?;
-    pieces.push(piece_of(alloc, 0, &[0])?)?;
-    let found = gather(alloc, 2, pieces)?;
-    assert!(rt; are_sets(&found, &[&[0], &[1]]));
+    pieces.push(piece_of(alloc, 2, &[5])?)?;
+    pieces.push(piece_of(alloc, 0, &[7, 3])?)?;
+    pieces.push(piece_of(alloc, 1, &[])?)?;
+    let found = gather(alloc, 3, pieces)?;
+    assert!(rt; are_sets(&found, &[&[7], &[3], &[5]]));
     Ok(())
 }
 

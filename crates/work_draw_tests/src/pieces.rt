@@ -1,10 +1,10 @@
-//! Pieces, and the verdicts that are gathered from them.
+//! Pieces, and the verdicts that are made of them.
 
 ghost use Rattle.std.specs.Prelude.{◌≡◌, ◌≤◌, IfOk};
 
 use deb_verdict::Verdict;
 use std::alloc::{AllocError, Global};
-use work_draw::{Piece, gather};
+use work_draw::Piece;
 
 fn is_set(found: &Verdict, wanted: &[u32]) -> bool {
     match found {
@@ -87,16 +87,4 @@ pub fn piece_of(alloc: Global, number: u32, places: &[u32]) -> Result<Piece, All
         verdicts.push(Verdict::Ok(set))?;
     }
     Ok(Piece { number, verdicts })
-}
-
-#[test]
-fn gathers_by_number(rt: HostRuntime) -> Result<(), AllocError> {
-    let alloc = rt.alloc();
-    let mut pieces = Vec::new(alloc);
-    pieces.push(piece_of(alloc, 2, &[5])?)?;
-    pieces.push(piece_of(alloc, 0, &[7, 3])?)?;
-    pieces.push(piece_of(alloc, 1, &[])?)?;
-    let found = gather(alloc, 3, pieces)?;
-    assert!(rt; are_sets(&found, &[&[7], &[3], &[5]]));
-    Ok(())
 }

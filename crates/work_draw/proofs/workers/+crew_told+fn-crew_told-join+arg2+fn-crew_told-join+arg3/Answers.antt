@@ -15,6 +15,12 @@ returns-then-workers-eq1 g t c =
     subst (λ (workers : ℕ). IsLeftBy found c.args.asked.now c.args.chunk c.args.drawer workers drawn) (sym c.if-workers-eq1.true)
     (left_by_one found c.args.asked.now c.args.chunk c.args.drawer drawn c.draw_told.ensures.same c.draw_told.ensures.gained c.draw_told.ensures.found)
 
+pub overflow_sub-rest : goal.overflow_sub-rest
+overflow_sub-rest g t c = omega arith
+
+pub overflow_sub-half : goal.overflow_sub-half
+overflow_sub-half g t c = let some = c.requires.ready.4 in omega arith
+
 pub split-mine-requires : goal.split-mine-requires
 split-mine-requires g t c = let ready = c.requires.ready in record { board = ready.0; room = omega (arith, ready.4, ready.5) }
 
@@ -70,3 +76,21 @@ fn::crew_told::join+arg2+FnOnce::call_once-join+arg2-requires g t c κs within =
 pub fn::crew_told::join+arg3+FnOnce::call_once-join+arg3-requires : goal.fn::crew_told::join+arg3+FnOnce::call_once-join+arg3-requires
 fn::crew_told::join+arg3+FnOnce::call_once-join+arg3-requires g t c κs within =
     (omega (arith, c.decreases), (search rules, (search rules, (search rules, (search rules, (search rules, (search rules, c.requires.1.1.1.0)))))))
+
+pub join+arg2-crew_told-requires-sync-R : goal.join+arg2-crew_told-requires-sync-R
+join+arg2-crew_told-requires-sync-R g t c κs within = c.requires.0
+
+pub join+arg2-crew_told-requires-sync-F : goal.join+arg2-crew_told-requires-sync-F
+join+arg2-crew_told-requires-sync-F g t c κs within = c.requires.1
+
+pub join+arg2-crew_told-requires-sync-G : goal.join+arg2-crew_told-requires-sync-G
+join+arg2-crew_told-requires-sync-G g t c κs within = c.requires.2
+
+pub join+arg3-crew_told-requires-sync-R : goal.join+arg3-crew_told-requires-sync-R
+join+arg3-crew_told-requires-sync-R g t c κs within = c.requires.0
+
+pub join+arg3-crew_told-requires-sync-F : goal.join+arg3-crew_told-requires-sync-F
+join+arg3-crew_told-requires-sync-F g t c κs within = c.requires.1
+
+pub join+arg3-crew_told-requires-sync-G : goal.join+arg3-crew_told-requires-sync-G
+join+arg3-crew_told-requires-sync-G g t c κs within = c.requires.2

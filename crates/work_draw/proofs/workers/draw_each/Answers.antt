@@ -1,10 +1,11 @@
-use Rattle.std.proofs.Common.{◌≡◌, [], ◌∷◌, ◌++◌, sym, subst, ◌∙◌, ap, arith}
+use Rattle.std.proofs.Common.{◌≡◌, length, [], ◌∷◌, ◌++◌, sym, subst, ◌∙◌, ap, arith}
 use Rattle.std.proofs.lemmas.List.{append-nil}
 use Rattle.std.proofs.lemmas.List.Elements.{All-push}
 use Rattle.work_draw.specs.Checks.{AnswersEach, IsFoundAs, chunk_of}
 use Rattle.draw_board.specs.Board.{DrawerView}
 use Rattle.work_draw.specs.declared.pieces.Piece.{Piece}
 use Rattle.work_draw.specs.Pieces.{Find, numbers_of}
+use Rattle.work_draw.proofs.Answered.{chunk_begins}
 use Rattle.work_draw.proofs.Bounds.{falls_by_push}
 use Rattle.work_draw.proofs.GainLemmas.{without_piece, with_piece, same_but_numbers}
 use Rattle.work_draw.proofs.workers.draw_each.Goals as goal
@@ -38,3 +39,11 @@ pub returns-clause-refused : goal.returns-clause-refused
 returns-clause-refused g c =
     let same : c.draw.new.drawer.numbers ≡ c.loop-number.drawer.numbers = ap (λ (d : DrawerView). d.numbers) c.in_default.ensures.none in
     ([], omega arith, same ∙ (c.loop-number.invariant.gained ∙ sym (append-nil (c.args.drawer.now.numbers ++ numbers_of c.loop-number.pieces.items))))
+
+pub check_chunk-requires : goal.check_chunk-requires
+check_chunk-requires g c =
+    let ready = c.requires.ready in
+    record {
+      begins = chunk_begins c.args.board.now.total c.in-Some.number c.args.chunk (length c.args.asked.now) ready.2 ready.3 c.in-Some.ensures.below;
+      places = ready.1;
+    }
