@@ -31,7 +31,7 @@ pub(crate) struct NumberedPackage<'v> {
 }
 
 /// The cores behind the first of the package at a place: past the end of the list none.
-fn later_at<'v>(later: &'v [Vec<Vec<Constraint>>], place: u32) -> &'v [Vec<Constraint>]
+pub(crate) fn later_at<'v>(later: &'v [Vec<Vec<Constraint>>], place: u32) -> &'v [Vec<Constraint>]
     ensures { map (λ core. core.items) result.now ≡ later_at (later_view later.now) place }
 {
     match later.get(place as usize) {

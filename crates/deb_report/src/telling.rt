@@ -4,6 +4,7 @@ ghost use Rattle.std.specs.Prelude.{◌≡◌, IfOk, map};
 ghost use Rattle.deb_report.specs.Report.{also_at};
 ghost use Rattle.deb_report.specs.Told.{telling_view};
 
+use crate::numbered::later_at;
 use crate::options::options_of;
 use deb_index::Constraint;
 use run_settings::Config;
@@ -27,10 +28,7 @@ impl<'c> Telling<'c> {
         if !self.config.all_reasons {
             return &[];
         }
-        match self.later.get(place as usize) {
-            Some(cores) => cores.as_slice(),
-            None => &[],
-        }
+        later_at(self.later, place)
     }
 
     /// The words that a document begins with, where it tells any.

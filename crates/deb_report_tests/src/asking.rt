@@ -44,6 +44,8 @@ pub const USUAL: Asked<'static> = Asked {
 /// The call that answers.
 #[derive(Clone, Copy)]
 pub enum Call<'a> {
+    /// The places that are asked.
+    Asked,
     Report,
     /// With the cores behind the first of the places below a number.
     Told(u32),
@@ -61,6 +63,8 @@ pub enum Wanted<'a> {
     Start(&'a str),
     End(&'a str),
     Places(&'a [u32]),
+    /// No places are asked, since this name is unknown.
+    Unknown(&'a [u8]),
 }
 
 /// What is asked of the index of a text and a background, and what is expected.
@@ -125,13 +129,14 @@ fn expect_text(rt: &(impl Abort + AllocGlobal), case: &Case, text: &[u8]) {
         Wanted::Whole(parts) => is_made_of(text, parts),
         Wanted::Start(start) => text.starts_with(start.as_bytes()),
         Wanted::End(end) => text.ends_with(end.as_bytes()),
+        Wanted::Unknown(name) => text == name,
         Wanted::Places(_) => false,
     };
     let name = case.name;
-    assert!(rt; same, "another report: {name}");
+    assert!(rt; same, "another text: {name}");
 }
 
-fn expect_news(rt: &(impl Abort + AllocGlobal), case: &Case, places: &[u32]) {
+fn expect_places(rt: &(impl Abort + AllocGlobal), case: &Case, places: &[u32]) {
     let same = match case.wanted {
         Wanted::Places(wanted) => places == wanted,
         _ => false,
@@ -156,6 +161,7 @@ fn expect_of(
 {
     let alloc = rt.alloc();
     match case.call {
+        Call::Asked => expect_places(rt, case, places),
         Call::Report => expect_text(rt, case, &report(alloc, index, places, verdicts, config)?),
         Call::Told(count) => {
             let told = report_with_later(alloc, index, places, verdicts, count, config)?;
@@ -167,10 +173,24 @@ fn expect_of(
         }
         Call::News(earlier) => {
             let news = news_since(alloc, index, places, verdicts, earlier, config)?;
-            expect_news(rt, case, &news);
+            expect_places(rt, case, &news);
         }
     }
     Ok(())
+}
+
+fn expect_at(
+    rt: &(impl Abort + AllocGlobal),
+    index: &Index,
+    places: &[u32],
+    case: &Case,
+    config: &Config,
+) -> Result<(), Fail>
+    requires few { length places.now < 2 ^ 32 }
+    requires within { All (λ place. place < length index.now.packages) places.now }
+{
+    let verdicts = verdicts_of(rt.alloc(), index, places)?;
+    expect_of(rt, index, places, verdicts.as_slice(), case, config)
 }
 
 fn expect_under(
@@ -179,10 +199,14 @@ fn expect_under(
     case: &Case,
     config: &Config,
 ) -> Result<(), Fail> {
-    let places = asked_places(rt.alloc(), index, config)?;
-    let places = places.as_slice();
-    let verdicts = verdicts_of(rt.alloc(), index, places)?;
-    expect_of(rt, index, places, verdicts.as_slice(), case, config)
+    match asked_places(rt.alloc(), index, config) {
+        Ok(places) => expect_at(rt, index, places.as_slice(), case, config),
+        Err(AskedFault::Memory) => Err(Fail::new("out of memory")),
+        Err(AskedFault::Unknown { name }) => {
+            expect_text(rt, case, name.as_slice());
+            Ok(())
+        }
+    }
 }
 
 fn expect_on(rt: &(impl Abort + AllocGlobal), index: &Index, case: &Case) -> Result<(), Fail> {
@@ -196,53 +220,6 @@ fn expect_on(rt: &(impl Abort + AllocGlobal), index: &Index, case: &Case) -> Res
 pub fn expect(rt: &(impl Abort + AllocGlobal), case: &Case) -> Result<(), Fail> {
     let index = index_of(rt.alloc(), case.text, case.background)?;
     let outcome = expect_on(rt, &index, case);
-    drop(index);
-    outcome
-}
-
-/// The places that are asked, or the name that is unknown.
-#[derive(Clone, Copy)]
-pub enum Answer<'a> {
-    Places(&'a [u32]),
-    Unknown(&'a [u8]),
-}
-
-fn expect_answer(
-    rt: &impl Abort,
-    found: &Result<Vec<u32>, AskedFault>,
-    wanted: Answer<'_>,
-) -> Result<(), Fail> {
-    let same = match (found, wanted) {
-        (Err(AskedFault::Memory), _) => return Err(Fail::new("out of memory")),
-        (Ok(places), Answer::Places(wanted)) => places.as_slice() == wanted,
-        (Err(AskedFault::Unknown { name }), Answer::Unknown(wanted)) => name.as_slice() == wanted,
-        _ => false,
-    };
-    assert!(rt; same, "other places");
-    Ok(())
-}
-
-fn expect_places_on(
-    rt: &(impl Abort + AllocGlobal),
-    index: &Index,
-    only: Option<&[&[u8]]>,
-    wanted: Answer<'_>,
-) -> Result<(), Fail> {
-    let config = config_for(rt.alloc(), &Asked { only, ..USUAL })?;
-    let found = asked_places(rt.alloc(), index, &config);
-    drop(config);
-    expect_answer(rt, &found, wanted)
-}
-
-/// Compares the places that are asked of the index of a text, or the name that is unknown, with what is expected.
-pub fn expect_places(
-    rt: &(impl Abort + AllocGlobal),
-    text: &str,
-    only: Option<&[&[u8]]>,
-    wanted: Answer<'_>,
-) -> Result<(), Fail> {
-    let index = index_of(rt.alloc(), text, "")?;
-    let outcome = expect_places_on(rt, &index, only, wanted);
     drop(index);
     outcome
 }

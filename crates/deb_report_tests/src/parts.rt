@@ -1,6 +1,6 @@
 //! The asked places and the report, each by itself.
 
-use crate::asking::{Answer, Asked, Case, REPORT, USUAL, Wanted, expect, expect_places};
+use crate::asking::{Asked, Call, Case, REPORT, USUAL, Wanted, expect};
 use run_settings::{Config, Show};
 use std::process::Abort;
 use std::test::Fail;
@@ -53,24 +53,14 @@ Architecture: all
 Conflicts: base
 ";
 
-/// Asked names, and the answer to them.
-const PLACES: &[(Option<&[&[u8]]>, Answer<'static>)] = &[
-    (None, Answer::Places(&[0, 1, 2, 3, 4, 5, 6])),
-    (
-        Some(&[b"e", b"n", b"a", b"e"]),
-        Answer::Places(&[0, 1, 2, 6]),
-    ),
-    (Some(&[]), Answer::Places(&[])),
-    (Some(&[b"a", b"zz", b"b", b"yy"]), Answer::Unknown(b"zz")),
-];
-
-#[test]
-fn places_of_names_rise(rt: HostRuntime) -> Result<(), Fail> {
-    for (only, wanted) in PLACES {
-        expect_places(&rt, RELATED, *only, *wanted)?;
-    }
-    Ok(())
-}
+/// The places that are asked of the index of two versions of a package and others.
+const PLACES: Case = Case {
+    name: "the places of all packages",
+    text: RELATED,
+    call: Call::Asked,
+    wanted: Wanted::Places(&[0, 1, 2, 3, 4, 5, 6]),
+    ..REPORT
+};
 
 const HEAD: &str = "architecture: amd64\nreport:\n";
 
@@ -173,6 +163,34 @@ broken: 1
 ";
 
 const CASES: &[Case] = &[
+    PLACES,
+    Case {
+        name: "the places of names rise",
+        asked: Asked {
+            only: Some(&[b"e", b"n", b"a", b"e"]),
+            ..USUAL
+        },
+        wanted: Wanted::Places(&[0, 1, 2, 6]),
+        ..PLACES
+    },
+    Case {
+        name: "no places of no names",
+        asked: Asked {
+            only: Some(&[]),
+            ..USUAL
+        },
+        wanted: Wanted::Places(&[]),
+        ..PLACES
+    },
+    Case {
+        name: "the first unknown name",
+        asked: Asked {
+            only: Some(&[b"a", b"zz", b"b", b"yy"]),
+            ..USUAL
+        },
+        wanted: Wanted::Unknown(b"zz"),
+        ..PLACES
+    },
     Case {
         name: "failures alone",
         text: RELATED,

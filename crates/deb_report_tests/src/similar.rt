@@ -172,7 +172,7 @@ fn similar_names(rt: HostRuntime) -> Result<(), Fail> {
 }
 
 /// A missing name, another one that the index has, and what is told of it.
-const PAIRS: &[(&str, &str, &str)] = &[
+static PAIRS: &[(&str, &str, &str)] = &[
     // Numbers of libraries.
     (
         "librust-typed-path-0.12+default-dev",

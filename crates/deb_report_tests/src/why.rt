@@ -470,20 +470,12 @@ pub const EDITOR_REASONS: &str =
 {\"kind\":\"depends\",\"package\":\"editor\",\"version\":\"2.1\",\"field\":\"Depends\",\"relation\":\"speller (>= 3)\",\"met-by\":[{\"package\":\"speller\",\"version\":\"3.2\"}]},\
 {\"kind\":\"depends\",\"package\":\"speller\",\"version\":\"3.2\",\"field\":\"Depends\",\"relation\":\"word-list | dictionary\",\"met-by\":[{\"package\":\"dictionary\",\"version\":\"1\"}]}";
 
-const WALKS: &[Walked<'static>] = &[
+static WALKS: &[Walked<'static>] = &[
     EDITOR, TWO_WAYS, CHAIN, PROVIDED, VERSIONS, ESSENTIAL, MISSING, NEWER, EITHER, TWICE, NESTED,
 ];
 
-#[test]
-fn walks(rt: HostRuntime) -> Result<(), Fail> {
-    for walked in WALKS {
-        expect_walk(&rt, walked)?;
-    }
-    Ok(())
-}
-
 /// Packages, and their reasons in a document.
-const REASONS: &[(&Walked<'static>, &str)] = &[
+static REASONS: &[(&Walked<'static>, &str)] = &[
     // An answer to each need, and what the entry hits.
     (&EDITOR, EDITOR_REASONS),
     // What provides a need is told with its entry.
@@ -515,7 +507,10 @@ const REASONS: &[(&Walked<'static>, &str)] = &[
 ];
 
 #[test]
-fn reasons_in_a_document(rt: HostRuntime) -> Result<(), Fail> {
+fn walks(rt: HostRuntime) -> Result<(), Fail> {
+    for walked in WALKS {
+        expect_walk(&rt, walked)?;
+    }
     for (walked, reasons) in REASONS {
         expect_reasons(&rt, walked, reasons)?;
     }
