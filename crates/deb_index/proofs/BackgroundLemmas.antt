@@ -7,6 +7,7 @@ use Rattle.std.proofs.lemmas.List.Elements.{filter_passes}
 use Rattle.std.proofs.lemmas.List.Kept.{AllPairs-cons, AllPairs-filter}
 use Rattle.deb_control.specs.Lines.{lines, content_lines}
 use Rattle.deb_control.specs.Stanzas.{runs, stanzas_of}
+use Rattle.deb_index.specs.declared.error.BothError.TheVariants.{Fore, Back}
 use Rattle.deb_index.specs.declared.error.IndexError.{IndexError}
 use Rattle.deb_index.specs.Packages.{IndexView, PackageView, first_of_each}
 use Rattle.deb_index.specs.Reading.{◌>>=◌, collected, in_fore, index_of, index_of_both, kept, readings, same_package, with_foreground, with_reading}
@@ -27,6 +28,19 @@ both-empty text arch with_essential = of (readings arch 0 0 (stanzas_of text))
     of : (read : Result (List (Option PackageView)) IndexError) → then_back text [] arch with_essential read ≡ in_fore (read >>= λ all. Ok (with_foreground (collected arch with_essential all)))
     of (Ok fore) = ap (then_all text [] arch with_essential fore) (no-stanzas arch (length fore)) ∙ ap (λ read. Ok (front (length (collected arch with_essential fore).packages) (collected arch with_essential read))) (append-nil fore)
     of (Err e) = refl
+
+-- so what is read with an empty one is the text's own index, or its fault
+pub alone-index : (read : Result IndexView IndexError) (index : IndexView) → in_fore read ≡ Ok index → read ≡ Ok index
+alone-index (Ok own) index e = cc
+alone-index (Err f) index e = absurd cc
+
+pub alone-fore : (read : Result IndexView IndexError) (f : IndexError) → in_fore read ≡ Err (Fore f) → read ≡ Err f
+alone-fore (Ok own) f e = absurd cc
+alone-fore (Err g) f e = cc
+
+pub alone-back : (read : Result IndexView IndexError) (f : IndexError) → in_fore read ≡ Err (Back f) → read ≡ Err f
+alone-back (Ok own) f e = absurd cc
+alone-back (Err g) f e = absurd cc
 
 -- ---- the foreground
 

@@ -7,7 +7,7 @@ use Rattle.std.proofs.lemmas.List.Elements.{filter_map-append}
 use Rattle.std.proofs.lemmas.List.Sums.{length-filter, count_by-le-length}
 use Rattle.deb_index.specs.declared.error.IndexError.{IndexError}
 use Rattle.deb_index.specs.Packages.{IndexView, PackageView, first_of_each}
-use Rattle.deb_index.specs.Reading.{◌>>=◌, collected, continued, index_of, with_foreground, kept, readings, same_package, with_reading}
+use Rattle.deb_index.specs.Reading.{collected, continued, kept, readings, same_package, with_reading}
 use Rattle.deb_control.specs.Stanzas.{stanzas_of}
 use Rattle.deb_index.proofs.FirstLemmas.{first-push, same-name}
 
@@ -126,14 +126,3 @@ module _ (arch : List ℕ) (with_essential : Bool) where
   pub own-arch : (old : IndexView) → old ≡ collected arch with_essential [] → old.arch ≡ arch
   unfolding collected
   own-arch old is = ap (λ (i : IndexView). i.arch) is
-
-  -- and so gives the text's index
-  pub text-index : (text : List ℕ) (old index : IndexView) → old ≡ collected arch with_essential [] → continued old (readings arch old.stanzas 0 (stanzas_of text)) ≡ Ok index → index_of text arch with_essential ≡ Ok (with_foreground index)
-  unfolding index_of
-  text-index text old index is e =
-      let read = text-read text old index is e in
-      ap (λ r. r >>= λ all. Ok (with_foreground (collected arch with_essential all))) read.1 ∙ ap (λ (i : IndexView). Ok (with_foreground i)) (sym read.2)
-
-  pub text-fault : (text : List ℕ) (old : IndexView) (f : IndexError) → old ≡ collected arch with_essential [] → continued old (readings arch old.stanzas 0 (stanzas_of text)) ≡ Err f → index_of text arch with_essential ≡ Err f
-  unfolding index_of
-  text-fault text old f is e = ap (λ r. r >>= λ all. Ok (with_foreground (collected arch with_essential all))) (text-unread text old f is e)

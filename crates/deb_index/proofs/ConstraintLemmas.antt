@@ -1,38 +1,20 @@
 -- The list of constraints: how it grows, that it speaks of the index, and that it is short.
-use Rattle.std.proofs.Common.{◌≡◌, ℕ, suc, zero, ◌+◌, ◌<◌, ◌≤◌, Bool, not, List, [], ◌∷◌, ◌++◌, map, filter, length, take, get_or, refl, sym, ◌∙◌, ap, subst, arith, append_assoc}
+use Rattle.std.proofs.Common.{◌≡◌, ℕ, suc, ◌+◌, ◌<◌, ◌≤◌, Bool, not, List, [], ◌∷◌, ◌++◌, map, filter, length, get_or, refl, sym, ◌∙◌, ap, subst, arith}
 use Rattle.std.specs.Prelude.{◌^◌, sum_by}
 use Rattle.std.specs.List.{All, enumerate_from, flat_map, range_with_len}
 use Rattle.std.specs.Str.{bytes_eq}
-use Rattle.std.proofs.lemmas.List.{append-nil, length-append, length-map, take_all}
+use Rattle.std.proofs.lemmas.List.{length-append, length-map}
 use Rattle.std.proofs.lemmas.List.Concat.{length-flat_map}
 use Rattle.std.proofs.lemmas.List.Elements.{All-append, All-map}
 use Rattle.std.proofs.lemmas.List.Filters.{length-filter_both}
-use Rattle.std.proofs.lemmas.List.FromFn.{get_or-range_with_len, length-enumerate_from, length-range_with_len, map-range_with_len_more}
+use Rattle.std.proofs.lemmas.List.FromFn.{get_or-range_with_len, length-enumerate_from, length-range_with_len}
 use Rattle.std.proofs.lemmas.List.Sums.{sum_by-cons}
-use Rattle.std.proofs.lemmas.Grind.{flat_map-append}
-use Rattle.deb_index.specs.declared.constraint.Constraint.{Constraint}
 use Rattle.deb_index.specs.declared.constraint.Constraint.TheVariants.{Essential, Need, Apart, Only}
 use Rattle.deb_index.specs.Packages.{IndexView, PackageView, aparts_at, essential_names, first_of_each, is_essential, names, needs_at, no_package, package_at, places_where}
 use Rattle.deb_index.specs.Constraints.{IsOfIndex, below, constraints_at, constraints_of}
 use Rattle.deb_index.specs.Tables.{asked_count, asked_limit}
 use Rattle.deb_index.specs.Reading.{stanza_limit}
 use Rattle.deb_index.proofs.RisingLemmas.{rising-at, where-rising}
-
--- ---- one number more
-
-pub mapped-more : {A : Type 0} (f : ℕ → A) (front : List A) (n : ℕ) → (front ++ map f (below n)) ++ f n ∷ [] ≡ front ++ map f (below (n + 1))
-mapped-more f front n = append_assoc front (map f (below n)) (f n ∷ []) ∙ ap (λ l. front ++ l) (sym (map-range_with_len_more f 0 n n (omega arith)))
-
-range-more : (a n j : ℕ) → a + n ≡ j → range_with_len a (suc n) ≡ range_with_len a n ++ j ∷ []
-range-more a zero j at = let same : a ≡ j = omega arith in ap (λ x. x ∷ []) same
-range-more a (suc n) j at = ap (λ l. a ∷ l) (range-more (a + 1) n j (omega arith))
-
-pub flat-more : {A : Type 0} (f : ℕ → List A) (front : List A) (n : ℕ) → (front ++ flat_map f (below n)) ++ f n ≡ front ++ flat_map f (below (n + 1))
-flat-more f front n =
-    let next : suc n ≡ n + 1 = omega arith in
-    append_assoc front (flat_map f (below n)) (f n)
-    ∙ ap (λ l. front ++ l) (ap (λ l. flat_map f (below n) ++ l) (sym (append-nil (f n)))
-    ∙ sym (ap (λ m. flat_map f (below m)) (sym next) ∙ (ap (flat_map f) (range-more 0 n n (omega arith)) ∙ flat_map-append f (below n) (n ∷ []))))
 
 -- ---- of the index
 
@@ -115,21 +97,3 @@ module _ (index : IndexView) where
     length-map (below (length (names index))) (λ n. Only n),
     length-range_with_len 0 (length (names index)),
   )
-
--- ---- the parts that were pushed, put together
-
-pub asked-all : (index : IndexView) (p g e : ℕ) (old mid new : List Constraint) → mid ≡ old ++ map (λ j. Need p j) (below g) → new ≡ mid ++ map (λ j. Apart p j) (below e)
-    → g ≡ length (needs_at index p) → e ≡ length (aparts_at index p) → new ≡ old ++ constraints_at index p
-asked-all index p g e old mid new groups entries many more =
-    entries ∙ (ap (λ l. l ++ map (λ j. Apart p j) (below e)) groups
-    ∙ (append_assoc old (map (λ j. Need p j) (below g)) (map (λ j. Apart p j) (below e))
-    ∙ (ap (λ n. old ++ (map (λ j. Need p j) (below n) ++ map (λ j. Apart p j) (below e))) many
-    ∙ ap (λ n. old ++ (map (λ j. Need p j) (below (length (needs_at index p))) ++ map (λ j. Apart p j) (below n))) more)))
-
-pub all-pushed : (index : IndexView) (i p n : ℕ) (first mid new : List Constraint) → first ≡ map (λ n. Essential n) (take i (essential_names index)) → mid ≡ first ++ flat_map (constraints_at index) (below p)
-    → new ≡ mid ++ map (λ n. Only n) (below n) → length (essential_names index) ≤ i → p ≡ length index.packages → n ≡ length (names index) → new ≡ constraints_of index
-unfolding constraints_of
-all-pushed index i p n first mid new e m o whole many more =
-    o ∙ (ap (λ l. l ++ map (λ n. Only n) (below n)) (m ∙ (ap (λ l. l ++ flat_map (constraints_at index) (below p)) (e ∙ ap (map (λ n. Essential n)) (take_all i (essential_names index) whole))
-    ∙ ap (λ k. map (λ n. Essential n) (essential_names index) ++ flat_map (constraints_at index) (below k)) many))
-    ∙ ap (λ k. map (λ n. Essential n) (essential_names index) ++ flat_map (constraints_at index) (below (length index.packages)) ++ map (λ n. Only n) (below k)) more)

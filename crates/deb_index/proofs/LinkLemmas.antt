@@ -78,11 +78,8 @@ group_of s = s.group
 abbrev entry_of : Start → ℕ
 entry_of s = s.entry
 
-pub linked-none : (index : IndexView) (none : List Start) (l : Links) → none ≡ [] → l.starts.items ≡ none ++ record { group = 0; entry = 0 } ∷ [] → l.groups ≡ [] → l.entries ≡ [] → IsLinked index [] l
-linked-none index none l o s g e = record { group_starts = ap (map group_of) first ∙ sym (starts-none need_count); entry_starts = ap (map entry_of) first ∙ sym (starts-none apart_count); groups = g; entries = e }
-  where
-    first : l.starts.items ≡ record { group = 0; entry = 0 } ∷ []
-    first = s ∙ ap (λ (ss : List Start). ss ++ record { group = 0; entry = 0 } ∷ []) o
+pub linked-none : (index : IndexView) (l : Links) → l.starts.items ≡ record { group = 0; entry = 0 } ∷ [] → l.groups ≡ [] → l.entries ≡ [] → IsLinked index [] l
+linked-none index l s g e = record { group_starts = ap (map group_of) s ∙ sym (starts-none need_count); entry_starts = ap (map entry_of) s ∙ sym (starts-none apart_count); groups = g; entries = e }
 
 module _ (index : IndexView) where
   abbrev group_rows : PackageView → List Row

@@ -37,6 +37,14 @@ module _ {A : Type 0} where
   behind [] ys j = let same : 0 + j ≡ j = omega arith in ap (slice_get ys) same
   behind (z ∷ zs) ys j = let next : length (z ∷ zs) + j ≡ suc (length zs + j) = omega arith in ap (slice_get (z ∷ (zs ++ ys))) next ∙ behind zs ys j
 
+  -- one element more
+  pub next-taken : (xs : List A) (k : ℕ) (x : A) → slice_get xs k ≡ Some x → take (k + 1) xs ≡ take k xs ++ x ∷ []
+  next-taken [] k x at = absurd (none-some x at)
+  next-taken (z ∷ zs) zero x at = let same : z ≡ x = cc in ap (λ y. y ∷ []) same
+  next-taken (z ∷ zs) (suc k) x at =
+      let next : suc k + 1 ≡ suc (k + 1) = omega arith in
+      ap (λ n. take n (z ∷ zs)) next ∙ ap (λ l. z ∷ l) (next-taken zs k x at)
+
   side : (xs ys : List A) (k : ℕ) (x : A) → slice_get (xs ++ ys) k ≡ Some x → (slice_get xs k ≡ Some x) ⊎ ((j : ℕ) × (k ≡ length xs + j) × (slice_get ys j ≡ Some x))
   side [] ys k x at = inr (k, omega arith, at)
   side (z ∷ zs) ys zero x at = inl at

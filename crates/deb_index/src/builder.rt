@@ -15,6 +15,7 @@ use crate::names::Names;
 use crate::package::Reading;
 use crate::parts::Parted;
 use crate::unlinked::Unlinked;
+use deb_control::Reader;
 use indexmap::IndexSet;
 use std::alloc::{AllocError, Global};
 use std::marker::Model;
@@ -61,21 +62,26 @@ impl Builder {
         })
     }
 
-    /// Takes in the stanzas of a text, behind those that are there, one part after the other.
-    pub(crate) fn add_text(self, alloc: Global, text: Parted) -> Result<Builder, IndexError>
-        requires parts { ArePartsOf self.arch text.text.now text.parts.items }
-        requires short { length text.text.now ≤ byte_limit }
+    /// Reads the stanzas of a text, and takes them in behind those that are there.
+    pub(crate) fn add_text(mut self, alloc: Global, text: &[u8]) -> Result<Builder, IndexError>
+        requires short { length text.now ≤ byte_limit }
         requires few { self.stanzas ≤ stanza_limit }
         requires room { sum_by asked_count self.packages ≤ byte_limit + 1 + 4 * self.stanzas }
-        ensures accepted { IfOk result (λ b. continued self (readings self.arch self.stanzas 0 (stanzas_of text.entry.text.now)) ≡ Ok b) }
+        ensures accepted { IfOk result (λ b. continued self (readings self.arch self.stanzas 0 (stanzas_of text.now)) ≡ Ok b) }
         ensures refused { IfErr result (λ e. e ≢ IndexError.Memory
-            → continued self (readings self.arch self.stanzas 0 (stanzas_of text.entry.text.now)) ≡ Err e) }
+            → continued self (readings self.arch self.stanzas 0 (stanzas_of text.now)) ≡ Err e) }
     {
         let before = self.stanzas();
-        self.add_behind(alloc, before, text)
+        match self.draft.add_stanzas(alloc, before, Reader::new(text)) {
+            Ok(()) => Ok(self),
+            Err(error) => {
+                drop(self.draft);
+                Err(error)
+            }
+        }
     }
 
-    /// Takes in the stanzas of a text, or of a piece of it, behind those that are there; so many stanzas stood in an earlier text.
+    /// Takes in the parts of a text, or of a piece of it, behind the stanzas that are there; so many of these stood in an earlier text.
     pub(crate) fn add_behind(
         mut self,
         alloc: Global,
@@ -176,7 +182,12 @@ impl Builder {
     fn is_essential(&self, places: &[u32]) -> bool
         ensures { result ≡ list_any (is_marked self.now) places.now }
     {
-        places.iter().any(|place| self.is_marked(*place))
+        for place in places {
+            if self.is_marked(*place) {
+                return true;
+            }
+        }
+        false
     }
 
     fn essential_names(&self, alloc: Global) -> Result<Vec<u32>, AllocError>

@@ -31,15 +31,10 @@ impl Index {
         ensures within { IfOk result (λ v. All (IsOfIndex self.now) v.items) }
         ensures few { IfOk result (λ v. length v.items < 2 ^ 32) }
     {
+        let count = self.first_position(self.len()) + self.name_count();
         let mut found = Vec::new(alloc);
-        for name in self.essential_names() {
-            found.push(Constraint::Essential(*name))?;
-        }
-        for place in 0..self.len() {
-            self.push_constraints(place, &mut found)?;
-        }
-        for number in 0..self.name_count() {
-            found.push(Constraint::Only(number))?;
+        for position in 0..count {
+            found.push(self.constraint_at(position))?;
         }
         Ok(found)
     }
@@ -121,21 +116,5 @@ impl Index {
             }
         }
         low
-    }
-
-    // Adds what the package at a place asks for.
-    fn push_constraints(&self, place: u32, found: &mut Vec<Constraint>) -> Result<(), AllocError>
-        requires within { place < length self.now.packages }
-        requires few_asked { sum_by asked_count self.now.packages ≤ asked_limit }
-        ensures { OnOk result (found.new.items ≡ found.old.items ++ constraints_at self.now place) }
-    {
-        let asking = self.package(place);
-        for group in 0..asking.need_count() {
-            found.push(Constraint::Need(place, group))?;
-        }
-        for entry in 0..asking.apart_count() {
-            found.push(Constraint::Apart(place, entry))?;
-        }
-        Ok(())
     }
 }

@@ -141,8 +141,13 @@ impl Draft {
         Ok(())
     }
 
-    // Reads the stanzas that a reader has before it, and takes each in; so many stood in an earlier text.
-    fn add_stanzas(&mut self, alloc: Global, before: u32, reader: Reader) -> Result<(), IndexError>
+    /// Reads the stanzas that a reader has before it, and takes each in; so many stood in an earlier text.
+    pub(crate) fn add_stanzas(
+        &mut self,
+        alloc: Global,
+        before: u32,
+        reader: Reader,
+    ) -> Result<(), IndexError>
         requires built { IsBuilt self.old }
         requires counts { self.old.catalog.stanzas ≡ before + reader.count }
         requires few { self.old.catalog.stanzas ≤ stanza_limit }

@@ -55,7 +55,10 @@ impl Links {
     {
         let mut linker = Linker::new(alloc, lookup, to - from)?;
         for place in from..to {
-            linker.add(lookup, place)?;
+            if let Err(error) = linker.add(lookup, place) {
+                drop(linker);
+                return Err(error);
+            }
         }
         Ok(linker.finish())
     }
@@ -114,13 +117,19 @@ impl<'t> Linker<'t> {
     fn new(alloc: Global, lookup: &'t Lookup<'t>, packages: u32) -> Result<Linker<'t>, AllocError>
         ensures { IfOk result (λ l. IsLinking lookup.now [] l) }
     {
-        let mut starts = Vec::new(alloc);
-        starts.push(Start { group: 0, entry: 0 })?;
-        Ok(Linker {
-            starts,
-            groups: RoleRows::new(alloc, lookup, Role::Alternative, packages)?,
-            entries: RoleRows::new(alloc, lookup, Role::Entry, packages)?,
-        })
+        let starts = Vec::from_slice(alloc, &[Start { group: 0, entry: 0 }])?;
+        let groups = RoleRows::new(alloc, lookup, Role::Alternative, packages)?;
+        match RoleRows::new(alloc, lookup, Role::Entry, packages) {
+            Ok(entries) => Ok(Linker {
+                starts,
+                groups,
+                entries,
+            }),
+            Err(error) => {
+                drop(groups);
+                Err(error)
+            }
+        }
     }
 
     // Adds the package at a place behind those so far.

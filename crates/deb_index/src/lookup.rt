@@ -5,16 +5,16 @@ ghost use Rattle.std.specs.List.Sorted.{IsStrictlyIncreasing};
 ghost use Rattle.deb_relation.specs.AtomView.{atom_view};
 ghost use Rattle.deb_index.specs.Packages.{is_in, package_at, package_view, places_of};
 ghost use Rattle.deb_index.specs.Reading.{stanza_limit};
-ghost use Rattle.deb_index.specs.Meets.{group_satisfiers, meets_bound, provided_at, provided_version};
+ghost use Rattle.deb_index.specs.Meets.{group_satisfiers, provided_at};
 ghost use Rattle.deb_index.specs.Roles.{meets_as_at, provides_as_at, satisfiers_as};
 ghost use Rattle.deb_index.specs.Roles as spec;
 ghost use Rattle.deb_index.specs.Rows.{group_candidates, row_limit};
 ghost use Rattle.deb_index.specs.Tables.{asked_count, asked_limit};
 
-use crate::meets::Role;
+use crate::meets::{Role, provided_meets};
 use crate::names::{Candidates, Names};
 use crate::package::Package;
-use deb_relation::{Atom, bound_holds};
+use deb_relation::Atom;
 use std::alloc::AllocError;
 use std::marker::Model;
 
@@ -250,17 +250,6 @@ fn usable_as(role: Role, arch: &[u8], provider: &Package, atom: &Atom) -> bool
             atom.usable(arch) && (!atom.has_any() || provider.multi_arch_allowed)
         }
         Role::Entry => atom.usable(arch),
-    }
-}
-
-// Whether what an entry provides is within the bound of an atom of its name.
-fn provided_meets(entry: &Atom, atom: &Atom) -> bool
-    ensures { result ≡ meets_bound (provided_version (atom_view entry.now)) (atom_view atom.now).bound }
-{
-    match (&entry.bound, &atom.bound) {
-        (_, None) => true,
-        (None, Some(_)) => false,
-        (Some(provided), Some(bound)) => bound_holds(&provided.1, bound.0, &bound.1),
     }
 }
 

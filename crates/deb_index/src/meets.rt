@@ -29,8 +29,8 @@ fn meets_bound(version: &Version, atom: &Atom) -> bool
     }
 }
 
-// Whether what an entry provides meets an atom of any name.
-fn provided_meets(entry: &Atom, atom: &Atom) -> bool
+/// Whether what an entry provides is within the bound of an atom of its name.
+pub(crate) fn provided_meets(entry: &Atom, atom: &Atom) -> bool
     ensures { result ≡ meets_bound (spec.provided_version (atom_view entry.now)) (atom_view atom.now).bound }
 {
     match &entry.bound {

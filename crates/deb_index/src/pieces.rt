@@ -165,7 +165,8 @@ impl PartialIndex {
                 return Err(BothError::Memory);
             }
         };
-        let both = match fore.add_text(alloc, parted) {
+        let before = fore.stanzas();
+        let both = match fore.add_behind(alloc, before, parted) {
             Ok(both) => both,
             Err(error) => return Err(in_back(error)),
         };

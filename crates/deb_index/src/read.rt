@@ -1,13 +1,11 @@
 //! Reading an index.
 ghost use Rattle.std.specs.Prelude.{◌≡◌, ◌≢◌, ◌≤◌, IfOk, IfErr, Ok, Err, length};
-ghost use Rattle.deb_index.specs.Parts.{ArePartsOf};
 ghost use Rattle.deb_index.specs.Reading.{IsBare, byte_limit, index_of, index_of_both};
 
 use crate::builder::Builder;
 use crate::error::{BothError, IndexError, in_back, in_fore};
 use crate::index::Index;
-use crate::parts::{Parted, in_many, in_one};
-use crate::unlinked::Unlinked;
+use crate::pieces::PartialIndex;
 use std::alloc::Global;
 use std::thread::Threads;
 
@@ -26,12 +24,12 @@ impl Index {
         ensures accepted { IfOk result (λ index. index_of text.now arch.now essential ≡ Ok index) }
         ensures refused { IfErr result (λ e. e ≢ IndexError.Memory → index_of text.now arch.now essential ≡ Err e) }
     {
-        let parted = in_one(alloc, text)?;
-        let empty = Builder::new(alloc, arch.as_bytes(), essential)?;
-        let fore = empty.add_text(alloc, parted)?;
-        let unlinked = fore.end_foreground().finish(alloc)?;
-        let index = unlinked.link(alloc)?;
-        Ok(index)
+        match Index::read_both(alloc, text, &[], arch, essential) {
+            Ok(index) => Ok(index),
+            Err(BothError::Fore(fault)) => Err(fault),
+            Err(BothError::Back(fault)) => Err(fault),
+            Err(BothError::Memory) => Err(IndexError::Memory),
+        }
     }
 
     /// Reads the index of a text, the foreground, and of a background behind it. A stanza with the name and the version text of an earlier
@@ -53,9 +51,16 @@ impl Index {
         ensures refused { IfErr result (λ e. e ≢ BothError.Memory → index_of_both text.now background.now arch.now essential ≡ Err e) }
         ensures bare { IfErr result IsBare }
     {
-        let fore = in_one(alloc, text)?;
-        let back = in_one(alloc, background)?;
-        let unlinked = read_parted(alloc, fore, back, arch, essential)?;
+        let empty = Builder::new(alloc, arch.as_bytes(), essential)?;
+        let fore = match empty.add_text(alloc, text) {
+            Ok(fore) => fore.end_foreground(),
+            Err(error) => return Err(in_fore(error)),
+        };
+        let both = match fore.add_text(alloc, background) {
+            Ok(both) => both,
+            Err(error) => return Err(in_back(error)),
+        };
+        let unlinked = both.finish(alloc)?;
         let index = unlinked.link(alloc)?;
         Ok(index)
     }
@@ -79,39 +84,11 @@ impl Index {
         ensures refused { IfErr result (λ e. e ≢ BothError.Memory → index_of_both text.now background.now arch.now essential ≡ Err e) }
         ensures bare { IfErr result IsBare }
     {
-        let fore = in_many(rt, alloc, arch.as_bytes(), text, workers, least)?;
-        let back = in_many(rt, alloc, arch.as_bytes(), background, workers, least)?;
-        let unlinked = read_parted(alloc, fore, back, arch, essential)?;
-        let index = unlinked.link_on(rt, alloc, workers)?;
-        Ok(index)
+        let empty = PartialIndex::new(alloc, arch, essential)?;
+        let fore = match empty.take(rt, alloc, text, workers, least) {
+            Ok(fore) => fore,
+            Err(error) => return Err(in_fore(error)),
+        };
+        fore.finish(rt, alloc, background, workers, least)
     }
-}
-
-// The index of a text and a background, by their parts; it lacks its rows.
-fn read_parted(
-    alloc: Global,
-    text: Parted,
-    background: Parted,
-    arch: &str,
-    essential: bool,
-) -> Result<Unlinked, BothError>
-    requires fore { length text.text.now ≤ byte_limit }
-    requires back { length background.text.now ≤ byte_limit }
-    requires fore_parts { ArePartsOf arch.now text.text.now text.parts.items }
-    requires back_parts { ArePartsOf arch.now background.text.now background.parts.items }
-    ensures accepted { IfOk result (λ index. index_of_both text.entry.text.now background.entry.text.now arch.now essential ≡ Ok index) }
-    ensures refused { IfErr result (λ e. e ≢ BothError.Memory → index_of_both text.entry.text.now background.entry.text.now arch.now essential ≡ Err e) }
-    ensures bare { IfErr result IsBare }
-{
-    let empty = Builder::new(alloc, arch.as_bytes(), essential)?;
-    let fore = match empty.add_text(alloc, text) {
-        Ok(fore) => fore.end_foreground(),
-        Err(error) => return Err(in_fore(error)),
-    };
-    let both = match fore.add_text(alloc, background) {
-        Ok(both) => both,
-        Err(error) => return Err(in_back(error)),
-    };
-    let index = both.finish(alloc)?;
-    Ok(index)
 }

@@ -48,11 +48,12 @@ impl<'t> RoleRows<'t> {
     ) -> Result<RoleRows<'t>, AllocError>
         ensures { IfOk result (λ r. r ≡ record { index = lookup.now; role = role; rows = [] }) }
     {
+        let memo = Memo::new(alloc, packages)?;
         Ok(RoleRows {
             lookup,
             role,
             rows: Rows::new(alloc),
-            memo: Memo::new(alloc, packages)?,
+            memo,
             found: Vec::new(alloc),
         })
     }

@@ -88,12 +88,17 @@ impl Unlinked {
         requires { IfOk links (λ l. IsLinked self self.packages l) }
         ensures { IfOk result (λ index. index ≡ self) }
     {
-        let links = links?;
-        Ok(Index {
-            links,
-            essential: self.essential,
-            catalog: self.catalog,
-        })
+        match links {
+            Ok(links) => Ok(Index {
+                links,
+                essential: self.essential,
+                catalog: self.catalog,
+            }),
+            Err(error) => {
+                drop(self);
+                Err(error)
+            }
+        }
     }
 }
 

@@ -1,36 +1,40 @@
-use Rattle.std.proofs.Common.{◌≡◌, ◌≤◌, ◌<◌, ◌++◌, ◌∷◌, [], ◌∙◌, All, ap, sym, subst, get_or, length, arith}
+use Rattle.std.proofs.Common.{◌≡◌, ◌<◌, ◌≤◌, ◌++◌, ◌∷◌, [], ◌∙◌, All, ap, sym, subst, length, arith}
 use Rattle.std.specs.Prelude.{◌^◌}
-use Rattle.deb_index.specs.declared.constraint.Constraint.TheVariants.{Essential, Only}
-use Rattle.deb_index.specs.Packages.{essential_names, names}
-use Rattle.deb_index.specs.Constraints.{IsOfIndex, constraints_at}
-use Rattle.deb_index.proofs.ConstraintLemmas.{all-pushed, constraints-few, constraints-within, flat-more, mapped-more}
-use Rattle.deb_index.proofs.LinkLemmas.{rows-more}
+use Rattle.std.proofs.lemmas.List.{take_all}
+use Rattle.deb_index.specs.Links.{first_position}
+use Rattle.deb_index.specs.Constraints.{IsOfIndex, constraints_of}
+use Rattle.deb_index.proofs.ConstraintLemmas.{constraints-few, constraints-within}
+use Rattle.deb_index.proofs.PositionLemmas.{constraints-long, next-taken}
 use Rattle.deb_index.proofs.index.Index.constraints.Goals as goal
 
-pub loop-name-preserved : goal.loop-name-preserved
-loop-name-preserved c =
-    let names = essential_names c.args.self.now in
-    let number = c.loop-name.name-index in
-    let items = c.essential_names-name-items in
-    let within : number < length names = omega (arith, c.loop-name-test.true, ap length items.ensures) in
-    c.in_ok-push.ensures.items ∙ (λ i. c.loop-name.invariant i ++ Essential (get_or (items.ensures i) number 0) ∷ []) ∙ rows-more (λ n. Essential n) [] names number 0 within
+pub overflow_add-count : goal.overflow_add-count
+overflow_add-count c =
+    let v = c.args.self.now in
+    let last : c.first_position.result ≡ first_position v (length v.packages) = c.first_position.ensures.value ∙ ap (first_position v) c.len.ensures.value in
+    omega (arith, last, constraints-long v, c.name_count.ensures, c.first_position.ensures.few)
 
-pub loop-place-preserved : goal.loop-place-preserved
-loop-place-preserved c = c.in_ok-push_constraints.ensures ∙ (ap (λ l. l ++ constraints_at c.args.self.now c.loop-place.place) c.loop-place.invariant ∙ flat-more (constraints_at c.args.self.now) c.loop-name.found.items c.loop-place.place)
+pub loop-position-init : goal.loop-position-init
+loop-position-init c = c.new-found.ensures.items
 
-pub loop-number-preserved : goal.loop-number-preserved
-loop-number-preserved c = c.in_ok-push-2.ensures.items ∙ (ap (λ l. l ++ Only c.loop-number.number ∷ []) c.loop-number.invariant ∙ mapped-more (λ n. Only n) c.loop-place.found.items c.loop-number.number)
+pub constraint_at-requires : goal.constraint_at-requires
+constraint_at-requires c =
+    let v = c.args.self.now in
+    let last : c.first_position.result ≡ first_position v (length v.packages) = c.first_position.ensures.value ∙ ap (first_position v) c.len.ensures.value in
+    omega (arith, last, constraints-long v, c.name_count.ensures)
+
+pub loop-position-preserved : goal.loop-position-preserved
+loop-position-preserved c =
+    c.in_ok-push.ensures.items ∙ ap (λ l. l ++ c.constraint_at.result ∷ []) c.loop-position.invariant
+    ∙ sym (next-taken (constraints_of c.args.self.now) c.loop-position.position c.constraint_at.result c.constraint_at.ensures)
 
 pub returns : goal.returns
 returns c =
-    let index = c.args.self.now in
-    let whole : length (essential_names index) ≤ c.loop-name.name-index = omega (arith, ap length c.essential_names-name-items.ensures) in
-    let many : c.loop-place.place ≡ length index.packages = omega (arith, c.len-place-end.ensures.value) in
-    let more : c.loop-number.number ≡ length (names index) = omega arith in
-    let value = all-pushed index c.loop-name.name-index c.loop-place.place c.loop-number.number c.loop-name.found.items c.loop-place.found.items c.loop-number.found.items
-    c.loop-name.invariant c.loop-place.invariant c.loop-number.invariant whole many more in
+    let v = c.args.self.now in
+    let last : c.first_position.result ≡ first_position v (length v.packages) = c.first_position.ensures.value ∙ ap (first_position v) c.len.ensures.value in
+    let whole : length (constraints_of v) ≤ c.loop-position.position = omega (arith, last, constraints-long v, c.name_count.ensures) in
+    let value = c.loop-position.invariant ∙ take_all c.loop-position.position (constraints_of v) whole in
     record {
       value = value;
-      within = subst (All (IsOfIndex index)) (sym value) (constraints-within index);
-      few = subst (λ l. length l < 2 ^ 32) (sym value) (constraints-few index c.len-place-end.ensures.few c.len-place-end.ensures.few_asked);
+      within = subst (All (IsOfIndex v)) (sym value) (constraints-within v);
+      few = subst (λ l. length l < 2 ^ 32) (sym value) (constraints-few v c.len.ensures.few c.len.ensures.few_asked);
     }
