@@ -1,4 +1,4 @@
-//! Rows of places, against each package asked in turn, and answers where there is no row.
+//! Rows of places, and answers where there is no row.
 
 use crate::reading::Texts;
 use crate::showing::{Case, Part, expect_each, expect_shown};
@@ -194,7 +194,7 @@ struct Crowd {
     wanted: &'static str,
 }
 
-const ROW_ENDS: &[Part] = &[Part::Counts, Part::AnswerRowEnds, Part::HitRowEnds];
+const ROWS: &[Part] = &[Part::Counts, Part::AnswerRows, Part::HitRows];
 
 // A row stands where there are no more than 256 candidates. What has more has none for whoever asks, also behind rows that come again.
 static CROWDS: [Crowd; 6] = [
@@ -202,11 +202,11 @@ static CROWDS: [Crowd; 6] = [
         asked: ALONE_AND_BESIDE,
         count: 262,
         again: false,
-        parts: ROW_ENDS,
+        parts: ROWS,
         wanted: "packages 263, stanzas 263, skipped 0, duplicates 0
 need 0 0: none
 need 0 1: none
-need 0 2: 1 from Some(0)
+need 0 2: [0]
 apart 0 0: none
 ",
     },
@@ -214,11 +214,11 @@ apart 0 0: none
         asked: ALONE_AND_BESIDE,
         count: 257,
         again: false,
-        parts: ROW_ENDS,
+        parts: ROWS,
         wanted: "packages 258, stanzas 258, skipped 0, duplicates 0
 need 0 0: none
 need 0 1: none
-need 0 2: 1 from Some(0)
+need 0 2: [0]
 apart 0 0: none
 ",
     },
@@ -226,11 +226,11 @@ apart 0 0: none
         asked: ALONE_AND_BESIDE,
         count: 256,
         again: false,
-        parts: ROW_ENDS,
+        parts: ROWS,
         wanted: "packages 257, stanzas 257, skipped 0, duplicates 0
 need 0 0: 256 from Some(1)
 need 0 1: none
-need 0 2: 1 from Some(0)
+need 0 2: [0]
 apart 0 0: 256 from Some(1)
 ",
     },
@@ -238,11 +238,11 @@ apart 0 0: 256 from Some(1)
         asked: ALONE_AND_BESIDE,
         count: 255,
         again: false,
-        parts: ROW_ENDS,
+        parts: ROWS,
         wanted: "packages 256, stanzas 256, skipped 0, duplicates 0
 need 0 0: 255 from Some(1)
 need 0 1: 256 from Some(0)
-need 0 2: 1 from Some(0)
+need 0 2: [0]
 apart 0 0: 255 from Some(1)
 ",
     },
@@ -250,39 +250,39 @@ apart 0 0: 255 from Some(1)
         asked: SHARED,
         count: 262,
         again: false,
-        parts: &[Part::Counts, Part::AnswerRowEnds, Part::AnswerEnds],
+        parts: &[Part::Counts, Part::AnswerRows, Part::Answers],
         wanted: "packages 263, stanzas 263, skipped 0, duplicates 0
 need 0 0: none
 need 0 1: none
 need 0 2: none
 need 0 3: none
-need 0 4: 1 from Some(0)
+need 0 4: [0]
 answers 0 0: 262 from Some(1)
-answers 0 1: 1 from Some(0)
+answers 0 1: [0]
 answers 0 2: 262 from Some(1)
 answers 0 3: 263 from Some(0)
-answers 0 4: 1 from Some(0)
+answers 0 4: [0]
 ",
     },
     Crowd {
         asked: AGAIN,
         count: 257,
         again: true,
-        parts: ROW_ENDS,
+        parts: ROWS,
         wanted: "packages 259, stanzas 259, skipped 0, duplicates 0
 need 0 0: none
-need 0 1: 1 from Some(0)
+need 0 1: [0]
 need 0 2: none
-need 0 3: 1 from Some(0)
+need 0 3: [0]
 need 258 0: none
-need 258 1: 1 from Some(0)
+need 258 1: [0]
 need 258 2: none
-need 258 3: 1 from Some(0)
+need 258 3: [0]
 apart 0 0: none
-apart 0 1: 1 from Some(0)
+apart 0 1: [0]
 apart 0 2: none
 apart 258 0: none
-apart 258 1: 1 from Some(0)
+apart 258 1: [0]
 apart 258 2: none
 ",
     },

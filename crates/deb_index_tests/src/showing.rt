@@ -1,7 +1,6 @@
 //! What is to be seen of an index, printed, so that a test compares one text.
 
 ghost use Rattle.std.specs.Prelude.{◌<◌, length};
-ghost use Rattle.deb_index.specs.Packages.{aparts_at, needs_at};
 
 use crate::reading::{Texts, read};
 use deb_index::{BothError, Index, Package};
@@ -19,8 +18,6 @@ pub enum Part {
     Counts,
     /// How many packages are the foreground's.
     Foreground,
-    /// How many packages there are, as those of a foreground.
-    All,
     Architecture,
     /// Each package, with its own architecture, the number of its name, the places of its versions, and its mark.
     Packages,
@@ -32,16 +29,12 @@ pub enum Part {
     Constraints,
     /// How many groups and entries the fields of a package have, and the names in each.
     Groups,
-    /// The row of each group, which has to have the places of the packages that answer it, each asked in turn.
+    /// The row of each group, where it has one.
     AnswerRows,
-    /// The same, with the number of places and the first in place of them all.
-    AnswerRowEnds,
-    /// The row of each entry, which has to have the places that `satisfiers` finds.
+    /// The row of each entry, where it has one.
     HitRows,
-    HitRowEnds,
-    /// The answers to each group, compared as its row is. The lent list is filled before, and lent again for each group.
+    /// The answers to each group. The lent list is filled before, and lent again for each group.
     Answers,
-    AnswerEnds,
     /// The places that meet each of these atoms, which have to be those of the packages that do, each asked in turn.
     Satisfiers(&'static [&'static str]),
     /// Those that meet each of these atoms as an alternative of a group, in the same way.
@@ -158,134 +151,74 @@ fn append_groups(out: &mut String, index: &Index) -> Result<(), AllocError> {
     Ok(())
 }
 
-/// The places of the packages that meet one of the atoms, each package asked in turn.
-fn met_in_turn(
-    alloc: Global,
-    index: &Index,
-    atoms: &[Atom],
-    as_need: bool,
-) -> Result<Vec<u32>, AllocError> {
-    let mut found = Vec::new(alloc);
-    for place in 0..index.len() {
-        for atom in atoms {
-            let meets = if as_need {
-                index.meets_need(place, atom)
-            } else {
-                index.meets(place, atom)
-            };
-            if meets {
-                found.push(place)?;
-                break;
-            }
-        }
-    }
-    Ok(found)
-}
-
-/// Adds a row, whole or by its ends, and what it had to be where it is another.
-fn append_row(
-    out: &mut String,
-    row: Option<&[u32]>,
-    whole: bool,
-    wanted: &[u32],
-) -> Result<(), AllocError> {
-    let Some(places) = row else {
-        return out.push_str(" none\n");
-    };
-    if whole {
-        write!(out, " {places:?}")?;
+/// Adds places: how many there are and the first one, where they are many.
+fn append_places(out: &mut String, places: &[u32]) -> Result<(), AllocError> {
+    if places.len() > 20 {
+        write!(out, " {} from {:?}\n", places.len(), places.first())
     } else {
-        write!(out, " {} from {:?}", places.len(), places.first())?;
-    }
-    if places == wanted {
-        out.push('\n')
-    } else {
-        write!(out, ", but {wanted:?}\n")
+        write!(out, " {places:?}\n")
     }
 }
 
-fn append_answer_row(
-    out: &mut String,
-    index: &Index,
-    place: u32,
-    number: u32,
-    whole: bool,
-) -> Result<(), AllocError>
-    requires place { place < length index.now.packages }
-    requires number { number < length (needs_at index.now place) }
-{
-    append_label(out, "need", place, number)?;
-    let asked = met_in_turn(*out.allocator(), index, index.need(place, number), true)?;
-    append_row(out, index.answer_row(place, number), whole, &asked)
+fn append_row(out: &mut String, row: Option<&[u32]>) -> Result<(), AllocError> {
+    match row {
+        Some(places) => append_places(out, places),
+        None => out.push_str(" none\n"),
+    }
 }
 
-fn append_answer_rows(out: &mut String, index: &Index, whole: bool) -> Result<(), AllocError> {
+fn append_answer_rows(out: &mut String, index: &Index) -> Result<(), AllocError> {
     for place in 0..index.len() {
         for number in 0..index.need_count(place) {
-            append_answer_row(out, index, place, number, whole)?;
+            append_label(out, "need", place, number)?;
+            append_row(out, index.answer_row(place, number))?;
         }
     }
     Ok(())
 }
 
-fn append_hit_row(
-    out: &mut String,
-    index: &Index,
-    place: u32,
-    number: u32,
-    whole: bool,
-) -> Result<(), AllocError>
-    requires place { place < length index.now.packages }
-    requires number { number < length (aparts_at index.now place) }
-{
-    append_label(out, "apart", place, number)?;
-    let found = index.satisfiers(*out.allocator(), index.apart(place, number))?;
-    append_row(out, index.hit_row(place, number), whole, &found)
-}
-
-fn append_hit_rows(out: &mut String, index: &Index, whole: bool) -> Result<(), AllocError> {
+fn append_hit_rows(out: &mut String, index: &Index) -> Result<(), AllocError> {
     for place in 0..index.len() {
         for number in 0..index.apart_count(place) {
-            append_hit_row(out, index, place, number, whole)?;
+            append_label(out, "apart", place, number)?;
+            append_row(out, index.hit_row(place, number))?;
         }
     }
     Ok(())
-}
-
-fn append_answer(
-    out: &mut String,
-    index: &Index,
-    place: u32,
-    number: u32,
-    whole: bool,
-    lent: &mut Vec<u32>,
-) -> Result<(), AllocError>
-    requires place { place < length index.now.packages }
-    requires number { number < length (needs_at index.now place) }
-{
-    append_label(out, "answers", place, number)?;
-    let answers = index.answers(place, number, lent)?;
-    let asked = met_in_turn(*out.allocator(), index, index.need(place, number), true)?;
-    append_row(out, Some(answers), whole, &asked)
 }
 
 fn append_answers_by(
     out: &mut String,
     index: &Index,
-    whole: bool,
     lent: &mut Vec<u32>,
 ) -> Result<(), AllocError> {
     for place in 0..index.len() {
         for number in 0..index.need_count(place) {
-            append_answer(out, index, place, number, whole, lent)?;
+            append_label(out, "answers", place, number)?;
+            append_places(out, index.answers(place, number, lent)?)?;
         }
     }
     Ok(())
 }
 
-fn append_answers(out: &mut String, index: &Index, whole: bool) -> Result<(), AllocError> {
+fn append_answers(out: &mut String, index: &Index) -> Result<(), AllocError> {
     let mut lent = Vec::from_slice(*out.allocator(), &[9, 8])?;
-    append_answers_by(out, index, whole, &mut lent)
+    append_answers_by(out, index, &mut lent)
+}
+
+/// Whether exactly those packages meet an atom that are at these places.
+fn are_met(index: &Index, atom: &Atom, as_need: bool, places: &[u32]) -> bool {
+    for place in 0..index.len() {
+        let meets = if as_need {
+            index.meets_need(place, atom)
+        } else {
+            index.meets(place, atom)
+        };
+        if meets != places.contains(&place) {
+            return false;
+        }
+    }
+    true
 }
 
 fn append_met_atom(
@@ -294,14 +227,16 @@ fn append_met_atom(
     atom: &Atom,
     as_need: bool,
 ) -> Result<(), AllocError> {
-    let alloc = *out.allocator();
     let found = if as_need {
-        index.need_satisfiers(alloc, atom)?
+        index.need_satisfiers(*out.allocator(), atom)?
     } else {
-        index.satisfiers(alloc, atom)?
+        index.satisfiers(*out.allocator(), atom)?
     };
-    let asked = met_in_turn(alloc, index, from_ref(atom), as_need)?;
-    append_row(out, Some(&found), true, &asked)
+    if are_met(index, atom, as_need, &found) {
+        append_places(out, &found)
+    } else {
+        out.push_str(" others\n")
+    }
 }
 
 fn append_met(
@@ -334,7 +269,6 @@ fn append_part(out: &mut String, index: &Index, part: Part) -> Result<(), AllocE
     match part {
         Part::Counts => append_counts(out, index),
         Part::Foreground => write!(out, "foreground {}\n", index.foreground()),
-        Part::All => write!(out, "foreground {}\n", index.len()),
         Part::Architecture => write!(out, "architecture {}\n", text_of(index.arch())),
         Part::Packages => append_packages(out, index),
         Part::Names => append_names(out, index),
@@ -342,12 +276,9 @@ fn append_part(out: &mut String, index: &Index, part: Part) -> Result<(), AllocE
         Part::EssentialNames => write!(out, "essential {:?}\n", index.essential_names()),
         Part::Constraints => append_constraints(out, index),
         Part::Groups => append_groups(out, index),
-        Part::AnswerRows => append_answer_rows(out, index, true),
-        Part::AnswerRowEnds => append_answer_rows(out, index, false),
-        Part::HitRows => append_hit_rows(out, index, true),
-        Part::HitRowEnds => append_hit_rows(out, index, false),
-        Part::Answers => append_answers(out, index, true),
-        Part::AnswerEnds => append_answers(out, index, false),
+        Part::AnswerRows => append_answer_rows(out, index),
+        Part::HitRows => append_hit_rows(out, index),
+        Part::Answers => append_answers(out, index),
         Part::Satisfiers(atoms) => append_each_met(out, index, atoms, false),
         Part::NeedSatisfiers(atoms) => append_each_met(out, index, atoms, true),
     }
