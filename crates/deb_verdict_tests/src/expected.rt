@@ -8,7 +8,6 @@ ghost use Rattle.std.specs.Prelude.{◌<◌, length};
 
 use crate::causes::expect_causes;
 use crate::compared::compare_value;
-use crate::counts::{Counts, NONE};
 use crate::grounded::Grounded;
 use crate::marks::expect_marks;
 use deb_index::Index;
@@ -80,7 +79,7 @@ pub fn expect_lines(
     grounded: &Grounded<'_>,
     calls: &[Call],
     case: &Case<'_>,
-) -> Result<Counts, AllocError> {
+) -> Result<(), AllocError> {
     for line in case.expected.lines() {
         let (place, wanted) = line.split_once(' ').expect(rt, case.name);
         if place == "marks" {
@@ -90,7 +89,7 @@ pub fn expect_lines(
             expect_answer(rt, workspace, grounded, calls, case.name, p, wanted)?;
         }
     }
-    Ok(NONE)
+    Ok(())
 }
 
 /// Compares what is found of the package at a place with what is expected.

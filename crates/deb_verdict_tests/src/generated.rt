@@ -1,109 +1,551 @@
-//! Texts of small indexes that are made by a seed.
+//! Small indexes that nobody wrote down, as they came from a seed, and what brute force over all sets of packages says of them
+//! (`trials/brute_force.py`).
 
-ghost use Rattle.std.specs.Prelude.{◌<◌};
+use crate::expected::Case;
+use crate::lent::expect_all;
 
-use std::alloc::AllocError;
+static CASES: [Case<'static>; 14] = [
+    Case {
+        name: "seed 141",
+        text: "Package: a
+Version: 1
+Architecture: all
+Pre-Depends: v
 
-fn line(choice: u32) -> &'static str {
-    match choice {
-        0 => "Depends: b\n",
-        1 => "Depends: a | c\n",
-        2 => "Depends: c (>> 1)\n",
-        3 => "Pre-Depends: v\n",
-        4 => "Conflicts: b\n",
-        5 => "Conflicts: v\nProvides: v\n",
-        6 => "Breaks: a (<< 2)\n",
-        7 => "Provides: b (= 2)\n",
-        8 => "Essential: yes\n",
-        9 => "Depends: b (= 2), a\n",
-        _ => "",
-    }
-}
+Package: b
+Version: 1
+Architecture: all
+Depends: a | c
 
-fn head(choice: u32) -> &'static str {
-    match choice {
-        0 => "Package: a\nVersion: 1\nArchitecture: all\n",
-        1 => "Package: b\nVersion: 1\nArchitecture: all\n",
-        2 => "Package: c\nVersion: 2\nArchitecture: all\n",
-        _ => "Package: a\nVersion: 2\nArchitecture: all\n",
-    }
-}
+Package: c
+Version: 2
+Architecture: all
+Depends: b (= 2), a
 
-/// Some number below a limit, and the next seed.
-fn draw(seed: &mut u32, limit: u32) -> u32
-    requires { 0 < limit }
-{
-    *seed = seed.wrapping_mul(1_664_525).wrapping_add(1_013_904_223);
-    (*seed >> 16) % limit
-}
+Package: a
+Version: 1
+Architecture: all
+Depends: c (>> 1)
+",
+        expected: "0 core [Need(0, 0)]
+0 cores [[Need(0, 0)]] causes [[Need(0, 0)]]
+1 core [Need(0, 0), Need(1, 0), Need(2, 1)]
+1 cores [[Need(0, 0), Need(1, 0), Need(2, 1)]] causes [[Need(0, 0)]]
+2 core [Need(2, 0)]
+2 cores [[Need(2, 0)], [Need(0, 0), Need(2, 1)]] causes [[Need(2, 0)], [Need(0, 0)]]
+1 closure [0, 1, 2]
+2 closure [0, 2]
+",
+    },
+    Case {
+        name: "seed 149",
+        text: "Package: a
+Version: 1
+Architecture: all
+Depends: c (>> 1)
 
-/// Adds the head of the package with a number: those of the first three differ, and the fourth has that of one of them or of a new version.
-fn add_head(text: &mut String, seed: &mut u32, number: u32) -> Result<(), AllocError> {
-    let choice = draw(seed, 4);
-    text.push_str(head(if number < 3 { number } else { choice }))
-}
+Package: b
+Version: 1
+Architecture: all
+Depends: a | c
 
-/// Conflicts and dependencies with the qualifier `any`, in each of their fields.
-fn line_with_any(choice: u32) -> &'static str {
-    match choice {
-        0 => "Depends: v:any\n",
-        1 => "Depends: c:any | b:any\n",
-        2 => "Depends: c, v:any | b\n",
-        3 => "Pre-Depends: b:any (>= 1)\n",
-        4 => "Pre-Depends: v:any\nConflicts: c:any\n",
-        5 => "Depends: v\nConflicts: v:any\n",
-        6 => "Depends: a\nBreaks: v:any\n",
-        7 => "Pre-Depends: v:any (= 2)\n",
-        8 => "Depends: b:any\nBreaks: c:any (<< 2)\n",
-        _ => "",
-    }
-}
+Package: c
+Version: 2
+Architecture: all
+Depends: b (= 2), a
 
-/// What a package provides, with the qualifier `any` and without.
-fn provided_line(choice: u32) -> &'static str {
-    match choice {
-        0 => "Provides: v\n",
-        1 => "Provides: v:any\n",
-        2 => "Provides: b:any (= 2), v (= 2)\n",
-        3 => "Provides: c:amd64, v:any (= 2)\n",
-        _ => "",
-    }
-}
+Package: a
+Version: 1
+Architecture: all
+",
+        expected: "0 core [Need(0, 0), Need(2, 0)]
+0 cores [[Need(0, 0), Need(2, 0)]] causes [[Need(2, 0)]]
+1 core [Need(0, 0), Need(1, 0), Need(2, 0)]
+1 cores [[Need(0, 0), Need(1, 0), Need(2, 0)]] causes [[Need(2, 0)]]
+2 core [Need(2, 0)]
+2 cores [[Need(2, 0)]] causes [[Need(2, 0)]]
+0 closure [0, 2]
+1 closure [0, 1, 2]
+2 closure [0, 2]
+",
+    },
+    Case {
+        name: "seed 68",
+        text: "Package: a
+Version: 1
+Architecture: all
+Depends: b
 
-/// The marks of a package: `allowed` in half of the cases.
-fn marks(choice: u32) -> &'static str {
-    match choice {
-        0..3 => "Multi-Arch: allowed\n",
-        3 => "Multi-Arch: allowed\nEssential: yes\n",
-        4 => "Multi-Arch: same\n",
-        5 => "Multi-Arch: foreign\n",
-        _ => "",
-    }
-}
+Package: b
+Version: 1
+Architecture: all
+Depends: c (>> 1)
 
-/// Adds a package; with `any`, one that asks for names with that qualifier and provides some.
-fn add_package(
-    text: &mut String,
-    seed: &mut u32,
-    number: u32,
-    with_any: bool,
-) -> Result<(), AllocError> {
-    add_head(text, seed, number)?;
-    if with_any {
-        text.push_str(line_with_any(draw(seed, 11)))?;
-        text.push_str(provided_line(draw(seed, 5)))?;
-        text.push_str(marks(draw(seed, 8)))?;
-    } else {
-        text.push_str(line(draw(seed, 12)))?;
-    }
-    text.push_str("\n")
-}
+Package: c
+Version: 2
+Architecture: all
+Depends: b (= 2), a
 
-/// Adds a text of three or four packages.
-pub fn generate(text: &mut String, seed: u32, with_any: bool) -> Result<(), AllocError> {
-    let mut seed = seed;
-    for number in 0..4 {
-        add_package(text, &mut seed, number, with_any)?;
-    }
-    Ok(())
+Package: a
+Version: 1
+Architecture: all
+Depends: a | c
+",
+        expected: "0 core [Need(0, 0), Need(1, 0), Need(2, 0)]
+0 cores [[Need(0, 0), Need(1, 0), Need(2, 0)]] causes [[Need(2, 0)]]
+1 core [Need(1, 0), Need(2, 0)]
+1 cores [[Need(1, 0), Need(2, 0)]] causes [[Need(2, 0)]]
+2 core [Need(2, 0)]
+2 cores [[Need(2, 0)]] causes [[Need(2, 0)]]
+0 closure [0, 1, 2]
+1 closure [0, 1, 2]
+2 closure [0, 1, 2]
+",
+    },
+    Case {
+        name: "seed 44",
+        text: "Package: a
+Version: 1
+Architecture: all
+Depends: b
+
+Package: b
+Version: 1
+Architecture: all
+Depends: b (= 2), a
+
+Package: c
+Version: 2
+Architecture: all
+Depends: b (= 2), a
+
+Package: b
+Version: 1
+Architecture: all
+Conflicts: v
+Provides: v
+",
+        expected: "0 core [Need(0, 0), Need(1, 0)]
+0 cores [[Need(0, 0), Need(1, 0)]] causes [[Need(1, 0)]]
+1 core [Need(1, 0)]
+1 cores [[Need(1, 0)]] causes [[Need(1, 0)]]
+2 core [Need(2, 0)]
+2 cores [[Need(2, 0)], [Need(0, 0), Need(1, 0), Need(2, 1)]] causes [[Need(2, 0)], [Need(1, 0)]]
+0 closure [0, 1]
+1 closure [0, 1]
+2 closure [0, 1, 2]
+",
+    },
+    Case {
+        name: "seed 120",
+        text: "Package: a
+Version: 1
+Architecture: all
+Pre-Depends: v
+
+Package: b
+Version: 1
+Architecture: all
+Depends: b (= 2), a
+
+Package: c
+Version: 2
+Architecture: all
+Essential: yes
+
+Package: a
+Version: 2
+Architecture: all
+Depends: b (= 2), a
+",
+        expected: "0 core [Need(0, 0)]
+0 cores [[Need(0, 0)]] causes [[Need(0, 0)]]
+1 core [Need(1, 0)]
+1 cores [[Need(1, 0)], [Need(0, 0), Need(1, 1), Need(3, 0)]] causes [[Need(1, 0)], [Need(0, 0), Need(3, 0)]]
+2 set [2]
+3 core [Need(3, 0)]
+3 cores [[Need(3, 0)]] causes [[Need(3, 0)]]
+0 closure [0, 2]
+1 closure [0, 1, 2, 3]
+3 closure [0, 2, 3]
+",
+    },
+    Case {
+        name: "seed 153",
+        text: "Package: a
+Version: 1
+Architecture: all
+Pre-Depends: v
+
+Package: b
+Version: 1
+Architecture: all
+Essential: yes
+
+Package: c
+Version: 2
+Architecture: all
+Depends: b (= 2), a
+
+Package: c
+Version: 2
+Architecture: all
+Breaks: a (<< 2)
+",
+        expected: "0 core [Need(0, 0)]
+0 cores [[Need(0, 0)]] causes [[Need(0, 0)]]
+1 set [1]
+2 core [Need(2, 0)]
+2 cores [[Need(2, 0)], [Need(0, 0), Need(2, 1)]] causes [[Need(2, 0)], [Need(0, 0)]]
+0 closure [0, 1]
+2 closure [0, 1, 2]
+",
+    },
+    Case {
+        name: "seed 199, with the qualifier any",
+        text: "Package: a
+Version: 1
+Architecture: all
+Provides: b:any (= 2), v (= 2)
+Multi-Arch: same
+
+Package: b
+Version: 1
+Architecture: all
+Depends: v:any
+Provides: v
+Multi-Arch: allowed
+
+Package: c
+Version: 2
+Architecture: all
+Pre-Depends: v:any (= 2)
+Provides: v
+Multi-Arch: allowed
+Essential: yes
+
+Package: a
+Version: 2
+Architecture: all
+Pre-Depends: v:any
+Conflicts: c:any
+Provides: b:any (= 2), v (= 2)
+Multi-Arch: allowed
+",
+        expected: "0 core [Essential(2), Need(2, 0), Only(0)]
+0 cores [[Essential(2), Need(2, 0), Only(0)]] causes [[Essential(2), Only(0)]]
+1 core [Essential(2), Need(2, 0), Apart(3, 0)]
+1 cores [[Essential(2), Need(2, 0), Apart(3, 0)]] causes [[Essential(2), Apart(3, 0)]]
+2 core [Need(2, 0), Apart(3, 0)]
+2 cores [[Need(2, 0), Apart(3, 0)]] causes [[Apart(3, 0)]]
+3 core [Essential(2), Apart(3, 0)]
+3 cores [[Essential(2), Apart(3, 0)]] causes [[Essential(2), Apart(3, 0)]]
+0 closure [0, 1, 2, 3]
+1 closure [1, 2, 3]
+2 closure [1, 2, 3]
+3 closure [1, 2, 3]
+",
+    },
+    Case {
+        name: "seed 142, with the qualifier any",
+        text: "Package: a
+Version: 1
+Architecture: all
+Pre-Depends: b:any (>= 1)
+Provides: b:any (= 2), v (= 2)
+
+Package: b
+Version: 1
+Architecture: all
+
+Package: c
+Version: 2
+Architecture: all
+Pre-Depends: v:any (= 2)
+Provides: v
+Multi-Arch: allowed
+Essential: yes
+
+Package: a
+Version: 2
+Architecture: all
+Depends: v
+Conflicts: v:any
+Provides: c:amd64, v:any (= 2)
+Multi-Arch: foreign
+",
+        expected: "0 core [Need(0, 0)]
+0 cores [[Need(0, 0)], [Essential(2), Need(2, 0)]] causes [[Need(0, 0)], [Essential(2), Need(2, 0)]]
+1 core [Essential(2), Need(2, 0)]
+1 cores [[Essential(2), Need(2, 0)]] causes [[Essential(2), Need(2, 0)]]
+2 core [Need(2, 0)]
+2 cores [[Need(2, 0)]] causes [[Need(2, 0)]]
+3 core [Essential(2), Apart(3, 0)]
+3 cores [[Essential(2), Apart(3, 0)]] causes [[Essential(2), Apart(3, 0)]]
+0 closure [0, 2]
+1 closure [1, 2]
+3 closure [0, 2, 3]
+",
+    },
+    Case {
+        name: "seed 163, with the qualifier any",
+        text: "Package: a
+Version: 1
+Architecture: all
+Depends: v:any
+Provides: b:any (= 2), v (= 2)
+
+Package: b
+Version: 1
+Architecture: all
+Depends: v:any
+Provides: b:any (= 2), v (= 2)
+Multi-Arch: same
+
+Package: c
+Version: 2
+Architecture: all
+Depends: v
+Conflicts: v:any
+Multi-Arch: allowed
+
+Package: a
+Version: 2
+Architecture: all
+Depends: v:any
+",
+        expected: "0 core [Need(0, 0)]
+0 cores [[Need(0, 0)]] causes [[Need(0, 0)]]
+1 core [Need(1, 0)]
+1 cores [[Need(1, 0)]] causes [[Need(1, 0)]]
+2 core [Need(2, 0), Apart(2, 0)]
+2 cores [[Need(2, 0), Apart(2, 0)], [Need(0, 0), Need(1, 0), Need(2, 0)]] causes [[Apart(2, 0)], [Need(0, 0), Need(1, 0)]]
+3 core [Need(3, 0)]
+3 cores [[Need(3, 0)]] causes [[Need(3, 0)]]
+2 closure [0, 1, 2]
+",
+    },
+    Case {
+        name: "seed 11, with the qualifier any",
+        text: "Package: a
+Version: 1
+Architecture: all
+Depends: c, v:any | b
+
+Package: b
+Version: 1
+Architecture: all
+Depends: v:any
+Multi-Arch: same
+
+Package: c
+Version: 2
+Architecture: all
+Pre-Depends: v:any
+Conflicts: c:any
+Provides: c:amd64, v:any (= 2)
+
+Package: a
+Version: 2
+Architecture: all
+Pre-Depends: v:any (= 2)
+Provides: v
+Multi-Arch: same
+",
+        expected: "0 core [Need(0, 1), Need(1, 0)]
+0 cores [[Need(0, 1), Need(1, 0)], [Need(0, 0), Need(2, 0)]] causes [[Need(1, 0)], [Need(2, 0)]]
+1 core [Need(1, 0)]
+1 cores [[Need(1, 0)]] causes [[Need(1, 0)]]
+2 core [Need(2, 0)]
+2 cores [[Need(2, 0)]] causes [[Need(2, 0)]]
+3 core [Need(3, 0)]
+3 cores [[Need(3, 0)]] causes [[Need(3, 0)]]
+0 closure [0, 1, 2]
+",
+    },
+    Case {
+        name: "seed 181, with the qualifier any",
+        text: "Package: a
+Version: 1
+Architecture: all
+Pre-Depends: b:any (>= 1)
+Provides: v
+Multi-Arch: allowed
+
+Package: b
+Version: 1
+Architecture: all
+Depends: v
+Conflicts: v:any
+Provides: v:any
+
+Package: c
+Version: 2
+Architecture: all
+Depends: v
+Conflicts: v:any
+Provides: c:amd64, v:any (= 2)
+
+Package: a
+Version: 2
+Architecture: all
+Pre-Depends: v:any (= 2)
+Provides: v:any
+Multi-Arch: allowed
+Essential: yes
+",
+        expected: "0 core [Need(0, 0)]
+0 cores [[Need(0, 0)]] causes [[Need(0, 0)]]
+1 core [Essential(0), Apart(1, 0)]
+1 cores [[Essential(0), Apart(1, 0)]] causes [[Essential(0), Apart(1, 0)]]
+2 core [Essential(0), Apart(2, 0)]
+2 cores [[Essential(0), Apart(2, 0)]] causes [[Essential(0), Apart(2, 0)]]
+3 core [Need(3, 0)]
+3 cores [[Need(3, 0)]] causes [[Need(3, 0)]]
+0 closure [0, 3]
+1 closure [0, 1, 2, 3]
+2 closure [0, 1, 2, 3]
+3 closure [0, 3]
+",
+    },
+    Case {
+        name: "seed 2, with the qualifier any",
+        text: "Package: a
+Version: 1
+Architecture: all
+Pre-Depends: v:any
+Conflicts: c:any
+Provides: c:amd64, v:any (= 2)
+Multi-Arch: foreign
+
+Package: b
+Version: 1
+Architecture: all
+Pre-Depends: v:any
+Conflicts: c:any
+Provides: b:any (= 2), v (= 2)
+Multi-Arch: allowed
+Essential: yes
+
+Package: c
+Version: 2
+Architecture: all
+Depends: b:any
+Breaks: c:any (<< 2)
+Provides: c:amd64, v:any (= 2)
+Multi-Arch: allowed
+
+Package: a
+Version: 2
+Architecture: all
+Depends: c, v:any | b
+Multi-Arch: allowed
+",
+        expected: "0 core [Need(0, 0), Apart(1, 0), Need(2, 0)]
+0 cores [[Need(0, 0), Apart(1, 0), Need(2, 0)]] causes [[Apart(1, 0)]]
+1 set [1]
+2 core [Apart(1, 0), Need(2, 0)]
+2 cores [[Apart(1, 0), Need(2, 0)]] causes [[Apart(1, 0)]]
+3 core [Apart(1, 0), Need(2, 0), Need(3, 0), Only(0)]
+3 cores [[Apart(1, 0), Need(2, 0), Need(3, 0), Only(0)]] causes [[Apart(1, 0), Only(0)]]
+0 closure [0, 1, 2]
+1 closure [1, 2]
+2 closure [1, 2]
+3 closure [0, 1, 2, 3]
+",
+    },
+    Case {
+        name: "seed 123, with the qualifier any",
+        text: "Package: a
+Version: 1
+Architecture: all
+Pre-Depends: v:any
+Conflicts: c:any
+Provides: c:amd64, v:any (= 2)
+Multi-Arch: allowed
+Essential: yes
+
+Package: b
+Version: 1
+Architecture: all
+Depends: a
+Breaks: v:any
+Provides: v:any
+Multi-Arch: same
+
+Package: c
+Version: 2
+Architecture: all
+Pre-Depends: v:any
+Conflicts: c:any
+Provides: b:any (= 2), v (= 2)
+
+Package: a
+Version: 2
+Architecture: all
+Pre-Depends: v:any (= 2)
+",
+        expected: "0 set [0]
+1 core [Need(1, 0), Apart(1, 0), Need(3, 0)]
+1 cores [[Need(1, 0), Apart(1, 0), Need(3, 0)]] causes [[Apart(1, 0)]]
+2 core [Need(2, 0), Apart(2, 0)]
+2 cores [[Need(2, 0), Apart(2, 0)], [Apart(0, 0), Need(2, 0)]] causes [[Apart(2, 0)], [Apart(0, 0)]]
+3 core [Need(3, 0), Only(0)]
+3 cores [[Need(3, 0), Only(0)]] causes [[Only(0)]]
+0 closure [0, 3]
+1 closure [0, 1, 3]
+2 closure [0, 2, 3]
+3 closure [0, 3]
+",
+    },
+    Case {
+        name: "seed 130, with the qualifier any",
+        text: "Package: a
+Version: 1
+Architecture: all
+Pre-Depends: v:any
+Conflicts: c:any
+Provides: v
+Multi-Arch: allowed
+
+Package: b
+Version: 1
+Architecture: all
+Depends: a
+Breaks: v:any
+Provides: c:amd64, v:any (= 2)
+Multi-Arch: allowed
+Essential: yes
+
+Package: c
+Version: 2
+Architecture: all
+Depends: v
+Conflicts: v:any
+Provides: b:any (= 2), v (= 2)
+Multi-Arch: foreign
+
+Package: b
+Version: 1
+Architecture: all
+Depends: c, v:any | b
+Provides: c:amd64, v:any (= 2)
+Multi-Arch: same
+",
+        expected: "0 core [Essential(1), Apart(1, 0)]
+0 cores [[Essential(1), Apart(1, 0)]] causes [[Essential(1), Apart(1, 0)]]
+1 core [Need(1, 0), Apart(1, 0)]
+1 cores [[Need(1, 0), Apart(1, 0)], [Apart(0, 0), Need(1, 0)]] causes [[Apart(1, 0)], [Apart(0, 0)]]
+2 core [Essential(1), Apart(2, 0)]
+2 cores [[Essential(1), Apart(2, 0)]] causes [[Essential(1), Apart(2, 0)]]
+0 closure [0, 1]
+1 closure [0, 1]
+2 closure [0, 1, 2]
+",
+    },
+];
+
+#[test]
+fn generated_indexes(rt: HostRuntime) {
+    expect_all(&rt, &CASES);
 }

@@ -1,32 +1,22 @@
-//! Verdicts of small indexes, compared with answers that were found by hand or by trying all sets.
+//! Verdicts of small indexes, compared with answers that were found by hand or by brute force outside.
 //!
 //! `reading` makes an index of a text, `grounded` has one with its groundwork. `expected` compares what is found with what is expected, by
-//! `compared`, with `causes` for cores and `marks` for what is installable. `as_tried` compares what is found with what `trial` comes to, with
-//! `causes_comparison` for cores, and `counts` has what it counts; `generated` makes texts for it. `lent` makes an index with its groundwork and a
-//! workspace, and lends them to both. `verdicts`, `first_sets`, `cores`, `all_causes`, `installable` and `qualifiers` have worked examples; `chains`
-//! has those of chains of needs, `many_answers` those of needs that very many packages may answer, and `numbered` makes their long texts.
-//! `workspaces` asks for verdicts by turns in one workspace, `comparison` has the generated indexes compared, and `growths` has a test for each call
-//! that can want memory.
+//! `compared`, with `causes` for cores and `marks` for what is installable. `lent` makes an index with its groundwork and a workspace, and lends them
+//! to it. `verdicts`, `first_sets`, `cores`, `all_causes`, `installable` and `qualifiers` have worked examples, `generated` has some that nobody wrote;
+//! `chains` has those of chains of needs, `many_answers` those of needs that very many packages may answer, and `numbered` makes their long texts.
+//! `workspaces` asks for verdicts by turns in one workspace, and `growths` has a test for each call that can want memory.
 #![tactic(auto)]
 
 #[cfg(test)]
 mod all_causes;
 #[cfg(test)]
-mod as_tried;
-#[cfg(test)]
 mod causes;
-#[cfg(test)]
-mod causes_comparison;
 #[cfg(test)]
 mod chains;
 #[cfg(test)]
 mod compared;
 #[cfg(test)]
-mod comparison;
-#[cfg(test)]
 mod cores;
-#[cfg(test)]
-mod counts;
 #[cfg(test)]
 mod expected;
 #[cfg(test)]
@@ -51,8 +41,6 @@ mod numbered;
 mod qualifiers;
 #[cfg(test)]
 mod reading;
-#[cfg(test)]
-mod trial;
 #[cfg(test)]
 mod verdicts;
 #[cfg(test)]
