@@ -1,6 +1,6 @@
 use Rattle.std.proofs.Common.{rules, ◌≡◌, ℕ, ◌+◌, false, List, sym, subst, arith}
 use Rattle.number_sets.specs.Sets.{NumberSet, members_of}
-use Rattle.core_extract.specs.Reduction.{left, IsRefutation, IsReduced}
+use Rattle.core_extract.specs.Reduction.{left, IsReduced}
 use Rattle.core_extract.proofs.Cores.{reduced_pushed, rising_after}
 use Rattle.core_extract.proofs.reduction.first_failing.Goals as goal
 
@@ -24,28 +24,12 @@ loop-first-preserved-in_ok-push g c =
       omega arith,
     )
 
-pub loop-first-preserved-then-branch : goal.loop-first-preserved-then-branch
-loop-first-preserved-then-branch g c =
-    let so_far = c.loop-first.invariant in
-    let last : ℕ = c.last_of_stride-last.result in
-    let Refuted : List ℕ → Type 0 = λ list. IsRefutation (g.Q.Question.is_failing c.loop-first.question) (left (members_of list) (last + 1)) (g.Q.Question.used c.refute-in-Some.new.self) in
-    let refuted = subst Refuted c.deref.ensures.value (c.in_ok-refute-2.ensures.refuted c.if-branch.true) in (
-      record {
-        settled = λ number is_in. omega (arith, so_far.0.settled number is_in, c.in-Some.ensures.some.0, c.last_of_stride-last.ensures.later);
-        refuted = record { within = refuted.within; fails = (so_far.2 _).1 refuted.fails };
-        needed = so_far.0.needed;
-      },
-      so_far.1,
-      λ (set : NumberSet). (λ fails. (c.in_ok-refute-2.ensures.same set).0 ((so_far.2 set).0 fails), λ fails. (so_far.2 set).1 ((c.in_ok-refute-2.ensures.same set).1 fails)),
-      g.met.Q.Question.keeps_further c.refute.new.self c.loop-first.question c.refute-in-Some.new.self so_far.3 c.in_ok-refute-2.ensures.kept,
-      omega (arith, so_far.4, c.in-Some.ensures.some.0, c.last_of_stride-last.ensures.later),
-    )
-
 pub loop-first-preserved : goal.loop-first-preserved
 loop-first-preserved g c =
     let so_far = c.loop-first.invariant in
+    let is_false : c.in_ok-refute-2.field-0 ≡ false = search rules in
     let Used : NumberSet → Type 0 = λ set. IsReduced (g.Q.Question.is_failing c.refute.new.self) set (members_of c.loop-first.kept.items) c.loop-first.at in (
-      subst Used (sym (c.in_ok-refute-2.ensures.still c.if-branch.false)) so_far.0,
+      subst Used (sym (c.in_ok-refute-2.ensures.still is_false)) so_far.0,
       so_far.1,
       λ (set : NumberSet). (λ fails. (c.in_ok-refute-2.ensures.same set).0 ((so_far.2 set).0 fails), λ fails. (so_far.2 set).1 ((c.in_ok-refute-2.ensures.same set).1 fails)),
       g.met.Q.Question.keeps_further c.refute.new.self c.loop-first.question c.refute-in-Some.new.self so_far.3 c.in_ok-refute-2.ensures.kept,
