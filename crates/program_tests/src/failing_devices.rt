@@ -2,61 +2,68 @@
 
 ghost use Rattle.std.specs.Prelude.{◌≡◌, false};
 
-use crate::programs::{Case, WITH_BACKGROUND, WITHOUT_BACKGROUND, run_on};
-use crate::runs::{Left, run_line};
+use crate::programs::{WITH_BACKGROUND, WITHOUT_BACKGROUND};
+use crate::runs::{Case, Left, expect_of, run_line};
 use debcheck::OpenFault;
 use std::process::Abort;
 use std::thread::Threads;
 use std::time::Clock;
 use test_devices::{BACKGROUND, Cabinet, Feed, Held, INDEX, Screen, sink_of, source_of};
 
-const NO_INDEX: &[u8] = b"debcheck: cannot read the index\n";
-
-const NO_BACKGROUND: &[u8] = b"debcheck: cannot read the background\n";
-
-/// A program whose background fails behind this front writes nothing to the output, and this line to the errors.
+/// The program comes to what the case says, where its background fails behind this front.
 fn expect_refusal(
     rt: &(impl Abort + Clock + Threads + Sync + AllocGlobal),
-    words: &str,
+    case: &Case,
     mut reader: Feed<'_>,
     background: &[u8],
-    line: &[u8],
 )
     requires { reader.failed ≡ false }
 {
-    let mut files = Cabinet::new("others", Some(background), OpenFault::Unopened);
+    let files = [("others", background)];
+    let mut files = Cabinet::new(&files, OpenFault::Unopened);
     files.torn = true;
-    let left = run_on(rt, words, &files, &mut reader);
-    assert!(rt; left.status == 67 && left.output.calls == 0);
-    assert!(rt; left.errors.bytes.as_slice() == line);
+    expect_of(rt, &files, &mut reader, case);
 }
 
-/// The background fails at once.
+/// The index fails, with a background that fails at once and without one.
+static NO_INDEX: [Case; 2] = [
+    Case {
+        words: "|--arch|amd64|--explain|--bg|others",
+        index: INDEX,
+        status: 67,
+        told: b"debcheck: cannot read the index\n",
+    },
+    Case {
+        words: "|--arch|amd64|--failures",
+        index: INDEX,
+        status: 67,
+        told: b"debcheck: cannot read the index\n",
+    },
+];
+
+/// A failed read of the background goes before an unknown name.
+static NO_BACKGROUND: Case = Case {
+    words: "|--arch|amd64|--bg|others|--checkonly|nobody",
+    index: INDEX,
+    status: 67,
+    told: b"debcheck: cannot read the background\n",
+};
+
 #[test]
 fn a_reader_fails_behind_each_byte(rt: HostRuntime) {
-    for words in [WITH_BACKGROUND.words, WITHOUT_BACKGROUND.words] {
+    for case in &NO_INDEX {
         for count in 0..=INDEX.len() {
             let mut reader = source_of(&INDEX[..count], 1);
             reader.fails = true;
-            expect_refusal(&rt, words, reader, b"", NO_INDEX);
+            expect_refusal(&rt, case, reader, b"");
         }
     }
-}
-
-#[test]
-fn a_background_fails_behind_each_byte(rt: HostRuntime) {
     for count in 0..=BACKGROUND.len() {
-        let reader = source_of(INDEX, 11);
         let front = &BACKGROUND[..count];
-        expect_refusal(&rt, WITH_BACKGROUND.words, reader, front, NO_BACKGROUND);
+        expect_refusal(&rt, &NO_BACKGROUND, source_of(INDEX, 11), front);
     }
-}
-
-#[test]
-fn a_failed_read_of_the_background_goes_before_the_faults(rt: HostRuntime) {
-    let words = "|--arch|amd64|--bg|others|--checkonly|nobody";
     for index in [b" x".as_slice(), b"Package: a!"] {
-        expect_refusal(&rt, words, source_of(index, 11), b" x", NO_BACKGROUND);
+        expect_refusal(&rt, &NO_BACKGROUND, source_of(index, 11), b" x");
     }
 }
 
@@ -70,7 +77,8 @@ fn written_to(
     requires output { output.failed ≡ false }
     requires errors { errors.failed ≡ false }
 {
-    let files = Cabinet::new("others", Some(BACKGROUND), OpenFault::Unopened);
+    let files = [("others", BACKGROUND)];
+    let files = Cabinet::new(&files, OpenFault::Unopened);
     let screen = Screen::new(false, b"");
     run_line(
         rt,
@@ -107,31 +115,31 @@ fn expect_written(
     } else {
         UNWRITTEN
     };
-    assert!(rt; left.status == status && left.errors.bytes.as_slice() == told);
-    assert!(rt; left.output.bytes.as_slice() == written.bytes);
     assert!(rt;
-        left.output.calls as usize == written.calls && left.output.flushes == written.flushes
+        left.status == status
+            && left.errors.bytes.as_slice() == told
+            && left.output.bytes.as_slice() == written.bytes
+            && left.output.calls as usize == written.calls
+            && left.output.flushes == written.flushes
     );
 }
 
 const UNWRITTEN: &[u8] = b"debcheck: cannot write the report\n";
 
 /// The report is written byte by byte and flushed once. Where the flush fails, that is told.
-fn expect_each_byte(rt: &(impl Abort + Clock + Threads + Sync + AllocGlobal), case: &Case) {
-    let written = Written {
-        bytes: case.told,
-        calls: case.told.len(),
-        flushes: 1,
-    };
-    let alloc = rt.alloc();
-    expect_written(rt, case.words, sink_of(alloc, 1, 0, false), &written, 1);
-    expect_written(rt, case.words, sink_of(alloc, 1, 0, true), &written, 68);
-}
-
 #[test]
 fn one_byte_a_call_writes_the_whole_report(rt: HostRuntime) {
-    expect_each_byte(&rt, &WITH_BACKGROUND);
-    expect_each_byte(&rt, &WITHOUT_BACKGROUND);
+    for case in [&WITH_BACKGROUND, &WITHOUT_BACKGROUND] {
+        let written = Written {
+            bytes: case.told,
+            calls: case.told.len(),
+            flushes: 1,
+        };
+        for (flush_fails, status) in [(false, 1), (true, 68)] {
+            let output = sink_of(rt.alloc(), 1, 0, flush_fails);
+            expect_written(&rt, case.words, output, &written, status);
+        }
+    }
 }
 
 /// The output takes a front byte by byte, and at the next write it fails or takes no byte: then nothing more is asked of it.
@@ -155,7 +163,7 @@ fn each_write_fails_in_turn(rt: HostRuntime) {
 }
 
 /// At which write, or whether at the flush, an output fails; how many bytes a write to the errors takes, at which it fails, and what it takes before.
-const UNHEARD: [(u32, bool, usize, u32, &[u8]); 3] = [
+static UNHEARD: [(u32, bool, usize, u32, &[u8]); 3] = [
     (1, false, 50, 0, UNWRITTEN),
     (0, true, 50, 0, UNWRITTEN),
     (1, false, 5, 3, b"debcheck: "),

@@ -15,7 +15,7 @@ fn of_run_program(rt: HostRuntime) -> Result<(), Fail> {
     let left = run_line(
         &clock_of(&rt, 1_200),
         ONE_BY_ONE,
-        &Cabinet::new("earlier", Some(CHAIN), OpenFault::Unopened),
+        &Cabinet::new(&[("earlier", CHAIN)], OpenFault::Unopened),
         &mut source_of(CHAIN, 11),
         &screen,
         output,

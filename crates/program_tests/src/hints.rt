@@ -15,7 +15,7 @@ struct Case {
     hint: &'static [u8],
 }
 
-const FAULTS: [Case; 9] = [
+static FAULTS: &[Case] = &[
     Case {
         words: "|--arch|amd64",
         index: b"\x1f\x8b\x08\0\0\0\0\0\x02\x03",
@@ -73,7 +73,7 @@ const FAULTS: [Case; 9] = [
 ];
 
 /// Files that are opened, as a folder is, and whose reading fails. What was read of them tells nothing.
-const UNREAD: [Case; 4] = [
+static UNREAD: &[Case] = &[
     Case {
         words: "|--arch|amd64|--bg|others",
         index: INDEX,
@@ -111,7 +111,7 @@ Architecture: all
 ";
 
 /// Faults of stanzas. What the first bytes tell goes before the package.
-const STANZAS: [Case; 10] = [
+static STANZAS: &[Case] = &[
     Case {
         words: "|--arch|amd64",
         index: FAULTY,
@@ -187,7 +187,7 @@ Provides: mta, b
 ";
 
 /// Names that no package of the index has.
-const NAMES: [Case; 4] = [
+static NAMES: &[Case] = &[
     Case {
         words: "|--arch|amd64|--checkonly|zz|--bg|others",
         index: INDEX,
@@ -241,7 +241,7 @@ Architecture: any
 Directory: pool/main/b/b
 ";
 
-const REPORTS: [Case; 7] = [
+static REPORTS: &[Case] = &[
     Case {
         words: "|--arch|amd64",
         index: SOURCES,
@@ -286,7 +286,7 @@ const REPORTS: [Case; 7] = [
     },
 ];
 
-const STRICT: [Case; 4] = [
+static STRICT: &[Case] = &[
     Case {
         words: "|--arch|amd64|--strict",
         index: b"",
@@ -313,7 +313,7 @@ const STRICT: [Case; 4] = [
     },
 ];
 
-const PLAIN_FAULTS: [Case; 3] = [
+static PLAIN_FAULTS: &[Case] = &[
     Case {
         words: "|--arch|amd64",
         index: b"Version: 1\n",
@@ -342,7 +342,8 @@ fn left_by(
     line: &str,
     screen: &Screen<'_>,
 ) -> Left {
-    let mut files = Cabinet::new("others", Some(case.file), OpenFault::Unopened);
+    let files = [("others", case.file)];
+    let mut files = Cabinet::new(&files, OpenFault::Unopened);
     files.torn = torn;
     run_line(
         &clock_of(rt, 0),
@@ -355,20 +356,22 @@ fn left_by(
     )
 }
 
-/// But for the line that the index is read, the hint alone is on the screen, behind all else.
-fn has_hint(case: &Case, screen: &Screen<'_>, told: &Left) -> bool {
-    screen.lines() == u32::from(!case.hint.is_empty())
-        && screen.others() == u32::from(told.status != 64)
-        && told.crowded == [0, 0]
+/// Whether the hint stands on the screen where it is told, and nothing does where it isn't; but for the hint, there is the line that the index is read.
+fn shows_hint(case: &Case, screen: &Screen<'_>, left: &Left, is_told: bool) -> bool {
+    let lines = u32::from(is_told && !case.hint.is_empty());
+    let others = u32::from(is_told && left.status != 64);
+    screen.lines() == lines && screen.others() == others && left.crowded == [0, 0]
 }
 
-/// Nothing is on the screen, and all else is as it was.
-fn is_same(screen: &Screen<'_>, told: &Left, left: &Left) -> bool {
-    screen.lines() == 0
-        && screen.others() == 0
-        && left.status == told.status
-        && left.output.bytes.as_slice() == told.output.bytes.as_slice()
-        && left.errors.bytes.as_slice() == told.errors.bytes.as_slice()
+/// The hint is told on a terminal alone, and not where quiet is asked for. All else is the same.
+fn expect_case(rt: &(impl Abort + Threads + Sync + AllocGlobal), case: &Case, torn: bool) {
+    let screen = Screen::new(true, case.hint);
+    let told = left_by(rt, case, torn, case.words, &screen);
+    assert!(rt; shows_hint(case, &screen, &told, true), "{}", case.words);
+    for (is_terminal, more) in [(false, ""), (true, "|--quiet")] {
+        let line = format!(in rt.alloc(); "{}{more}", case.words).expect(rt, "no memory");
+        expect_same(rt, case, torn, &line, is_terminal, &told);
+    }
 }
 
 fn expect_same(
@@ -381,46 +384,23 @@ fn expect_same(
 ) {
     let screen = Screen::new(is_terminal, case.hint);
     let left = left_by(rt, case, torn, line, &screen);
-    assert!(rt; is_same(&screen, told, &left), "{line}");
+    assert!(rt;
+        shows_hint(case, &screen, &left, false)
+            && left.status == told.status
+            && left.output.bytes.as_slice() == told.output.bytes.as_slice()
+            && left.errors.bytes.as_slice() == told.errors.bytes.as_slice(),
+        "{line}"
+    );
 }
 
-/// The hint isn't told where the screen is no terminal, or quiet is asked for.
-fn expect_case(rt: &(impl Abort + Threads + Sync + AllocGlobal), case: &Case, torn: bool) {
-    let screen = Screen::new(true, case.hint);
-    let told = left_by(rt, case, torn, case.words, &screen);
-    assert!(rt; has_hint(case, &screen, &told), "{}", case.words);
-    expect_same(rt, case, torn, case.words, false, &told);
-    let quiet = format!(in rt.alloc(); "{}|--quiet", case.words).expect(rt, "no memory");
-    expect_same(rt, case, torn, &quiet, true, &told);
-}
-
-fn expect_each(rt: &(impl Abort + Threads + Sync + AllocGlobal), cases: &[Case]) {
-    for case in cases {
-        expect_case(rt, case, false);
+#[test]
+fn each_slip_has_its_hint(rt: HostRuntime) {
+    for cases in [FAULTS, STANZAS, NAMES, STRICT, REPORTS, PLAIN_FAULTS] {
+        for case in cases {
+            expect_case(&rt, case, false);
+        }
     }
-}
-
-#[test]
-fn of_faults(rt: HostRuntime) {
-    expect_each(&rt, &FAULTS);
-    expect_each(&rt, &STANZAS);
-    expect_each(&rt, &NAMES);
-    expect_each(&rt, &STRICT);
-}
-
-#[test]
-fn of_files_whose_reading_fails(rt: HostRuntime) {
-    for case in &UNREAD {
+    for case in UNREAD {
         expect_case(&rt, case, true);
     }
-}
-
-#[test]
-fn of_reports(rt: HostRuntime) {
-    expect_each(&rt, &REPORTS);
-}
-
-#[test]
-fn nothing_is_told_of_other_faults(rt: HostRuntime) {
-    expect_each(&rt, &PLAIN_FAULTS);
 }

@@ -1,8 +1,9 @@
 //! Tests of whole programs, from their words to their exit status.
 //!
-//! `runs` runs one, on devices over memory. `programs` runs some, `more_reasons` those that tell all causes, `named_programs` those whose names stand in a
-//! file, `since_programs` those since an earlier index, `failing_devices` has each device fail in turn, `growths` a program that wants memory. What a screen
-//! shows of a program: `progress` looks at the line during a run, `hints` at the lines after it.
+//! `runs` runs one, on devices over memory. `programs` runs some, those that tell all causes, of `more_reasons`, and those since an earlier index, of
+//! `since_programs`; `named_programs` runs those whose names stand in a file, `unread_files` those whose files can't be read. `failing_devices` has each
+//! device fail in turn, `growths` a program that wants memory. What a screen shows of a program: `progress` looks at the line during a run, `hints` at the
+//! lines after it.
 #![tactic(auto)]
 
 #[cfg(test)]
@@ -23,3 +24,5 @@ mod progress;
 mod runs;
 #[cfg(test)]
 mod since_programs;
+#[cfg(test)]
+mod unread_files;

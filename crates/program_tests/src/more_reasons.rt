@@ -1,6 +1,7 @@
-//! Whole programs that tell all causes, and reasons beside the first ones.
+//! Whole programs that tell all causes, and reasons beside the first ones: all causes are told, a core is walked from its package, and packages without
+//! reasons are not asked for alone.
 
-use crate::programs::{Case, expect_each};
+use crate::runs::Case;
 
 /// Two needs that no package meets are in the way of each of these packages.
 const TWO_CAUSES: &[u8] = b"Package: a
@@ -180,7 +181,7 @@ For more information, try '--help'.
 ",
 };
 
-const ALL_OF_THEM: [Case; 7] = [
+pub static MORE_REASONS: &[Case] = &[
     ALL_REASONS,
     ALL_REASONS_IN_JSON,
     ALL_CAUSES,
@@ -189,9 +190,3 @@ const ALL_OF_THEM: [Case; 7] = [
     WHY_OF_SUCCESSES,
     ALL_REASONS_OF_SUCCESSES,
 ];
-
-/// All causes are told, a core is walked from its package, and packages without reasons are not asked for alone.
-#[test]
-fn more_reasons_are_told(rt: HostRuntime) {
-    expect_each(&rt, &ALL_OF_THEM);
-}

@@ -1,6 +1,6 @@
 //! Whole programs whose names stand in a file.
 
-use crate::programs::{Case, expect_on, expect_unread};
+use crate::runs::{Case, expect_on};
 use debcheck::OpenFault;
 use test_devices::{Cabinet, INDEX};
 
@@ -43,7 +43,7 @@ const SECOND_LINE: &[u8] = b"debcheck: names: line 2: bad name\n";
 
 /// What stands in the file, the status, and what is told: names that the index has, one that it doesn't have, and a file that has no line, an empty one, or
 /// one that is no name.
-const NAMES: [(&[u8], u8, &[u8]); 12] = [
+static NAMES: [(&[u8], u8, &[u8]); 12] = [
     (b"c\n", 1, OF_C),
     (b"c", 1, OF_C),
     (b"c\na\nc\n", 1, OF_BOTH),
@@ -63,70 +63,13 @@ const LINE: &str = "|--arch|amd64|--checkonly|@names";
 #[test]
 fn the_names_of_a_file_are_asked(rt: HostRuntime) {
     for (names, status, told) in &NAMES {
-        let files = Cabinet::new("names", Some(*names), OpenFault::Unopened);
+        let files = [("names", *names)];
         let case = Case {
             words: LINE,
             index: INDEX,
             status: *status,
             told: *told,
         };
-        expect_on(&rt, &files, &case);
-    }
-}
-
-/// What stands in a file whose reading fails behind it, and why another isn't opened; the words, the status, and what is told.
-const UNREAD: [(Option<&[u8]>, bool, OpenFault, Case); 4] = [
-    (
-        None,
-        false,
-        OpenFault::Unopened,
-        Case {
-            words: "|--arch|amd64|--bg|b|--checkonly|@names",
-            index: INDEX,
-            status: 67,
-            told: b"debcheck: cannot read the names\n",
-        },
-    ),
-    (
-        None,
-        false,
-        OpenFault::Memory,
-        Case {
-            words: LINE,
-            index: INDEX,
-            status: 69,
-            told: b"debcheck: out of memory\n",
-        },
-    ),
-    (
-        Some(b"a\n"),
-        true,
-        OpenFault::Unopened,
-        Case {
-            words: "|--arch|amd64|--since|b|--checkonly|@names",
-            index: INDEX,
-            status: 67,
-            told: b"debcheck: cannot read the names\n",
-        },
-    ),
-    (
-        Some(b"a b\n"),
-        false,
-        OpenFault::Unopened,
-        Case {
-            words: "|--arch|amd64|--since|b|--checkonly|@names",
-            index: INDEX,
-            status: 65,
-            told: FIRST_LINE,
-        },
-    ),
-];
-
-#[test]
-fn names_are_read_before_all_else(rt: HostRuntime) {
-    for (names, torn, fault, case) in &UNREAD {
-        let mut files = Cabinet::new("names", *names, *fault);
-        files.torn = *torn;
-        expect_unread(&rt, &files, case);
+        expect_on(&rt, &Cabinet::new(&files, OpenFault::Unopened), &case);
     }
 }

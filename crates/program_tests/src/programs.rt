@@ -1,24 +1,11 @@
-//! Whole programs: words, an index and perhaps a background go in, and the status, the output and the errors are compared.
+//! Whole programs: words, an index and perhaps files go in, and the status, the output and the errors are compared.
 
-ghost use Rattle.std.specs.Prelude.{◌≡◌, false};
-
-use crate::runs::{Left, run_line};
+use crate::more_reasons::MORE_REASONS;
+use crate::runs::{Case, expect_on, run_on};
+use crate::since_programs::{self, BACKGROUND_OF_BOTH, CUT, EARLIER, ELSEWHERE};
 use debcheck::{Disk, OpenFault, Opener};
-use std::process::Abort;
 use std::str::from_utf8;
-use std::thread::Threads;
-use std::time::Clock;
-use test_devices::{BACKED_REPORT, BACKGROUND, Cabinet, Feed, INDEX, Screen, sink_of, source_of};
-
-/// What a program is given, its status, and what it tells: on the output where the status is 0 or 1, else on the errors. The words have a `|` before
-/// each; the background stands under the name `others`.
-#[derive(Clone, Copy)]
-pub struct Case {
-    pub words: &'static str,
-    pub index: &'static [u8],
-    pub status: u8,
-    pub told: &'static [u8],
-}
+use test_devices::{BACKED_REPORT, BACKGROUND, Cabinet, INDEX, source_of};
 
 pub const WITH_BACKGROUND: Case = Case {
     words: "|--arch|amd64|--explain|--bg|others",
@@ -105,7 +92,7 @@ Architecture: arm64
 ";
 
 /// Those of which nothing is asked, one most of whose stanzas are of other architectures, and a run that isn't strict.
-const STRICT_RUNS: [Case; 6] = [
+static STRICT_RUNS: &[Case] = &[
     Case {
         words: "|--arch|amd64|--strict",
         index: b"",
@@ -191,7 +178,17 @@ const VERSION: Case = Case {
     told: b"debcheck 1.0.0\n",
 };
 
-const REPORTS: [Case; 5] = [
+/// What stands under the names of files.
+static FILES: [(&str, &[u8]); 6] = [
+    ("others", BACKGROUND),
+    ("old", EARLIER),
+    ("same", since_programs::INDEX),
+    ("behind", BACKGROUND_OF_BOTH),
+    ("elsewhere", ELSEWHERE),
+    ("cut", CUT),
+];
+
+static REPORTS: &[Case] = &[
     WITH_BACKGROUND,
     WITHOUT_BACKGROUND,
     CAUSES_IN_JSON,
@@ -199,94 +196,28 @@ const REPORTS: [Case; 5] = [
     VERSION,
 ];
 
-const FAULTS: [Case; 3] = [FAULT, UNKNOWN_NAME, REFUSED_VALUE];
+static FAULTS: &[Case] = &[FAULT, UNKNOWN_NAME, REFUSED_VALUE];
 
-/// The program under the words of a line, on a screen that is none.
-pub fn run_on(
-    rt: &(impl Clock + Threads + Sync + AllocGlobal),
-    line: &str,
-    files: &impl Opener,
-    reader: &mut Feed<'_>,
-) -> Left
-    requires { reader.old.failed ≡ false }
-{
-    let alloc = rt.alloc();
-    let screen = Screen::new(false, b"");
-    let (output, errors) = (sink_of(alloc, 50, 0, false), sink_of(alloc, 50, 0, false));
-    run_line(rt, line, files, reader, &screen, output, errors)
-}
-
-/// The output and the errors have these texts. A device is flushed where it has one.
-fn has_texts(left: &Left, output: &[u8], errors: &[u8]) -> bool {
-    left.output.bytes.as_slice() == output
-        && left.errors.bytes.as_slice() == errors
-        && left.output.flushed != output.is_empty()
-        && left.errors.flushed != errors.is_empty()
-}
-
-fn is_wanted(left: &Left, case: &Case) -> bool {
-    let has_told = if case.status < 2 {
-        has_texts(left, case.told, b"")
-    } else {
-        has_texts(left, b"", case.told)
-    };
-    has_told && left.status == case.status
-}
-
-/// The program comes to what the case says. Gives how often its index was read.
-pub fn expect_on(
-    rt: &(impl Abort + Clock + Threads + Sync + AllocGlobal),
-    files: &impl Opener,
-    case: &Case,
-) -> u32 {
-    let mut reader = source_of(case.index, 11);
-    let left = run_on(rt, case.words, files, &mut reader);
-    let output = from_utf8(&left.output.bytes).unwrap_or("?");
-    let errors = from_utf8(&left.errors.bytes).unwrap_or("?");
-    assert!(rt;
-        is_wanted(&left, case),
-        "{}: {}, {output}, {errors}",
-        case.words,
-        left.status
-    );
-    reader.reads
-}
-
-/// The program comes to what each of the cases says.
-pub fn expect_each(rt: &(impl Abort + Clock + Threads + Sync + AllocGlobal), cases: &[Case]) {
-    let files = Cabinet::new("others", Some(BACKGROUND), OpenFault::Unopened);
-    for case in cases {
-        expect_on(rt, &files, case);
+/// A report goes to the output, and a fault to the errors.
+#[test]
+fn each_program_tells_what_is_written(rt: HostRuntime) {
+    let files = Cabinet::new(&FILES, OpenFault::Unopened);
+    for cases in [
+        REPORTS,
+        FAULTS,
+        STRICT_RUNS,
+        MORE_REASONS,
+        since_programs::NEWS,
+        since_programs::FAULTS,
+    ] {
+        for case in cases {
+            expect_on(&rt, &files, case);
+        }
     }
 }
 
-/// The program comes to what the case says without its index, and asks for one file.
-pub fn expect_unread(
-    rt: &(impl Abort + Clock + Threads + Sync + AllocGlobal),
-    files: &Cabinet<'_>,
-    case: &Case,
-) {
-    let reads = expect_on(rt, files, case);
-    assert!(rt; reads == 0 && files.asked() == 1, "{}", case.words);
-}
-
-#[test]
-fn a_report_goes_to_the_output(rt: HostRuntime) {
-    expect_each(&rt, &REPORTS);
-}
-
-#[test]
-fn a_fault_goes_to_the_errors(rt: HostRuntime) {
-    expect_each(&rt, &FAULTS);
-}
-
-#[test]
-fn an_index_of_which_nothing_is_asked_is_a_fault_of_a_strict_run(rt: HostRuntime) {
-    expect_each(&rt, &STRICT_RUNS);
-}
-
 /// Each option stands in the help.
-const OPTIONS: [&str; 8] = [
+static OPTIONS: [&str; 8] = [
     "--arch <A>",
     "--bg <FILE>",
     "--checkonly",
@@ -297,46 +228,17 @@ const OPTIONS: [&str; 8] = [
     "--help",
 ];
 
-fn has_options(text: &str) -> bool {
-    for option in &OPTIONS {
-        if !text.contains(*option) {
-            return false;
-        }
-    }
-    true
-}
-
 #[test]
 fn help_goes_to_the_output(rt: HostRuntime) {
-    let files = Cabinet::new("others", None, OpenFault::Unopened);
+    let files = Cabinet::new(&[], OpenFault::Unopened);
     let mut reader = source_of(INDEX, 11);
     let left = run_on(&rt, "|--help", &files, &mut reader);
-    assert!(rt; left.status == 0 && left.errors.bytes.is_empty() && reader.reads == 0);
     let text = from_utf8(&left.output.bytes).unwrap_or("");
-    assert!(rt; has_options(text), "{text}");
-}
-
-/// A background that isn't opened, and what is said of it.
-const UNOPENED: [(OpenFault, u8, &[u8]); 2] = [
-    (
-        OpenFault::Unopened,
-        67,
-        b"debcheck: cannot read the background\n",
-    ),
-    (OpenFault::Memory, 69, b"debcheck: out of memory\n"),
-];
-
-#[test]
-fn a_background_is_opened_before_anything_is_read(rt: HostRuntime) {
-    for (fault, status, told) in &UNOPENED {
-        let case = Case {
-            words: "|--arch|amd64|--bg|others",
-            index: INDEX,
-            status: *status,
-            told: *told,
-        };
-        expect_unread(&rt, &Cabinet::new("others", None, *fault), &case);
+    let mut fine = left.status == 0 && left.errors.bytes.is_empty() && reader.reads == 0;
+    for option in &OPTIONS {
+        fine &= text.contains(*option);
     }
+    assert!(rt; fine, "{text}");
 }
 
 #[test]

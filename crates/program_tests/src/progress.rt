@@ -9,129 +9,118 @@ use std::thread::Threads;
 use test_devices::{CHAIN, Cabinet, Held, Screen, clock_of, sink_of, source_of};
 use work_draw::Gate;
 
-/// A check of so many packages, of which so many are seen before the first chunk, and chunks that are done of the others, each step of it so many
-/// milliseconds after the one before.
-#[derive(Clone, Copy)]
-struct Check<'a> {
-    seen: u32,
-    all: u32,
-    chunks: &'a [u32],
-    step: u64,
-}
+/// A check: how many packages are seen before the first chunk, how many there are, chunks that are done of the others, and the milliseconds from one
+/// step of it to the next. A line, and how often it and how often others are written.
+type Check = (u32, u32, &'static [u32], u64, &'static [u8], [u32; 2]);
+
+/// A number has commas. What is seen and what is done is counted; the last of two chunks is a small one, and no more are counted than there are. None is
+/// written in the first second, then one in each fifth of a second.
+static CHECKS: [Check; 22] = [
+    (0, 1, &[], 1_200, b"\r0 of 1 packages checked", [1, 0]),
+    (64, 999, &[], 1_200, b"\r64 of 999 packages checked", [1, 0]),
+    (
+        999,
+        1_000,
+        &[],
+        1_200,
+        b"\r999 of 1,000 packages checked",
+        [1, 0],
+    ),
+    (
+        12_800,
+        76_808,
+        &[],
+        1_200,
+        b"\r12,800 of 76,808 packages checked",
+        [1, 0],
+    ),
+    (
+        100_000,
+        1_000_000,
+        &[],
+        1_200,
+        b"\r100,000 of 1,000,000 packages checked",
+        [1, 0],
+    ),
+    (
+        u32::MAX,
+        u32::MAX,
+        &[],
+        1_200,
+        b"\r4,294,967,295 of 4,294,967,295 packages checked",
+        [1, 0],
+    ),
+    (0, 100, &[0], 1_200, b"\r64 of 100 packages checked", [1, 1]),
+    (
+        0,
+        100,
+        &[0, 1],
+        1_200,
+        b"\r100 of 100 packages checked",
+        [1, 2],
+    ),
+    (0, 100, &[1], 1_200, b"\r36 of 100 packages checked", [1, 1]),
+    (
+        0,
+        100,
+        &[1, 0],
+        1_200,
+        b"\r100 of 100 packages checked",
+        [1, 2],
+    ),
+    (
+        20,
+        100,
+        &[0],
+        1_200,
+        b"\r84 of 100 packages checked",
+        [1, 1],
+    ),
+    (
+        20,
+        100,
+        &[1],
+        1_200,
+        b"\r36 of 100 packages checked",
+        [1, 1],
+    ),
+    (
+        20,
+        100,
+        &[1, 0],
+        1_200,
+        b"\r100 of 100 packages checked",
+        [1, 2],
+    ),
+    (
+        90,
+        100,
+        &[0],
+        1_200,
+        b"\r100 of 100 packages checked",
+        [1, 1],
+    ),
+    (5, 5, &[0, 1], 1_200, b"\r5 of 5 packages checked", [3, 0]),
+    (0, 640, &[0, 1, 2, 3, 4, 5, 6, 7, 8, 9], 0, b"", [0, 0]),
+    (0, 640, &[0, 1, 2, 3, 4, 5, 6, 7, 8, 9], 100, b"", [0, 0]),
+    (0, 640, &[0, 1, 2, 3, 4, 5, 6, 7, 8, 9], 109, b"", [0, 0]),
+    (0, 640, &[0, 1, 2, 3, 4, 5, 6, 7, 8, 9], 110, b"", [0, 1]),
+    (0, 640, &[0, 1, 2, 3, 4, 5, 6, 7, 8, 9], 150, b"", [0, 3]),
+    (0, 640, &[0, 1, 2, 3, 4, 5, 6, 7, 8, 9], 200, b"", [0, 6]),
+    (0, 640, &[0, 1, 2, 3, 4, 5, 6, 7, 8, 9], 5_000, b"", [0, 11]),
+];
 
 /// What a screen has seen of a check: the lines of its text, those of others, and whether one stands there.
-fn seen(
-    rt: &impl AllocGlobal,
-    screen: &Screen<'_>,
-    config: &Config,
-    check: &Check<'_>,
-) -> [u32; 3] {
-    let clock = clock_of(rt, check.step);
+fn shown(rt: &impl AllocGlobal, screen: &Screen<'_>, config: &Config, check: &Check) -> [u32; 3] {
+    let (seen, all, chunks, step, _, _) = *check;
+    let clock = clock_of(rt, step);
     let progress = Progress::new(&clock, screen, config);
-    progress.start(check.seen, check.all);
-    for number in check.chunks {
+    progress.start(seen, all);
+    for number in chunks {
         progress.before(*number);
         progress.after(*number);
     }
     [screen.lines(), screen.others(), u32::from(screen.stands())]
-}
-
-/// How many packages are seen before the first chunk, how many there are, and the line of that.
-const NUMBERS: [(u32, u32, &[u8]); 6] = [
-    (0, 1, b"\r0 of 1 packages checked"),
-    (64, 999, b"\r64 of 999 packages checked"),
-    (999, 1_000, b"\r999 of 1,000 packages checked"),
-    (12_800, 76_808, b"\r12,800 of 76,808 packages checked"),
-    (
-        100_000,
-        1_000_000,
-        b"\r100,000 of 1,000,000 packages checked",
-    ),
-    (
-        u32::MAX,
-        u32::MAX,
-        b"\r4,294,967,295 of 4,294,967,295 packages checked",
-    ),
-];
-
-/// A number has commas.
-fn expect_numbers(rt: &(impl Abort + AllocGlobal), config: &Config) {
-    for (known, all, line) in &NUMBERS {
-        let check = Check {
-            seen: *known,
-            all: *all,
-            chunks: &[],
-            step: 1_200,
-        };
-        let screen = Screen::new(true, *line);
-        assert!(rt;
-            seen(rt, &screen, config, &check) == [1, 0, 1],
-            "{known} of {all}"
-        );
-    }
-}
-
-/// How many of a hundred packages are seen before the first chunk, which chunks are done, and how many are checked then. The last chunk is a small one.
-const COUNTS: [(u32, &[u32], &[u8]); 8] = [
-    (0, &[0], b"\r64 of 100 packages checked"),
-    (0, &[0, 1], b"\r100 of 100 packages checked"),
-    (0, &[1], b"\r36 of 100 packages checked"),
-    (0, &[1, 0], b"\r100 of 100 packages checked"),
-    (20, &[0], b"\r84 of 100 packages checked"),
-    (20, &[1], b"\r36 of 100 packages checked"),
-    (20, &[1, 0], b"\r100 of 100 packages checked"),
-    (90, &[0], b"\r100 of 100 packages checked"),
-];
-
-/// What is seen and what is done is counted.
-fn expect_counts(rt: &(impl Abort + AllocGlobal), config: &Config) {
-    for (known, chunks, line) in &COUNTS {
-        let check = Check {
-            seen: *known,
-            all: 100,
-            chunks: *chunks,
-            step: 1_200,
-        };
-        let screen = Screen::new(true, *line);
-        let [lines, _, stands] = seen(rt, &screen, config, &check);
-        assert!(rt; lines == 1 && stands == 1, "{known}, {chunks:?}");
-    }
-}
-
-/// Where all are seen there is no chunk, and were there one, no more would be counted than there are.
-const ALL_SEEN: Check<'static> = Check {
-    seen: 5,
-    all: 5,
-    chunks: &[0, 1],
-    step: 1_200,
-};
-
-/// How many lines are written of a check in ten chunks, by the milliseconds between them: none in the first second, then one in each fifth of a second.
-const STEPS: [(u64, u32); 7] = [
-    (0, 0),
-    (100, 0),
-    (109, 0),
-    (110, 1),
-    (150, 3),
-    (200, 6),
-    (5_000, 11),
-];
-
-fn expect_steps(rt: &(impl Abort + AllocGlobal), config: &Config) {
-    for (step, lines) in STEPS {
-        let check = Check {
-            seen: 0,
-            all: 640,
-            chunks: &[0, 1, 2, 3, 4, 5, 6, 7, 8, 9],
-            step,
-        };
-        let screen = Screen::new(true, b"");
-        let seen = seen(rt, &screen, config, &check);
-        assert!(rt;
-            seen == [0, lines, u32::from(lines > 0)],
-            "{step} milliseconds"
-        );
-    }
 }
 
 fn usual(rt: &(impl Abort + AllocGlobal)) -> Config {
@@ -141,37 +130,29 @@ fn usual(rt: &(impl Abort + AllocGlobal)) -> Config {
 #[test]
 fn a_line_counts_what_is_checked(rt: HostRuntime) {
     let config = usual(&rt);
-    expect_numbers(&rt, &config);
-    expect_counts(&rt, &config);
-    let screen = Screen::new(true, b"\r5 of 5 packages checked");
-    assert!(rt; seen(&rt, &screen, &config, &ALL_SEEN) == [3, 0, 1]);
+    for check in &CHECKS {
+        let (seen, all, _, step, line, [lines, others]) = *check;
+        let screen = Screen::new(true, line);
+        let stands = u32::from(lines + others > 0);
+        assert!(rt;
+            shown(&rt, &screen, &config, check) == [lines, others, stands],
+            "{seen} of {all}, {step} milliseconds"
+        );
+    }
 }
 
-#[test]
-fn five_lines_a_second(rt: HostRuntime) {
-    expect_steps(&rt, &usual(&rt));
-}
-
-/// Neither of a check nor of the reading.
-fn is_silent(rt: &impl AllocGlobal, is_terminal: bool, config: &Config) -> bool {
-    let check = Check {
-        seen: 1,
-        all: 100,
-        chunks: &[0, 1],
-        step: 5_000,
-    };
-    let screen = Screen::new(is_terminal, b"");
-    let clock = clock_of(rt, 0);
-    Progress::new(&clock, &screen, config).tell_reading(true);
-    screen.others() == 0 && seen(rt, &screen, config, &check) == [0, 0, 0]
-}
-
+/// Neither of a check nor of the reading, where the screen is no terminal, or quiet is asked for.
 #[test]
 fn nothing_is_told_where_nobody_looks(rt: HostRuntime) {
     let mut config = usual(&rt);
-    assert!(rt; is_silent(&rt, false, &config));
-    config.quiet = true;
-    assert!(rt; is_silent(&rt, true, &config));
+    for is_quiet in [false, true] {
+        config.quiet = is_quiet;
+        let screen = Screen::new(is_quiet, b"");
+        let clock = clock_of(&rt, 0);
+        Progress::new(&clock, &screen, &config).tell_reading(true);
+        let check = &CHECKS[CHECKS.len() - 1];
+        assert!(rt; screen.others() == 0 && shown(&rt, &screen, &config, check) == [0, 0, 0]);
+    }
 }
 
 /// The count of an index begins anew behind that of an earlier one, whose line is taken away: it may be longer.
@@ -199,7 +180,7 @@ fn expect_wiped(rt: &(impl Abort + AllocGlobal), config: &Config) {
 }
 
 /// What is told while the index is read, and where it is typed on a terminal.
-const READING: [(bool, &[u8]); 2] = [
+static READING: [(bool, &[u8]); 2] = [
     (false, b"\rreading the index"),
     (
         true,
@@ -224,8 +205,8 @@ fn a_line_is_taken_away(rt: HostRuntime) {
     let config = usual(&rt);
     expect_own_count(&rt, &config);
     expect_wiped(&rt, &config);
-    for (is_typed, line) in READING {
-        expect_reading(&rt, &config, is_typed, line);
+    for (is_typed, line) in &READING {
+        expect_reading(&rt, &config, *is_typed, *line);
     }
 }
 
@@ -242,7 +223,7 @@ fn expect_told(
     let left = run_line(
         &clock_of(rt, 0),
         "|--arch|amd64",
-        &Cabinet::new("earlier", None, OpenFault::Unopened),
+        &Cabinet::new(&[], OpenFault::Unopened),
         &mut Recording::new(reader),
         &screen,
         sink_of(rt.alloc(), 50, 0, false),
@@ -253,9 +234,9 @@ fn expect_told(
 
 #[test]
 fn an_index_is_read_from_a_terminal(rt: HostRuntime) {
-    for (is_typed, line) in READING {
-        expect_told(&rt, line, is_typed, 1);
-        expect_told(&rt, line, !is_typed, 0);
+    for (is_typed, line) in &READING {
+        expect_told(&rt, *line, *is_typed, 1);
+        expect_told(&rt, *line, !*is_typed, 0);
     }
 }
 
@@ -272,7 +253,7 @@ fn run_beside(
     run_line(
         &clock_of(rt, 1_200),
         line,
-        &Cabinet::new("earlier", Some(CHAIN), OpenFault::Unopened),
+        &Cabinet::new(&[("earlier", CHAIN)], OpenFault::Unopened),
         &mut source_of(CHAIN, 11),
         screen,
         output,

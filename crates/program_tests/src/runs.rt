@@ -1,12 +1,13 @@
-//! Programs on devices over memory.
+//! Programs on devices over memory, and what each comes to.
 
 ghost use Rattle.std.specs.Prelude.{◌≡◌, false};
 
 use debcheck::{LineFault, Opener, Source, run_program};
 use std::alloc::Global;
+use std::process::Abort;
 use std::thread::Threads;
 use std::time::Clock;
-use test_devices::{Beside, Held, Screen, words_in};
+use test_devices::{Beside, Cabinet, Feed, Held, Screen, sink_of, source_of, words_in};
 
 /// Words of a program that checks packages one by one.
 pub const ONE_BY_ONE: &str = "|--arch|amd64|--explain|--workers|1|--chunk|1";
@@ -55,4 +56,68 @@ impl Left {
     pub fn is_uncrowded(&self, screen: &Screen<'_>) -> bool {
         self.crowded == [0, 0] && !screen.stands() && screen.ends_left() == 0
     }
+}
+
+/// What a program is given, its status, and what it tells: on the output where the status is 0 or 1, else on the errors. The words have a `|` before
+/// each.
+#[derive(Clone, Copy)]
+pub struct Case {
+    pub words: &'static str,
+    pub index: &'static [u8],
+    pub status: u8,
+    pub told: &'static [u8],
+}
+
+/// The program under the words of a line, on a screen that is none.
+pub fn run_on(
+    rt: &(impl Clock + Threads + Sync + AllocGlobal),
+    line: &str,
+    files: &Cabinet<'_>,
+    reader: &mut Feed<'_>,
+) -> Left
+    requires { reader.old.failed ≡ false }
+{
+    let alloc = rt.alloc();
+    let screen = Screen::new(false, b"");
+    let (output, errors) = (sink_of(alloc, 50, 0, false), sink_of(alloc, 50, 0, false));
+    run_line(rt, line, files, reader, &screen, output, errors)
+}
+
+/// A device has this text, and was flushed where there is one.
+fn has_text(device: &Held, text: &[u8]) -> bool {
+    device.bytes.as_slice() == text && device.flushed != text.is_empty()
+}
+
+/// The program comes to what the case says, on what this reader gives.
+pub fn expect_of(
+    rt: &(impl Abort + Clock + Threads + Sync + AllocGlobal),
+    files: &Cabinet<'_>,
+    reader: &mut Feed<'_>,
+    case: &Case,
+)
+    requires { reader.old.failed ≡ false }
+{
+    let left = run_on(rt, case.words, files, reader);
+    let (teller, other) = if case.status < 2 {
+        (&left.output, &left.errors)
+    } else {
+        (&left.errors, &left.output)
+    };
+    assert!(rt;
+        left.status == case.status && has_text(teller, case.told) && has_text(other, b""),
+        "{}: {}",
+        case.words,
+        left.status
+    );
+}
+
+/// The program comes to what the case says. Gives how often its index was read.
+pub fn expect_on(
+    rt: &(impl Abort + Clock + Threads + Sync + AllocGlobal),
+    files: &Cabinet<'_>,
+    case: &Case,
+) -> u32 {
+    let mut reader = source_of(case.index, 11);
+    expect_of(rt, files, &mut reader, case);
+    reader.reads
 }

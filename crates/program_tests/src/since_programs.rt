@@ -1,14 +1,9 @@
 //! Whole programs that are asked what became of an earlier index.
 
-use crate::programs::{Case, expect_on};
-use debcheck::{OpenFault, Opener, Std};
-use std::process::Abort;
-use std::sync::atomic::{AtomicU32, Ordering};
-use std::thread::Threads;
-use std::time::Clock;
+use crate::runs::Case;
 
 /// In the earlier index `a`, `b` and `c` are broken, and `d` isn't.
-const EARLIER: &[u8] = b"Package: a
+pub const EARLIER: &[u8] = b"Package: a
 Version: 1
 Architecture: all
 Depends: x
@@ -29,7 +24,7 @@ Architecture: all
 ";
 
 /// `a` is mended and `b` gone, `c` is broken as before, `d` and `e` are newly broken.
-const INDEX: &[u8] = b"Package: a
+pub const INDEX: &[u8] = b"Package: a
 Version: 2
 Architecture: all
 
@@ -50,10 +45,10 @@ Depends: d
 ";
 
 /// What `b` and `d` need.
-const BACKGROUND: &[u8] = b"Package: y\nVersion: 1\nArchitecture: all\n";
+pub const BACKGROUND_OF_BOTH: &[u8] = b"Package: y\nVersion: 1\nArchitecture: all\n";
 
 /// The same stanzas as of the earlier index, for another architecture.
-const ELSEWHERE: &[u8] = b"Package: c
+pub const ELSEWHERE: &[u8] = b"Package: c
 Version: 1
 Architecture: arm64
 Depends: z
@@ -65,64 +60,10 @@ Depends: y
 ";
 
 /// The earlier index, cut in the middle of its second stanza.
-const CUT: &[u8] =
+pub const CUT: &[u8] =
     b"Package: a\nVersion: 1\nArchitecture: all\nDepends: x\n\nPackage: b\nVersion: 2\nArchi";
 
-/// What stands under the names of files.
-const FILES: [(&str, &[u8]); 5] = [
-    ("old", EARLIER),
-    ("same", INDEX),
-    ("others", BACKGROUND),
-    ("elsewhere", ELSEWHERE),
-    ("cut", CUT),
-];
-
-/// These files; it counts what was asked of it.
-#[derive(Drop)]
-struct Shelf {
-    fault: OpenFault,
-    asked: AtomicU32,
-}
-
-impl Opener for Shelf {
-    ghost use Rattle.std.specs.Prelude.{None};
-
-    type File = Std<&'static [u8]>;
-
-    ghost named = { λ _ _. None };
-
-    fn open(&self, name: &str) -> Result<Std<&'static [u8]>, OpenFault> {
-        self.asked.fetch_add(1, Ordering::SeqCst);
-        for (file, bytes) in FILES {
-            if file == name {
-                return Ok(Std::new(bytes));
-            }
-        }
-        Err(self.fault)
-    }
-}
-
-/// The program comes to what the case says. Gives how many files were asked for, and how often its index was read.
-fn expect_case(
-    rt: &(impl Abort + Clock + Threads + Sync + AllocGlobal),
-    fault: OpenFault,
-    case: &Case,
-) -> [u32; 2] {
-    let files = Shelf {
-        fault,
-        asked: AtomicU32::new(0),
-    };
-    let reads = expect_on(rt, &files, case);
-    [files.asked.load(Ordering::SeqCst), reads]
-}
-
-fn expect_cases(rt: &(impl Abort + Clock + Threads + Sync + AllocGlobal), cases: &[Case]) {
-    for case in cases {
-        expect_case(rt, OpenFault::Unopened, case);
-    }
-}
-
-const NEWS: &[u8] = b"architecture: amd64
+const NEWLY_BROKEN: &[u8] = b"architecture: amd64
 report:
  -
   package: d
@@ -333,24 +274,24 @@ gone:
 
 /// What any number of workers finds, whatever is to be shown. A name that the earlier index doesn't have is no fault, and packages that are broken as
 /// before leave the status at 0. An index of another architecture has no package, and so none that was broken.
-const REPORTS: [Case; 11] = [
+pub static NEWS: &[Case] = &[
     Case {
         words: "|--arch|amd64|--since|old",
         index: INDEX,
         status: 1,
-        told: NEWS,
+        told: NEWLY_BROKEN,
     },
     Case {
         words: "|--arch|amd64|--since=old|--failures|--workers|1",
         index: INDEX,
         status: 1,
-        told: NEWS,
+        told: NEWLY_BROKEN,
     },
     Case {
         words: "|--arch|amd64|--workers|64|--chunk|1|--since|old",
         index: INDEX,
         status: 1,
-        told: NEWS,
+        told: NEWLY_BROKEN,
     },
     Case {
         words: "|--arch|amd64|--since|old|--format|json",
@@ -371,7 +312,7 @@ const REPORTS: [Case; 11] = [
         told: ALL_OF_NEWS,
     },
     Case {
-        words: "|--arch|amd64|--causes|--bg|others|--since|old",
+        words: "|--arch|amd64|--causes|--bg|behind|--since|old",
         index: INDEX,
         status: 0,
         told: BEHIND,
@@ -402,11 +343,6 @@ const REPORTS: [Case; 11] = [
     },
 ];
 
-#[test]
-fn news_are_told_alone(rt: HostRuntime) {
-    expect_cases(&rt, &REPORTS);
-}
-
 /// An index with a fault in its first stanza.
 const FAULTY: &[u8] = b"Package: a\nVersion: 1\n";
 
@@ -420,7 +356,7 @@ const EMPTY: &[u8] = b"debcheck: the index is empty\n";
 
 /// Those of the index and of the asked names go before those of the earlier index; that an index has no package goes behind an unknown name. An earlier
 /// index without a package is no fault.
-const FAULTS: [Case; 10] = [
+pub static FAULTS: &[Case] = &[
     Case {
         words: "|--arch|amd64|--since|cut",
         index: INDEX,
@@ -470,7 +406,7 @@ const FAULTS: [Case; 10] = [
         told: b"debcheck: no stanza is of this architecture or of all\n",
     },
     Case {
-        words: "|--arch|amd64|--since|old|--bg|others",
+        words: "|--arch|amd64|--since|old|--bg|behind",
         index: FOREIGN,
         status: 65,
         told: b"debcheck: nothing is asked\n",
@@ -482,62 +418,3 @@ const FAULTS: [Case; 10] = [
         told: b"debcheck: unknown package c\n",
     },
 ];
-
-#[test]
-fn faults_in_their_order(rt: HostRuntime) {
-    expect_cases(&rt, &FAULTS);
-}
-
-const UNREAD: &[u8] = b"debcheck: cannot read the earlier index\n";
-
-/// Why a file isn't opened, how many files are asked for before that is told, and all else.
-const UNOPENED: [(OpenFault, u32, Case); 4] = [
-    (
-        OpenFault::Unopened,
-        1,
-        Case {
-            words: "|--arch|amd64|--since|no",
-            index: INDEX,
-            status: 67,
-            told: UNREAD,
-        },
-    ),
-    (
-        OpenFault::Unopened,
-        2,
-        Case {
-            words: "|--arch|amd64|--since|no|--bg|others",
-            index: INDEX,
-            status: 67,
-            told: UNREAD,
-        },
-    ),
-    (
-        OpenFault::Unopened,
-        1,
-        Case {
-            words: "|--arch|amd64|--since|no|--bg|nor",
-            index: INDEX,
-            status: 67,
-            told: b"debcheck: cannot read the background\n",
-        },
-    ),
-    (
-        OpenFault::Memory,
-        2,
-        Case {
-            words: "|--arch|amd64|--since|no|--bg|others",
-            index: INDEX,
-            status: 69,
-            told: b"debcheck: out of memory\n",
-        },
-    ),
-];
-
-#[test]
-fn an_earlier_index_is_opened_before_anything_is_read(rt: HostRuntime) {
-    for (fault, asked, case) in &UNOPENED {
-        let counts = expect_case(&rt, *fault, case);
-        assert!(rt; counts == [*asked, 0], "{}", case.words);
-    }
-}

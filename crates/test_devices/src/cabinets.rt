@@ -4,11 +4,10 @@ use crate::memory::{Feed, source_of};
 use devices::{OpenFault, Opener, Recording};
 use std::sync::atomic::{AtomicU32, Ordering};
 
-/// One name under which bytes stand, or nothing that can be opened. It counts what was asked of it.
+/// The names under which bytes stand; nothing that can be opened stands under another. It counts what was asked of it.
 #[derive(Drop)]
 pub struct Cabinet<'a> {
-    name: &'a str,
-    bytes: Option<&'a [u8]>,
+    files: &'a [(&'a str, &'a [u8])],
     fault: OpenFault,
     /// Reading fails behind the bytes.
     pub torn: bool,
@@ -16,10 +15,9 @@ pub struct Cabinet<'a> {
 }
 
 impl<'a> Cabinet<'a> {
-    pub fn new(name: &'a str, bytes: Option<&'a [u8]>, fault: OpenFault) -> Cabinet<'a> {
+    pub fn new(files: &'a [(&'a str, &'a [u8])], fault: OpenFault) -> Cabinet<'a> {
         Cabinet {
-            name,
-            bytes,
+            files,
             fault,
             torn: false,
             asked: AtomicU32::new(0),
@@ -41,13 +39,13 @@ impl<'a> Opener for Cabinet<'a> {
 
     fn open(&self, name: &str) -> Result<Recording<Feed<'a>>, OpenFault> {
         self.asked.fetch_add(1, Ordering::SeqCst);
-        match self.bytes {
-            Some(bytes) if name == self.name => {
-                let mut file = source_of(bytes, 7);
-                file.fails = self.torn;
-                Ok(Recording::new(file))
+        for (file, bytes) in self.files {
+            if *file == name {
+                let mut feed = source_of(*bytes, 7);
+                feed.fails = self.torn;
+                return Ok(Recording::new(feed));
             }
-            _ => Err(self.fault),
         }
+        Err(self.fault)
     }
 }

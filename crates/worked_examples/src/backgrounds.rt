@@ -1,10 +1,7 @@
 //! An index with a background: packages that may be used and are not asked.
 
-use crate::example::Form;
-use crate::reports::check;
-
 /// Packages of the background are used and not asked.
-const USED: &str = r#"met_by_the_background gives 0 under --arch amd64 --bg others --explain
+pub static USED: &str = r#"met_by_the_background gives 0 under --arch amd64 --bg others --explain
 ----
 Package: a
 Version: 1
@@ -175,7 +172,7 @@ Architecture: all
 "#;
 
 /// Essential packages may stand in the background.
-const ESSENTIAL: &str =
+pub static ESSENTIAL: &str =
     "essential_in_the_background gives 1 under --arch amd64 --bg others --explain
 ----
 Package: x
@@ -239,7 +236,8 @@ asked: 1
 broken: 0
 ";
 
-const REFUSED: &str = "name_of_the_background gives 66 under --arch amd64 --bg others --checkonly zz
+pub static REFUSED: &str =
+    "name_of_the_background gives 66 under --arch amd64 --bg others --checkonly zz
 ----
 Package: a
 Version: 1
@@ -339,11 +337,4 @@ debcheck: background: stanza 1: bad relation in Depends
 ";
 
 /// One worker, and 64, each of which takes one package at once.
-const CREWS: [&str; 2] = ["--workers 1 --chunk 1", "--workers 64 --chunk 1"];
-
-#[test]
-fn examples_with_a_background_give_their_reports(rt: HostRuntime) {
-    for document in [USED, ESSENTIAL, REFUSED] {
-        check(&rt, rt.alloc(), document, &CREWS, Form::AsAsked);
-    }
-}
+pub static CREWS: [&str; 2] = ["--workers 1 --chunk 1", "--workers 64 --chunk 1"];

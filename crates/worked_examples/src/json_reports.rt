@@ -1,14 +1,12 @@
-//! Reports in JSON: some literally, and those of the other examples read back.
+//! Reports in JSON, literally.
 
 ghost use Rattle.std.specs.Prelude.{◌≡◌, ◌<◌, ◌≤◌, IfOk};
 
-use crate::example::{Example, Form, gives, gives_under};
-use crate::reports::{check, documents};
-use crate::sample;
+use crate::example::{Example, Form, gives_under};
 use debcheck::{Config, Format, Std};
 use std::alloc::{AllocError, Global};
 
-const EXAMPLES: &str = r#"empty_index gives 0 under --arch amd64 --format json --explain
+pub static EXAMPLES: &str = r#"empty_index gives 0 under --arch amd64 --format json --explain
 ----
 
 ----
@@ -257,20 +255,6 @@ Architecture: amd64
 debcheck: unknown package zz
 "#;
 
-#[test]
-fn documents_are_these(rt: HostRuntime) {
-    check(&rt, rt.alloc(), EXAMPLES, &[""], Form::AsAsked);
-}
-
-#[test]
-fn documents_tell_what_the_lines_tell(rt: HostRuntime) {
-    let more = "--format json";
-    for examples in documents() {
-        check(&rt, rt.alloc(), examples, &[more], Form::ReadBack);
-    }
-    assert!(rt; gives(&rt, rt.alloc(), more, &sample::example(), Form::ReadBack));
-}
-
 const STRANGE_ARCHITECTURE: &str = "Package: p
 Version: 1
 Architecture: a\"\\\u{1}\u{1f}\u{e9}
@@ -293,7 +277,7 @@ fn strange_config(alloc: Global) -> Result<Config, AllocError>
     Ok(config)
 }
 
-const STRANGE: Example<'static> = Example {
+static STRANGE: Example<'static> = Example {
     name: "",
     status: 0,
     words: "",

@@ -24,17 +24,6 @@ fn groups(alloc: Global) -> Result<String, AllocError> {
     Ok(field)
 }
 
-/// The stanza of a package that depends on this.
-fn stanza_of(alloc: Global, name: &str, field: &str) -> Result<String, AllocError> {
-    format!(in alloc;
-        "Package: {name}
-Version: 1
-Architecture: all
-Depends: {field}
-"
-    )
-}
-
 /// A stanza without dependencies, behind an empty line.
 fn push_stanza(text: &mut String, letter: char, number: u32) -> Result<(), AllocError> {
     write!(
@@ -47,141 +36,130 @@ Architecture: all
     )
 }
 
-/// The report on one asked package, with these lines behind its status.
-fn report_of(
-    alloc: Global,
-    name: &str,
-    explained: &str,
-    stanzas: u32,
-    broken: u32,
-) -> Result<String, AllocError> {
+/// The stanza of a package that depends on this.
+fn stanza_of(alloc: Global, name: &str, field: &str) -> Result<String, AllocError> {
     format!(in alloc;
-        "architecture: amd64
-report:
- -
-  package: {name}
-  version: 1
-  architecture: all
-  status: {explained}stanzas: {stanzas}
-skipped: 0
-duplicates: 0
-asked: 1
-broken: {broken}
+        "Package: {name}
+Version: 1
+Architecture: all
+Depends: {field}
 "
     )
 }
 
-/// Whether the run gives this report on the asked package of the text.
-fn gives_text<'a>(
+/// A package whose need has many alternatives, and the report on it alone.
+fn alternatives_alone(alloc: Global) -> Result<(String, String), AllocError> {
+    let group = alternatives(alloc)?;
+    let report = format!(in alloc;
+        "architecture: amd64
+report:
+ -
+  package: a
+  version: 1
+  architecture: all
+  status: broken
+  reasons:
+   - missing: a 1 Depends: {group}
+stanzas: 1
+skipped: 0
+duplicates: 0
+asked: 1
+broken: 1
+"
+    )?;
+    Ok((stanza_of(alloc, "a", group.as_str())?, report))
+}
+
+/// The package, and each of its alternatives.
+fn alternatives_met(alloc: Global) -> Result<(String, String), AllocError> {
+    let group = alternatives(alloc)?;
+    let mut text = stanza_of(alloc, "a", group.as_str())?;
+    for number in 0..10_000 {
+        push_stanza(&mut text, 'n', number)?;
+    }
+    let report = "architecture: amd64
+report:
+ -
+  package: a
+  version: 1
+  architecture: all
+  status: ok
+  installation-set:
+   - a 1
+   - n9999 1
+stanzas: 10001
+skipped: 0
+duplicates: 0
+asked: 1
+broken: 0
+";
+    Ok((text, String::from_str(alloc, report)?))
+}
+
+/// A package with many groups, and both alternatives of each. The last alternative of each group is in the set.
+fn groups_met(alloc: Global) -> Result<(String, String), AllocError> {
+    let field = groups(alloc)?;
+    let mut text = stanza_of(alloc, "p", field.as_str())?;
+    let mut report = String::from_str(alloc, BEFORE_THE_SET)?;
+    for number in 0..20_000 {
+        push_stanza(&mut text, 'x', number)?;
+        push_stanza(&mut text, 'y', number)?;
+        write!(report, "   - y{number} 1\n")?;
+    }
+    report.push_str(BEHIND_THE_SET)?;
+    Ok((text, report))
+}
+
+const BEFORE_THE_SET: &str = "architecture: amd64
+report:
+ -
+  package: p
+  version: 1
+  architecture: all
+  status: ok
+  installation-set:
+   - p 1
+";
+
+const BEHIND_THE_SET: &str = "stanzas: 40001
+skipped: 0
+duplicates: 0
+asked: 1
+broken: 0
+";
+
+/// Whether there are both, and the run gives this report on the asked package of the text.
+fn gives_report(
     rt: &(impl Threads + Sync + AllocGlobal),
-    words: &'a str,
-    text: &'a str,
-    report: &'a str,
+    words: &str,
     status: u8,
+    made: Result<(String, String), AllocError>,
 ) -> bool {
+    let Ok((text, report)) = made else {
+        return false;
+    };
     let example = Example {
         name: "",
         status,
         words,
-        text,
+        text: text.as_str(),
         background: None,
-        answer: report,
+        answer: report.as_str(),
     };
     gives(rt, rt.alloc(), "", &example, Form::AsAsked)
 }
 
-/// Whether there are both, and the run gives this report on the text.
-fn gives_report(
-    rt: &(impl Threads + Sync + AllocGlobal),
-    words: &str,
-    text: Result<String, AllocError>,
-    report: Result<String, AllocError>,
-    status: u8,
-) -> bool {
-    match (text, report) {
-        (Ok(text), Ok(report)) => gives_text(rt, words, text.as_str(), report.as_str(), status),
-        _ => false,
-    }
-}
-
-/// The package alone.
-fn text_alone(alloc: Global) -> Result<String, AllocError> {
-    let group = alternatives(alloc)?;
-    stanza_of(alloc, "a", group.as_str())
-}
-
-fn report_alone(alloc: Global) -> Result<String, AllocError> {
-    let group = alternatives(alloc)?;
-    let explained = format!(in alloc;
-        "broken
-  reasons:
-   - missing: a 1 Depends: {group}
-"
-    )?;
-    report_of(alloc, "a", explained.as_str(), 1, 1)
-}
-
-/// The package, and each of its alternatives.
-fn text_with_alternatives(alloc: Global) -> Result<String, AllocError> {
-    let mut text = text_alone(alloc)?;
-    for number in 0..10_000 {
-        push_stanza(&mut text, 'n', number)?;
-    }
-    Ok(text)
-}
-
-fn report_with_alternatives(alloc: Global) -> Result<String, AllocError> {
-    let explained = "ok
-  installation-set:
-   - a 1
-   - n9999 1
-";
-    report_of(alloc, "a", explained, 10_001, 0)
-}
-
-/// A package with many groups, and both alternatives of each.
-fn text_with_groups(alloc: Global) -> Result<String, AllocError> {
-    let mut text = text_of_groups(alloc)?;
-    for number in 0..20_000 {
-        push_stanza(&mut text, 'x', number)?;
-        push_stanza(&mut text, 'y', number)?;
-    }
-    Ok(text)
-}
-
-fn text_of_groups(alloc: Global) -> Result<String, AllocError> {
-    let field = groups(alloc)?;
-    stanza_of(alloc, "p", field.as_str())
-}
-
-/// The last alternative of each group is in the set.
-fn set_of_groups(alloc: Global) -> Result<String, AllocError> {
-    let mut explained = String::from_str(alloc, "ok\n  installation-set:\n   - p 1\n")?;
-    for number in 0..20_000 {
-        write!(explained, "   - y{number} 1\n")?;
-    }
-    Ok(explained)
-}
-
-fn report_of_groups(alloc: Global) -> Result<String, AllocError> {
-    let explained = set_of_groups(alloc)?;
-    report_of(alloc, "p", explained.as_str(), 40_001, 0)
-}
-
 #[test]
 fn one_group_of_many_alternatives(rt: HostRuntime) {
-    let alloc = rt.alloc();
     let words = "--arch amd64 --explain --checkonly a";
-    assert!(rt; gives_report(&rt, words, text_alone(alloc), report_alone(alloc), 1));
-    let text = text_with_alternatives(alloc);
-    assert!(rt; gives_report(&rt, words, text, report_with_alternatives(alloc), 0));
+    assert!(rt; gives_report(&rt, words, 1, alternatives_alone(rt.alloc())));
+    assert!(rt; gives_report(&rt, words, 0, alternatives_met(rt.alloc())));
 }
 
 #[test]
 fn many_groups_of_two_alternatives(rt: HostRuntime) {
     let words = "--arch amd64 --explain --checkonly p";
-    let text = text_with_groups(rt.alloc());
-    assert!(rt; gives_report(&rt, words, text, report_of_groups(rt.alloc()), 0));
+    assert!(rt; gives_report(&rt, words, 0, groups_met(rt.alloc())));
 }
 
 /// Gives so many line feeds, as many a call as there is room for.
@@ -220,7 +198,7 @@ impl Source for Feeds {
     }
 }
 
-const LINE_FEEDS: Example<'static> = Example {
+static LINE_FEEDS: Example<'static> = Example {
     name: "",
     status: 0,
     words: EXPLAINED,

@@ -1,9 +1,8 @@
 //! Worked examples over all crates: words and a text go in, and the bytes of the report are compared.
 //!
-//! `example` says what an example is and runs it, `reports` goes over those of `relations`, `meanings`, `qualifiers`, `settings` and `refusals`;
-//! `backgrounds` has those with
-//! a second text, `json_reports` documents in JSON, and `read_back` lays one out in lines again;
-//! `cut_texts`, `large`, `without_sets` and `workers` have inputs of their own.
+//! `example` says what an example is and runs it, `reports` goes over all that are written out: those of `relations`, `meanings`, `qualifiers`, `settings`
+//! and `refusals`, of `sample` and `without_sets`, which any crew answers, of `backgrounds`, which have a second text, and of `json_reports`, documents in
+//! JSON. `read_back` lays such a document out in lines again; `cut_texts` and `large` have inputs of their own.
 #![tactic(auto)]
 
 #[cfg(test)]
@@ -34,5 +33,3 @@ mod sample;
 mod settings;
 #[cfg(test)]
 mod without_sets;
-#[cfg(test)]
-mod workers;

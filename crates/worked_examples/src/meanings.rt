@@ -1,6 +1,6 @@
 //! Texts about essential names, fields and duplicates, and what is written of them with explanations for amd64.
 
-pub const EXAMPLES: &str = "unversioned_provides gives 1 under --arch amd64 --explain
+pub static EXAMPLES: &str = "unversioned_provides gives 1 under --arch amd64 --explain
 ----
 Package: foo
 Version: 1

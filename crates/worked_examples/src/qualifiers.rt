@@ -1,6 +1,6 @@
 //! Texts about architecture qualifiers and `Multi-Arch`, and what is written of them with explanations for amd64.
 
-pub const EXAMPLES: &str = "any_of_an_unmarked_package gives 1 under --arch amd64 --explain
+pub static EXAMPLES: &str = "any_of_an_unmarked_package gives 1 under --arch amd64 --explain
 ----
 Package: a
 Version: 1

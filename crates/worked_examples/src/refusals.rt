@@ -1,6 +1,6 @@
 //! Texts that are refused, and the line of the fault.
 
-pub const EXAMPLES: &str = "bad_line gives 65 under --arch amd64 --explain
+pub static EXAMPLES: &str = "bad_line gives 65 under --arch amd64 --explain
 ----
  x
 ----

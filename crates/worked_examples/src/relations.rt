@@ -10,7 +10,7 @@ asked: 0
 broken: 0
 ";
 
-pub const EXAMPLES: &str = "empty_input gives 0 under --arch amd64 --explain
+pub static EXAMPLES: &str = "empty_input gives 0 under --arch amd64 --explain
 ----
 
 ----

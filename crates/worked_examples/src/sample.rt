@@ -1,8 +1,8 @@
 //! A text of seventeen stanzas, and what is written of it with explanations for amd64. Six of its packages are broken.
 
-use crate::example::{EXPLAINED, Example};
-
-const TEXT: &str = "Package: r3a
+pub static EXAMPLES: &str = "sample gives 1 under --arch amd64 --explain
+----
+Package: r3a
 Version: 1
 Architecture: all
 Depends: r3b
@@ -82,9 +82,9 @@ Package: r8b
 Version: 1
 Architecture: all
 Depends: r8n (= 2)
-";
 
-const REPORT: &str = "architecture: amd64
+----
+architecture: amd64
 report:
  -
   package: r3a
@@ -222,23 +222,19 @@ asked: 17
 broken: 6
 ";
 
-// Each function that names a long text has its bytes in its proof, so these two alone do.
-pub fn text() -> &'static str {
-    TEXT
-}
-
-pub fn report() -> &'static str {
-    REPORT
-}
-
-/// The two as an example.
-pub fn example() -> Example<'static> {
-    Example {
-        name: "sample",
-        status: 1,
-        words: EXPLAINED,
-        text: text(),
-        background: None,
-        answer: report(),
-    }
-}
+/// Some workers, and how many packages each takes at once: the bytes are the same for any number of workers and any chunk.
+pub static CREWS: [&str; 13] = [
+    "",
+    "--workers 1 --chunk 1",
+    "--workers 1 --chunk 2",
+    "--workers 1 --chunk 1000",
+    "--workers 2 --chunk 1",
+    "--workers 2 --chunk 2",
+    "--workers 2 --chunk 1000",
+    "--workers 3 --chunk 1",
+    "--workers 3 --chunk 2",
+    "--workers 3 --chunk 1000",
+    "--workers 64 --chunk 1",
+    "--workers 64 --chunk 2",
+    "--workers 64 --chunk 1000",
+];

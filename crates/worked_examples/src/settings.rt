@@ -1,6 +1,6 @@
 //! Texts under words that ask for less or for more than the usual settings, and what is written of them.
 
-pub const EXAMPLES: &str = "without_explanations gives 0 under --arch amd64
+pub static EXAMPLES: &str = "without_explanations gives 0 under --arch amd64
 ----
 Package: a
 Version: 1

@@ -1,11 +1,10 @@
 //! A report that tells no set is the same bytes, whether a set of its packages was looked for or not.
 
-use crate::example::{Example, Form, gives};
-use std::process::Abort;
-use std::thread::Threads;
-
 // Two versions of one name, of which one excludes what needs the other; a package that needs what isn't there, and one whose needs exclude each other.
-const TEXT: &str = "Package: editor
+// First failures with their reasons, then blocks without explanations.
+pub static EXAMPLES: &str = "failures_without_sets gives 1 under --arch amd64 --explain --failures
+----
+Package: editor
 Version: 2
 Architecture: amd64
 Depends: gui, speller
@@ -32,9 +31,9 @@ Package: split
 Version: 1
 Architecture: amd64
 Depends: gui (>= 2), speller
-";
 
-const FAILURES: &str = "architecture: amd64
+----
+architecture: amd64
 report:
  -
   package: lost
@@ -57,9 +56,40 @@ skipped: 0
 duplicates: 0
 asked: 6
 broken: 2
-";
 
-const UNEXPLAINED: &str = "architecture: amd64
+====
+blocks_without_sets gives 1 under --arch amd64
+----
+Package: editor
+Version: 2
+Architecture: amd64
+Depends: gui, speller
+
+Package: gui
+Version: 1
+Architecture: amd64
+
+Package: gui
+Version: 2
+Architecture: amd64
+Conflicts: speller
+
+Package: lost
+Version: 1
+Architecture: amd64
+Depends: nowhere
+
+Package: speller
+Version: 1
+Architecture: amd64
+
+Package: split
+Version: 1
+Architecture: amd64
+Depends: gui (>= 2), speller
+
+----
+architecture: amd64
 report:
  -
   package: editor
@@ -99,34 +129,9 @@ broken: 2
 ";
 
 /// One worker and three, which take one package at once or all.
-const CREWS: [&str; 4] = [
+pub static CREWS: [&str; 4] = [
     "--workers 1 --chunk 1",
     "--workers 1 --chunk 64",
     "--workers 3 --chunk 1",
     "--workers 3 --chunk 64",
 ];
-
-/// The report on the text is the same by each crew.
-fn expect<'a>(rt: &(impl Abort + Threads + Sync + AllocGlobal), words: &'a str, answer: &'a str) {
-    let example = Example {
-        name: "",
-        status: 1,
-        words,
-        text: TEXT,
-        background: None,
-        answer,
-    };
-    for crew in CREWS {
-        assert!(rt;
-            gives(rt, rt.alloc(), crew, &example, Form::AsAsked),
-            "{words} {crew}"
-        );
-    }
-}
-
-/// Failures with their reasons, and blocks without explanations.
-#[test]
-fn reports_that_tell_no_set(rt: HostRuntime) {
-    expect(&rt, "--arch amd64 --explain --failures", FAILURES);
-    expect(&rt, "--arch amd64", UNEXPLAINED);
-}
