@@ -128,6 +128,18 @@ asked: 1
 broken: 0
 ";
 
+/// A run on a text alone, and its report.
+fn example_of<'a>(words: &'a str, status: u8, text: &'a str, answer: &'a str) -> Example<'a> {
+    Example {
+        name: "",
+        status,
+        words,
+        text,
+        background: None,
+        answer,
+    }
+}
+
 /// Whether there are both, and the run gives this report on the asked package of the text.
 fn gives_report(
     rt: &(impl Threads + Sync + AllocGlobal),
@@ -138,14 +150,7 @@ fn gives_report(
     let Ok((text, report)) = made else {
         return false;
     };
-    let example = Example {
-        name: "",
-        status,
-        words,
-        text: text.as_str(),
-        background: None,
-        answer: report.as_str(),
-    };
+    let example = example_of(words, status, text.as_str(), report.as_str());
     gives(rt, rt.alloc(), "", &example, Form::AsAsked)
 }
 
