@@ -2,7 +2,7 @@
 
 use crate::faults::fault_in_words;
 use crate::settings::settings_in_words;
-use debcheck::read_line;
+use command_line::read_line;
 use std::alloc::{AllocError, Global};
 use std::process::Abort;
 use test_devices::words_in;
@@ -47,18 +47,11 @@ fn is_wanted(told: &str, wanted: &str) -> bool {
     }
 }
 
-fn expect_told(rt: &impl Abort, line: &str, told: &str, wanted: &str) -> Result<(), AllocError> {
-    if told.starts_with("status 69") {
-        return Err(AllocError);
-    }
-    assert!(rt; is_wanted(told, wanted), "{line}: {told}");
-    Ok(())
-}
-
 /// The line comes to this.
 fn expect_row(rt: &(impl Abort + AllocGlobal), line: &str, wanted: &str) -> Result<(), AllocError> {
     let told = told_of(rt.alloc(), line)?;
-    expect_told(rt, line, &told, wanted)
+    assert!(rt; is_wanted(&told, wanted), "{line}: {told}");
+    Ok(())
 }
 
 /// Each line of the table comes to what stands on the other side.

@@ -3,7 +3,7 @@
 ghost use Rattle.std.specs.Io.{WritesAtMost};
 
 use crate::faults::fault_in_words;
-use debcheck::{LineFault, words_of};
+use command_line::{LineFault, words_of};
 use std::alloc::{AllocError, Global};
 use std::env::{Env, FillError};
 use std::process::Abort;

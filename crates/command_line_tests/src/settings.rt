@@ -1,6 +1,6 @@
 //! What a line asks for, in words.
 
-use debcheck::{Config, Format, Show};
+use run_settings::{Config, Format, Show};
 use std::alloc::{AllocError, Global};
 use std::str::from_utf8;
 

@@ -1,9 +1,11 @@
-//! The line of a fault, written to a device, and to a writer of std that fails: how each failure is answered, and in how many calls.
+//! The line of a fault, written to a device, and to a writer of std that fails: how each failure is answered, and in how many calls; and what is
+//! written of words that ask for no run.
 
 use crate::counted::{Counting, writer_of};
-use debcheck::{RunFault, Std, write_fault};
+use debcheck::{LineFault, RunFault, Std, write_fault, write_line_fault};
 use std::alloc::Global;
 use std::io::ErrorKind;
+use std::process::Abort;
 use test_devices::{Held, sink_of};
 
 /// Whether the line of a fault is written to the sink, and flushed, or the sink fails with this front of the line in it.
@@ -73,4 +75,43 @@ fn each_write_and_the_flush_fail_in_turn(rt: HostRuntime) {
             assert!(rt; writes_over(rt.alloc(), inner, false, taken, calls));
         }
     }
+}
+
+/// What is written of a line that gives no configuration, to an output and to errors that fail at this write.
+fn written_of(alloc: Global, fault: &LineFault, fails_at: u32) -> (bool, Held, Held) {
+    let mut output = sink_of(alloc, 7, 0, false);
+    let mut errors = sink_of(alloc, 1, fails_at, false);
+    let written = write_line_fault(&mut output, &mut errors, fault);
+    (written.is_ok(), output, errors)
+}
+
+/// These bytes, flushed where there are some.
+fn holds(device: &Held, wanted: &str) -> bool {
+    device.bytes.as_slice() == wanted.as_bytes() && device.flushed != wanted.is_empty()
+}
+
+fn expect_lines(rt: &(impl Abort + AllocGlobal), fault: &LineFault, wanted: [&str; 2]) {
+    let (written, output, errors) = written_of(rt.alloc(), fault, 0);
+    assert!(rt; written && holds(&output, wanted[0]) && holds(&errors, wanted[1]));
+}
+
+#[test]
+fn help_goes_to_the_output_and_all_else_to_the_errors(rt: HostRuntime) {
+    let text = |said| String::from_str(rt.alloc(), said).expect(&rt, "no memory");
+    let help = LineFault::Help {
+        text: text("Usage\n"),
+    };
+    let refused = LineFault::Refused {
+        text: text("error: no\n"),
+    };
+    expect_lines(&rt, &help, ["Usage\n", ""]);
+    expect_lines(&rt, &refused, ["", "error: no\n"]);
+    expect_lines(&rt, &LineFault::Memory, ["", "debcheck: out of memory\n"]);
+}
+
+/// A failed write to the errors is told, and nothing comes to the output.
+#[test]
+fn the_errors_fail_at_the_fifth_write(rt: HostRuntime) {
+    let (written, output, errors) = written_of(rt.alloc(), &LineFault::Memory, 5);
+    assert!(rt; !written && output.bytes.is_empty() && errors.bytes.as_slice() == b"debc");
 }
