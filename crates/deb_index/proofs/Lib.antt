@@ -29,8 +29,6 @@ pub mod ProvidedLemmas
 pub mod BuiltLemmas
 pub mod SeenLemmas
 pub mod EssentialLemmas
-pub mod EndLemmas
-pub mod ShareLemmas
 pub mod RowLemmas
 pub mod PartLemmas
 pub mod LinkLemmas

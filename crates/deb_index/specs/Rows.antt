@@ -1,6 +1,5 @@
 -- Rows of places: those that meet a group or an entry, where few packages come into question.
-use Rattle.std.specs.Prelude.{◌≡◌, ◌≤◌, ◌+◌, ◌-◌, ℕ, Bool, nat_le, List, [], ◌∷◌}
-use Rattle.std.specs.Prelude.{length, map, slice_index_or, sum_by, take, drop, Option, Some, None, if◌then◌else◌}
+use Rattle.std.specs.Prelude.{◌+◌, ℕ, nat_le, List, length, sum_by, Option, Some, None, if◌then◌else◌}
 use Rattle.deb_relation.specs.Relationship.{AtomText}
 use Rattle.deb_index.specs.Packages.{IndexView, places_of}
 use Rattle.deb_index.specs.Meets.{group_satisfiers, provided_at, satisfiers}
@@ -24,20 +23,3 @@ answer_row index group = if nat_le (group_candidates index group) row_limit then
 -- the row of an entry: the places of the packages that meet it, whether or not they meet it as an alternative
 abbrev pub hit_row : IndexView → AtomText → Option (List ℕ)
 hit_row index atom = if nat_le (candidate_count index atom) row_limit then Some (satisfiers index atom) else None
-
--- ---- how rows are kept
-
--- the rows that lie in some places, by where they end, of which the first begins at a given place; those that are not kept are left out
-abbrev pub rows_from : ℕ → List ℕ → List ℕ → List Bool → List (Option (List ℕ))
-rows_from start places [] kept = []
-rows_from start places (end ∷ ends) [] = []
-rows_from start places (end ∷ ends) (k ∷ kept) = (if k then Some (take (end - start) (drop start places)) else None) ∷ rows_from end places ends kept
-
--- where the rows of so many places end: none before it begins, and the last where the places do
-abbrev pub AreEnds : ℕ → ℕ → List ℕ → Type 0
-AreEnds start count [] = start ≡ count
-AreEnds start count (end ∷ ends) = (start ≤ end) × AreEnds end count ends
-
--- rows of a store by their numbers in it
-abbrev pub rows_by : List (Option (List ℕ)) → List ℕ → List (Option (List ℕ))
-rows_by store numbers = map (λ n. slice_index_or store n None) numbers

@@ -6,8 +6,8 @@
 //! - `package`: one stanza, read as a package; `meets`: what it asks for, and which atoms it meets.
 //! - `names`: the names that packages have or provide, with where each is found; `name`: how one lies in the table.
 //! - `lookup`: all places that meet an atom, found by the names.
-//! - `rows`: lists of places, one behind the other, of which one serves all who ask for the same; `memo`: which row an atom got; `role_rows`: the
-//!   rows of one role while they are made; `links`: the row of each group and of each entry, made once.
+//! - `memo`: which row an atom got; `role_rows`: the rows of one role while they are made, which `number_sets` keeps; `links`: the row of each group
+//!   and of each entry, made once.
 //! - `catalog`: the packages, with their names and what was counted; `index`: the index of a text, or of a text and a background.
 //! - `answering`: which packages meet what is asked for; `constraint`: its constraints, and where each stands.
 //! - `parts`: a text in parts, which several workers read side by side; `unlinked`: an index that lacks its rows, which they make side by side.
@@ -36,7 +36,6 @@ mod parts;
 mod pieces;
 mod read;
 mod role_rows;
-mod rows;
 mod unlinked;
 
 pub use constraint::Constraint;

@@ -8,7 +8,7 @@ ghost use Rattle.deb_index.specs.Tables.{asked_count, asked_limit};
 use crate::lookup::Lookup;
 use crate::meets::Role;
 use crate::role_rows::RoleRows;
-use crate::rows::Rows;
+use number_sets::Rows;
 use std::alloc::{AllocError, Global};
 
 /// Where the rows of a package's groups and those of its entries begin.

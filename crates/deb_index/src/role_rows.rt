@@ -8,8 +8,8 @@ use crate::lookup::{Lookup, ROW_LIMIT};
 use crate::meets::Role;
 use crate::memo::{Memo, digest_of};
 use crate::package::Package;
-use crate::rows::Rows;
 use deb_relation::Atom;
+use number_sets::Rows;
 use std::alloc::{AllocError, Global};
 use std::marker::Model;
 

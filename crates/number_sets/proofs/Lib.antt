@@ -6,3 +6,5 @@ pub mod PositionsOf
 pub mod Placing
 pub mod Extending
 pub mod SparseSetLemmas
+pub mod EndLemmas
+pub mod ShareLemmas

@@ -1,2 +1,3 @@
 pub mod Sets
 pub mod SparseSets
+pub mod Rows

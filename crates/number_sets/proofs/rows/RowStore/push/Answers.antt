@@ -1,7 +1,7 @@
 use Rattle.std.proofs.Common.{◌≡◌, ◌++◌, ◌∷◌, ◌∙◌, [], ap, length, length-append, arith, refl}
 use Rattle.std.specs.Option.{option_map}
-use Rattle.deb_index.proofs.EndLemmas.{row-next, still-ends}
-use Rattle.deb_index.proofs.rows.RowStore.push.Goals as goal
+use Rattle.number_sets.proofs.EndLemmas.{row-next, still-ends}
+use Rattle.number_sets.proofs.rows.RowStore.push.Goals as goal
 
 pub invariant_of-self : goal.invariant_of-self
 invariant_of-self c = rw c.reserve.ensures.items c.self.invariant

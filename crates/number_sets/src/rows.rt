@@ -1,4 +1,4 @@
-//! Rows of places, one behind the other, of which one serves all who ask for the same.
+//! Rows of numbers, such as places, one behind the other, of which one serves all who ask for the same.
 ghost use Rattle.std.specs.Prelude.{◌≡◌, ◌<◌, ◌+◌, ◌^◌, ◌++◌, ◌∷◌, ℕ, List, [], Option, Some, None, IfOk, OnErr, OnOk};
 ghost use Rattle.std.specs.Prelude.{length, map, slice_index_or};
 ghost use Rattle.std.specs.List.{All};
@@ -19,7 +19,7 @@ struct RowStore {
 
 impl Model for RowStore {
     ghost use Rattle.std.specs.Prelude.{◌≡◌, ℕ, List, Option, length};
-    ghost use Rattle.deb_index.specs.Rows.{AreEnds, rows_from};
+    ghost use Rattle.number_sets.specs.Rows.{AreEnds, rows_from};
 
     ghost Value = { List (Option (List ℕ)) };
 
@@ -105,7 +105,7 @@ fn push_behind(numbers: &mut Vec<u32>, before: u32, more: &[u32]) -> Result<(), 
 
 /// Rows of places by number. Some are left out. A row that comes again lies there once.
 #[derive(Drop)]
-pub(crate) struct Rows {
+pub struct Rows {
     // The number of each in the store.
     numbers: Vec<u32>,
     store: RowStore,
@@ -114,7 +114,7 @@ pub(crate) struct Rows {
 impl Model for Rows {
     ghost use Rattle.std.specs.Prelude.{◌<◌, ◌≤◌, ℕ, List, Option, length};
     ghost use Rattle.std.specs.List.{All};
-    ghost use Rattle.deb_index.specs.Rows.{rows_by};
+    ghost use Rattle.number_sets.specs.Rows.{rows_by};
 
     ghost Value = { List (Option (List ℕ)) };
 
@@ -124,7 +124,8 @@ impl Model for Rows {
 }
 
 impl Rows {
-    pub(crate) fn new(alloc: Global) -> Rows
+    /// No rows.
+    pub fn new(alloc: Global) -> Rows
         ensures { result ≡ [] }
     {
         Rows {
@@ -133,8 +134,8 @@ impl Rows {
         }
     }
 
-    /// Puts a row down, last, or that it is left out.
-    pub(crate) fn push(&mut self, row: Option<&[u32]>) -> Result<(), AllocError>
+    /// Puts a row down, last, or that it is left out. `AllocError` where memory is refused: then no row came.
+    pub fn push(&mut self, row: Option<&[u32]>) -> Result<(), AllocError>
         requires { length self.old < 2 ^ 32 }
         ensures ok { OnOk result (self.new ≡ self.old ++ option_map (λ r. r.now) row.entry ∷ []) }
         ensures err { OnErr result (self.new ≡ self.old) }
@@ -146,8 +147,8 @@ impl Rows {
         Ok(())
     }
 
-    /// Puts the row with a number down once more, last.
-    pub(crate) fn push_again(&mut self, number: u32) -> Result<(), AllocError>
+    /// Puts the row with a number, from 0, down once more, last. `AllocError` where memory is refused: then no row came.
+    pub fn push_again(&mut self, number: u32) -> Result<(), AllocError>
         requires { number < length self.old }
         ensures ok { OnOk result (self.new ≡ self.old ++ slice_index_or self.old number None ∷ []) }
         ensures err { OnErr result (self.new ≡ self.old) }
@@ -157,8 +158,8 @@ impl Rows {
         Ok(())
     }
 
-    /// These rows, and behind them others, in their order.
-    pub(crate) fn followed_by(self, more: &Rows) -> Result<Rows, AllocError>
+    /// These rows, and behind them others, in their order. `AllocError` where memory is refused.
+    pub fn followed_by(self, more: &Rows) -> Result<Rows, AllocError>
         requires { length self + length more.now < 2 ^ 32 }
         ensures { IfOk result (λ rows. rows ≡ self ++ more.now) }
     {
@@ -172,14 +173,14 @@ impl Rows {
     }
 
     /// How many rows were put down or left out.
-    pub(crate) fn len(&self) -> usize
+    pub fn len(&self) -> usize
         ensures { result ≡ length self.now }
     {
         self.numbers.len()
     }
 
-    /// The row with a number, unless it is left out.
-    pub(crate) fn get(&self, number: usize) -> Option<&[u32]>
+    /// The row with a number, from 0, unless it is left out.
+    pub fn get(&self, number: usize) -> Option<&[u32]>
         requires { number < length self.now }
         ensures { option_map (λ r. r.now) result ≡ slice_index_or self.now number None }
     {

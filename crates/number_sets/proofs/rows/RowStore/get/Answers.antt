@@ -1,6 +1,6 @@
 use Rattle.std.proofs.Common.{rules, ◌-◌, ◌∷◌, ◌∙◌, get_or, Some, ap, length, take, drop, arith}
-use Rattle.deb_index.proofs.EndLemmas.{number-within, part-within, row-none, row-some}
-use Rattle.deb_index.proofs.rows.RowStore.get.Goals as goal
+use Rattle.number_sets.proofs.EndLemmas.{number-within, part-within, row-none, row-some}
+use Rattle.number_sets.proofs.rows.RowStore.get.Goals as goal
 
 pub index-requires : goal.index-requires
 index-requires c =

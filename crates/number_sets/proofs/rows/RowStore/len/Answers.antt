@@ -1,6 +1,6 @@
 use Rattle.std.proofs.Common.{ap, length, arith}
-use Rattle.deb_index.proofs.EndLemmas.{rows-length}
-use Rattle.deb_index.proofs.rows.RowStore.len.Goals as goal
+use Rattle.number_sets.proofs.EndLemmas.{rows-length}
+use Rattle.number_sets.proofs.rows.RowStore.len.Goals as goal
 
 pub returns : goal.returns
 returns c =

@@ -4,7 +4,7 @@ use Prim.Native.Nat.{suc, zero}
 use Rattle.std.specs.Prelude.{if◌then◌else◌, unwrap_or}
 use Rattle.std.specs.Option.{is_some, option_map}
 use Rattle.std.proofs.lemmas.List.{append-nil, drop-append-le, drop_at, get_or_read, length-append, length-drop, take-append-le, take_all}
-use Rattle.deb_index.specs.Rows.{AreEnds, rows_from}
+use Rattle.number_sets.specs.Rows.{AreEnds, rows_from}
 
 begins-within : (start count : ℕ) (ends : List ℕ) → AreEnds start count ends → start ≤ count
 begins-within start count [] h = omega (arith, h)

@@ -1,7 +1,7 @@
 use Rattle.std.proofs.Common.{◌+◌, ◌++◌, ◌∙◌, ℕ, List, ap, map}
-use Rattle.deb_index.specs.Rows.{rows_by}
-use Rattle.deb_index.proofs.ShareLemmas.{rows-two, still-few, still-stored}
-use Rattle.deb_index.proofs.rows.Rows.followed_by.Goals as goal
+use Rattle.number_sets.specs.Rows.{rows_by}
+use Rattle.number_sets.proofs.ShareLemmas.{rows-two, still-few, still-stored}
+use Rattle.number_sets.proofs.rows.Rows.followed_by.Goals as goal
 
 pub invariant_of-result : goal.invariant_of-result
 invariant_of-result c =

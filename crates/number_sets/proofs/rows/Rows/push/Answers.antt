@@ -1,7 +1,7 @@
 use Rattle.std.proofs.Common.{◌++◌, ◌∷◌, ◌∙◌, [], ap}
 use Rattle.std.specs.Option.{option_map}
-use Rattle.deb_index.proofs.ShareLemmas.{rows-new}
-use Rattle.deb_index.proofs.rows.Rows.push.Goals as goal
+use Rattle.number_sets.proofs.ShareLemmas.{rows-new}
+use Rattle.number_sets.proofs.rows.Rows.push.Goals as goal
 
 pub invariant_of-self : goal.invariant_of-self
 invariant_of-self c = rw c.reserve.ensures.items c.self.invariant

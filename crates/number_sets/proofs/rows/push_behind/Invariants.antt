@@ -1,5 +1,5 @@
 use Rattle.std.proofs.Common.{◌≡◌, ◌+◌, ◌++◌, map, take}
-use Rattle.deb_index.proofs.rows.push_behind.Given as goal
+use Rattle.number_sets.proofs.rows.push_behind.Given as goal
 
 abbrev pub invariant-loop-number : goal.invariant-loop-number
 invariant-loop-number l = l.numbers.items ≡ l.initial.numbers.items ++ map (λ n. l.before + n) (take l.number-index l.more)
