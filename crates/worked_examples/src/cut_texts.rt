@@ -1,6 +1,6 @@
 //! A text cut behind each of its bytes.
 
-use crate::example::{EXPLAINED, Example, Form, gives};
+use crate::example::{EXPLAINED, Example, gives};
 use crate::relations::EMPTY_REPORT;
 
 const ALTERNATIVES: &str = "Package: a
@@ -102,7 +102,7 @@ fn each_cut_has_its_answer(rt: HostRuntime) {
             answer,
         };
         assert!(rt;
-            gives(&rt, rt.alloc(), "", &example, Form::AsAsked),
+            gives(&rt, rt.alloc(), "", &example),
             "the report, the fault or the status of {len} bytes"
         );
     }

@@ -1,7 +1,6 @@
 //! What an example is, and how it is run.
 ghost use Rattle.std.specs.Prelude.{◌≡◌, ◌<◌, ◌≤◌, IfSome, false};
 
-use crate::read_back::reads_back;
 use debcheck::{Config, RunFault, Source, Std, Summary, fault_line, read_line, run, status};
 use std::alloc::{AllocError, Global};
 use std::thread::Threads;
@@ -86,25 +85,14 @@ fn has_line(alloc: Global, fault: &RunFault, line: &str) -> bool {
 fn is_answer(
     alloc: Global,
     example: &Example<'_>,
-    form: Form,
     outcome: &Result<Summary, RunFault>,
     written: &[u8],
 ) -> bool {
-    let told = match (outcome, form) {
-        (Ok(_), Form::AsAsked) => written == example.answer.as_bytes(),
-        (Ok(_), Form::ReadBack) => reads_back(alloc, written, example.answer),
-        (Err(fault), _) => written.is_empty() && has_line(alloc, fault, example.answer),
+    let told = match outcome {
+        Ok(_) => written == example.answer.as_bytes(),
+        Err(fault) => written.is_empty() && has_line(alloc, fault, example.answer),
     };
     told && status(outcome) == example.status
-}
-
-/// What a run writes.
-#[derive(Clone, Copy)]
-pub enum Form {
-    /// The answer of the example.
-    AsAsked,
-    /// A document in JSON that, read back, tells what the lines of the answer tell.
-    ReadBack,
 }
 
 /// Whether a run under a configuration on what a reader gives has the answer of the example.
@@ -114,7 +102,6 @@ pub fn gives_under<S: Source, R: Threads + Sync>(
     config: &Config,
     reader: &mut S,
     example: &Example<'_>,
-    form: Form,
 ) -> bool
     requires reader { S.failed reader.old ≡ false }
     requires workers { (0 < config.now.workers) × (config.now.workers ≤ 64) }
@@ -130,7 +117,7 @@ pub fn gives_under<S: Source, R: Threads + Sync>(
         &mut Std::new(&mut written),
         &OpenGate,
     );
-    is_answer(alloc, example, form, &outcome, &written)
+    is_answer(alloc, example, &outcome, &written)
 }
 
 /// The same under the words of the example and more.
@@ -140,24 +127,17 @@ pub fn gives_on<S: Source, R: Threads + Sync>(
     more: &str,
     reader: &mut S,
     example: &Example<'_>,
-    form: Form,
 ) -> bool
     requires { S.failed reader.old ≡ false }
 {
     match config_of(alloc, example.words, more) {
-        Some(config) => gives_under(rt, alloc, &config, reader, example, form),
+        Some(config) => gives_under(rt, alloc, &config, reader, example),
         None => false,
     }
 }
 
 /// The same on the text of the example.
-pub fn gives<R: Threads + Sync>(
-    rt: &R,
-    alloc: Global,
-    more: &str,
-    example: &Example<'_>,
-    form: Form,
-) -> bool {
+pub fn gives<R: Threads + Sync>(rt: &R, alloc: Global, more: &str, example: &Example<'_>) -> bool {
     let mut reader = Std::new(example.text.as_bytes());
-    gives_on(rt, alloc, more, &mut reader, example, form)
+    gives_on(rt, alloc, more, &mut reader, example)
 }

@@ -2,7 +2,7 @@
 
 ghost use Rattle.std.specs.Prelude.{◌≡◌, ◌<◌, ◌≤◌, IfOk};
 
-use crate::example::{Example, Form, gives_under};
+use crate::example::{Example, gives_under};
 use debcheck::{Config, Format, Std};
 use std::alloc::{AllocError, Global};
 
@@ -290,14 +290,7 @@ static STRANGE: Example<'static> = Example {
 fn architectures_are_escaped(rt: HostRuntime) {
     let mut reader = Std::new(STRANGE_ARCHITECTURE.as_bytes());
     let config = strange_config(rt.alloc()).expect(&rt, "no memory");
-    let fine = gives_under(
-        &rt,
-        rt.alloc(),
-        &config,
-        &mut reader,
-        &STRANGE,
-        Form::AsAsked,
-    );
+    let fine = gives_under(&rt, rt.alloc(), &config, &mut reader, &STRANGE);
     drop(config);
     assert!(rt; fine, "the document");
 }

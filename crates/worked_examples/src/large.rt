@@ -1,6 +1,6 @@
 //! A group of 10,000 alternatives, a package with 20,000 groups, and many line feeds.
 
-use crate::example::{EXPLAINED, Example, Form, gives, gives_on};
+use crate::example::{EXPLAINED, Example, gives, gives_on};
 use crate::relations::EMPTY_REPORT;
 use debcheck::{DeviceFault, Source};
 use std::alloc::{AllocError, Global};
@@ -151,7 +151,7 @@ fn gives_report(
         return false;
     };
     let example = example_of(words, status, text.as_str(), report.as_str());
-    gives(rt, rt.alloc(), "", &example, Form::AsAsked)
+    gives(rt, rt.alloc(), "", &example)
 }
 
 #[test]
@@ -215,5 +215,5 @@ static LINE_FEEDS: Example<'static> = Example {
 #[test]
 fn line_feeds_alone_are_an_empty_index(rt: HostRuntime) {
     let mut reader = Feeds::new(268_435_457);
-    assert!(rt; gives_on(&rt, rt.alloc(), "", &mut reader, &LINE_FEEDS, Form::AsAsked));
+    assert!(rt; gives_on(&rt, rt.alloc(), "", &mut reader, &LINE_FEEDS));
 }

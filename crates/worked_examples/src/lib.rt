@@ -2,7 +2,7 @@
 //!
 //! `example` says what an example is and runs it, `reports` goes over all that are written out: those of `relations`, `meanings`, `qualifiers`, `settings`
 //! and `refusals`, of `sample` and `without_sets`, which any crew answers, of `backgrounds`, which have a second text, and of `json_reports`, documents in
-//! JSON. `read_back` lays such a document out in lines again; `cut_texts` and `large` have inputs of their own.
+//! JSON; `cut_texts` and `large` have inputs of their own.
 #![tactic(auto)]
 
 #[cfg(test)]
@@ -19,8 +19,6 @@ mod large;
 mod meanings;
 #[cfg(test)]
 mod qualifiers;
-#[cfg(test)]
-mod read_back;
 #[cfg(test)]
 mod refusals;
 #[cfg(test)]
