@@ -1,20 +1,19 @@
 //! Checks which packages of a Debian package index can be installed, and reports it.
 //!
 //! What is asked of a run is in `run_settings`, and how words ask for it in `command_line`; how its texts are read, and why it fails, is in `deb_input`;
-//! the report that it writes is `deb_report`'s; what it reads from and writes to are `devices`. The modules, in reading order:
+//! what looks like a slip, and the line that tells it, is in `run_hints`; the report that it writes is `deb_report`'s; what it reads from and writes to
+//! are `devices`. The modules, in reading order:
 //!
 //! - `phases`: a run, from bytes to bytes; `since`: one that tells what became of an earlier index; `asked`: the places that are asked in it;
 //!   `verdicts`: what is found of them for the report, with all cores by `later`.
 //! - `exit_status`: the status of a run; `output`: the lines of faults, written.
 //! - `program`: a program, from its words to its exit status, on the files that are opened by their names, one of which may have the names that are
-//!   asked, and with its `progress` and `hints` on a screen; `clues`: what is seen for these while a run has its texts.
+//!   asked, and with its `progress` and a hint on a screen.
 //! - `laws`: what holds of runs and of reports.
 #![tactic(auto)]
 
 mod asked;
-mod clues;
 mod exit_status;
-mod hints;
 mod later;
 pub mod laws;
 mod output;
