@@ -1,8 +1,6 @@
 pub mod Report
 pub mod Told
 pub mod Causes
-pub mod Near
-pub mod Stems
 pub mod Similar
 pub mod CauseLines
 pub mod Walk

@@ -9,10 +9,10 @@ use Rattle.deb_index.specs.declared.constraint.Constraint.{Constraint}
 use Rattle.deb_index.specs.declared.constraint.Constraint.TheVariants.{Essential, Need, Apart, Only}
 use Rattle.deb_index.specs.Meets.{group_satisfiers, satisfiers}
 use Rattle.deb_index.specs.Packages.{IndexView, apart_at, name_at, need_at, package_at, places_of}
+use Rattle.deb_near.specs.Near.{NearMissView, alternatives, near_miss_at, near_misses, similar_names}
 use Rattle.deb_report.specs.declared.walk.Step.{Step}
 use Rattle.deb_report.specs.declared.walk.Step.TheVariants.{Begin, Meet, Tell}
 use Rattle.deb_report.specs.CauseLines.{provides_text, told_if}
-use Rattle.deb_report.specs.Near.{NearMissView, alternatives, near_miss_at, near_misses, similar_names}
 use Rattle.deb_report.specs.Report.{asked_text, entry_field, group_field, is_missing, label_of, titled}
 
 -- ---- packages of a walk

@@ -6,26 +6,26 @@ ghost use Rattle.deb_index.specs.declared.constraint.Constraint.{Constraint};
 ghost use Rattle.deb_index.specs.Constraints.{IsOfIndex};
 ghost use Rattle.deb_index.specs.Packages.{need_at, package_view};
 ghost use Rattle.number_sets.specs.Sets.{members_of};
+ghost use Rattle.deb_near.specs.Near.{near_misses, near_view, similar_names};
+ghost use Rattle.deb_near.specs.Similar.{IsSimilarOf, stems_in};
+ghost use Rattle.deb_near.specs.Stems.{AreSought};
 ghost use Rattle.deb_report.specs.declared.walk.Step.{Step};
-ghost use Rattle.deb_report.specs.Near.{near_misses, near_view, similar_names};
-ghost use Rattle.deb_report.specs.Similar.{FitsWalk, IsSimilarOf, stems_in};
-ghost use Rattle.deb_report.specs.Stems.{AreSought};
+ghost use Rattle.deb_report.specs.Similar.{FitsWalk};
 ghost use Rattle.deb_report.specs.Walk.{IsStepOf, are_told, brought, own_steps, step_limit, steps_behind, told_behind, walk_text};
 ghost use Rattle.deb_report.specs.Walk.{above_text, constraint_text, lead, missing_text, near_text, need_ending, present_text};
 ghost use Rattle.deb_report.specs.Walk.{package_line, package_text, seen_text, similar_text, step_text, walk_lines};
 
 use crate::line_parts::{push_asked, push_line, push_package, push_provides};
-use crate::near::{NearMiss, answer_at, near_misses};
 use crate::own::OwnTable;
 use crate::place_set::PlaceSet;
 use crate::print::{Print, push_joined, push_some, push_texts};
 use crate::reasons::{entry_field, group_field, is_missing, push_group};
-use crate::similar::Similar;
 use crate::walk::{
     Step, are_told, brought, comers, first_steps, hits_in, met_steps, own_steps, put_before,
     those_coming,
 };
 use deb_index::{Constraint, Index, Package};
+use deb_near::{NearMiss, Similar, answer_at, near_misses};
 use deb_relation::Atom;
 use std::alloc::{AllocError, Global};
 use std::slice;
