@@ -6,7 +6,6 @@ mod CoreLemmas
 mod FirstOnes
 mod GatheringLemmas
 mod GatheredCauses
-mod HitLemmas
 mod JoinLemmas
 mod MarkLemmas
 mod MissingLemmas
@@ -16,12 +15,9 @@ mod SaidLemmas
 mod PartLemmas
 mod PlainIndex
 mod PlainTexts
-mod OwnLemmas
-mod PlaceSetLemmas
 mod ReportLemmas
 mod SinceLemmas
 mod SoughtLemmas
-mod WalkLaws
-mod WalkLemmas
+mod WalkTextLemmas
 pub mod Unshown
 mod WrongsLemmas

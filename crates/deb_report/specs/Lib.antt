@@ -3,8 +3,7 @@ pub mod Told
 pub mod Causes
 pub mod Similar
 pub mod CauseLines
-pub mod Walk
-pub mod Own
+pub mod WalkLines
 pub mod Numbering
 pub mod Said
 pub mod Wrongs

@@ -1,4 +1,4 @@
-use Rattle.deb_report.proofs.WalkLemmas.{brought-within}
+use Rattle.deb_walk.proofs.WalkLemmas.{brought-within}
 use Rattle.deb_report.proofs.answers.answers_to.Goals as goal
 
 pub misses_at-requires : goal.misses_at-requires
