@@ -24,13 +24,13 @@ use Rattle.number_sets.specs.Sets.{members_of}
 use Rattle.number_sets.specs.SparseSets.{Grows}
 use Rattle.number_sets.proofs.ListMembers.{same_test}
 use Rattle.number_sets.proofs.RisingLists.{rising_once}
+use Rattle.list_steps.proofs.ListLemmas.{or_assoc, or_false}
+use Rattle.list_steps.proofs.PlaceLemmas.{places_from, where_from}
+use Rattle.deb_walk.proofs.HitLemmas.{rising-below}
 use Rattle.deb_report.specs.Causes.{is_answer_to, is_need, is_version_in, is_version_of, needs_in, same_constraint, says, says_same, versions_in}
 use Rattle.deb_report.specs.Numbering.{with_text}
 use Rattle.deb_report.specs.Positions.{is_need_among, is_need_at, is_only}
 use Rattle.deb_report.proofs.GatheringLemmas.{itself}
-use Rattle.deb_report.proofs.HitLemmas.{rising-below}
-use Rattle.deb_report.proofs.ListLemmas.{or_assoc, or_false}
-use Rattle.deb_report.proofs.PlaceLemmas.{places_from, where_from}
 
 -- ---- the first of each that say the same
 

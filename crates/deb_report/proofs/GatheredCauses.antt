@@ -15,6 +15,7 @@ use Rattle.deb_index.proofs.EnumerateLemmas.{filter-length}
 use Rattle.deb_index.proofs.TableLemmas.{IsApart, number-within}
 use Rattle.deb_health.specs.Causes.{cause_in, is_final}
 use Rattle.deb_health.specs.Verdicts.{VerdictView, Found, Blocked}
+use Rattle.list_steps.proofs.ListLemmas.{all_seen, map-twice}
 use Rattle.deb_report.specs.declared.gathered.Cause.{Cause}
 use Rattle.deb_report.specs.declared.gathered.Part.{Part}
 use Rattle.deb_report.specs.declared.numbered.NumberedCore.{NumberedCore}
@@ -29,7 +30,6 @@ use Rattle.deb_report.specs.Said.{IsKnown, IsNumbered, key_of}
 use Rattle.deb_report.specs.Told.{AreLaterOf, IsAskedOf}
 use Rattle.deb_report.specs.Wrongs.{AreNumbered, causes_of, said_of}
 use Rattle.deb_report.proofs.FirstOnes.{Starts, all-each, all-get, first-kept, first-keyed, first-starts, range-all, range-seen}
-use Rattle.deb_report.proofs.ListLemmas.{all_seen, map-twice}
 use Rattle.deb_report.proofs.NumberingLemmas.{front-same}
 use Rattle.deb_report.proofs.PartLemmas.{causes-unnumbered, cores-unnumbered, number-tells, part-gathered, part-some}
 use Rattle.deb_report.proofs.SaidLemmas.{once-apart, said-itself, same-key}

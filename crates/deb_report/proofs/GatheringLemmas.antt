@@ -13,7 +13,8 @@ use Rattle.std.proofs.lemmas.List.Folds.{list_any-append}
 use Rattle.number_sets.specs.Sets.{members_of}
 use Rattle.number_sets.proofs.ListMembers.{at_members_of}
 use Rattle.number_sets.proofs.RisingLists.{above_first, rising_tail}
-use Rattle.deb_report.proofs.ListLemmas.{or_false}
+use Rattle.list_steps.proofs.ListLemmas.{or_false}
+use Rattle.deb_walk.proofs.PlaceSetLemmas.{members-more}
 use Rattle.deb_report.specs.Gathering.{PartView, cores_with_number, has_number, part_of, share_of, with_cores, with_share}
 use Rattle.deb_report.specs.Numbered.{core_view}
 use Rattle.deb_report.specs.declared.numbered.NumberedCore.{NumberedCore}
@@ -98,12 +99,6 @@ not-before (x ∷ xs) (suc i) rising inside =
     let within : i < length xs = omega arith in
     let above : x < get_or xs i 0 = above_first x xs rising (get_or xs i 0) (at_members_of xs i within) in
     rw (unlike x (get_or xs i 0) above) (not-before xs i (rising_tail x xs rising) within)
-
-pub members-more : (numbers : List ℕ) (i k : ℕ) → i < length numbers → members_of (take (i + 1) numbers) k ≡ (members_of (take i numbers) k || (get_or numbers i 0 == k))
-members-more numbers i k inside =
-    ap (λ front. members_of front k) (take_more numbers i 0 inside)
-    ∙ list_any-append (λ member. member == k) (take i numbers) (get_or numbers i 0 ∷ [])
-    ∙ ap (λ last. members_of (take i numbers) k || last) (or_false (get_or numbers i 0 == k))
 
 pub share-own : (numbers : List ℕ) (i : ℕ) (share : ℕ × Bool) (old new part : PartView) → IsStrictlyIncreasing numbers → i < length numbers → new.cores ≡ old.cores → new.shares ≡ old.shares ++ share ∷ []
     → old ≡ with_share share (members_of (take i numbers) (get_or numbers i 0)) part → new ≡ with_share share (members_of (take (i + 1) numbers) (get_or numbers i 0)) part

@@ -1,5 +1,4 @@
 mod AskedLemmas
-mod AtomSteps
 mod BlockLaws
 mod CauseLaws
 mod CauseOrder
@@ -7,27 +6,18 @@ mod CoreLemmas
 mod FirstOnes
 mod GatheringLemmas
 mod GatheredCauses
-mod HitLemmas
 mod JoinLemmas
-mod ListLemmas
 mod MarkLemmas
 mod MissingLemmas
-mod NearLemmas
 pub mod NewsLemmas
 mod NumberingLemmas
 mod SaidLemmas
 mod PartLemmas
 mod PlainIndex
 mod PlainTexts
-mod OwnLemmas
-mod PlaceLemmas
-mod PlaceSetLemmas
 mod ReportLemmas
-mod SimilarLemmas
 mod SinceLemmas
 mod SoughtLemmas
-mod WalkLaws
-mod WalkLemmas
-mod StemLemmas
+mod WalkTextLemmas
 pub mod Unshown
 mod WrongsLemmas

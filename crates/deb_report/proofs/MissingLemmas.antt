@@ -2,16 +2,12 @@
 use Rattle.std.proofs.Common.{◌≡◌, ℕ, ◌+◌, Bool, true, false, ◌&&◌, ◌||◌, List, [], ◌∷◌, refl, sym, ap, ◌∙◌, inl, inr, arith}
 use Rattle.std.specs.List.{list_any}
 use Rattle.std.proofs.lemmas.Bool.{cases_Bool}
-use Rattle.std.proofs.lemmas.Bool.Decides.{nat_tests}
 use Rattle.deb_relation.specs.Relationship.{AtomText}
 use Rattle.deb_index.specs.Meets.{group_satisfiers, meets_need, need_satisfiers}
 use Rattle.deb_index.specs.Packages.{IndexView, places_where}
 use Rattle.deb_index.proofs.EssentialLemmas.{places-none}
+use Rattle.list_steps.proofs.PlaceLemmas.{one-is-some, places_from}
 use Rattle.deb_report.specs.Report.{is_empty, is_missing}
-use Rattle.deb_report.proofs.PlaceLemmas.{places_from}
-
-pub one-is-some : (place : ℕ) (places : List ℕ) → is_empty (place ∷ places) ≡ false
-one-is-some place places = grind (arith, nat_tests)
 
 -- no element passes one of two tests where none passes either
 none-of-both : {A : Type 0} (p q : A → Bool) (n : ℕ) (xs : List A) → is_empty (places_from (λ x. p x || q x) n xs) ≡ (is_empty (places_from p n xs) && is_empty (places_from q n xs))

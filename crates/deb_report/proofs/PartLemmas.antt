@@ -13,13 +13,13 @@ use Rattle.deb_index.specs.declared.constraint.Constraint.{Constraint}
 use Rattle.deb_index.specs.Packages.{IndexView, first_of_each}
 use Rattle.deb_index.proofs.TableLemmas.{IsApart}
 use Rattle.deb_health.specs.Causes.{cause_in}
+use Rattle.list_steps.proofs.ListLemmas.{map-twice}
 use Rattle.deb_report.specs.Causes.{cores_with, found_causes, gathered, has_cause, is_broken_by, is_freed_by, needs_in, same_cause, says_same, versions_in}
 use Rattle.deb_report.specs.Gathered.{cause_from}
 use Rattle.deb_report.specs.Gathering.{has_number, is_alone, part_of, share_of}
 use Rattle.deb_report.specs.Numbered.{unnumbered}
 use Rattle.deb_report.specs.Said.{IsKnown, IsNumbered, key_of}
 use Rattle.deb_report.proofs.FirstOnes.{Starts, all-each, all-seen, any-seen, filter-seen}
-use Rattle.deb_report.proofs.ListLemmas.{map-twice}
 use Rattle.deb_report.proofs.SaidLemmas.{number-test, same-key}
 
 -- ---- packages with and without numbers

@@ -12,6 +12,7 @@ use Rattle.deb_index.specs.Packages.{IndexView}
 use Rattle.deb_health.specs.Verdicts.{SpeaksOf, VerdictView}
 use Rattle.run_settings.specs.declared.config.Show.{Show}
 use Rattle.run_settings.specs.declared.config.Show.TheVariants.{Failures}
+use Rattle.list_steps.proofs.ListLemmas.{all_seen}
 use Rattle.deb_report.specs.declared.content.Content.{Content}
 use Rattle.deb_report.specs.declared.shown.Shown.{Shown}
 use Rattle.deb_report.specs.Causes.{CauseView}
@@ -20,7 +21,6 @@ use Rattle.deb_report.specs.Report.{TellingView, also_at, broken_ones, is_shown,
 use Rattle.run_settings.specs.Settings.{Settings}
 use Rattle.deb_report.specs.Since.{BrokenView, amends_of, is_news, news_of}
 use Rattle.deb_report.specs.Told.{AreLaterOf, IsAskedOf, content_view, shown_view}
-use Rattle.deb_report.proofs.ListLemmas.{all_seen}
 
 asked-within : (index : IndexView) (asked : List ℕ) (verdicts : List VerdictView) → All (λ place. place < length index.packages) asked → All (SpeaksOf index) verdicts
     → All (IsAskedOf index) (zip asked verdicts)

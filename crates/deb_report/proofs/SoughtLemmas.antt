@@ -9,16 +9,17 @@ use Rattle.deb_index.specs.Constraints.{IsOfIndex}
 use Rattle.deb_index.specs.Packages.{IndexView}
 use Rattle.deb_health.specs.Causes.{cause_in, is_final}
 use Rattle.deb_health.specs.Verdicts.{VerdictView, Found, Blocked}
+use Rattle.deb_near.specs.declared.similar.Similar.{Similar}
+use Rattle.deb_near.specs.Near.{alternatives, stem}
+use Rattle.deb_near.specs.Similar.{IsSimilarOf, stems_in}
+use Rattle.deb_near.specs.Stems.{AreSought, has_text}
+use Rattle.deb_near.proofs.SimilarLemmas.{all-grow}
+use Rattle.deb_walk.proofs.WalkLemmas.{filter_all, flat_all}
 use Rattle.deb_report.specs.declared.shown.Shown.{Shown}
-use Rattle.deb_report.specs.declared.similar.Similar.{Similar}
-use Rattle.deb_report.specs.Near.{alternatives, stem}
-use Rattle.deb_report.specs.Similar.{FitsWalk, IsSimilarOf, stems_in}
+use Rattle.deb_report.specs.Similar.{FitsWalk}
 use Rattle.deb_report.specs.Sought.{core_in}
-use Rattle.deb_report.specs.Stems.{AreSought, has_text}
 use Rattle.deb_report.specs.Told.{IsAskedOf, shown_view}
 use Rattle.deb_report.proofs.FirstOnes.{all-each}
-use Rattle.deb_report.proofs.SimilarLemmas.{all-grow}
-use Rattle.deb_report.proofs.WalkLemmas.{filter_all, flat_all}
 
 -- what holds of those that are kept holds of each that passes
 all-kept : {A : Type 0} (test : A → Bool) (P : A → Type 0) (xs : List A) → All P (filter test xs) → All (λ x. test x ≡ true → P x) xs

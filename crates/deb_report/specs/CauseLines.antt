@@ -5,8 +5,9 @@ use Rattle.deb_relation.specs.Relationship.{AtomText, printed}
 use Rattle.deb_index.specs.declared.constraint.Constraint.{Constraint}
 use Rattle.deb_index.specs.declared.constraint.Constraint.TheVariants.{Essential, Need, Apart, Only}
 use Rattle.deb_index.specs.Packages.{IndexView, need_at, package_at}
-use Rattle.deb_report.specs.Causes.{CauseView, hits_of}
-use Rattle.deb_report.specs.Near.{NearMissView, near_misses, similar_names}
+use Rattle.deb_near.specs.Near.{NearMissView, near_misses, similar_names}
+use Rattle.deb_walk.specs.Hits.{hits_of}
+use Rattle.deb_report.specs.Causes.{CauseView}
 use Rattle.deb_report.specs.Report.{asked_text, constraint_line, group_field, group_text, label_of, line, place_line, titled}
 
 -- lines under a title, where there are some

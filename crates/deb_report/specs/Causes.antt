@@ -1,11 +1,11 @@
 -- The causes of broken packages: what is wrong, whoever needs it, and the packages that it breaks.
-use Rattle.std.specs.Prelude.{ℕ, ◌==◌, ◌<◌, Bool, true, false, not, ◌&&◌, All, List, [], ◌∷◌, ◌++◌, count_by, length, map, filter}
+use Rattle.std.specs.Prelude.{ℕ, ◌==◌, ◌<◌, Bool, true, false, ◌&&◌, All, List, [], ◌∷◌, ◌++◌, count_by, length, map, filter}
 use Prim.Native.Nat.{zero, suc}
 use Rattle.std.specs.List.{flat_map, list_all, list_any}
 use Rattle.std.specs.Str.{bytes_eq}
 use Rattle.deb_index.specs.declared.constraint.Constraint.{Constraint}
 use Rattle.deb_index.specs.declared.constraint.Constraint.TheVariants.{Essential, Need, Apart, Only}
-use Rattle.deb_index.specs.Constraints.{IsOfIndex, answers, below, constraints_of, has_name, hits}
+use Rattle.deb_index.specs.Constraints.{IsOfIndex, answers, below, constraints_of, has_name}
 use Rattle.deb_index.specs.Packages.{IndexView, first_of_each, need_at}
 use Rattle.deb_health.specs.Causes.{cause_in}
 use Rattle.deb_health.specs.Verdicts.{VerdictView, Found, Blocked}
@@ -98,17 +98,6 @@ is_version_in index place core = list_any (is_version_of index place) core && li
 -- the places of such packages of the cores, rising
 unfoldable pub versions_in : IndexView → List (List Constraint) → List ℕ
 versions_in index cores = filter (λ place. list_any (is_version_in index place) cores) (below (length index.packages))
-
--- the constraint is an entry that hits the package
-abbrev pub is_hit_by : IndexView → ℕ → Constraint → Bool
-is_hit_by index place (Essential name) = false
-is_hit_by index place (Need needing number) = false
-is_hit_by index place (Apart apart number) = hits index apart number place && not (place == apart)
-is_hit_by index place (Only name) = false
-
--- the places of the packages that the entries among the constraints hit, rising
-unfoldable pub hits_of : IndexView → List Constraint → List ℕ
-hits_of index constraints = filter (λ place. list_any (is_hit_by index place) constraints) (below (length index.packages))
 
 -- ---- causes with the packages that they break
 

@@ -7,12 +7,13 @@ use Rattle.deb_index.specs.declared.constraint.Constraint.{Constraint}
 use Rattle.deb_index.specs.declared.constraint.Constraint.TheVariants.{Essential, Need, Apart, Only}
 use Rattle.deb_index.specs.Packages.{IndexView, PackageView, name_at, need_at, package_at, places_of}
 use Rattle.deb_health.specs.Verdicts.{VerdictView, Found, Blocked}
-use Rattle.deb_report.specs.Causes.{CauseView, hits_of}
-use Rattle.deb_report.specs.Near.{NearMissView, alternatives, near_miss_at, near_misses, similar_names}
+use Rattle.deb_near.specs.Near.{NearMissView, alternatives, near_miss_at, near_misses, similar_names}
+use Rattle.deb_walk.specs.Hits.{hits_of}
+use Rattle.deb_walk.specs.Walk.{brought}
+use Rattle.deb_report.specs.Causes.{CauseView}
 use Rattle.deb_report.specs.Content.{ContentView}
 use Rattle.deb_report.specs.Report.{OfName, OfRelation, ReasonView, TellingView, group_field, group_text, is_missing, later_at, reason_of, status_of}
 use Rattle.deb_report.specs.Since.{BrokenView}
-use Rattle.deb_report.specs.Walk.{brought}
 
 -- ---- texts
 

@@ -1,12 +1,9 @@
 pub mod Report
 pub mod Told
 pub mod Causes
-pub mod Near
-pub mod Stems
 pub mod Similar
 pub mod CauseLines
-pub mod Walk
-pub mod Own
+pub mod WalkLines
 pub mod Numbering
 pub mod Said
 pub mod Wrongs

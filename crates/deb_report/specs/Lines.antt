@@ -8,7 +8,7 @@ use Rattle.deb_report.specs.CauseLines.{causes_text}
 use Rattle.deb_report.specs.Content.{ContentView}
 use Rattle.deb_report.specs.Report.{TellingView, also_at, core_lines, heading, label_text, line, number_line, place_line, status_of, titled}
 use Rattle.deb_report.specs.Since.{BrokenView}
-use Rattle.deb_report.specs.Walk.{walk_lines}
+use Rattle.deb_report.specs.WalkLines.{walk_lines}
 
 -- the first core, as a list or as it is walked from the package at a place
 abbrev pub first_core : IndexView → TellingView → ℕ → List Constraint → List ℕ

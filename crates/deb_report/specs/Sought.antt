@@ -3,8 +3,8 @@ use Rattle.std.specs.Prelude.{◌≡◌, ℕ, true, All, List, []}
 use Rattle.deb_index.specs.declared.constraint.Constraint.{Constraint}
 use Rattle.deb_index.specs.Packages.{IndexView}
 use Rattle.deb_health.specs.Verdicts.{VerdictView, Found, Blocked}
+use Rattle.deb_near.specs.declared.similar.Similar.{Similar}
 use Rattle.deb_report.specs.declared.shown.Shown.{Shown}
-use Rattle.deb_report.specs.declared.similar.Similar.{Similar}
 use Rattle.deb_report.specs.declared.telling.Telling.{Telling}
 use Rattle.deb_report.specs.Similar.{FitsWalk}
 use Rattle.deb_report.specs.Told.{AreLaterOf, IsAskedOf, later_view, shown_view}

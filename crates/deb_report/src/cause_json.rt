@@ -4,22 +4,22 @@ ghost use Rattle.std.specs.Prelude.{◌≡◌, ◌++◌, ◌<◌, All, OnOk, cod
 ghost use Rattle.deb_relation.specs.AtomView.{atom_view};
 ghost use Rattle.deb_relation.specs.Relationship.{printed};
 ghost use Rattle.deb_index.specs.Constraints.{IsOfIndex};
-ghost use Rattle.deb_report.specs.Causes.{IsCauseOf, cause_view, hits_of};
+ghost use Rattle.deb_near.specs.Near.{near_misses, near_view, similar_names};
+ghost use Rattle.deb_walk.specs.Hits.{hits_of};
+ghost use Rattle.deb_report.specs.Causes.{IsCauseOf, cause_view};
 ghost use Rattle.deb_report.specs.Json.{array, cause_json, member, near_json, needed_json, place_json, quoted, tall_array, wrong_json};
-ghost use Rattle.deb_report.specs.Near.{near_misses, near_view, similar_names};
 ghost use Rattle.deb_report.specs.Similar.{FitsCause};
 
 use crate::gathered::Cause;
-use crate::hits::hits_of;
 use crate::json_parts::{IndexJson, push_package, push_relation};
 use crate::json_text::{push_array, push_number, push_quoted, push_text};
-use crate::near::{NearMiss, near_misses};
 use crate::print::Print;
 use crate::reasons::group_field;
-use crate::similar::Similar;
 use crate::sought::similar_to_causes;
 use deb_index::Constraint;
+use deb_near::{NearMiss, Similar, near_misses};
 use deb_relation::Atom;
+use deb_walk::hits_of;
 use std::alloc::AllocError;
 
 /// What is wrong, in JSON.

@@ -3,23 +3,23 @@
 ghost use Rattle.std.specs.Prelude.{◌≡◌, ◌++◌, ◌<◌, All, OnOk, Some, codes, decimal, length, map};
 ghost use Rattle.std.specs.List.{flat_map};
 ghost use Rattle.deb_index.specs.Constraints.{IsOfIndex};
+ghost use Rattle.deb_near.specs.Near.{near_misses, near_view, similar_names};
+ghost use Rattle.deb_walk.specs.Hits.{hits_of};
 ghost use Rattle.deb_report.specs.CauseLines.{cause_text, causes_text, name_line, near_line, needed_line, titled_if, wrong_line};
-ghost use Rattle.deb_report.specs.Causes.{IsCauseOf, cause_view, hits_of};
-ghost use Rattle.deb_report.specs.Near.{near_misses, near_view, similar_names};
+ghost use Rattle.deb_report.specs.Causes.{IsCauseOf, cause_view};
 ghost use Rattle.deb_report.specs.Report.{line, place_line, titled};
 ghost use Rattle.deb_report.specs.Similar.{FitsCause};
 
 use crate::gathered::Cause;
-use crate::hits::hits_of;
 use crate::line_parts::{
     IndexLines, push_asked, push_count, push_line, push_package, push_provides, push_titled,
 };
-use crate::near::{NearMiss, near_misses};
 use crate::print::{Print, push_all};
 use crate::reasons::{group_field, push_group};
-use crate::similar::Similar;
 use crate::sought::similar_to_causes;
 use deb_index::Constraint;
+use deb_near::{NearMiss, Similar, near_misses};
+use deb_walk::hits_of;
 use std::alloc::AllocError;
 
 /// Adds the lines of elements under a title, where there are some.

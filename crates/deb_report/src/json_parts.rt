@@ -5,17 +5,17 @@ ghost use Rattle.deb_relation.specs.AtomView.{atom_view};
 ghost use Rattle.deb_relation.specs.Relationship.{printed};
 ghost use Rattle.deb_index.specs.Constraints.{IsOfIndex};
 ghost use Rattle.deb_index.specs.Packages.{package_view};
-ghost use Rattle.deb_report.specs.Near.{near_view};
+ghost use Rattle.deb_near.specs.Near.{near_view};
 ghost use Rattle.deb_report.specs.Json.{array, constraint_json, label_json, label_members, member, near_json, place_json};
 ghost use Rattle.deb_report.specs.Json.{quoted, reason_front};
 ghost use Rattle.deb_report.specs.Report.{group_text};
 ghost use Rattle.deb_report.specs.Told.{reason_view};
 
 use crate::json_text::{push_array, push_text, push_title};
-use crate::near::NearMiss;
 use crate::print::Print;
 use crate::reasons::{Reason, push_group, reason_of};
 use deb_index::{Constraint, Index, Package};
+use deb_near::NearMiss;
 use deb_relation::Atom;
 use std::alloc::{AllocError, Global};
 

@@ -1,13 +1,12 @@
 //! Laws of the definitions: functions without work, whose contracts say what holds.
 
-ghost use Rattle.std.specs.Prelude.{◌≡◌, ◌≢◌, ◌<◌, ◌≤◌, ◌^◌, ◌∷◌, ℕ, Bool, List, [], All, IsPermutation, Ok, Some, codes, length, map, slice_get, sum_by, true};
-ghost use Rattle.std.specs.List.{AllPairs, list_all};
+ghost use Rattle.std.specs.Prelude.{◌≡◌, ◌≢◌, ◌<◌, ◌≤◌, ◌∷◌, ℕ, Bool, List, [], All, Ok, Some, codes, length, map, slice_get, true};
+ghost use Rattle.std.specs.List.{list_all};
 ghost use Rattle.deb_index.specs.declared.constraint.Constraint.{Constraint};
 ghost use Rattle.deb_index.specs.Packages.{IndexView, names};
-ghost use Rattle.deb_index.specs.Reading.{index_of_both, stanza_limit};
-ghost use Rattle.deb_index.specs.Tables.{asked_count, asked_limit};
+ghost use Rattle.deb_index.specs.Reading.{index_of_both};
 ghost use Rattle.deb_health.specs.Causes.{cause_in};
-ghost use Rattle.deb_health.specs.Verdicts.{IsFirstCore, IsVerdict, Blocked, VerdictView};
+ghost use Rattle.deb_health.specs.Verdicts.{IsVerdict, Blocked, VerdictView};
 ghost use Rattle.deb_report.specs.Asked.{foreground_packages};
 ghost use Rattle.deb_report.specs.Causes.{CauseView, causes_list, same_cause};
 ghost use Rattle.deb_report.specs.Json.{escaped};
@@ -15,7 +14,8 @@ ghost use Rattle.deb_report.specs.Plain.{has_plain_texts, is_plain};
 ghost use Rattle.deb_report.specs.Report.{broken_ones, is_broken};
 ghost use Rattle.run_settings.specs.Settings.{is_architecture};
 ghost use Rattle.deb_report.specs.Since.{amends_of, broken_of, news_of};
-ghost use Rattle.deb_report.specs.Walk.{step_limit, told_in, walk_of};
+
+pub use deb_walk::laws::walks_tell_each_once;
 
 /// What a report in JSON takes of an index stands in its strings as it is: names, versions and relations have no byte that needs an escape,
 /// whatever texts were read. Architectures are escaped, and one that a command line may name is left as it is.
@@ -40,18 +40,6 @@ pub fn causes_stand_once()
         → same_cause index one.constraints other.constraints ≡ true → j ≡ k }
     ensures frees { (index : IndexView) (later : List (List (List Constraint))) (told : List (ℕ × VerdictView))
         → All (λ cause. cause.frees ≤ length cause.places) (causes_list index later told) }
-{}
-
-/// The walk of a core tells each of its constraints as often as the core has it, and no other one, and ends by itself; that of a first core tells
-/// each just once. The index is within the limits that each one keeps (`Index::len`).
-pub fn walks_tell_each_once()
-    ensures all { (index : IndexView) (place : ℕ) (core : List Constraint) → length index.packages ≤ stanza_limit → length core < 2 ^ 32
-        → IsPermutation core (told_in index place core) }
-    ensures ends { (index : IndexView) (place : ℕ) (core : List Constraint) → length index.packages ≤ stanza_limit → length core < 2 ^ 32
-        → length (walk_of index place core) < step_limit }
-    ensures first { (index : IndexView) (place : ℕ) (core : List Constraint) → length index.packages ≤ stanza_limit
-        → sum_by asked_count index.packages ≤ asked_limit → IsFirstCore index place core
-        → IsPermutation core (told_in index place core) × AllPairs (λ one other. one ≢ other) (told_in index place core) }
 {}
 
 /// Since an index itself, where the same places are asked, all of the foreground, and are found broken, nothing is newly broken, mended or gone.

@@ -8,16 +8,15 @@
 //! - `content`: what both tell. `summary`, the numbers of a report; `shown`, the places that are shown; `reasons`, what stands against a package.
 //! - `causes`: what is wrong in the end, and what it breaks. `numbering` gives each text a number, `wrongs` one to each cause, `numbered` to each
 //!   core that of its cause; `gathered` gathers by these numbers, `cores` says what the cores of a cause tell.
-//! - What an index has near a cause: `near`, packages of missing names; `stems` and `similar`, names that differ in numbers alone, of which `sought`
-//!   says which are looked for; `hits`, what entries hit. `cause_lines` and `cause_json` tell causes in both forms.
-//! - `walk`: the steps of a core as it is walked from the package, over a table of what it says of each (`own`) and sets of places (`place_set`);
-//!   `walk_lines` tells them in lines; `why_json`: where a walk goes on, in JSON.
+//! - `cause_lines` and `cause_json` tell causes in both forms; `sought`: which names that differ in numbers alone are looked for.
+//! - `walk_lines` tells the steps of a core in lines; `why_json`: where a walk goes on, in JSON; `answers`: what answers a constraint.
 //! - `broken`: the broken packages of an earlier index; `since`: which are newly broken; `amends`: those that are mended or gone; `marks`: marks on names.
 //! - `print`: texts of elements, one after the other; `json_text`: the texts, members and arrays of JSON.
 //! - `laws`: what holds of reports.
 #![tactic(auto)]
 
 mod amends;
+mod answers;
 mod asked;
 mod broken;
 mod cause_json;
@@ -26,7 +25,6 @@ mod causes;
 mod content;
 mod cores;
 mod gathered;
-mod hits;
 mod json;
 mod json_parts;
 mod json_text;
@@ -35,22 +33,16 @@ mod layout;
 mod line_parts;
 mod lines;
 mod marks;
-mod near;
 mod numbered;
 mod numbering;
 mod options;
-mod own;
-mod place_set;
 mod print;
 mod reasons;
 mod shown;
-mod similar;
 mod since;
 mod sought;
-mod stems;
 mod summary;
 mod telling;
-mod walk;
 mod walk_lines;
 mod why_json;
 mod wrongs;

@@ -21,13 +21,13 @@ use crate::content::Content;
 use crate::line_parts::{IndexLines, push_line, push_titled};
 use crate::print::{Print, push_all, push_texts};
 use crate::shown::{Shown, status_text};
-use crate::similar::Similar;
 use crate::sought::similar_to_walks;
 use crate::summary::Number;
 use crate::telling::Telling;
 use crate::walk_lines::push_walk;
 use deb_health::Verdict;
 use deb_index::{Constraint, Index, Package};
+use deb_near::Similar;
 use std::alloc::{AllocError, Global};
 
 /// What is told of an index, in lines.

@@ -11,11 +11,11 @@ ghost use Rattle.deb_report.specs.Told.{IsAskedOf, shown_view};
 
 use crate::gathered::Cause;
 use crate::shown::Shown;
-use crate::similar::Similar;
 use crate::telling::Telling;
 use crate::wrongs::is_final;
 use deb_health::Verdict;
 use deb_index::{Constraint, Index};
+use deb_near::Similar;
 use std::alloc::{AllocError, Global};
 
 /// The constraints of causes, one after the other.

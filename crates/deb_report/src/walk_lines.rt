@@ -6,32 +6,30 @@ ghost use Rattle.deb_index.specs.declared.constraint.Constraint.{Constraint};
 ghost use Rattle.deb_index.specs.Constraints.{IsOfIndex};
 ghost use Rattle.deb_index.specs.Packages.{need_at, package_view};
 ghost use Rattle.number_sets.specs.Sets.{members_of};
-ghost use Rattle.deb_report.specs.declared.walk.Step.{Step};
-ghost use Rattle.deb_report.specs.Near.{near_misses, near_view, similar_names};
-ghost use Rattle.deb_report.specs.Similar.{FitsWalk, IsSimilarOf, stems_in};
-ghost use Rattle.deb_report.specs.Stems.{AreSought};
-ghost use Rattle.deb_report.specs.Walk.{IsStepOf, are_told, brought, own_steps, step_limit, steps_behind, told_behind, walk_text};
-ghost use Rattle.deb_report.specs.Walk.{above_text, constraint_text, lead, missing_text, near_text, need_ending, present_text};
-ghost use Rattle.deb_report.specs.Walk.{package_line, package_text, seen_text, similar_text, step_text, walk_lines};
+ghost use Rattle.deb_near.specs.Near.{near_misses, near_view, similar_names};
+ghost use Rattle.deb_near.specs.Similar.{IsSimilarOf, stems_in};
+ghost use Rattle.deb_near.specs.Stems.{AreSought};
+ghost use Rattle.deb_walk.specs.declared.walk.Step.{Step};
+ghost use Rattle.deb_walk.specs.Walk.{IsStepOf, are_told, brought, own_steps, step_limit, steps_behind, told_behind};
+ghost use Rattle.deb_report.specs.Similar.{FitsWalk};
+ghost use Rattle.deb_report.specs.WalkLines.{above_text, constraint_text, lead, missing_text, near_text, need_ending, present_text};
+ghost use Rattle.deb_report.specs.WalkLines.{package_line, package_text, seen_text, similar_text, step_text, walk_lines, walk_text};
 
 use crate::line_parts::{push_asked, push_line, push_package, push_provides};
-use crate::near::{NearMiss, answer_at, near_misses};
-use crate::own::OwnTable;
-use crate::place_set::PlaceSet;
 use crate::print::{Print, push_joined, push_some, push_texts};
 use crate::reasons::{entry_field, group_field, is_missing, push_group};
-use crate::similar::Similar;
-use crate::walk::{
-    Step, are_told, brought, comers, first_steps, hits_in, met_steps, own_steps, put_before,
-    those_coming,
-};
 use deb_index::{Constraint, Index, Package};
+use deb_near::{NearMiss, Similar, answer_at, near_misses};
 use deb_relation::Atom;
+use deb_walk::{
+    OwnTable, PlaceSet, Step, are_told, brought, comers, first_steps, hits_in, met_steps,
+    own_steps, put_before, those_coming,
+};
 use std::alloc::{AllocError, Global};
 use std::slice;
 
 /// Adds what stands before a line.
-#[tactic(auto, unfolding(crate::specs::Walk::lead))]
+#[tactic(auto, unfolding(crate::specs::WalkLines::lead))]
 fn push_lead(out: &mut Vec<u8>, depth: u32) -> Result<(), AllocError>
     ensures { OnOk result (out.new.items ≡ out.old.items ++ lead depth) }
 {
@@ -42,7 +40,7 @@ fn push_lead(out: &mut Vec<u8>, depth: u32) -> Result<(), AllocError>
 }
 
 /// Adds the mark of what was told already.
-#[tactic(auto, unfolding(crate::specs::Walk::above_text))]
+#[tactic(auto, unfolding(crate::specs::WalkLines::above_text))]
 fn push_above(out: &mut Vec<u8>, told: bool) -> Result<(), AllocError>
     ensures { OnOk result (out.new.items ≡ out.old.items ++ above_text told) }
 {
@@ -64,7 +62,7 @@ impl<'t> Print<u32> for Seen<'t> {
 
     ghost text = { λ seen place. seen_text seen.index.now seen.told.now place };
 
-    #[tactic(auto, unfolding(crate::specs::Walk::seen_text))]
+    #[tactic(auto, unfolding(crate::specs::WalkLines::seen_text))]
     fn print(&self, out: &mut Vec<u8>, place: &u32) -> Result<(), AllocError> {
         push_package(out, self.index.package(*place))?;
         push_above(out, self.told.contains(*place))
@@ -80,7 +78,7 @@ impl<'m> Print<NearMiss<'m>> for InLine {
 
     ghost text = { λ _ miss. near_text (near_view miss) };
 
-    #[tactic(auto, unfolding(crate::specs::Walk::near_text))]
+    #[tactic(auto, unfolding(crate::specs::WalkLines::near_text))]
     fn print(&self, out: &mut Vec<u8>, miss: &NearMiss<'m>) -> Result<(), AllocError> {
         push_package(out, miss.deb)?;
         push_provides(out, miss.provides.as_slice())
@@ -98,7 +96,7 @@ impl<'n> Print<&'n [u8]> for InLine {
 }
 
 /// Adds the line of a package.
-#[tactic(auto, unfolding(crate::specs::Walk::package_line))]
+#[tactic(auto, unfolding(crate::specs::WalkLines::package_line))]
 fn push_package_line(
     out: &mut Vec<u8>,
     index: &Index,
@@ -144,7 +142,7 @@ impl<'i> Walk<'i> {
     }
 
     /// Adds what comes near to a need, where something does.
-    #[tactic(auto, using(crate::proofs::JoinLemmas::told_map), unfolding(crate::specs::Walk::present_text))]
+    #[tactic(auto, using(crate::proofs::JoinLemmas::told_map), unfolding(crate::specs::WalkLines::present_text))]
     fn push_near_to(&self, out: &mut Vec<u8>, need: Constraint) -> Result<(), AllocError>
         requires { IsOfIndex self.now.index.now need }
         ensures { OnOk result (out.new.items ≡ out.old.items ++ present_text (near_misses self.now.index.now (need ∷ []))) }
@@ -154,7 +152,7 @@ impl<'i> Walk<'i> {
     }
 
     /// Adds the names that are similar to those of a need, where there are some.
-    #[tactic(auto, using(crate::proofs::JoinLemmas::told_map), unfolding(crate::specs::Walk::similar_text))]
+    #[tactic(auto, using(crate::proofs::JoinLemmas::told_map), unfolding(crate::specs::WalkLines::similar_text))]
     fn push_similar_to(&self, out: &mut Vec<u8>, need: Constraint) -> Result<(), AllocError>
         requires within { IsOfIndex self.now.index.now need }
         requires found { IsSimilarOf self.now.index.now self.now.similar.now }
@@ -168,7 +166,7 @@ impl<'i> Walk<'i> {
     }
 
     /// Adds that nothing meets a need, with what comes near and what is similar.
-    #[tactic(auto, unfolding(crate::specs::Walk::missing_text))]
+    #[tactic(auto, unfolding(crate::specs::WalkLines::missing_text))]
     fn push_missing(&self, out: &mut Vec<u8>, need: Constraint) -> Result<(), AllocError>
         requires within { IsOfIndex self.now.index.now need }
         requires found { IsSimilarOf self.now.index.now self.now.similar.now }
@@ -182,7 +180,7 @@ impl<'i> Walk<'i> {
     }
 
     /// Adds how a need ends.
-    #[tactic(auto, unfolding(crate::specs::Walk::need_ending))]
+    #[tactic(auto, unfolding(crate::specs::WalkLines::need_ending))]
     fn push_need_ending(
         &self,
         out: &mut Vec<u8>,
@@ -203,7 +201,7 @@ impl<'i> Walk<'i> {
     }
 
     /// Adds an essential name.
-    #[tactic(auto, unfolding(crate::specs::Walk::constraint_text))]
+    #[tactic(auto, unfolding(crate::specs::WalkLines::constraint_text))]
     fn push_essential(
         &self,
         out: &mut Vec<u8>,
@@ -219,7 +217,7 @@ impl<'i> Walk<'i> {
     }
 
     /// Adds a need.
-    #[tactic(auto, unfolding(crate::specs::Walk::constraint_text))]
+    #[tactic(auto, unfolding(crate::specs::WalkLines::constraint_text))]
     fn push_need(
         &self,
         out: &mut Vec<u8>,
@@ -242,7 +240,7 @@ impl<'i> Walk<'i> {
     }
 
     /// Adds an entry.
-    #[tactic(auto, unfolding(crate::specs::Walk::constraint_text, crate::specs::Walk::hits_text))]
+    #[tactic(auto, unfolding(crate::specs::WalkLines::constraint_text, crate::specs::WalkLines::hits_text))]
     fn push_entry(
         &self,
         out: &mut Vec<u8>,
@@ -271,7 +269,7 @@ impl<'i> Walk<'i> {
     }
 
     /// Adds the versions of a name.
-    #[tactic(auto, unfolding(crate::specs::Walk::constraint_text))]
+    #[tactic(auto, unfolding(crate::specs::WalkLines::constraint_text))]
     fn push_versions(&self, out: &mut Vec<u8>, told: &PlaceSet, name: u32) -> Result<(), AllocError>
         requires { IsOfIndex self.now.index.now (Constraint.Only name) }
         ensures { OnOk result (out.new.items ≡
@@ -305,7 +303,7 @@ impl<'i> Walk<'i> {
     }
 
     /// Adds the line of a package, where it has one of its own, and gives what the core says of it.
-    #[tactic(auto, unfolding(crate::specs::Walk::package_text))]
+    #[tactic(auto, unfolding(crate::specs::WalkLines::package_text))]
     fn enter(
         &self,
         out: &mut Vec<u8>,
@@ -326,7 +324,7 @@ impl<'i> Walk<'i> {
     }
 
     /// Begins with a package, where it isn't told yet.
-    #[tactic(auto, unfolding(crate::specs::Walk::step_text, crate::specs::Walk::steps_behind))]
+    #[tactic(auto, unfolding(crate::specs::WalkLines::step_text, deb_walk::specs::Walk::steps_behind))]
     fn begin(
         &self,
         out: &mut Vec<u8>,
@@ -348,7 +346,7 @@ impl<'i> Walk<'i> {
     }
 
     /// Meets a package.
-    #[tactic(auto, unfolding(crate::specs::Walk::step_text, crate::specs::Walk::steps_behind))]
+    #[tactic(auto, unfolding(crate::specs::WalkLines::step_text, deb_walk::specs::Walk::steps_behind))]
     fn meet(
         &self,
         out: &mut Vec<u8>,
@@ -376,7 +374,7 @@ impl<'i> Walk<'i> {
     }
 
     /// Tells a constraint.
-    #[tactic(auto, unfolding(crate::specs::Walk::step_text, crate::specs::Walk::steps_behind))]
+    #[tactic(auto, unfolding(crate::specs::WalkLines::step_text, deb_walk::specs::Walk::steps_behind))]
     fn tell(
         &self,
         out: &mut Vec<u8>,
@@ -454,7 +452,7 @@ impl<'i> Walk<'i> {
 ///
 /// The core and the place are of the index, and the names that are similar to those of the core's missing needs were looked for. `AllocError` where
 /// there is no memory for it.
-#[tactic(auto, unfolding(crate::specs::Walk::walk_lines))]
+#[tactic(auto, unfolding(crate::specs::WalkLines::walk_lines))]
 pub(crate) fn push_walk(
     alloc: Global,
     out: &mut Vec<u8>,

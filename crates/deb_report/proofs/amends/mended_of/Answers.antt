@@ -1,9 +1,9 @@
 use Rattle.std.proofs.Common.{◌≡◌, ◌<◌, ◌∙◌, Bor, ℕ, List, ap, arith, false, length, map, sym, true}
 use Rattle.deb_health.specs.Verdicts.{VerdictView}
+use Rattle.list_steps.proofs.AtomSteps.{kept, left_out}
 use Rattle.deb_report.specs.declared.broken.BrokenPackage.{BrokenPackage}
 use Rattle.deb_report.specs.Since.{AreMarks, broken_view, has_named, is_mended}
 use Rattle.deb_report.specs.Told.{shown_view}
-use Rattle.deb_report.proofs.AtomSteps.{kept, left_out}
 use Rattle.deb_report.proofs.MarkLemmas.{mended-tells}
 use Rattle.deb_report.proofs.ReportLemmas.{places-within}
 use Rattle.deb_report.proofs.amends.mended_of.Goals as goal

@@ -2,10 +2,10 @@ use Rattle.std.proofs.Common.{◌≡◌, ◌<◌, ◌∙◌, ℕ, arith, ap, len
 use Rattle.std.proofs.lemmas.List.{take_all}
 use Rattle.deb_health.specs.Verdicts.{VerdictView, verdict_view}
 use Rattle.run_settings.specs.declared.config.Show.TheVariants.{Failures}
+use Rattle.list_steps.proofs.ListLemmas.{all_item, map-twice}
 use Rattle.deb_report.specs.declared.shown.Shown.{Shown}
 use Rattle.deb_report.specs.Since.{broken_at, broken_of}
 use Rattle.deb_report.specs.Told.{shown_view}
-use Rattle.deb_report.proofs.ListLemmas.{all_item, map-twice}
 use Rattle.deb_report.proofs.ReportLemmas.{shown-placed}
 use Rattle.deb_report.proofs.broken.broken_packages.Goals as goal
 

@@ -2,8 +2,8 @@ use Rattle.std.proofs.Common.{◌≡◌, ◌+◌, ◌<◌, ◌||◌, ◌∙◌, 
 use Rattle.std.specs.Prelude.{position}
 use Rattle.std.specs.Str.{bytes_eq}
 use Rattle.deb_index.specs.Packages.{names}
+use Rattle.list_steps.proofs.ListLemmas.{any_more}
 use Rattle.deb_report.specs.Since.{BrokenView, broken_view, was_broken}
-use Rattle.deb_report.proofs.ListLemmas.{any_more}
 use Rattle.deb_report.proofs.MarkLemmas.{mark-none, mark-set, number-named}
 use Rattle.deb_report.proofs.marks.marks_of.Goals as goal
 use Rattle.deb_report.proofs.marks.marks_of.Goals.{in-Some, in_default}

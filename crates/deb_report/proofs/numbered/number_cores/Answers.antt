@@ -1,10 +1,10 @@
 use Rattle.std.proofs.Common.{◌∙◌, ◌<◌, ◌∷◌, [], Bor, List, ap, arith, get_or, length, map, refl, subst, sym}
 use Rattle.std.proofs.lemmas.List.{map-append}
 use Rattle.deb_index.specs.declared.constraint.Constraint.{Constraint}
+use Rattle.list_steps.proofs.AtomSteps.{pushed}
 use Rattle.deb_report.specs.declared.numbered.NumberedCore.{NumberedCore}
 use Rattle.deb_report.specs.Numbered.{core_view}
 use Rattle.deb_report.specs.Wrongs.{AreNumbered}
-use Rattle.deb_report.proofs.AtomSteps.{pushed}
 use Rattle.deb_report.proofs.WrongsLemmas.{numbered-more, numbered-none}
 use Rattle.deb_report.proofs.numbered.number_cores.Goals as goal
 

@@ -1,9 +1,9 @@
 use Rattle.std.proofs.Common.{◌≡◌, ◌∙◌, ℕ, arith, ap, map, sym, take}
 use Rattle.std.proofs.lemmas.List.{take_all}
 use Rattle.deb_health.specs.Verdicts.{VerdictView}
+use Rattle.list_steps.proofs.ListLemmas.{map-twice}
 use Rattle.deb_report.specs.declared.shown.Shown.{Shown}
 use Rattle.deb_report.specs.Told.{shown_view}
-use Rattle.deb_report.proofs.ListLemmas.{map-twice}
 use Rattle.deb_report.proofs.shown.places_of.Goals as goal
 
 pub returns : goal.returns

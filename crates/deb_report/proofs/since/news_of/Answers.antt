@@ -1,9 +1,9 @@
 use Rattle.std.proofs.Common.{◌≡◌, ◌<◌, ◌∙◌, ap, arith, false, length, map, sym, true}
+use Rattle.list_steps.proofs.AtomSteps.{kept, left_out}
+use Rattle.list_steps.proofs.ListLemmas.{all_item}
 use Rattle.deb_report.specs.declared.shown.Shown.{Shown}
 use Rattle.deb_report.specs.Since.{broken_view, is_news, was_broken}
 use Rattle.deb_report.specs.Told.{IsAskedOf, shown_view}
-use Rattle.deb_report.proofs.AtomSteps.{kept, left_out}
-use Rattle.deb_report.proofs.ListLemmas.{all_item}
 use Rattle.deb_report.proofs.since.news_of.Goals as goal
 use Rattle.deb_report.proofs.since.news_of.Goals.{then-is_news+in_ok-push, else-is_news}
 

@@ -1,5 +1,5 @@
 use Rattle.std.proofs.Common.{◌≡◌, ◌+◌, ◌++◌, ◌∙◌, suc, ap, append-nil, append_assoc, arith, codes, sym}
-use Rattle.deb_report.specs.Walk.{blanks}
+use Rattle.deb_report.specs.WalkLines.{blanks}
 use Rattle.deb_report.proofs.walk_lines.push_lead.Goals as goal
 
 pub loop-init : goal.loop-init

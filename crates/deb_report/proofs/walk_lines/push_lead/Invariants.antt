@@ -1,5 +1,5 @@
 use Rattle.std.proofs.Common.{◌≡◌, ◌++◌}
-use Rattle.deb_report.specs.Walk.{blanks}
+use Rattle.deb_report.specs.WalkLines.{blanks}
 use Rattle.deb_report.proofs.walk_lines.push_lead.Given as goal
 
 abbrev pub invariant-loop : goal.invariant-loop

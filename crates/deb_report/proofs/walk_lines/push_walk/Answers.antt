@@ -1,9 +1,9 @@
 use Rattle.std.proofs.lemmas.List.Elements.{All-same, All-weaker}
 use Rattle.deb_index.specs.declared.constraint.Constraint.{Constraint}
 use Rattle.deb_index.specs.Constraints.{IsOfIndex}
+use Rattle.deb_walk.specs.Walk.{IsStepOf, first_steps}
+use Rattle.deb_walk.proofs.WalkLemmas.{first-within}
 use Rattle.deb_report.specs.Similar.{FitsWalk}
-use Rattle.deb_report.specs.Walk.{IsStepOf, first_steps}
-use Rattle.deb_report.proofs.WalkLemmas.{first-within}
 use Rattle.deb_report.proofs.walk_lines.push_walk.Goals as goal
 
 pub comers-requires : goal.comers-requires

@@ -1,7 +1,7 @@
 use Rattle.std.proofs.Common.{arith, ◌≡◌, [], ◌∷◌, ℕ, Bor, List, codes, decimal, length}
-use Rattle.deb_report.specs.declared.near.NearMiss.{NearMiss}
+use Rattle.deb_near.specs.declared.near.NearMiss.{NearMiss}
+use Rattle.deb_near.specs.Near.{near_view}
 use Rattle.deb_report.specs.Json.{array, cause_json, member, near_json, needed_json, place_json, quoted, wrong_json}
-use Rattle.deb_report.specs.Near.{near_view}
 use Rattle.deb_report.proofs.JoinLemmas.{joined_map, object-of}
 use Rattle.deb_report.proofs.cause_json.CauseJson.push_cause.Goals as goal
 

@@ -1,8 +1,10 @@
 use Rattle.std.proofs.Common.{◌≡◌, ◌++◌, None, arith, length, reverse, rules}
 use Rattle.number_sets.specs.Sets.{members_of}
+use Rattle.deb_walk.specs.Walk.{step_limit}
+use Rattle.deb_walk.proofs.WalkLemmas.{left-within, next-within}
 use Rattle.deb_report.specs.Similar.{FitsWalk}
-use Rattle.deb_report.specs.Walk.{step_limit, walk_text}
-use Rattle.deb_report.proofs.WalkLemmas.{ended, gone, left-within, next-within, run_out}
+use Rattle.deb_report.specs.WalkLines.{walk_text}
+use Rattle.deb_report.proofs.WalkTextLemmas.{ended, gone, run_out}
 use Rattle.deb_report.proofs.walk_lines.Walk.go_all.Goals as goal
 
 pub go-requires : goal.go-requires

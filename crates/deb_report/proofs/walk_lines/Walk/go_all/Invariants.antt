@@ -1,7 +1,8 @@
 use Rattle.std.proofs.Common.{◌≡◌, ◌++◌, ◌-◌, All, reverse}
 use Rattle.number_sets.specs.Sets.{members_of}
+use Rattle.deb_walk.specs.Walk.{IsStepOf, step_limit}
 use Rattle.deb_report.specs.Similar.{FitsWalk}
-use Rattle.deb_report.specs.Walk.{IsStepOf, step_limit, walk_text}
+use Rattle.deb_report.specs.WalkLines.{walk_text}
 use Rattle.deb_report.proofs.walk_lines.Walk.go_all.Given as goal
 
 abbrev pub invariant-loop : goal.invariant-loop

@@ -1,7 +1,7 @@
 use Rattle.std.proofs.Common.{◌≡◌, ◌∙◌, ◌++◌, append-nil, ap, reverse}
 use Rattle.std.proofs.lemmas.List.Elements.{All-same}
+use Rattle.deb_walk.specs.Walk.{IsStepOf}
 use Rattle.deb_report.specs.Similar.{FitsWalk}
-use Rattle.deb_report.specs.Walk.{IsStepOf}
 use Rattle.deb_report.proofs.walk_lines.Walk.go_from.Goals as goal
 
 pub go_all-requires-clause-steps : goal.go_all-requires-clause-steps

@@ -1,5 +1,5 @@
 use Rattle.std.proofs.Common.{append_assoc}
-use Rattle.deb_report.specs.Walk.{constraint_text}
+use Rattle.deb_report.specs.WalkLines.{constraint_text}
 use Rattle.deb_report.proofs.JoinLemmas.{last_call}
 use Rattle.deb_report.proofs.walk_lines.Walk.push_essential.Goals as goal
 

@@ -1,0 +1,3 @@
+mod NearLemmas
+pub mod SimilarLemmas
+mod StemLemmas

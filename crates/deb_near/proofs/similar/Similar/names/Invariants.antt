@@ -1,0 +1,10 @@
+use Rattle.std.proofs.Common.{map, take}
+use Rattle.std.specs.List.{flat_map}
+use Rattle.deb_relation.specs.AtomView.{atom_view}
+use Rattle.deb_near.specs.Near.{similar_to}
+use Rattle.deb_near.specs.Similar.{IsTold}
+use Rattle.deb_near.proofs.similar.Similar.names.Given as goal
+
+abbrev pub invariant-loop-atom : goal.invariant-loop-atom
+invariant-loop-atom l = IsTold (map (λ atom. atom_view atom.now) l.atom-items)
+    (flat_map (λ atom. similar_to l.index atom.name) (map (λ atom. atom_view atom.now) (take l.atom-index l.atom-items))) l.told

@@ -1,0 +1,31 @@
+use Rattle.std.proofs.Common.{◌≡◌, ◌<◌, ◌∙◌, All, Bor, ap, arith, length, map, subst, sym, take, true}
+use Rattle.std.proofs.lemmas.List.{take_all}
+use Rattle.deb_relation.specs.declared.atom.Atom.{Atom}
+use Rattle.deb_relation.specs.AtomView.{atom_view}
+use Rattle.deb_relation.specs.Relationship.{AtomText}
+use Rattle.deb_near.specs.Near.{stem}
+use Rattle.deb_near.specs.Stems.{has_text}
+use Rattle.deb_near.proofs.SimilarLemmas.{more-has, more-keep, sought-more}
+use Rattle.deb_near.proofs.stems.stems_of.Goals as goal
+
+abbrev view : Bor Atom → AtomText
+view atom = atom_view atom.now
+
+pub loop-atom-preserved : goal.loop-atom-preserved
+loop-atom-preserved c =
+    let atoms = c.as_slice-atom-items.result.now in
+    let olds = map (λ one. one.items) c.loop-atom.stems.keys in
+    let news = map (λ one. one.items) c.insert_once.new.texts.keys in
+    let text = c.as_slice-in-loop-atom.result.now in
+    let inside : c.loop-atom.atom-index < length atoms = omega arith in
+    let key : stem (view c.atom-item.result).name ≡ text =
+    sym (c.as_slice-in-loop-atom.ensures.value ∙ c.in_ok-put_stem.ensures ∙ ap stem c.as_slice.ensures.value) in
+    sought-more view olds news atoms c.loop-atom.atom-index c.atom-item.result inside c.atom-item.is c.loop-atom.invariant (more-keep olds news text c.in_ok-insert_once.ensures.has)
+    (more-has olds news text c.in_ok-insert_once.ensures.has (stem (view c.atom-item.result).name) key)
+
+pub returns : goal.returns
+returns c =
+    let atoms = c.as_slice-atom-items.result.now in
+    let sought : AtomText → Type 0 = λ atom. has_text (map (λ one. one.items) c.loop-atom.stems.keys) (stem atom.name) ≡ true in
+    let whole : take c.loop-atom.atom-index atoms ≡ atoms = take_all _ _ (omega arith) in
+    subst (All sought) (ap (map view) whole ∙ ap (map view) c.as_slice-atom-items.ensures.value ∙ c.in_ok-alternatives_of.ensures) c.loop-atom.invariant

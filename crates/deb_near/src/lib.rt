@@ -1,0 +1,14 @@
+//! What an index has near the needs that no package meets: packages of missing names, and names that differ in numbers alone.
+//!
+//! The modules, in reading order:
+//!
+//! - `near`: the packages that have the name of an alternative, or provide it.
+//! - `stems`: what is left of names without their numbers; `similar`: the names of an index with such a stem.
+#![tactic(auto)]
+
+mod near;
+mod similar;
+mod stems;
+
+pub use near::{NearMiss, answer_at, misses_at, near_misses, push_alternatives};
+pub use similar::Similar;

@@ -1,0 +1,124 @@
+//! What is left of names without their numbers.
+
+ghost use Rattle.std.specs.Prelude.{◌≡◌, ◌==◌, ◌<◌, ◌++◌, ◌∷◌, ◌||◌, ℕ, List, All, IfNone, IfOk, IfSome, OnOk, length, map, not};
+ghost use Rattle.std.specs.Char.{is_ascii_digit};
+ghost use Rattle.std.specs.List.{list_any, position};
+ghost use Rattle.std.specs.Str.{bytes_eq};
+ghost use Rattle.deb_index.specs.Constraints.{IsOfIndex};
+ghost use Rattle.deb_near.specs.Near.{is_numeric, is_sum, stem, stem_of_word};
+ghost use Rattle.deb_near.specs.Stems.{AreSought, has_text};
+
+use crate::near::alternatives_of;
+use deb_index::{Constraint, Index};
+use indexmap::IndexSet;
+use std::alloc::{AllocError, Global};
+
+/// Whether a byte is one of a version number.
+fn is_numeric(byte: u8) -> bool
+    ensures { result ≡ is_numeric byte }
+{
+    byte.is_ascii_digit() || byte == b'.'
+}
+
+/// Whether a word has a digit.
+fn has_digit(word: &[u8]) -> bool
+    ensures { result ≡ list_any is_ascii_digit word.now }
+{
+    for byte in word {
+        if byte.is_ascii_digit() {
+            return true;
+        }
+    }
+    false
+}
+
+/// Whether a word is a sum that an interface is named by.
+fn is_sum(word: &[u8]) -> bool
+    ensures { result ≡ is_sum word.now }
+{
+    word.len() == 5 && has_digit(word)
+}
+
+/// Adds what is left of a word without its numbers.
+fn push_word(out: &mut Vec<u8>, word: &[u8]) -> Result<(), AllocError>
+    ensures { OnOk result (out.new.items ≡ out.old.items ++ stem_of_word word.now) }
+{
+    if is_sum(word) {
+        return Ok(());
+    }
+    for byte in word {
+        if !is_numeric(*byte) {
+            out.push(*byte)?;
+        }
+    }
+    Ok(())
+}
+
+/// Where the first word of a name ends, if it isn't the last.
+fn first_hyphen(name: &[u8]) -> Option<usize>
+    ensures { result ≡ position (λ byte. byte == 45) name.now }
+{
+    name.iter().position(|byte| *byte == b'-')
+}
+
+/// The first word of a name, and what stands behind its hyphen.
+#[tactic(auto, using(crate::proofs::StemLemmas::cut_inside))]
+fn cut(name: &[u8]) -> Option<(&[u8], &[u8])>
+    ensures first { IfSome result (λ parts. stem name.now ≡ stem_of_word parts.0.now ++ (45 ∷ stem parts.1.now)) }
+    ensures shorter { IfSome result (λ parts. length parts.1.now < length name.now) }
+    ensures last { IfNone result (stem name.now ≡ stem_of_word name.now) }
+{
+    match first_hyphen(name) {
+        Some(end) => Some((&name[..end], &name[end + 1..])),
+        None => None,
+    }
+}
+
+/// Puts down what is left of a name without its numbers, in the place of what the list held.
+pub(crate) fn put_stem(out: &mut Vec<u8>, name: &[u8]) -> Result<(), AllocError>
+    ensures { OnOk result (out.new.items ≡ stem name.now) }
+{
+    out.clear();
+    let mut rest = name;
+    'words: while let Some((word, others)) = cut(rest) {
+        push_word(out, word)?;
+        out.push(b'-')?;
+        rest = others;
+    }
+    push_word(out, rest)
+}
+
+/// Adds a text to a set, and says whether the set didn't have it.
+pub(crate) fn insert_once(
+    alloc: Global,
+    text: &[u8],
+    texts: &mut IndexSet<Vec<u8>>,
+) -> Result<bool, AllocError>
+    ensures new { IfOk result (λ new. new ≡ not (has_text (map (λ one. one.items) texts.old.keys) text.now)) }
+    ensures has { OnOk result ((name : List ℕ) → has_text (map (λ one. one.items) texts.new.keys) name
+        ≡ (bytes_eq name text.now || has_text (map (λ one. one.items) texts.old.keys) name)) }
+{
+    if texts.get_index_of(text).is_some() {
+        return Ok(false);
+    }
+    texts.insert(Vec::from_slice(alloc, text)?)?;
+    Ok(true)
+}
+
+/// The stems of the alternatives of all needs among the constraints.
+pub(crate) fn stems_of(
+    alloc: Global,
+    index: &Index,
+    constraints: &[Constraint],
+) -> Result<IndexSet<Vec<u8>>, AllocError>
+    requires { All (IsOfIndex index.now) constraints.now }
+    ensures { IfOk result (λ stems. AreSought index.now (map (λ one. one.items) stems.keys) constraints.now) }
+{
+    let mut stems = IndexSet::new(alloc);
+    let mut buffer = Vec::new(alloc);
+    for atom in alternatives_of(alloc, index, constraints)?.as_slice() {
+        put_stem(&mut buffer, atom.name.as_slice())?;
+        insert_once(alloc, buffer.as_slice(), &mut stems)?;
+    }
+    Ok(stems)
+}

@@ -1,8 +1,0 @@
-use Rattle.std.proofs.Common.{◌≡◌, true, All, map, take}
-use Rattle.deb_relation.specs.AtomView.{atom_view}
-use Rattle.deb_report.specs.Near.{stem}
-use Rattle.deb_report.specs.Stems.{has_text}
-use Rattle.deb_report.proofs.stems.stems_of.Given as goal
-
-abbrev pub invariant-loop-atom : goal.invariant-loop-atom
-invariant-loop-atom l = All (λ atom. has_text (map (λ one. one.items) l.stems.keys) (stem atom.name) ≡ true) (map (λ atom. atom_view atom.now) (take l.atom-index l.atom-items))

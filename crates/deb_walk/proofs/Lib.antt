@@ -1,0 +1,5 @@
+pub mod HitLemmas
+mod OwnLemmas
+pub mod PlaceSetLemmas
+mod WalkLaws
+pub mod WalkLemmas
