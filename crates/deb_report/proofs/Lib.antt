@@ -1,5 +1,3 @@
-mod AskedLemmas
-mod AtomSteps
 mod BlockLaws
 mod CauseLaws
 mod CauseOrder
@@ -9,8 +7,6 @@ mod GatheringLemmas
 mod GatheredCauses
 mod HitLemmas
 mod JoinLemmas
-mod ListLemmas
-mod MarkLemmas
 mod MissingLemmas
 mod NearLemmas
 pub mod NewsLemmas
@@ -20,7 +16,6 @@ mod PartLemmas
 mod PlainIndex
 mod PlainTexts
 mod OwnLemmas
-mod PlaceLemmas
 mod PlaceSetLemmas
 mod ReportLemmas
 mod SimilarLemmas

@@ -9,13 +9,13 @@ use Rattle.deb_index.specs.Constraints.{IsOfIndex}
 use Rattle.deb_index.specs.Packages.{IndexView}
 use Rattle.deb_health.specs.Causes.{cause_in, is_final}
 use Rattle.deb_health.specs.Verdicts.{VerdictView, Found, Blocked}
-use Rattle.deb_report.specs.declared.shown.Shown.{Shown}
+use Rattle.deb_outcome.specs.declared.shown.Shown.{Shown}
 use Rattle.deb_report.specs.declared.similar.Similar.{Similar}
 use Rattle.deb_report.specs.Near.{alternatives, stem}
 use Rattle.deb_report.specs.Similar.{FitsWalk, IsSimilarOf, stems_in}
 use Rattle.deb_report.specs.Sought.{core_in}
 use Rattle.deb_report.specs.Stems.{AreSought, has_text}
-use Rattle.deb_report.specs.Told.{IsAskedOf, shown_view}
+use Rattle.deb_outcome.specs.Outcome.{IsAskedOf, shown_view}
 use Rattle.deb_report.proofs.FirstOnes.{all-each}
 use Rattle.deb_report.proofs.SimilarLemmas.{all-grow}
 use Rattle.deb_report.proofs.WalkLemmas.{filter_all, flat_all}

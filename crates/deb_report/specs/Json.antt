@@ -10,8 +10,9 @@ use Rattle.deb_health.specs.Verdicts.{VerdictView, Found, Blocked}
 use Rattle.deb_report.specs.Causes.{CauseView, hits_of}
 use Rattle.deb_report.specs.Near.{NearMissView, alternatives, near_miss_at, near_misses, similar_names}
 use Rattle.deb_report.specs.Content.{ContentView}
-use Rattle.deb_report.specs.Report.{OfName, OfRelation, ReasonView, TellingView, group_field, group_text, is_missing, later_at, reason_of, status_of}
-use Rattle.deb_report.specs.Since.{BrokenView}
+use Rattle.deb_outcome.specs.Outcome.{status_of}
+use Rattle.deb_report.specs.Report.{OfName, OfRelation, ReasonView, TellingView, group_field, group_text, is_missing, later_at, reason_of}
+use Rattle.deb_outcome.specs.Since.{BrokenView}
 use Rattle.deb_report.specs.Walk.{brought}
 
 -- ---- texts

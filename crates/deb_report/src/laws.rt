@@ -8,13 +8,13 @@ ghost use Rattle.deb_index.specs.Reading.{index_of_both, stanza_limit};
 ghost use Rattle.deb_index.specs.Tables.{asked_count, asked_limit};
 ghost use Rattle.deb_health.specs.Causes.{cause_in};
 ghost use Rattle.deb_health.specs.Verdicts.{IsFirstCore, IsVerdict, Blocked, VerdictView};
-ghost use Rattle.deb_report.specs.Asked.{foreground_packages};
+ghost use Rattle.deb_outcome.specs.Asked.{foreground_packages};
 ghost use Rattle.deb_report.specs.Causes.{CauseView, causes_list, same_cause};
 ghost use Rattle.deb_report.specs.Json.{escaped};
 ghost use Rattle.deb_report.specs.Plain.{has_plain_texts, is_plain};
-ghost use Rattle.deb_report.specs.Report.{broken_ones, is_broken};
+ghost use Rattle.deb_outcome.specs.Outcome.{broken_ones, is_broken};
 ghost use Rattle.run_settings.specs.Settings.{is_architecture};
-ghost use Rattle.deb_report.specs.Since.{amends_of, broken_of, news_of};
+ghost use Rattle.deb_outcome.specs.Since.{amends_of, broken_of, news_of};
 ghost use Rattle.deb_report.specs.Walk.{step_limit, told_in, walk_of};
 
 /// What a report in JSON takes of an index stands in its strings as it is: names, versions and relations have no byte that needs an escape,

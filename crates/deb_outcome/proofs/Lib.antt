@@ -1,0 +1,6 @@
+mod AskedLemmas
+pub mod AtomSteps
+pub mod ListLemmas
+mod MarkLemmas
+pub mod PlaceLemmas
+pub mod ShownLemmas
