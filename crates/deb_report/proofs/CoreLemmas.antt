@@ -29,8 +29,8 @@ use Rattle.deb_report.specs.Numbering.{with_text}
 use Rattle.deb_report.specs.Positions.{is_need_among, is_need_at, is_only}
 use Rattle.deb_report.proofs.GatheringLemmas.{itself}
 use Rattle.deb_report.proofs.HitLemmas.{rising-below}
-use Rattle.deb_outcome.proofs.ListLemmas.{or_assoc, or_false}
-use Rattle.deb_outcome.proofs.PlaceLemmas.{places_from, where_from}
+use Rattle.list_steps.proofs.ListLemmas.{or_assoc, or_false}
+use Rattle.list_steps.proofs.PlaceLemmas.{places_from, where_from}
 
 -- ---- the first of each that say the same
 

@@ -30,7 +30,7 @@ use Rattle.deb_outcome.specs.Outcome.{IsAskedOf}
 use Rattle.deb_report.specs.Told.{AreLaterOf}
 use Rattle.deb_report.specs.Wrongs.{AreNumbered, causes_of, said_of}
 use Rattle.deb_report.proofs.FirstOnes.{Starts, all-each, all-get, first-kept, first-keyed, first-starts, range-all, range-seen}
-use Rattle.deb_outcome.proofs.ListLemmas.{all_seen, map-twice}
+use Rattle.list_steps.proofs.ListLemmas.{all_seen, map-twice}
 use Rattle.deb_report.proofs.NumberingLemmas.{front-same}
 use Rattle.deb_report.proofs.PartLemmas.{causes-unnumbered, cores-unnumbered, number-tells, part-gathered, part-some}
 use Rattle.deb_report.proofs.SaidLemmas.{once-apart, said-itself, same-key}

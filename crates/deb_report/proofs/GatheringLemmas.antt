@@ -13,7 +13,7 @@ use Rattle.std.proofs.lemmas.List.Folds.{list_any-append}
 use Rattle.number_sets.specs.Sets.{members_of}
 use Rattle.number_sets.proofs.ListMembers.{at_members_of}
 use Rattle.number_sets.proofs.RisingLists.{above_first, rising_tail}
-use Rattle.deb_outcome.proofs.ListLemmas.{or_false}
+use Rattle.list_steps.proofs.ListLemmas.{or_false}
 use Rattle.deb_report.specs.Gathering.{PartView, cores_with_number, has_number, part_of, share_of, with_cores, with_share}
 use Rattle.deb_report.specs.Numbered.{core_view}
 use Rattle.deb_report.specs.declared.numbered.NumberedCore.{NumberedCore}

@@ -9,7 +9,7 @@ use Rattle.deb_index.specs.Packages.{IndexView, places_where}
 use Rattle.deb_index.proofs.EssentialLemmas.{places-none}
 use Rattle.deb_outcome.specs.Asked.{is_empty}
 use Rattle.deb_report.specs.Report.{is_missing}
-use Rattle.deb_outcome.proofs.PlaceLemmas.{places_from}
+use Rattle.list_steps.proofs.PlaceLemmas.{places_from}
 
 pub one-is-some : (place : ℕ) (places : List ℕ) → is_empty (place ∷ places) ≡ false
 one-is-some place places = grind (arith, nat_tests)

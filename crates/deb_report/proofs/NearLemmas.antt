@@ -14,7 +14,7 @@ use Rattle.number_sets.proofs.RisingLists.{rising_once}
 use Rattle.deb_report.specs.Near.{is_near, near_places}
 use Rattle.deb_outcome.specs.Asked.{is_empty}
 use Rattle.deb_report.proofs.MissingLemmas.{one-is-some}
-use Rattle.deb_outcome.proofs.PlaceLemmas.{is_among, places_from, where_from}
+use Rattle.list_steps.proofs.PlaceLemmas.{is_among, places_from, where_from}
 
 -- a place that stands before each of some numbers is among these pairs' places where there is one
 repeated : (x k : ℕ) (js : List ℕ) → is_among k (map (λ (pair : ℕ × ℕ). pair.0) (map (λ (j : ℕ). (x, j)) js)) ≡ (not (is_empty js) && (x == k))

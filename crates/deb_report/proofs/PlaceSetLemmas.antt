@@ -5,7 +5,7 @@ use Rattle.std.proofs.lemmas.List.Folds.{list_any-append}
 use Rattle.number_sets.specs.Sets.{members_of}
 use Rattle.number_sets.specs.SparseSets.{with_number}
 use Rattle.deb_report.proofs.GatheringLemmas.{members-more}
-use Rattle.deb_outcome.proofs.ListLemmas.{or_false}
+use Rattle.list_steps.proofs.ListLemmas.{or_false}
 
 or_true : (a : Bool) → (a || true) ≡ true
 or_true true = refl

@@ -19,7 +19,7 @@ use Rattle.deb_report.specs.Report.{TellingView, also_at, later_at}
 use Rattle.run_settings.specs.Settings.{Settings}
 use Rattle.deb_outcome.specs.Since.{BrokenView, amends_of, is_news, news_of}
 use Rattle.deb_report.specs.Told.{AreLaterOf, content_view}
-use Rattle.deb_outcome.proofs.ListLemmas.{all_seen}
+use Rattle.list_steps.proofs.ListLemmas.{all_seen}
 
 -- the cores behind the first are the index's
 later-within : (index : IndexView) (later : List (List (List Constraint))) → AreLaterOf index later → (place : ℕ) → All (All (IsOfIndex index)) (later_at later place)

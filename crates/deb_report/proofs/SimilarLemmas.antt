@@ -18,8 +18,8 @@ use Rattle.deb_index.proofs.NameLemmas.{text-at}
 use Rattle.deb_index.proofs.TableLemmas.{any-turned, names-chain}
 use Rattle.deb_report.specs.Near.{first_with_stem, has_stem, similar_limit, stem}
 use Rattle.deb_report.specs.Stems.{first_told, has_text}
-use Rattle.deb_outcome.proofs.AtomSteps.{map_more}
-use Rattle.deb_outcome.proofs.ListLemmas.{all_seen, filter_fails, filter_passes}
+use Rattle.list_steps.proofs.AtomSteps.{map_more}
+use Rattle.list_steps.proofs.ListLemmas.{all_seen, filter_fails, filter_passes}
 
 -- ---- the first of some names, and one name more
 

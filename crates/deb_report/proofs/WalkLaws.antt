@@ -30,7 +30,7 @@ use Rattle.deb_health.specs.Verdicts.{IsFirstCore}
 use Rattle.deb_report.specs.declared.walk.Step.{Step}
 use Rattle.deb_report.specs.declared.walk.Step.TheVariants.{Begin, Meet, Tell}
 use Rattle.deb_report.specs.Walk.{are_told, begin_step, brought, depth_of, essential_step, first_steps, is_own, met_steps, only_step, own_step, own_steps, step_limit, steps_behind, told_by, told_in, walk, walk_of}
-use Rattle.deb_outcome.proofs.ListLemmas.{or_assoc}
+use Rattle.list_steps.proofs.ListLemmas.{or_assoc}
 use Rattle.deb_report.proofs.PlaceSetLemmas.{with_number-members}
 
 -- ---- lists in another order

@@ -1,5 +1,5 @@
 -- What a report tells, without where it lies in memory.
-use Rattle.std.specs.Prelude.{List, All, IfSome, Vec, length, map}
+use Rattle.std.specs.Prelude.{List, All, IfSome, Vec, map}
 use Rattle.std.specs.declared.alloc.Global.{Global}
 use Rattle.std.specs.Option.{option_map}
 use Rattle.deb_relation.specs.AtomView.{atom_view}

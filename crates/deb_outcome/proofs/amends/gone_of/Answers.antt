@@ -1,7 +1,7 @@
 use Rattle.std.proofs.Common.{◌≡◌, ◌<◌, ◌∙◌, Bor, ap, arith, false, length, rules, sym, true}
 use Rattle.deb_outcome.specs.declared.broken.BrokenPackage.{BrokenPackage}
 use Rattle.deb_outcome.specs.Since.{broken_view, is_gone}
-use Rattle.deb_outcome.proofs.AtomSteps.{kept, left_out}
+use Rattle.list_steps.proofs.AtomSteps.{kept, left_out}
 use Rattle.deb_outcome.proofs.amends.gone_of.Goals as goal
 use Rattle.deb_outcome.proofs.amends.gone_of.Goals.{then-is_unknown+in_ok-push, else-is_unknown}
 

@@ -3,7 +3,7 @@ use Rattle.deb_health.specs.Verdicts.{VerdictView}
 use Rattle.deb_outcome.specs.declared.broken.BrokenPackage.{BrokenPackage}
 use Rattle.deb_outcome.specs.Since.{AreMarks, broken_view, has_named, is_mended}
 use Rattle.deb_outcome.specs.Outcome.{shown_view}
-use Rattle.deb_outcome.proofs.AtomSteps.{kept, left_out}
+use Rattle.list_steps.proofs.AtomSteps.{kept, left_out}
 use Rattle.deb_outcome.proofs.MarkLemmas.{mended-tells}
 use Rattle.deb_outcome.proofs.ShownLemmas.{places-within}
 use Rattle.deb_outcome.proofs.amends.mended_of.Goals as goal

@@ -1,6 +1,6 @@
 use Rattle.std.proofs.Common.{◌≡◌, ◌<◌, arith, false, length, rules, true}
 use Rattle.deb_outcome.specs.Asked.{is_unknown}
-use Rattle.deb_outcome.proofs.ListLemmas.{find_here, find_past}
+use Rattle.list_steps.proofs.ListLemmas.{find_here, find_past}
 use Rattle.deb_outcome.proofs.asked.first_unknown.Goals as goal
 
 pub returns-then-is_unknown : goal.returns-then-is_unknown

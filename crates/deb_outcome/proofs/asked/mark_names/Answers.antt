@@ -4,8 +4,8 @@ use Rattle.std.specs.Option.{option_map_or}
 use Rattle.deb_index.proofs.MemberLemmas.{member-places_where}
 use Rattle.deb_index.specs.Packages.{PackageView, is_named, no_package, package_at}
 use Rattle.deb_outcome.specs.Asked.{is_listed}
-use Rattle.deb_outcome.proofs.ListLemmas.{any_more, or_assoc}
-use Rattle.deb_outcome.proofs.PlaceLemmas.{is_among}
+use Rattle.list_steps.proofs.ListLemmas.{any_more, or_assoc}
+use Rattle.list_steps.proofs.PlaceLemmas.{is_among}
 use Rattle.deb_outcome.proofs.asked.mark_names.Goals as goal
 
 pub loop-name-preserved : goal.loop-name-preserved

@@ -1,5 +1,5 @@
 use Rattle.std.proofs.Common.{◌≡◌, ◌<◌, ◌||◌, ℕ, false, get_or, length, take}
-use Rattle.deb_outcome.proofs.PlaceLemmas.{is_among}
+use Rattle.list_steps.proofs.PlaceLemmas.{is_among}
 use Rattle.deb_outcome.proofs.asked.mark_places.Given as goal
 
 abbrev pub invariant-loop-place : goal.invariant-loop-place

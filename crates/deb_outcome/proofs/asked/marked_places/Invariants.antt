@@ -1,5 +1,5 @@
 use Rattle.std.proofs.Common.{◌≡◌, take}
-use Rattle.deb_outcome.proofs.PlaceLemmas.{places_from}
+use Rattle.list_steps.proofs.PlaceLemmas.{places_from}
 use Rattle.deb_outcome.proofs.asked.marked_places.Given as goal
 
 abbrev pub invariant-loop-place : goal.invariant-loop-place

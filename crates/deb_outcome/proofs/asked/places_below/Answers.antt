@@ -1,6 +1,6 @@
 use Rattle.std.proofs.Common.{◌≡◌, ◌+◌, ◌<◌, ◌∙◌, ap, arith, length, sym}
 use Rattle.std.proofs.lemmas.List.FromFn.{length-range_with_len, get_or-range_with_len}
-use Rattle.deb_outcome.proofs.ListLemmas.{range_more}
+use Rattle.list_steps.proofs.ListLemmas.{range_more}
 use Rattle.deb_outcome.proofs.asked.places_below.Goals as goal
 
 pub loop-place-preserved : goal.loop-place-preserved

@@ -5,7 +5,7 @@ use Rattle.run_settings.specs.declared.config.Show.TheVariants.{Failures}
 use Rattle.deb_outcome.specs.declared.shown.Shown.{Shown}
 use Rattle.deb_outcome.specs.Since.{broken_at, broken_of}
 use Rattle.deb_outcome.specs.Outcome.{shown_view}
-use Rattle.deb_outcome.proofs.ListLemmas.{all_item, map-twice}
+use Rattle.list_steps.proofs.ListLemmas.{all_item, map-twice}
 use Rattle.deb_outcome.proofs.ShownLemmas.{shown-placed}
 use Rattle.deb_outcome.proofs.broken.broken_packages.Goals as goal
 

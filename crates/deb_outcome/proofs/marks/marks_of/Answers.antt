@@ -3,7 +3,7 @@ use Rattle.std.specs.Prelude.{position}
 use Rattle.std.specs.Str.{bytes_eq}
 use Rattle.deb_index.specs.Packages.{names}
 use Rattle.deb_outcome.specs.Since.{BrokenView, broken_view, was_broken}
-use Rattle.deb_outcome.proofs.ListLemmas.{any_more}
+use Rattle.list_steps.proofs.ListLemmas.{any_more}
 use Rattle.deb_outcome.proofs.MarkLemmas.{mark-none, mark-set, number-named}
 use Rattle.deb_outcome.proofs.marks.marks_of.Goals as goal
 use Rattle.deb_outcome.proofs.marks.marks_of.Goals.{in-Some, in_default}

@@ -3,7 +3,7 @@ use Rattle.std.proofs.lemmas.List.{take_all}
 use Rattle.deb_health.specs.Verdicts.{VerdictView}
 use Rattle.deb_outcome.specs.declared.shown.Shown.{Shown}
 use Rattle.deb_outcome.specs.Outcome.{shown_view}
-use Rattle.deb_outcome.proofs.ListLemmas.{map-twice}
+use Rattle.list_steps.proofs.ListLemmas.{map-twice}
 use Rattle.deb_outcome.proofs.shown.places_of.Goals as goal
 
 pub returns : goal.returns

@@ -2,8 +2,8 @@ use Rattle.std.proofs.Common.{◌≡◌, ◌<◌, ◌∙◌, ap, arith, false, l
 use Rattle.deb_outcome.specs.declared.shown.Shown.{Shown}
 use Rattle.deb_outcome.specs.Since.{broken_view, is_news, was_broken}
 use Rattle.deb_outcome.specs.Outcome.{IsAskedOf, shown_view}
-use Rattle.deb_outcome.proofs.AtomSteps.{kept, left_out}
-use Rattle.deb_outcome.proofs.ListLemmas.{all_item}
+use Rattle.list_steps.proofs.AtomSteps.{kept, left_out}
+use Rattle.list_steps.proofs.ListLemmas.{all_item}
 use Rattle.deb_outcome.proofs.since.news_of.Goals as goal
 use Rattle.deb_outcome.proofs.since.news_of.Goals.{then-is_news+in_ok-push, else-is_news}
 

@@ -6,7 +6,7 @@ use Rattle.deb_index.specs.declared.constraint.Constraint.TheVariants.{Essential
 use Rattle.number_sets.specs.Sets.{members_of}
 use Rattle.deb_report.specs.Causes.{is_answer_to}
 use Rattle.deb_report.proofs.CoreLemmas.{answer-added, no-answer, no-need-from}
-use Rattle.deb_outcome.proofs.ListLemmas.{or_assoc, or_false}
+use Rattle.list_steps.proofs.ListLemmas.{or_assoc, or_false}
 use Rattle.deb_report.proofs.cores.add_answers.Goals as goal
 use Rattle.deb_report.proofs.cores.add_answers.Goals.{in-Need+in_ok-answers+in_ok-extend, in_default}
 

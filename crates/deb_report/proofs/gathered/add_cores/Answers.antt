@@ -6,7 +6,7 @@ use Rattle.deb_report.specs.declared.gathered.Part.{Part}
 use Rattle.deb_report.specs.Gathering.{part_view, with_cores}
 use Rattle.deb_report.specs.Numbered.{core_view}
 use Rattle.std.proofs.lemmas.List.{map-append}
-use Rattle.deb_outcome.proofs.AtomSteps.{map_more}
+use Rattle.list_steps.proofs.AtomSteps.{map_more}
 use Rattle.deb_report.proofs.GatheringLemmas.{put-at, with-none, with-other, with-own}
 use Rattle.deb_report.proofs.gathered.add_cores.Goals as goal
 

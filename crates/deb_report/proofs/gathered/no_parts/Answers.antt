@@ -4,7 +4,7 @@ use Rattle.deb_index.specs.declared.constraint.Constraint.{Constraint}
 use Rattle.deb_index.specs.Constraints.{below}
 use Rattle.deb_report.specs.declared.gathered.Part.{Part}
 use Rattle.deb_report.specs.Gathering.{part_of, part_view, share_view}
-use Rattle.deb_outcome.proofs.ListLemmas.{range_more}
+use Rattle.list_steps.proofs.ListLemmas.{range_more}
 use Rattle.deb_report.proofs.gathered.no_parts.Goals as goal
 
 pub loop-number-preserved : goal.loop-number-preserved

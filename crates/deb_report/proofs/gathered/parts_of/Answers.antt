@@ -5,9 +5,9 @@ use Rattle.deb_report.specs.declared.numbered.NumberedCore.{NumberedCore}
 use Rattle.deb_report.specs.declared.numbered.NumberedPackage.{NumberedPackage}
 use Rattle.deb_report.specs.Gathering.{part_of, part_view}
 use Rattle.deb_report.specs.Numbered.{package_view}
-use Rattle.deb_outcome.proofs.AtomSteps.{map_more}
+use Rattle.list_steps.proofs.AtomSteps.{map_more}
 use Rattle.deb_report.proofs.GatheringLemmas.{length-range}
-use Rattle.deb_outcome.proofs.ListLemmas.{all_item}
+use Rattle.list_steps.proofs.ListLemmas.{all_item}
 use Rattle.deb_report.proofs.gathered.parts_of.Goals as goal
 
 pub add_package-requires : goal.add_package-requires

@@ -1,6 +1,6 @@
 use Rattle.std.proofs.Common.{◌≡◌, ◌==◌, ◌<◌, ◌++◌, ◌∷◌, [], ◌∙◌, ℕ, Bool, ap, append_assoc, arith, false, get_or, length, not, rules, sym, take, true}
 use Rattle.std.proofs.lemmas.List.{take_more}
-use Rattle.deb_outcome.proofs.ListLemmas.{filter_fails, filter_passes}
+use Rattle.list_steps.proofs.ListLemmas.{filter_fails, filter_passes}
 use Rattle.deb_report.proofs.hits.push_others.Goals as goal
 use Rattle.deb_report.proofs.hits.push_others.Goals.{then-place-own+in_ok-push, else-place-own}
 

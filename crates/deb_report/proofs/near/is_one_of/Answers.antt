@@ -1,7 +1,7 @@
 use Rattle.std.proofs.Common.{rules, ◌≡◌, ◌<◌, arith, length, sym, true}
 use Rattle.std.specs.Str.{bytes_eq}
 use Rattle.deb_relation.specs.AtomView.{atom_view}
-use Rattle.deb_outcome.proofs.ListLemmas.{any_here}
+use Rattle.list_steps.proofs.ListLemmas.{any_here}
 use Rattle.deb_report.proofs.near.is_one_of.Goals as goal
 
 pub returns-then-eq : goal.returns-then-eq

@@ -7,7 +7,7 @@ use Rattle.deb_relation.specs.AtomView.{atom_view}
 use Rattle.deb_report.specs.Near.{near_places}
 use Rattle.deb_index.specs.Meets.{provided_at}
 use Rattle.deb_index.specs.Packages.{places_of}
-use Rattle.deb_outcome.proofs.AtomSteps.{gathered}
+use Rattle.list_steps.proofs.AtomSteps.{gathered}
 use Rattle.deb_report.proofs.NearLemmas.{near-places, places_by, within-places}
 use Rattle.deb_report.proofs.near.near_places.Goals as goal
 

@@ -3,8 +3,8 @@ use Rattle.std.proofs.lemmas.List.{map-append}
 use Rattle.deb_relation.specs.declared.atom.Atom.{Atom}
 use Rattle.deb_relation.specs.AtomView.{atom_view}
 use Rattle.deb_report.specs.Near.{provides_one}
-use Rattle.deb_outcome.proofs.AtomSteps.{map_more}
-use Rattle.deb_outcome.proofs.ListLemmas.{filter_fails, filter_passes}
+use Rattle.list_steps.proofs.AtomSteps.{map_more}
+use Rattle.list_steps.proofs.ListLemmas.{filter_fails, filter_passes}
 use Rattle.deb_report.proofs.near.provided_of.Goals as goal
 use Rattle.deb_report.proofs.near.provided_of.Goals.{then-provides_one+in_ok-push, else-provides_one}
 

@@ -1,7 +1,7 @@
 use Rattle.std.proofs.Common.{ap, map}
 use Rattle.deb_relation.specs.declared.atom.Atom.{Atom}
 use Rattle.deb_relation.specs.AtomView.{atom_view}
-use Rattle.deb_outcome.proofs.AtomSteps.{pushed}
+use Rattle.list_steps.proofs.AtomSteps.{pushed}
 use Rattle.deb_report.proofs.near.push_alternatives.Goals as goal
 
 pub loop-atom-preserved : goal.loop-atom-preserved

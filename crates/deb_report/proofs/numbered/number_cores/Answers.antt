@@ -4,7 +4,7 @@ use Rattle.deb_index.specs.declared.constraint.Constraint.{Constraint}
 use Rattle.deb_report.specs.declared.numbered.NumberedCore.{NumberedCore}
 use Rattle.deb_report.specs.Numbered.{core_view}
 use Rattle.deb_report.specs.Wrongs.{AreNumbered}
-use Rattle.deb_outcome.proofs.AtomSteps.{pushed}
+use Rattle.list_steps.proofs.AtomSteps.{pushed}
 use Rattle.deb_report.proofs.WrongsLemmas.{numbered-more, numbered-none}
 use Rattle.deb_report.proofs.numbered.number_cores.Goals as goal
 

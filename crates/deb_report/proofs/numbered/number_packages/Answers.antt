@@ -12,8 +12,8 @@ use Rattle.deb_report.specs.Numbered.{core_view, package_view, unnumbered}
 use Rattle.deb_outcome.specs.Outcome.{IsAskedOf, shown_view}
 use Rattle.deb_report.specs.Told.{later_view}
 use Rattle.deb_report.specs.Wrongs.{AreNumbered}
-use Rattle.deb_outcome.proofs.AtomSteps.{map_more}
-use Rattle.deb_outcome.proofs.ListLemmas.{all_item, all_seen, map-twice}
+use Rattle.list_steps.proofs.AtomSteps.{map_more}
+use Rattle.list_steps.proofs.ListLemmas.{all_item, all_seen, map-twice}
 use Rattle.deb_report.proofs.WrongsLemmas.{cores-within, named-cores, numbered-more, numbered-none}
 use Rattle.deb_report.proofs.numbered.number_packages.Goals as goal
 

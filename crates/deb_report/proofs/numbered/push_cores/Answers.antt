@@ -1,6 +1,6 @@
 use Rattle.std.proofs.Common.{List, Bor, ap, map, ◌∙◌}
 use Rattle.deb_index.specs.declared.constraint.Constraint.{Constraint}
-use Rattle.deb_outcome.proofs.AtomSteps.{pushed}
+use Rattle.list_steps.proofs.AtomSteps.{pushed}
 use Rattle.deb_report.proofs.numbered.push_cores.Goals as goal
 
 pub loop-core-preserved : goal.loop-core-preserved

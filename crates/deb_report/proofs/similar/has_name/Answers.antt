@@ -1,6 +1,6 @@
 use Rattle.std.proofs.Common.{rules, ◌≡◌, ◌<◌, arith, length, sym, true}
 use Rattle.std.specs.Str.{bytes_eq}
-use Rattle.deb_outcome.proofs.ListLemmas.{any_here}
+use Rattle.list_steps.proofs.ListLemmas.{any_here}
 use Rattle.deb_report.proofs.similar.has_name.Goals as goal
 
 pub returns-then-eq : goal.returns-then-eq

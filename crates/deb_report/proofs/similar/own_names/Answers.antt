@@ -4,7 +4,7 @@ use Rattle.deb_relation.specs.declared.atom.Atom.{Atom}
 use Rattle.deb_relation.specs.AtomView.{atom_view}
 use Rattle.deb_report.specs.Near.{is_one_of}
 use Rattle.deb_report.specs.Stems.{has_text}
-use Rattle.deb_outcome.proofs.ListLemmas.{any_more}
+use Rattle.list_steps.proofs.ListLemmas.{any_more}
 use Rattle.deb_report.proofs.SimilarLemmas.{or-turned}
 use Rattle.deb_report.proofs.similar.own_names.Goals as goal
 

@@ -1,7 +1,7 @@
 use Rattle.std.proofs.Common.{◌≡◌, ◌<◌, ◌++◌, ◌∷◌, [], ◌∙◌, ℕ, Bool, ap, append_assoc, arith, false, get_or, length, not, rules, sym, take, true}
 use Rattle.std.proofs.lemmas.List.{take_more}
 use Rattle.deb_report.specs.Near.{is_numeric}
-use Rattle.deb_outcome.proofs.ListLemmas.{filter_fails, filter_passes}
+use Rattle.list_steps.proofs.ListLemmas.{filter_fails, filter_passes}
 use Rattle.deb_report.proofs.stems.push_word.Goals as goal
 use Rattle.deb_report.proofs.stems.push_word.Goals.{then-not-is_numeric+in_ok-push, else-not-is_numeric}
 

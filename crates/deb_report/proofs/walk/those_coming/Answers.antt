@@ -1,7 +1,7 @@
 use Rattle.std.proofs.Common.{◌≡◌, ◌<◌, ◌++◌, ◌∷◌, [], ◌∙◌, ap, arith, false, get_or, length, sym, take, true}
 use Rattle.std.proofs.lemmas.List.{take_more}
 use Rattle.number_sets.specs.Sets.{members_of}
-use Rattle.deb_outcome.proofs.ListLemmas.{filter_fails, filter_passes}
+use Rattle.list_steps.proofs.ListLemmas.{filter_fails, filter_passes}
 use Rattle.deb_report.proofs.walk.those_coming.Goals as goal
 use Rattle.deb_report.proofs.walk.those_coming.Goals.{then-contains+in_ok-push, else-contains}
 

@@ -6,7 +6,7 @@ use Rattle.deb_health.specs.Causes.{cause_in, is_final}
 use Rattle.deb_report.specs.Causes.{says}
 use Rattle.deb_report.specs.Numbering.{Grows, texts_of}
 use Rattle.deb_report.specs.Said.{number_said}
-use Rattle.deb_outcome.proofs.ListLemmas.{filter_fails, filter_passes}
+use Rattle.list_steps.proofs.ListLemmas.{filter_fails, filter_passes}
 use Rattle.deb_report.proofs.NumberingLemmas.{grows-more, grows-one, number-kept}
 use Rattle.deb_report.proofs.wrongs.numbers_said.Goals as goal
 use Rattle.deb_report.proofs.wrongs.numbers_said.Goals.{then-branch+in_ok-number+in_ok-push, else-branch}

@@ -8,7 +8,7 @@ use Rattle.deb_index.specs.Packages.{first_of_each}
 use Rattle.deb_report.specs.Near.{alternatives, first_with_stem, is_one_of, names_of, similar_names, similar_to, stem}
 use Rattle.deb_report.specs.Similar.{IsTold, stems_in}
 use Rattle.deb_report.specs.Stems.{first_told, has_text}
-use Rattle.deb_outcome.proofs.ListLemmas.{all_at}
+use Rattle.list_steps.proofs.ListLemmas.{all_at}
 use Rattle.deb_report.proofs.SimilarLemmas.{names-more, or-none}
 use Rattle.deb_report.proofs.similar.Similar.names.Goals as goal
 

@@ -1,6 +1,6 @@
 use Rattle.std.proofs.Common.{◌<◌, ◌++◌, ◌∷◌, [], ◌∙◌, ℕ, List, Vec, Global, ap, append_assoc, length, map, subst, sym, take}
 use Rattle.deb_report.specs.Similar.{IsTold}
-use Rattle.deb_outcome.proofs.AtomSteps.{map_more}
+use Rattle.list_steps.proofs.AtomSteps.{map_more}
 use Rattle.deb_report.proofs.similar.Told.push_all.Goals as goal
 
 pub loop-name-preserved : goal.loop-name-preserved

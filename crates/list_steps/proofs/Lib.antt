@@ -1,0 +1,3 @@
+pub mod AtomSteps
+pub mod ListLemmas
+pub mod PlaceLemmas
