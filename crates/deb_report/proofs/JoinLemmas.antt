@@ -7,7 +7,7 @@ use Rattle.std.specs.List.{flat_map, join_by}
 use Rattle.deb_report.specs.Json.{closing, list_json, number_json, object}
 use Rattle.deb_report.specs.CauseLines.{titled_if, told_if}
 use Rattle.deb_report.specs.Report.{titled}
-use Rattle.deb_report.specs.Since.{BrokenView}
+use Rattle.deb_outcome.specs.Since.{BrokenView}
 
 -- what holds where a last call succeeds
 pub last_call : {T E P Q : Type 0} (r : Result T E) → OnOk r P → (P → Q) → OnOk r Q

@@ -1,4 +1,3 @@
-mod AskedLemmas
 mod BlockLaws
 mod CauseLaws
 mod CauseOrder
@@ -7,7 +6,6 @@ mod FirstOnes
 mod GatheringLemmas
 mod GatheredCauses
 mod JoinLemmas
-mod MarkLemmas
 mod MissingLemmas
 pub mod NewsLemmas
 mod NumberingLemmas

@@ -7,7 +7,8 @@ use Rattle.deb_index.specs.Meets.{group_satisfiers, meets_need, need_satisfiers}
 use Rattle.deb_index.specs.Packages.{IndexView, places_where}
 use Rattle.deb_index.proofs.EssentialLemmas.{places-none}
 use Rattle.list_steps.proofs.PlaceLemmas.{one-is-some, places_from}
-use Rattle.deb_report.specs.Report.{is_empty, is_missing}
+use Rattle.deb_outcome.specs.Asked.{is_empty}
+use Rattle.deb_report.specs.Report.{is_missing}
 
 -- no element passes one of two tests where none passes either
 none-of-both : {A : Type 0} (p q : A → Bool) (n : ℕ) (xs : List A) → is_empty (places_from (λ x. p x || q x) n xs) ≡ (is_empty (places_from p n xs) && is_empty (places_from q n xs))

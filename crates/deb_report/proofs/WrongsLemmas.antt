@@ -14,7 +14,8 @@ use Rattle.deb_report.specs.Causes.{cores_of, says}
 use Rattle.deb_report.specs.Numbering.{Grows}
 use Rattle.deb_report.specs.Report.{later_at}
 use Rattle.deb_report.specs.Said.{IsNumbered, key_of}
-use Rattle.deb_report.specs.Told.{AreLaterOf, IsAskedOf}
+use Rattle.deb_outcome.specs.Outcome.{IsAskedOf}
+use Rattle.deb_report.specs.Told.{AreLaterOf}
 use Rattle.deb_report.specs.Wrongs.{AreNumbered, causes_of, said_of}
 use Rattle.deb_report.proofs.NumberingLemmas.{grows-more, grows-none}
 

@@ -4,9 +4,9 @@ use Rattle.deb_index.specs.declared.constraint.Constraint.{Constraint}
 use Rattle.deb_index.specs.Packages.{IndexView}
 use Rattle.deb_health.specs.Verdicts.{VerdictView}
 use Rattle.deb_report.specs.Causes.{CauseView, causes_list}
-use Rattle.deb_report.specs.Report.{broken_ones, numbers_of, shown_of, summary_of}
+use Rattle.deb_outcome.specs.Outcome.{broken_ones, numbers_of, shown_of, summary_of}
 use Rattle.run_settings.specs.Settings.{Settings}
-use Rattle.deb_report.specs.Since.{BrokenView, amends_of, news_of, summary_since}
+use Rattle.deb_outcome.specs.Since.{BrokenView, amends_of, news_of, summary_since}
 
 -- the asked places that have a block, with their verdicts; numbers and lists of broken packages of an earlier index, each under its title;
 -- the causes, where they are asked for

@@ -11,8 +11,9 @@ pub mod Numbered
 pub mod Gathering
 pub mod Gathered
 pub mod Positions
-pub mod Asked
-pub mod Since
+pub use Rattle.deb_outcome.specs.Asked
+pub use Rattle.deb_outcome.specs.Outcome
+pub use Rattle.deb_outcome.specs.Since
 pub mod Content
 pub mod Sought
 pub mod Lines

@@ -1,16 +1,13 @@
 -- The report on an index.
-use Rattle.std.specs.Prelude.{ℕ, ◌==◌, ◌-◌, Bool, true, false, not, nat_lt, List, [], ◌∷◌}
-use Rattle.std.specs.Prelude.{◌++◌, Option, None, Some, length, codes, decimal, filter, if◌then◌else◌, count_by, slice_index_or}
-use Rattle.std.specs.List.{flat_map, join_by, list_all, zip}
+use Rattle.std.specs.Prelude.{ℕ, Bool, nat_lt, List, [], ◌∷◌}
+use Rattle.std.specs.Prelude.{◌++◌, length, codes, decimal, if◌then◌else◌, slice_index_or}
+use Rattle.std.specs.List.{flat_map, join_by, list_all}
 use Rattle.deb_relation.specs.Relationship.{AtomText, printed}
 use Rattle.deb_index.specs.declared.constraint.Constraint.{Constraint}
 use Rattle.deb_index.specs.declared.constraint.Constraint.TheVariants.{Essential, Need, Apart, Only}
 use Rattle.deb_index.specs.Packages.{IndexView, PackageView, package_at, name_at, need_at, apart_at}
 use Rattle.deb_index.specs.Meets.{need_satisfiers}
-use Rattle.deb_health.specs.Verdicts.{VerdictView, Found, Blocked}
-use Rattle.run_settings.specs.declared.config.Show.{Show}
-use Rattle.run_settings.specs.declared.config.Show.TheVariants.{All, Failures, Successes}
-use Rattle.deb_report.specs.declared.summary.Summary.{Summary}
+use Rattle.deb_outcome.specs.Asked.{is_empty}
 use Rattle.run_settings.specs.Settings.{Settings, options_of, tells_options}
 
 -- ---- lines
@@ -35,10 +32,6 @@ place_line index place = line (codes "   - ") (label_of (package_at index place)
 -- the atoms of a group, with a bar between
 unfoldable pub group_text : List AtomText → List ℕ
 group_text group = join_by printed (codes " | ") group
-
--- the list has no place
-abbrev pub is_empty : List ℕ → Bool
-is_empty places = length places == 0
 
 -- no package of the index meets any atom of the group
 unfoldable pub is_missing : IndexView → List AtomText → Bool
@@ -84,25 +77,6 @@ constraint_line index constraint = reason_line (reason_of index constraint)
 
 -- ---- blocks
 
--- the package cannot be installed
-abbrev pub is_broken : VerdictView → Bool
-is_broken (Found places) = false
-is_broken (Blocked constraints) = true
-
--- whether a package with this verdict has a block
-abbrev pub is_shown : Show → VerdictView → Bool
-is_shown All verdict = true
-is_shown Failures verdict = is_broken verdict
-is_shown Successes verdict = not (is_broken verdict)
-
--- the asked places that are shown, with their verdicts
-abbrev pub shown_of : Show → List ℕ → List VerdictView → List (ℕ × VerdictView)
-shown_of show asked verdicts = filter (λ one. is_shown show one.1) (zip asked verdicts)
-
--- the broken ones
-abbrev pub broken_ones : List ℕ → List VerdictView → List (ℕ × VerdictView)
-broken_ones asked verdicts = shown_of Failures asked verdicts
-
 -- lines under a title
 abbrev pub titled : List ℕ → List ℕ → List ℕ
 titled title lines = line title [] ++ lines
@@ -138,11 +112,6 @@ also_at telling place = if telling.also then later_at telling.later place else [
 unfoldable pub core_lines : IndexView → List ℕ → List Constraint → List ℕ
 core_lines index title core = titled title (flat_map (constraint_line index) core)
 
--- the status of a package
-unfoldable pub status_of : VerdictView → List ℕ
-status_of (Found places) = codes "ok"
-status_of (Blocked constraints) = codes "broken"
-
 -- the first lines of a block
 unfoldable pub heading : PackageView → List ℕ
 heading deb = line (codes " -") []
@@ -151,33 +120,6 @@ heading deb = line (codes " -") []
     ++ line (codes "  architecture: ") deb.architecture
 
 -- ---- numbers
-
--- the numbers of a report, with how many are newly broken, where that is asked; the packages behind the foreground are the background's
-abbrev pub summary_with : IndexView → List ℕ → List VerdictView → Option ℕ → Summary
-summary_with index asked verdicts newly_broken = record {
-  stanzas = index.stanzas;
-  skipped = index.skipped;
-  duplicates = index.duplicates;
-  background = length index.packages - index.foreground;
-  asked = length asked;
-  broken = count_by is_broken verdicts;
-  newly_broken = newly_broken;
-}
-
--- the numbers of a report without an earlier index
-abbrev pub summary_of : IndexView → List ℕ → List VerdictView → Summary
-summary_of index asked verdicts = summary_with index asked verdicts None
-
--- a number with its title, where there is one
-abbrev pub number_if : List ℕ → Option ℕ → List (List ℕ × ℕ)
-number_if title None = []
-number_if title (Some number) = (title, number) ∷ []
-
--- these numbers, each with its title; the background's where one is read
-unfoldable pub numbers_of : Bool → Summary → List (List ℕ × ℕ)
-numbers_of background summary = (codes "stanzas", summary.stanzas) ∷ (codes "skipped", summary.skipped) ∷ (codes "duplicates", summary.duplicates)
-    ∷ (if background then (codes "background", summary.background) ∷ [] else []) ++ (codes "asked", summary.asked) ∷ (codes "broken", summary.broken)
-    ∷ number_if (codes "newly-broken") summary.newly_broken
 
 -- the line of a number
 unfoldable pub number_line : List ℕ × ℕ → List ℕ

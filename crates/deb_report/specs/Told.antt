@@ -1,34 +1,25 @@
 -- What a report tells, without where it lies in memory.
-use Rattle.std.specs.Prelude.{ℕ, ◌<◌, List, All, IfSome, Vec, length, map}
+use Rattle.std.specs.Prelude.{List, All, IfSome, Vec, map}
 use Rattle.std.specs.declared.alloc.Global.{Global}
 use Rattle.std.specs.Option.{option_map}
 use Rattle.deb_relation.specs.AtomView.{atom_view}
 use Rattle.deb_index.specs.declared.constraint.Constraint.{Constraint}
 use Rattle.deb_index.specs.Constraints.{IsOfIndex}
 use Rattle.deb_index.specs.Packages.{IndexView, package_view}
-use Rattle.deb_health.specs.Verdicts.{SpeaksOf, VerdictView, verdict_view}
-use Rattle.deb_report.specs.declared.amends.Amends.{Amends}
 use Rattle.deb_report.specs.declared.content.Content.{Content}
 use Rattle.deb_report.specs.declared.reasons.Reason.{Reason}
 use Rattle.deb_report.specs.declared.reasons.Reason.TheVariants.{Name, Relation}
-use Rattle.deb_report.specs.declared.shown.Shown.{Shown}
-use Rattle.deb_report.specs.declared.summary.Number.{Number}
 use Rattle.deb_report.specs.declared.telling.Telling.{Telling}
 use Rattle.deb_report.specs.Causes.{IsCauseOf, cause_view}
 use Rattle.deb_report.specs.Content.{ContentView}
 use Rattle.deb_report.specs.Report.{OfName, OfRelation, ReasonView, TellingView, telling_of}
 use Rattle.run_settings.specs.Settings.{settings_of}
-use Rattle.deb_report.specs.Since.{BrokenView, broken_view}
+use Rattle.deb_outcome.specs.Outcome.{IsAskedOf, number_view, shown_view}
+use Rattle.deb_outcome.specs.Since.{amends_view}
 
 abbrev pub reason_view : Reason → ReasonView
 reason_view (Name kind name) = OfName kind.now name.now
 reason_view (Relation kind deb field relation) = OfRelation kind.now (package_view deb.now) field.now (map atom_view relation.now)
-
-abbrev pub shown_view : Shown → ℕ × VerdictView
-shown_view shown = (shown.place, verdict_view shown.verdict.now)
-
-abbrev pub number_view : Number → List ℕ × ℕ
-number_view number = (number.title.now, number.number)
 
 -- cores by place
 abbrev pub later_view : List (Vec (Vec Constraint Global) Global) → List (List (List Constraint))
@@ -40,13 +31,6 @@ telling_view telling = telling_of (settings_of telling.config.now) telling.since
 -- they have constraints of the index alone
 abbrev pub AreLaterOf : IndexView → List (List (List Constraint)) → Type 0
 AreLaterOf index later = All (All (All (IsOfIndex index))) later
-
--- both speak of what the index has
-abbrev pub IsAskedOf : IndexView → ℕ × VerdictView → Type 0
-IsAskedOf index asked = (asked.0 < length index.packages) × SpeaksOf index asked.1
-
-abbrev pub amends_view : Amends → List ℕ × List BrokenView
-amends_view amends = (amends.title.now, map (λ deb. broken_view deb.now) amends.packages.items)
 
 abbrev pub content_view : Content → ContentView
 content_view content = record {

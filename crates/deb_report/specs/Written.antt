@@ -10,7 +10,7 @@ use Rattle.deb_report.specs.Json.{json_text}
 use Rattle.deb_report.specs.Lines.{lines_text}
 use Rattle.deb_report.specs.Report.{TellingView, telling_of}
 use Rattle.run_settings.specs.Settings.{Settings}
-use Rattle.deb_report.specs.Since.{BrokenView}
+use Rattle.deb_outcome.specs.Since.{BrokenView}
 
 -- what is told in a form: lines, or a JSON document
 abbrev pub text_in : Format → IndexView → TellingView → ContentView → List ℕ

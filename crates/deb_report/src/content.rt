@@ -6,18 +6,15 @@ ghost use Rattle.deb_health.specs.Verdicts.{SpeaksOf, verdict_view};
 ghost use Rattle.deb_report.specs.Causes.{IsCauseOf, cause_view};
 ghost use Rattle.deb_report.specs.Content.{causes_if, content_of, content_since};
 ghost use Rattle.run_settings.specs.Settings.{settings_of};
-ghost use Rattle.deb_report.specs.Since.{broken_view};
-ghost use Rattle.deb_report.specs.Told.{AreLaterOf, IsAskedOf, IsContentOf, content_view, later_view, shown_view};
+ghost use Rattle.deb_outcome.specs.Since.{broken_view};
+ghost use Rattle.deb_outcome.specs.Outcome.{IsAskedOf, shown_view};
+ghost use Rattle.deb_report.specs.Told.{AreLaterOf, IsContentOf, content_view, later_view};
 
-use crate::amends::{Amends, amends_of};
-use crate::broken::BrokenPackage;
 use crate::causes::causes_of;
 use crate::gathered::Cause;
-use crate::shown::{Shown, shown_of};
-use crate::since::news_of;
-use crate::summary::{Number, numbers_of};
 use deb_health::Verdict;
 use deb_index::{Constraint, Index};
+use deb_outcome::{Amends, BrokenPackage, Number, Shown, amends_of, news_of, numbers_of, shown_of};
 use run_settings::{Config, Show};
 use std::alloc::{AllocError, Global};
 

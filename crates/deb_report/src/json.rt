@@ -7,24 +7,22 @@ ghost use Rattle.deb_index.specs.Packages.{package_view};
 ghost use Rattle.deb_health.specs.Verdicts.{SpeaksOf, verdict_view};
 ghost use Rattle.deb_report.specs.Json.{also_json, array, block_json, broken_json, causes_json, closing, core_json, explanation_json, head_json, json_text};
 ghost use Rattle.deb_report.specs.Json.{list_json, member, number_json, quoted, tall_array, told_json};
-ghost use Rattle.deb_report.specs.Since.{broken_view};
-ghost use Rattle.deb_report.specs.Told.{AreLaterOf, IsAskedOf, IsContentOf};
-ghost use Rattle.deb_report.specs.Told.{amends_view, content_view, later_view, number_view, shown_view, telling_view};
+ghost use Rattle.deb_outcome.specs.Since.{amends_view, broken_view};
+ghost use Rattle.deb_outcome.specs.Outcome.{IsAskedOf, number_view, shown_view};
+ghost use Rattle.deb_report.specs.Told.{AreLaterOf, IsContentOf};
+ghost use Rattle.deb_report.specs.Told.{content_view, later_view, telling_view};
 
-use crate::amends::Amends;
-use crate::broken::BrokenPackage;
 use crate::cause_json::push_causes;
 use crate::content::Content;
 use crate::json_parts::{IndexJson, push_front, push_label, push_package};
 use crate::json_text::{push_any_text, push_array, push_list, push_number, push_quoted, push_text};
 use crate::print::{Print, push_all};
 use crate::reasons::reason_of;
-use crate::shown::{Shown, status_text};
-use crate::summary::Number;
 use crate::telling::Telling;
 use crate::why_json::push_why;
 use deb_health::Verdict;
 use deb_index::{Constraint, Index};
+use deb_outcome::{Amends, BrokenPackage, Number, Shown, status_text};
 use std::alloc::{AllocError, Global};
 
 /// What is told of an index, in JSON.

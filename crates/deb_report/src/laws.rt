@@ -7,13 +7,13 @@ ghost use Rattle.deb_index.specs.Packages.{IndexView, names};
 ghost use Rattle.deb_index.specs.Reading.{index_of_both};
 ghost use Rattle.deb_health.specs.Causes.{cause_in};
 ghost use Rattle.deb_health.specs.Verdicts.{IsVerdict, Blocked, VerdictView};
-ghost use Rattle.deb_report.specs.Asked.{foreground_packages};
+ghost use Rattle.deb_outcome.specs.Asked.{foreground_packages};
 ghost use Rattle.deb_report.specs.Causes.{CauseView, causes_list, same_cause};
 ghost use Rattle.deb_report.specs.Json.{escaped};
 ghost use Rattle.deb_report.specs.Plain.{has_plain_texts, is_plain};
-ghost use Rattle.deb_report.specs.Report.{broken_ones, is_broken};
+ghost use Rattle.deb_outcome.specs.Outcome.{broken_ones, is_broken};
 ghost use Rattle.run_settings.specs.Settings.{is_architecture};
-ghost use Rattle.deb_report.specs.Since.{amends_of, broken_of, news_of};
+ghost use Rattle.deb_outcome.specs.Since.{amends_of, broken_of, news_of};
 
 pub use deb_walk::laws::walks_tell_each_once;
 

@@ -3,18 +3,17 @@
 ghost use Rattle.std.specs.Prelude.{◌≡◌, ◌<◌, ◌^◌, All, IfOk, length, map};
 ghost use Rattle.deb_health.specs.Verdicts.{SpeaksOf, verdict_view};
 ghost use Rattle.run_settings.specs.Settings.{settings_of};
-ghost use Rattle.deb_report.specs.Since.{broken_view, summary_since};
+ghost use Rattle.deb_outcome.specs.Since.{broken_view, summary_since};
 ghost use Rattle.deb_report.specs.Told.{AreLaterOf, IsContentOf, content_view, later_view, telling_view};
 ghost use Rattle.deb_report.specs.Written.{text_in, written_report, written_since, written_told};
 
-use crate::broken::BrokenPackage;
 use crate::content::{Content, content_of, content_since};
 use crate::json::json_report;
 use crate::lines::lines_report;
-use crate::summary::{Summary, summary_with};
 use crate::telling::Telling;
 use deb_health::Verdict;
 use deb_index::{Constraint, Index};
+use deb_outcome::{BrokenPackage, Summary, summary_with};
 use run_settings::{Config, Format};
 use std::alloc::{AllocError, Global};
 

@@ -9,25 +9,23 @@ ghost use Rattle.deb_report.specs.CauseLines.{causes_text};
 ghost use Rattle.deb_report.specs.Lines.{block_of, broken_line, explanation, first_core, lines_text, list_lines};
 ghost use Rattle.deb_report.specs.Report.{also_at, core_lines, heading, line, number_line, titled};
 ghost use Rattle.deb_report.specs.Similar.{FitsWalk};
-ghost use Rattle.deb_report.specs.Since.{broken_view};
+ghost use Rattle.deb_outcome.specs.Since.{amends_view, broken_view};
 ghost use Rattle.deb_report.specs.Sought.{FitsBlock, IsWalked, core_in};
-ghost use Rattle.deb_report.specs.Told.{AreLaterOf, IsAskedOf, IsContentOf};
-ghost use Rattle.deb_report.specs.Told.{amends_view, content_view, later_view, number_view, shown_view, telling_view};
+ghost use Rattle.deb_outcome.specs.Outcome.{IsAskedOf, number_view, shown_view};
+ghost use Rattle.deb_report.specs.Told.{AreLaterOf, IsContentOf};
+ghost use Rattle.deb_report.specs.Told.{content_view, later_view, telling_view};
 
-use crate::amends::Amends;
-use crate::broken::BrokenPackage;
 use crate::cause_lines::push_causes;
 use crate::content::Content;
 use crate::line_parts::{IndexLines, push_line, push_titled};
 use crate::print::{Print, push_all, push_texts};
-use crate::shown::{Shown, status_text};
 use crate::sought::similar_to_walks;
-use crate::summary::Number;
 use crate::telling::Telling;
 use crate::walk_lines::push_walk;
 use deb_health::Verdict;
 use deb_index::{Constraint, Index, Package};
 use deb_near::Similar;
+use deb_outcome::{Amends, BrokenPackage, Number, Shown, status_text};
 use std::alloc::{AllocError, Global};
 
 /// What is told of an index, in lines.

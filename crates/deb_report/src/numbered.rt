@@ -7,13 +7,14 @@ ghost use Rattle.deb_index.specs.Constraints.{IsOfIndex};
 ghost use Rattle.deb_report.specs.Causes.{cores_of};
 ghost use Rattle.deb_report.specs.Numbered.{core_view, package_view, unnumbered};
 ghost use Rattle.deb_report.specs.Report.{later_at};
-ghost use Rattle.deb_report.specs.Told.{AreLaterOf, IsAskedOf, later_view, shown_view};
+ghost use Rattle.deb_outcome.specs.Outcome.{IsAskedOf, shown_view};
+ghost use Rattle.deb_report.specs.Told.{AreLaterOf, later_view};
 ghost use Rattle.deb_report.specs.Wrongs.{AreNumbered};
 
-use crate::shown::Shown;
 use crate::wrongs::Wrongs;
 use deb_health::Verdict;
 use deb_index::{Constraint, Index};
+use deb_outcome::Shown;
 use std::alloc::{AllocError, Global};
 
 /// A core, and the number of its cause.

@@ -7,15 +7,15 @@ ghost use Rattle.deb_health.specs.Causes.{cause_in};
 ghost use Rattle.deb_report.specs.Causes.{IsCauseOf, cause_view};
 ghost use Rattle.deb_report.specs.Similar.{FitsCause};
 ghost use Rattle.deb_report.specs.Sought.{IsWalked, core_in};
-ghost use Rattle.deb_report.specs.Told.{IsAskedOf, shown_view};
+ghost use Rattle.deb_outcome.specs.Outcome.{IsAskedOf, shown_view};
 
 use crate::gathered::Cause;
-use crate::shown::Shown;
 use crate::telling::Telling;
 use crate::wrongs::is_final;
 use deb_health::Verdict;
 use deb_index::{Constraint, Index};
 use deb_near::Similar;
+use deb_outcome::Shown;
 use std::alloc::{AllocError, Global};
 
 /// The constraints of causes, one after the other.

@@ -10,9 +10,10 @@ use Rattle.deb_health.specs.Verdicts.{Blocked, Found, IsVerdict, SpeaksOf, Verdi
 use Rattle.deb_verdict.specs.Told.{IsToldCore, IsToldVerdict}
 use Rattle.deb_verdict.specs.declared.wanted.Wanted.{Wanted}
 use Rattle.work_draw.specs.Checks.{AnswersEach}
-use Rattle.deb_report.specs.Report.{is_broken, later_at}
+use Rattle.deb_outcome.specs.Outcome.{is_broken}
+use Rattle.deb_report.specs.Report.{later_at}
 use Rattle.run_settings.specs.Settings.{Settings, tells_all_causes}
-use Rattle.deb_report.specs.Since.{BrokenView, is_new, newly_broken, news_of}
+use Rattle.deb_outcome.specs.Since.{BrokenView, is_new, newly_broken, news_of}
 use Rattle.debcheck.specs.Later.{AreAllLater, AreLaterIf}
 use Rattle.debcheck.specs.Standing.{AreFound, HaveCores, is_next, wanted_at, wanting, with_cores}
 use Rattle.debcheck.proofs.LaterLemmas.{AreBehind, behind_there, installable, later_exist, none_behind, one_behind, told_tells, verdicts_tell}

@@ -7,12 +7,13 @@ use Rattle.deb_health.specs.Verdicts.{Blocked, Found, IsFirstCore, IsFirstInstal
 use Rattle.deb_health.proofs.CoreLemmas.{one_list}
 use Rattle.number_sets.specs.Sets.{members_of}
 use Rattle.work_draw.specs.Checks.{AnswersEach}
-use Rattle.deb_report.specs.declared.summary.Summary.{Summary}
-use Rattle.deb_report.specs.Report.{later_at, summary_of}
+use Rattle.deb_outcome.specs.declared.summary.Summary.{Summary}
+use Rattle.deb_outcome.specs.Outcome.{summary_of}
+use Rattle.deb_report.specs.Report.{later_at}
 use Rattle.run_settings.specs.Settings.{Settings, tells_all_causes}
 use Rattle.deb_report.specs.Written.{written_since, written_told}
-use Rattle.deb_report.specs.Asked.{listed_places}
-use Rattle.deb_report.specs.Since.{BrokenView, broken_of, summary_since}
+use Rattle.deb_outcome.specs.Asked.{listed_places}
+use Rattle.deb_outcome.specs.Since.{BrokenView, broken_of, summary_since}
 use Rattle.debcheck.specs.Run.{HasIndex, IsReport, IsReportBy, IsReportOn, Writing}
 use Rattle.debcheck.specs.Later.{AreAllLater, AreLater, AreLaterCores, AreLaterIf}
 use Rattle.debcheck.specs.Since.{IsReportAfter, IsReportSince, WereBroken}

@@ -6,7 +6,7 @@ use Rattle.deb_index.specs.Reading.{byte_limit, index_of, index_of_both}
 use Rattle.deb_index.specs.declared.error.BothError.TheVariants.{Back}
 use Rattle.deb_input.specs.declared.fault.RunFault.{RunFault}
 use Rattle.deb_input.specs.declared.fault.RunFault.TheVariants.{Read, TooLong, BackgroundRead, BackgroundTooLong, EarlierRead, EarlierTooLong, NamesRead, NamesTooLong, BadNameLine, Index, Background, Earlier, UnknownAsked, Slipped, Memory, Write}
-use Rattle.deb_report.specs.declared.summary.Summary.{Summary}
+use Rattle.deb_outcome.specs.declared.summary.Summary.{Summary}
 use Rattle.devices.specs.Devices.{AppendsPart}
 use Rattle.run_settings.specs.Settings.{Settings}
 use Rattle.deb_input.specs.Inputs.{FailsToAccept, Input, IsRead, IsReadAs, input}

@@ -2,7 +2,7 @@
 use Rattle.std.proofs.Common.{◌≡◌, ℕ, Bool, true, false, List, Option, Some, None, Result, Ok, Err, IfErr, IfOk, OnErr, OnOk, inl, inr, option_map, refl, string_bytes, subst}
 use Rattle.std.specs.Io.KnownBytes.{Appends}
 use Rattle.run_settings.specs.declared.config.Config.{Config}
-use Rattle.deb_report.specs.declared.summary.Summary.{Summary}
+use Rattle.deb_outcome.specs.declared.summary.Summary.{Summary}
 use Rattle.run_settings.specs.Settings.{Settings, settings_of}
 use Rattle.devices.specs.declared.device.DeviceFault.{DeviceFault}
 use Rattle.deb_input.specs.declared.fault.RunFault.{RunFault}

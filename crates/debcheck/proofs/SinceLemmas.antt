@@ -8,13 +8,13 @@ use Rattle.deb_index.specs.Reading.{byte_limit, index_of_both}
 use Rattle.deb_health.specs.Verdicts.{Blocked, Found, IsVerdict, VerdictView}
 use Rattle.work_draw.specs.Checks.{AnswersEach}
 use Rattle.run_settings.specs.declared.config.Show.TheVariants.{Failures}
-use Rattle.deb_report.specs.declared.summary.Summary.{Summary}
-use Rattle.deb_report.specs.Asked.{listed_places}
+use Rattle.deb_outcome.specs.declared.summary.Summary.{Summary}
+use Rattle.deb_outcome.specs.Asked.{listed_places}
 use Rattle.deb_verdict.specs.Told.{as_told}
 use Rattle.deb_verdict.specs.declared.wanted.Wanted.{Wanted}
-use Rattle.deb_report.specs.Report.{is_broken}
+use Rattle.deb_outcome.specs.Outcome.{is_broken}
 use Rattle.run_settings.specs.Settings.{Settings, tells_all_causes}
-use Rattle.deb_report.specs.Since.{BrokenView, broken_of, is_new, news_of, summary_since}
+use Rattle.deb_outcome.specs.Since.{BrokenView, broken_of, is_new, news_of, summary_since}
 use Rattle.deb_report.specs.Written.{written_since}
 use Rattle.deb_report.proofs.NewsLemmas.{report_by_news, summary_by_news}
 use Rattle.deb_report.proofs.Unshown.{LeavesTold, broken_unchanged, since_unchanged, summary_since_unchanged}

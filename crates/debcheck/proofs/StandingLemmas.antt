@@ -17,10 +17,11 @@ use Rattle.deb_verdict.proofs.ToldLemmas.{told_without_set}
 use Rattle.work_draw.specs.Checks.{AnswersEach}
 use Rattle.run_settings.specs.declared.config.Show.{Show}
 use Rattle.run_settings.specs.declared.config.Show.TheVariants as show
-use Rattle.deb_report.specs.declared.summary.Summary.{Summary}
-use Rattle.deb_report.specs.Report.{is_broken, is_shown, later_at, summary_of}
+use Rattle.deb_outcome.specs.declared.summary.Summary.{Summary}
+use Rattle.deb_outcome.specs.Outcome.{is_broken, is_shown, summary_of}
+use Rattle.deb_report.specs.Report.{later_at}
 use Rattle.run_settings.specs.Settings.{Settings, shows_installable, shows_sets, tells_all_causes}
-use Rattle.deb_report.specs.Since.{BrokenView, is_new}
+use Rattle.deb_outcome.specs.Since.{BrokenView, is_new}
 use Rattle.deb_report.specs.Written.{written_told}
 use Rattle.deb_report.proofs.Unshown.{LeavesTold, report_unchanged, summary_unchanged}
 use Rattle.debcheck.specs.Later.{AreLaterIf}

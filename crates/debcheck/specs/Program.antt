@@ -2,7 +2,7 @@
 use Rattle.std.specs.Prelude.{◌≡◌, ◌⊎◌, ℕ, Bool, false, true, List, Option, Some, None, Result, Ok, Err, IfSome, option_map, string_bytes}
 use Rattle.std.specs.Io.KnownBytes.{Appends}
 use Rattle.run_settings.specs.declared.config.Config.{Config}
-use Rattle.deb_report.specs.declared.summary.Summary.{Summary}
+use Rattle.deb_outcome.specs.declared.summary.Summary.{Summary}
 use Rattle.run_settings.specs.Settings.{Settings, settings_of}
 use Rattle.deb_input.specs.declared.fault.RunFault.{RunFault}
 use Rattle.deb_input.specs.declared.fault.RunFault.TheVariants as run_fault

@@ -12,10 +12,10 @@ use Rattle.deb_input.specs.Inputs.{Input, IsRead, IsTooLong, input}
 use Rattle.deb_input.specs.declared.fault.RunFault.{RunFault}
 use Rattle.deb_input.specs.declared.fault.RunFault.TheVariants.{Read, TooLong, BackgroundRead, BackgroundTooLong, Index}
 use Rattle.deb_input.specs.declared.fault.RunFault.TheVariants.{Background, UnknownAsked, Slipped, Memory, Write}
-use Rattle.deb_report.specs.declared.summary.Summary.{Summary}
-use Rattle.deb_report.specs.Asked.{asked_places}
+use Rattle.deb_outcome.specs.declared.summary.Summary.{Summary}
+use Rattle.deb_outcome.specs.Asked.{asked_places}
 use Rattle.devices.specs.Devices.{AppendsPart}
-use Rattle.deb_report.specs.Report.{summary_of}
+use Rattle.deb_outcome.specs.Outcome.{summary_of}
 use Rattle.run_settings.specs.Settings.{Settings}
 use Rattle.deb_report.specs.Written.{written_told}
 use Rattle.debcheck.specs.Later.{AreLater}

@@ -5,10 +5,10 @@ use Rattle.deb_index.specs.Packages.{IndexView}
 use Rattle.deb_health.specs.Verdicts.{IsVerdict, VerdictView}
 use Rattle.deb_verdict.specs.declared.wanted.Wanted.{Wanted}
 use Rattle.work_draw.specs.Checks.{AnswersEach}
-use Rattle.deb_report.specs.declared.summary.Summary.{Summary}
+use Rattle.deb_outcome.specs.declared.summary.Summary.{Summary}
 use Rattle.run_settings.specs.Settings.{Settings, tells_all_causes}
-use Rattle.deb_report.specs.Asked.{listed_places}
-use Rattle.deb_report.specs.Since.{BrokenView, broken_of, summary_since}
+use Rattle.deb_outcome.specs.Asked.{listed_places}
+use Rattle.deb_outcome.specs.Since.{BrokenView, broken_of, summary_since}
 use Rattle.deb_report.specs.Written.{written_since}
 use Rattle.deb_input.specs.declared.fault.RunFault.{RunFault}
 use Rattle.deb_input.specs.declared.fault.RunFault.TheVariants.{Read, TooLong, BackgroundRead, BackgroundTooLong, EarlierRead}

@@ -7,9 +7,10 @@ use Rattle.deb_health.specs.Verdicts.{Blocked, Found, IsVerdict, SpeaksOf, Verdi
 use Rattle.deb_verdict.specs.Told.{IsToldVerdict, as_told}
 use Rattle.deb_verdict.specs.declared.wanted.Wanted.{Wanted}
 use Rattle.work_draw.specs.Checks.{AnswersEach}
-use Rattle.deb_report.specs.Report.{is_broken, is_shown, later_at}
+use Rattle.deb_outcome.specs.Outcome.{is_broken, is_shown}
+use Rattle.deb_report.specs.Report.{later_at}
 use Rattle.run_settings.specs.Settings.{Settings, shows_sets, tells_all_causes}
-use Rattle.deb_report.specs.Since.{BrokenView, is_new}
+use Rattle.deb_outcome.specs.Since.{BrokenView, is_new}
 use Rattle.deb_report.specs.Told.{AreLaterOf}
 use Rattle.debcheck.specs.Later.{AreLater}
 

@@ -4,7 +4,7 @@ ghost use Rattle.std.specs.Prelude.{◌≡◌, ◌≢◌, ◌<◌, ◌≤◌, �
 ghost use Rattle.std.specs.Io.KnownBytes.{IsAtEnd};
 ghost use Rattle.deb_index.specs.Reading.{byte_limit};
 ghost use Rattle.run_settings.specs.Settings.{settings_of};
-ghost use Rattle.deb_report.specs.Since.{broken_view};
+ghost use Rattle.deb_outcome.specs.Since.{broken_view};
 ghost use Rattle.deb_input.specs.Inputs.{Input, IsReadAs, input, is_unread};
 ghost use Rattle.debcheck.specs.Run.{FailsToIndex, FailsToReport, HasAsked, IfIndexed, ReadsAs, behind};
 ghost use Rattle.debcheck.specs.Since.{FailsEarlier, FailsSince, IsReportAfter, LeavesSince, TellsReportSince, WereBroken, WritesReportSince, earlier_fault};

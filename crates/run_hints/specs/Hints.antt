@@ -7,7 +7,7 @@ use Rattle.input_hints.specs.Beginnings.{hint_of as hint_by}
 use Rattle.input_hints.specs.Runs.{run_hint}
 use Rattle.input_hints.specs.Texts.{file_hint_line, hint_line, run_hint_line}
 use Rattle.run_settings.specs.declared.config.Config.{Config}
-use Rattle.deb_report.specs.declared.summary.Summary.{Summary}
+use Rattle.deb_outcome.specs.declared.summary.Summary.{Summary}
 use Rattle.deb_input.specs.Strict.{hint_of}
 use Rattle.deb_input.specs.declared.fault.RunFault.{RunFault}
 use Rattle.deb_input.specs.declared.fault.RunFault.TheVariants as run_fault

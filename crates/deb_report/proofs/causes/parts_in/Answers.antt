@@ -9,7 +9,8 @@ use Rattle.deb_report.specs.Causes.{by_first, cores_of}
 use Rattle.deb_report.specs.Gathered.{cause_from}
 use Rattle.deb_report.specs.Gathering.{part_of, part_view}
 use Rattle.deb_report.specs.Numbered.{package_view}
-use Rattle.deb_report.specs.Told.{IsAskedOf, later_view, shown_view}
+use Rattle.deb_outcome.specs.Outcome.{IsAskedOf, shown_view}
+use Rattle.deb_report.specs.Told.{later_view}
 use Rattle.deb_report.specs.Wrongs.{causes_of}
 use Rattle.std.proofs.lemmas.List.Elements.{All-map}
 use Rattle.deb_report.proofs.GatheredCauses.{cores-own, numbers-below, numbers-within, parts-causes, parts-some, parts-within, some-cores, told-within}

@@ -3,14 +3,15 @@ use Rattle.std.proofs.lemmas.List.{length-map}
 use Rattle.std.specs.Option.{option_map}
 use Rattle.deb_health.specs.Verdicts.{verdict_view}
 use Rattle.run_settings.specs.declared.config.Show.TheVariants.{Failures}
-use Rattle.deb_report.specs.declared.shown.Shown.{Shown}
+use Rattle.deb_outcome.specs.declared.shown.Shown.{Shown}
 use Rattle.deb_report.specs.Causes.{cause_view}
 use Rattle.deb_report.specs.Content.{causes_if}
-use Rattle.deb_report.specs.Report.{broken_ones, numbers_of, summary_with}
+use Rattle.deb_outcome.specs.Outcome.{broken_ones, number_view, numbers_of, shown_view, summary_with}
 use Rattle.run_settings.specs.Settings.{settings_of}
-use Rattle.deb_report.specs.Since.{broken_view, is_news}
-use Rattle.deb_report.specs.Told.{amends_view, later_view, number_view, shown_view}
-use Rattle.deb_report.proofs.ReportLemmas.{kept-within, shown-within, since-is}
+use Rattle.deb_outcome.specs.Since.{amends_view, broken_view, is_news}
+use Rattle.deb_report.specs.Told.{later_view}
+use Rattle.deb_outcome.proofs.ShownLemmas.{kept-within, shown-within}
+use Rattle.deb_report.proofs.ReportLemmas.{since-is}
 use Rattle.deb_report.proofs.content.content_since.Goals as goal
 
 pub news_of-requires : goal.news_of-requires

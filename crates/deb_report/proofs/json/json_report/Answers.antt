@@ -1,6 +1,8 @@
 use Rattle.std.proofs.Common.{◌++◌, codes}
 use Rattle.deb_report.specs.Json.{block_json, causes_json, escaped, head_json, json_text, list_json, member, number_json, quoted, tall_array}
-use Rattle.deb_report.specs.Told.{amends_view, content_view, number_view, telling_view}
+use Rattle.deb_outcome.specs.Since.{amends_view}
+use Rattle.deb_outcome.specs.Outcome.{number_view}
+use Rattle.deb_report.specs.Told.{content_view, telling_view}
 use Rattle.deb_report.proofs.JoinLemmas.{document-of, lines_map}
 use Rattle.deb_report.proofs.json.json_report.Goals as goal
 

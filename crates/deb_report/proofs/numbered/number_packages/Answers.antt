@@ -8,10 +8,11 @@ use Rattle.deb_index.specs.Constraints.{IsOfIndex}
 use Rattle.list_steps.proofs.AtomSteps.{map_more}
 use Rattle.list_steps.proofs.ListLemmas.{all_item, all_seen, map-twice}
 use Rattle.deb_report.specs.declared.numbered.NumberedPackage.{NumberedPackage}
-use Rattle.deb_report.specs.declared.shown.Shown.{Shown}
+use Rattle.deb_outcome.specs.declared.shown.Shown.{Shown}
 use Rattle.deb_report.specs.Causes.{cores_of}
 use Rattle.deb_report.specs.Numbered.{core_view, package_view, unnumbered}
-use Rattle.deb_report.specs.Told.{IsAskedOf, later_view, shown_view}
+use Rattle.deb_outcome.specs.Outcome.{IsAskedOf, shown_view}
+use Rattle.deb_report.specs.Told.{later_view}
 use Rattle.deb_report.specs.Wrongs.{AreNumbered}
 use Rattle.deb_report.proofs.WrongsLemmas.{cores-within, named-cores, numbered-more, numbered-none}
 use Rattle.deb_report.proofs.numbered.number_packages.Goals as goal

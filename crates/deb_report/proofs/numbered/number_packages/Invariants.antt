@@ -2,7 +2,8 @@ use Rattle.std.proofs.Common.{◌≡◌, map, take}
 use Rattle.std.specs.List.{flat_map}
 use Rattle.deb_report.specs.Causes.{cores_of}
 use Rattle.deb_report.specs.Numbered.{package_view, unnumbered}
-use Rattle.deb_report.specs.Told.{later_view, shown_view}
+use Rattle.deb_outcome.specs.Outcome.{shown_view}
+use Rattle.deb_report.specs.Told.{later_view}
 use Rattle.deb_report.specs.Wrongs.{AreNumbered}
 use Rattle.deb_report.proofs.numbered.number_packages.Given as goal
 

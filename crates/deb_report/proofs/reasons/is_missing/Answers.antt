@@ -1,6 +1,6 @@
 use Rattle.std.proofs.Common.{◌∙◌, ap, sym}
 use Rattle.deb_index.specs.Packages.{need_at}
-use Rattle.deb_report.specs.Report.{is_empty}
+use Rattle.deb_outcome.specs.Asked.{is_empty}
 use Rattle.deb_report.proofs.MissingLemmas.{missing-where}
 use Rattle.deb_report.proofs.reasons.is_missing.Goals as goal
 

@@ -4,7 +4,7 @@ use Rattle.std.proofs.lemmas.List.{map-append}
 use Rattle.std.specs.Vec.Iter.{into_iter_items, into_iter_len}
 use Rattle.deb_health.specs.Verdicts.{verdict_view}
 use Rattle.deb_health.specs.declared.answer.Verdict.{Verdict}
-use Rattle.deb_report.specs.Report.{is_broken}
+use Rattle.deb_outcome.specs.Outcome.{is_broken}
 use Rattle.debcheck.specs.Standing.{is_next}
 use Rattle.debcheck.proofs.LaterLemmas.{cores_ended, cores_kept, cores_missing, cores_taken, empty_list}
 use Rattle.debcheck.proofs.later.with_cores.Goals as goal

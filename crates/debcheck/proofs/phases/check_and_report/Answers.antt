@@ -1,6 +1,6 @@
 use Rattle.std.proofs.Common.{◌≡◌, ◌∙◌, List, None, Ok, [], ap, map, subst, sym, ℕ}
 use Rattle.std.proofs.lemmas.Bool.{or_left}
-use Rattle.deb_report.specs.Asked.{asked_places}
+use Rattle.deb_outcome.specs.Asked.{asked_places}
 use Rattle.run_settings.specs.Settings.{settings_of, tells_all_causes}
 use Rattle.deb_report.specs.Told.{later_view}
 use Rattle.deb_health.specs.Verdicts.{verdict_view}

@@ -4,7 +4,7 @@ use Rattle.deb_health.specs.Verdicts.{verdict_view}
 use Rattle.deb_verdict.specs.Told.{as_told}
 use Rattle.deb_verdict.specs.declared.wanted.Wanted.{Wanted}
 use Rattle.run_settings.specs.Settings.{settings_of}
-use Rattle.deb_report.specs.Since.{broken_of, broken_view}
+use Rattle.deb_outcome.specs.Since.{broken_of, broken_view}
 use Rattle.debcheck.proofs.SinceLemmas.{told_status, were-broken}
 use Rattle.debcheck.proofs.StandingLemmas.{same_all, stands-told}
 use Rattle.debcheck.proofs.since.broken_in.Goals as goal

@@ -2,7 +2,7 @@ use Rattle.std.proofs.Common.{◌∙◌, map, sym}
 use Rattle.std.proofs.lemmas.Bool.{true≢false}
 use Rattle.std.proofs.lemmas.Result.{IfErr-weaker, IfOk-weaker, err_from_is_err_and}
 use Rattle.run_settings.specs.Settings.{settings_of}
-use Rattle.deb_report.specs.Since.{broken_view}
+use Rattle.deb_outcome.specs.Since.{broken_view}
 use Rattle.deb_input.specs.Inputs.{IsReadAs, input}
 use Rattle.debcheck.specs.Run.{IfIndexed, behind}
 use Rattle.debcheck.specs.Since.{FailsEarlier, WereBroken}

@@ -2,9 +2,9 @@ use Rattle.std.proofs.Common.{◌≡◌, ◌∙◌, List, None, Ok, ap, map, sym
 use Rattle.std.proofs.lemmas.Bool.{or_left}
 use Rattle.deb_health.specs.Verdicts.{verdict_view}
 use Rattle.deb_verdict.specs.declared.wanted.Wanted.{Wanted}
-use Rattle.deb_report.specs.Asked.{asked_places}
+use Rattle.deb_outcome.specs.Asked.{asked_places}
 use Rattle.run_settings.specs.Settings.{settings_of, tells_all_causes}
-use Rattle.deb_report.specs.Since.{broken_view}
+use Rattle.deb_outcome.specs.Since.{broken_view}
 use Rattle.deb_report.specs.Told.{later_view}
 use Rattle.debcheck.specs.Standing.{AreFound}
 use Rattle.debcheck.specs.Since.{wanted_since}

@@ -1,6 +1,7 @@
 use Rattle.std.proofs.lemmas.List.Elements.{All-weaker}
-use Rattle.deb_report.specs.declared.shown.Shown.{Shown}
-use Rattle.deb_report.specs.Told.{AreLaterOf, IsAskedOf, later_view, shown_view}
+use Rattle.deb_outcome.specs.declared.shown.Shown.{Shown}
+use Rattle.deb_outcome.specs.Outcome.{IsAskedOf, shown_view}
+use Rattle.deb_report.specs.Told.{AreLaterOf, later_view}
 use Rattle.deb_report.proofs.json.Json.push_blocks.Goals as goal
 
 pub push_array-requires : goal.push_array-requires

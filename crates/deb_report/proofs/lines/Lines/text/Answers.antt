@@ -1,7 +1,8 @@
 use Rattle.std.proofs.Common.{append_assoc}
 use Rattle.deb_report.specs.Lines.{lines_text, list_lines}
 use Rattle.deb_report.specs.Report.{number_line}
-use Rattle.deb_report.specs.Told.{amends_view, number_view}
+use Rattle.deb_outcome.specs.Since.{amends_view}
+use Rattle.deb_outcome.specs.Outcome.{number_view}
 use Rattle.deb_report.proofs.JoinLemmas.{lines_map}
 use Rattle.deb_report.proofs.lines.Lines.text.Goals as goal
 

@@ -1,0 +1,3 @@
+mod AskedLemmas
+mod MarkLemmas
+pub mod ShownLemmas
