@@ -27,8 +27,8 @@ use Rattle.deb_report.specs.Gathering.{PartView, has_number, part_of, part_view}
 use Rattle.deb_report.specs.Numbered.{core_view, package_view, unnumbered}
 use Rattle.deb_report.specs.Numbering.{StandOnce}
 use Rattle.deb_report.specs.Said.{IsKnown, IsNumbered, key_of}
-use Rattle.deb_outcome.specs.Outcome.{IsAskedOf}
 use Rattle.deb_report.specs.Told.{AreLaterOf}
+use Rattle.deb_outcome.specs.Outcome.{IsAskedOf}
 use Rattle.deb_report.specs.Wrongs.{AreNumbered, causes_of, said_of}
 use Rattle.deb_report.proofs.FirstOnes.{Starts, all-each, all-get, first-kept, first-keyed, first-starts, range-all, range-seen}
 use Rattle.deb_report.proofs.NumberingLemmas.{front-same}

@@ -19,9 +19,7 @@ use Rattle.deb_report.specs.Gathered.{cause_from}
 use Rattle.deb_report.specs.Gathering.{has_number, is_alone, part_of, share_of}
 use Rattle.deb_report.specs.Numbered.{unnumbered}
 use Rattle.deb_report.specs.Said.{IsKnown, IsNumbered, key_of}
-use Rattle.deb_report.proofs.FirstOnes.{Starts, all-each, all-seen}
-use Rattle.deb_report.proofs.NumberingLemmas.{any-seen}
-use Rattle.deb_report.proofs.CauseOrder.{filter-seen}
+use Rattle.deb_report.proofs.FirstOnes.{Starts, all-each, all-seen, any-seen, filter-seen}
 use Rattle.deb_report.proofs.SaidLemmas.{number-test, same-key}
 
 -- ---- packages with and without numbers

@@ -12,8 +12,8 @@ use Rattle.deb_walk.specs.Hits.{hits_of}
 use Rattle.deb_walk.specs.Walk.{brought}
 use Rattle.deb_report.specs.Causes.{CauseView}
 use Rattle.deb_report.specs.Content.{ContentView}
-use Rattle.deb_outcome.specs.Outcome.{status_of}
 use Rattle.deb_report.specs.Report.{OfName, OfRelation, ReasonView, TellingView, group_field, group_text, is_missing, later_at, reason_of}
+use Rattle.deb_outcome.specs.Outcome.{status_of}
 use Rattle.deb_outcome.specs.Since.{BrokenView}
 
 -- ---- texts

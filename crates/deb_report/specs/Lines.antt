@@ -6,8 +6,8 @@ use Rattle.deb_index.specs.Packages.{IndexView, package_at}
 use Rattle.deb_health.specs.Verdicts.{VerdictView, Found, Blocked}
 use Rattle.deb_report.specs.CauseLines.{causes_text}
 use Rattle.deb_report.specs.Content.{ContentView}
-use Rattle.deb_outcome.specs.Outcome.{status_of}
 use Rattle.deb_report.specs.Report.{TellingView, also_at, core_lines, heading, label_text, line, number_line, place_line, titled}
+use Rattle.deb_outcome.specs.Outcome.{status_of}
 use Rattle.deb_outcome.specs.Since.{BrokenView}
 use Rattle.deb_report.specs.WalkLines.{walk_lines}
 

@@ -4,7 +4,7 @@ ghost use Rattle.std.specs.Prelude.{◌≡◌, IfOk, option_map, string_bytes};
 ghost use Rattle.run_hints.specs.Hints.{clue_after, fault_hint_text, files_of, hint_text, is_in_question, run_hint_text, unread_text};
 
 use deb_input::RunFault;
-use deb_report::Summary;
+use deb_outcome::Summary;
 use input_hints::{Hint, Input, file_hint_line, hint_line, hint_of, run_hint, run_hint_line};
 use run_settings::Config;
 use std::alloc::{AllocError, Global};

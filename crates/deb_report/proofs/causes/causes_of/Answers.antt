@@ -9,7 +9,7 @@ use Rattle.deb_outcome.specs.Outcome.{IsAskedOf, shown_view}
 use Rattle.deb_report.specs.Told.{later_view}
 use Rattle.std.proofs.lemmas.List.Elements.{All-map}
 use Rattle.deb_report.proofs.GatheredCauses.{causes-within, few-places-of, listed}
-use Rattle.list_steps.proofs.causes.causes_of.Goals as goal
+use Rattle.deb_report.proofs.causes.causes_of.Goals as goal
 
 pub list_causes-requires-clause-some : goal.list_causes-requires-clause-some
 list_causes-requires-clause-some c = rw c.as_slice.ensures.value c.in_ok-parts.ensures.some

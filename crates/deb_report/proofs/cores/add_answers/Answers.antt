@@ -7,7 +7,7 @@ use Rattle.number_sets.specs.Sets.{members_of}
 use Rattle.list_steps.proofs.ListLemmas.{or_assoc, or_false}
 use Rattle.deb_report.specs.Causes.{is_answer_to}
 use Rattle.deb_report.proofs.CoreLemmas.{answer-added, no-answer, no-need-from}
-use Rattle.list_steps.proofs.cores.add_answers.Goals as goal
+use Rattle.deb_report.proofs.cores.add_answers.Goals as goal
 use Rattle.deb_report.proofs.cores.add_answers.Goals.{in-Need+in_ok-answers+in_ok-extend, in_default}
 
 pub loop-constraint-preserved : goal.loop-constraint-preserved

@@ -8,7 +8,7 @@ use Rattle.list_steps.proofs.ListLemmas.{filter_fails, filter_passes}
 use Rattle.deb_report.specs.Causes.{says}
 use Rattle.deb_report.specs.Numbering.{texts_of, with_text}
 use Rattle.deb_report.proofs.CoreLemmas.{wrong-known, wrong-new}
-use Rattle.list_steps.proofs.cores.first_said.Goals as goal
+use Rattle.deb_report.proofs.cores.first_said.Goals as goal
 use Rattle.deb_report.proofs.cores.first_said.Goals.{then-branch+in_ok-number_of+then-len-known+in_ok-push, then-branch+in_ok-number_of+else-len-known, else-branch}
 
 pub loop-constraint-init : goal.loop-constraint-init

@@ -6,7 +6,7 @@ use Rattle.deb_health.specs.Causes.{cause_in, is_final}
 use Rattle.number_sets.specs.Sets.{members_of}
 use Rattle.list_steps.proofs.ListLemmas.{filter_fails, filter_passes}
 use Rattle.deb_report.proofs.CoreLemmas.{need-passed, need-pushed, no-need-from}
-use Rattle.list_steps.proofs.cores.push_needs.Goals as goal
+use Rattle.deb_report.proofs.cores.push_needs.Goals as goal
 use Rattle.deb_report.proofs.cores.push_needs.Goals.{in-Need+in_ok-is_final+then-branch+in_ok-push, in-Need+in_ok-is_final+else-branch, in_default}
 
 pub loop-constraint-preserved : goal.loop-constraint-preserved

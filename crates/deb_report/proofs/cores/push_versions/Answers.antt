@@ -7,7 +7,7 @@ use Rattle.number_sets.specs.Sets.{members_of}
 use Rattle.list_steps.proofs.ListLemmas.{or_false}
 use Rattle.deb_report.specs.Causes.{is_version_of}
 use Rattle.deb_report.proofs.CoreLemmas.{no-only-from, no-version, version-added}
-use Rattle.list_steps.proofs.cores.push_versions.Goals as goal
+use Rattle.deb_report.proofs.cores.push_versions.Goals as goal
 use Rattle.deb_report.proofs.cores.push_versions.Goals.{in-Only+in_ok-push_among, in_default}
 
 pub loop-constraint-preserved : goal.loop-constraint-preserved

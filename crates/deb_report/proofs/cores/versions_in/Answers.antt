@@ -6,7 +6,7 @@ use Rattle.deb_index.specs.declared.constraint.Constraint.{Constraint}
 use Rattle.list_steps.proofs.ListLemmas.{any_more, or_false}
 use Rattle.deb_report.specs.Causes.{is_answer_to, is_version_in, is_version_of}
 use Rattle.deb_report.proofs.CoreLemmas.{no-versions, version-in, versions-are}
-use Rattle.list_steps.proofs.cores.versions_in.Goals as goal
+use Rattle.deb_report.proofs.cores.versions_in.Goals as goal
 use Rattle.deb_report.proofs.cores.versions_in.Goals.{then-has_only+in_ok-add_answers+in_ok-push_versions, else-has_only}
 
 pub loop-core-preserved : goal.loop-core-preserved

@@ -5,7 +5,7 @@ use Rattle.deb_index.specs.Constraints.{below}
 use Rattle.list_steps.proofs.ListLemmas.{range_more}
 use Rattle.deb_report.specs.declared.gathered.Part.{Part}
 use Rattle.deb_report.specs.Gathering.{part_of, part_view, share_view}
-use Rattle.list_steps.proofs.gathered.no_parts.Goals as goal
+use Rattle.deb_report.proofs.gathered.no_parts.Goals as goal
 
 pub loop-number-preserved : goal.loop-number-preserved
 loop-number-preserved c =

@@ -8,7 +8,7 @@ use Rattle.deb_report.specs.declared.numbered.NumberedPackage.{NumberedPackage}
 use Rattle.deb_report.specs.Gathering.{part_of, part_view}
 use Rattle.deb_report.specs.Numbered.{package_view}
 use Rattle.deb_report.proofs.GatheringLemmas.{length-range}
-use Rattle.list_steps.proofs.gathered.parts_of.Goals as goal
+use Rattle.deb_report.proofs.gathered.parts_of.Goals as goal
 
 pub add_package-requires : goal.add_package-requires
 add_package-requires c =
