@@ -18,11 +18,10 @@ use Rattle.deb_outcome.specs.declared.shown.Shown.{Shown}
 use Rattle.deb_report.specs.Causes.{CauseView}
 use Rattle.deb_report.specs.Content.{ContentView, causes_if, content_of, content_since}
 use Rattle.deb_report.specs.Report.{TellingView, also_at, later_at}
-use Rattle.deb_outcome.specs.Outcome.{broken_ones, is_shown, numbers_of, shown_of, summary_of, summary_with}
+use Rattle.deb_outcome.specs.Outcome.{broken_ones, is_shown, numbers_of, shown_of, summary_of, summary_with, IsAskedOf, shown_view}
 use Rattle.run_settings.specs.Settings.{Settings}
 use Rattle.deb_outcome.specs.Since.{BrokenView, amends_of, is_news, news_of}
 use Rattle.deb_report.specs.Told.{AreLaterOf, content_view}
-use Rattle.deb_outcome.specs.Outcome.{IsAskedOf, shown_view}
 
 asked-within : (index : IndexView) (asked : List ℕ) (verdicts : List VerdictView) → All (λ place. place < length index.packages) asked → All (SpeaksOf index) verdicts
     → All (IsAskedOf index) (zip asked verdicts)

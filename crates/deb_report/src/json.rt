@@ -9,8 +9,7 @@ ghost use Rattle.deb_report.specs.Json.{also_json, array, block_json, broken_jso
 ghost use Rattle.deb_report.specs.Json.{list_json, member, number_json, quoted, tall_array, told_json};
 ghost use Rattle.deb_outcome.specs.Since.{amends_view, broken_view};
 ghost use Rattle.deb_outcome.specs.Outcome.{IsAskedOf, number_view, shown_view};
-ghost use Rattle.deb_report.specs.Told.{AreLaterOf, IsContentOf};
-ghost use Rattle.deb_report.specs.Told.{content_view, later_view, telling_view};
+ghost use Rattle.deb_report.specs.Told.{AreLaterOf, IsContentOf, content_view, later_view, telling_view};
 
 use crate::cause_json::push_causes;
 use crate::content::Content;

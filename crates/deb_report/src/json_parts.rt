@@ -6,8 +6,7 @@ ghost use Rattle.deb_relation.specs.Relationship.{printed};
 ghost use Rattle.deb_index.specs.Constraints.{IsOfIndex};
 ghost use Rattle.deb_index.specs.Packages.{package_view};
 ghost use Rattle.deb_near.specs.Near.{near_view};
-ghost use Rattle.deb_report.specs.Json.{array, constraint_json, label_json, label_members, member, near_json, place_json};
-ghost use Rattle.deb_report.specs.Json.{quoted, reason_front};
+ghost use Rattle.deb_report.specs.Json.{array, constraint_json, label_json, label_members, member, near_json, place_json, quoted, reason_front};
 ghost use Rattle.deb_report.specs.Report.{group_text};
 ghost use Rattle.deb_report.specs.Told.{reason_view};
 

@@ -12,8 +12,7 @@ ghost use Rattle.deb_report.specs.Similar.{FitsWalk};
 ghost use Rattle.deb_outcome.specs.Since.{amends_view, broken_view};
 ghost use Rattle.deb_report.specs.Sought.{FitsBlock, IsWalked, core_in};
 ghost use Rattle.deb_outcome.specs.Outcome.{IsAskedOf, number_view, shown_view};
-ghost use Rattle.deb_report.specs.Told.{AreLaterOf, IsContentOf};
-ghost use Rattle.deb_report.specs.Told.{content_view, later_view, telling_view};
+ghost use Rattle.deb_report.specs.Told.{AreLaterOf, IsContentOf, content_view, later_view, telling_view};
 
 use crate::cause_lines::push_causes;
 use crate::content::Content;

@@ -6,8 +6,7 @@ ghost use Rattle.deb_index.specs.Packages.{apart_at};
 ghost use Rattle.deb_index.specs.declared.constraint.Constraint.{Constraint};
 ghost use Rattle.number_sets.specs.Sets.{members_of};
 ghost use Rattle.deb_walk.specs.declared.walk.Step.{Step};
-ghost use Rattle.deb_walk.specs.Walk.{are_told, begin_step, brought, comers, depth_of, essential_step, first_steps, hits_in};
-ghost use Rattle.deb_walk.specs.Walk.{met_steps, only_step, own_steps};
+ghost use Rattle.deb_walk.specs.Walk.{are_told, begin_step, brought, comers, depth_of, essential_step, first_steps, hits_in, met_steps, only_step, own_steps};
 
 use crate::hits::push_hit;
 use crate::own::OwnTable;
