@@ -1,5 +1,5 @@
 -- Cores that are placed are the later ones of their places.
-use Rattle.std.proofs.Common.{Global, Vec, ◌≡◌, ◌∙◌, ℕ, zero, suc, ◌+◌, ◌<◌, ◌==◌, ◌||◌, Bool, true, false, ◌&&◌, List, [], ◌∷◌, ◌++◌, All, Some, ap, ap₂, append_assoc, if◌then◌else◌, drop, get_or, length, map, set, slice_get, refl, subst, sym, take, arith, inl, inr}
+use Rattle.std.proofs.Common.{Global, Vec, ◌≡◌, ◌∙◌, ℕ, zero, suc, ◌+◌, ◌<◌, ◌==◌, ◌||◌, Bool, true, false, ◌&&◌, List, [], ◌∷◌, ◌++◌, All, Err, IfOk, Ok, Result, Some, ap, ap₂, append_assoc, if◌then◌else◌, drop, get_or, length, map, set, slice_get, refl, subst, sym, take, arith, inl, inr}
 use Rattle.std.proofs.lemmas.Bool.{cases_Bool, cases_lt, eq-eqb, eqb-true, false≢true, or_cases, or_left, or_parts, or_right, true≢false}
 use Rattle.std.proofs.lemmas.Grind.{get_or-set_at}
 use Rattle.std.proofs.lemmas.List.{drop-drop, drop_more, get_or-set_other, get_or_past, length-map, length-set}
@@ -251,15 +251,7 @@ placed_next later (p ∷ ps) (suc i) d one cores below =
     let more : suc i + 1 ≡ suc (i + 1) = omega arith in
     rw more (placed_next later ps i d one cores front)
 
-pub placed_none : (later : List Cores) (places : List ℕ) → placed later places [] ≡ later
-placed_none later [] = refl
-placed_none later (p ∷ ps) = refl
-
 -- ---- the loop that puts verdicts with cores in their places
-
-cores_none : (asked places : List ℕ) (others : List VerdictView) → with_cores asked [] places others ≡ []
-cores_none [] places others = refl
-cores_none (p ∷ asked) places others = refl
 
 module _ (asked places : List ℕ) (i met : ℕ) (told total : List VerdictView) (below : i < length asked) where
   abbrev TellsAt : ℕ → ℕ → List VerdictView → List VerdictView → List VerdictView → Type 0
@@ -290,15 +282,6 @@ module _ (asked places : List ℕ) (i met : ℕ) (told total : List VerdictView)
       (sym (ap₂ (λ l r. with_cores (drop i asked) l (drop met places) r) left_is rest_is ∙ step_taken verdict left_then (other ∷ rest_then) yes_so))
       ∙ tells
 
-  -- none is left to be taken
-  pub cores_missing : (verdict : VerdictView) (left left_then rest rest_then : List VerdictView) → takes verdict ≡ true → left ≡ verdict ∷ left_then → rest ≡ [] → rest_then ≡ []
-      → TellsAt i met told left rest → TellsAt (i + 1) (met + 1) told left_then rest_then
-  cores_missing verdict left left_then rest rest_then yes_so left_is rest_is then_is tells =
-      ap (λ list. told ++ list)
-      (ap (with_cores (drop (i + 1) asked) left_then (drop (met + 1) places)) then_is
-      ∙ sym (ap₂ (λ l r. with_cores (drop i asked) l (drop met places) r) left_is rest_is ∙ step_taken verdict left_then [] yes_so))
-      ∙ tells
-
   -- a verdict stays
   pub cores_kept : (verdict : VerdictView) (left left_then rest : List VerdictView) → takes verdict ≡ false → left ≡ verdict ∷ left_then
       → TellsAt i met told left rest → TellsAt (i + 1) met (told ++ verdict ∷ []) left_then rest
@@ -307,15 +290,11 @@ module _ (asked places : List ℕ) (i met : ℕ) (told total : List VerdictView)
       ∙ ap (λ list. told ++ list) (sym (ap (λ l. with_cores (drop i asked) l (drop met places) rest) left_is ∙ step_kept verdict left_then rest not_so))
       ∙ tells
 
-  -- no verdict is left
-  pub cores_ended : (left left_then rest : List VerdictView) → left ≡ [] → left_then ≡ [] → TellsAt i met told left rest → TellsAt (i + 1) met told left_then rest
-  cores_ended left left_then rest left_is then_is tells =
-      ap (λ list. told ++ list)
-      (ap (λ l. with_cores (drop (i + 1) asked) l (drop met places) rest) then_is
-      ∙ cores_none (drop (i + 1) asked) (drop met places) rest
-      ∙ sym (ap (λ l. with_cores (drop i asked) l (drop met places) rest) left_is ∙ cores_none (drop i asked) (drop met places) rest))
-      ∙ tells
-
 pub empty_list : {A : Type 0} (xs : List A) → (0 < length xs → ⊥) → xs ≡ []
 empty_list [] none = refl
 empty_list (x ∷ xs) none = absurd (none (omega arith))
+
+-- what comes of two things that are known of a result
+pub both_ok : {A E : Type 0} (P Q R : A → Type 0) → ((a : A) → P a → Q a → R a) → (result : Result A E) → IfOk result P → IfOk result Q → IfOk result R
+both_ok P Q R from (Ok a) one other = from a one other
+both_ok P Q R from (Err e) one other = tt

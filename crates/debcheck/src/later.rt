@@ -1,6 +1,7 @@
 //! The cores of broken packages: the first ones go into their verdicts, and the later ones by place into a list of their own.
 
-ghost use Rattle.std.specs.Prelude.{◌≡◌, ◌<◌, [], All, IfOk, drop, length, map, true};
+ghost use Rattle.std.specs.Prelude.{◌≡◌, ◌<◌, ◌≤◌, ◌+◌, ◌++◌, [], All, IfOk, drop, length, map, replicate, true};
+ghost use Rattle.std.specs.Vec.{vec_capacity};
 ghost use Rattle.deb_health.specs.Verdicts.{verdict_view};
 ghost use Rattle.deb_outcome.specs.Outcome.{is_broken};
 ghost use Rattle.deb_report.specs.Told.{later_view};
@@ -10,6 +11,7 @@ ghost use Rattle.debcheck.specs.Standing.{is_next, placed, with_cores, with_firs
 use deb_index::Constraint;
 use deb_verdict::Verdict;
 use std::alloc::{AllocError, Global};
+use std::mem::swap;
 
 // What is found of asked places.
 #[derive(Drop)]
@@ -30,67 +32,64 @@ fn is_broken(verdict: &Verdict) -> bool
 }
 
 // No cores for each of so many places.
-pub(crate) fn no_cores(alloc: Global, count: usize) -> Result<Vec<Vec<Vec<Constraint>>>, AllocError>
-    ensures count { IfOk result (λ later. length later.items ≡ count) }
-    ensures none { IfOk result (λ later. All (λ cores. cores ≡ []) (later_view later.items)) }
+fn no_cores(alloc: Global, count: usize) -> Result<Vec<Vec<Vec<Constraint>>>, AllocError>
+    ensures { IfOk result (λ later. later_view later.items ≡ replicate count []) }
 {
     let mut later = Vec::with_capacity(alloc, count)?;
     for _ in 0..count {
-        later.push(Vec::new(alloc))?;
+        later.push_reserved(Vec::new(alloc));
     }
     Ok(later)
 }
 
-// The verdict with the first core, and the cores behind it.
-fn split_first(
-    alloc: Global,
-    cores: Vec<Vec<Constraint>>,
-) -> Result<(Verdict, Vec<Vec<Constraint>>), AllocError>
-    ensures first { IfOk result (λ r. verdict_view r.0 ≡ with_first (cores_view cores)) }
-    ensures behind { IfOk result (λ r. cores_view r.1 ≡ drop 1 (cores_view cores)) }
+// The verdict with the first of these cores. Those behind it stay.
+fn take_first(alloc: Global, cores: &mut Vec<Vec<Constraint>>) -> Verdict
+    ensures first { verdict_view result ≡ with_first (cores_view cores.old) }
+    ensures behind { cores_view cores.new ≡ drop 1 (cores_view cores.old) }
 {
-    let mut rest = cores.into_iter();
-    let first = match rest.next() {
-        Some(core) => core,
-        None => Vec::new(alloc),
-    };
-    let behind = rest.collect(alloc)?;
-    Ok((Verdict::Broken(first), behind))
-}
-
-// The verdict of each package with its first core, and the cores behind it.
-pub(crate) fn split_firsts(
-    alloc: Global,
-    cores: Vec<Vec<Vec<Constraint>>>,
-) -> Result<(Vec<Verdict>, Vec<Vec<Vec<Constraint>>>), AllocError>
-    ensures firsts { IfOk result (λ r. map verdict_view r.0.items ≡ map with_first (later_view cores.items)) }
-    ensures behind { IfOk result (λ r. later_view r.1.items ≡ map (drop 1) (later_view cores.items)) }
-{
-    let mut firsts = Vec::with_capacity(alloc, cores.len())?;
-    let mut behind = Vec::with_capacity(alloc, cores.len())?;
-    for all in cores {
-        let (first, others) = split_first(alloc, all)?;
-        firsts.push(first)?;
-        behind.push(others)?;
+    if cores.is_empty() {
+        return Verdict::Broken(Vec::new(alloc));
     }
-    Ok((firsts, behind))
+    Verdict::Broken(cores.remove(0))
 }
 
-// Puts the cores of each package at its place.
-pub(crate) fn place_cores(
+// Adds the verdict of each package with its first core, and puts the cores behind it at its place.
+fn place_cores(
+    alloc: Global,
+    verdicts: &mut Vec<Verdict>,
     later: &mut Vec<Vec<Vec<Constraint>>>,
     places: &[u32],
-    cores: Vec<Vec<Vec<Constraint>>>,
+    cores: &mut Vec<Vec<Vec<Constraint>>>,
 )
-    requires { All (λ place. place < length later.old.items) places.now }
-    ensures { later_view later.new.items ≡ placed (later_view later.old.items) places.now (later_view cores.items) }
+    requires same { length cores.old.items ≡ length places.now }
+    requires within { All (λ place. place < length later.old.items) places.now }
+    requires room { length verdicts.old.items + length places.now ≤ vec_capacity verdicts.old }
+    ensures firsts { map verdict_view verdicts.new.items ≡ map verdict_view verdicts.old.items ++ map with_first (later_view cores.old.items) }
+    ensures placed { later_view later.new.items ≡ placed (later_view later.old.items) places.now (map (drop 1) (later_view cores.old.items)) }
 {
-    let mut rest = cores.into_iter();
-    for place in places {
-        if let Some(one) = rest.next() {
-            later[*place as usize] = one;
-        }
+    for number in 0..places.len() {
+        verdicts.push_reserved(take_first(alloc, &mut cores[number]));
+        swap(&mut later[places[number] as usize], &mut cores[number]);
     }
+}
+
+// The verdict of each package with its first core, and the cores behind it at its place, of so many.
+pub(crate) fn split_cores(
+    alloc: Global,
+    count: usize,
+    places: &[u32],
+    cores: &mut Vec<Vec<Vec<Constraint>>>,
+) -> Result<Findings, AllocError>
+    requires same { length cores.old.items ≡ length places.now }
+    requires within { All (λ place. place < count) places.now }
+    ensures firsts { IfOk result (λ found. map verdict_view found.verdicts.items ≡ map with_first (later_view cores.old.items)) }
+    ensures placed { IfOk result (λ found.
+        later_view found.later.items ≡ placed (replicate count []) places.now (map (drop 1) (later_view cores.old.items))) }
+{
+    let mut verdicts = Vec::with_capacity(alloc, places.len())?;
+    let mut later = no_cores(alloc, count)?;
+    place_cores(alloc, &mut verdicts, &mut later, places, cores);
+    Ok(Findings { verdicts, later })
 }
 
 // Whether a place is the next of these behind the first ones.
@@ -101,32 +100,23 @@ fn is_next(places: &[u32], count: usize, place: u32) -> bool
     count < places.len() && places[count] == place
 }
 
-// The verdicts of asked places, with the next of some others in the place of each broken one that stands at the next of their places.
-pub(crate) fn with_cores(
-    alloc: Global,
+// Puts the next of some others in the place of each broken verdict of an asked place that stands at the next of their places.
+pub(crate) fn put_cores(
     asked: &[u32],
-    verdicts: Vec<Verdict>,
+    verdicts: &mut Vec<Verdict>,
     places: &[u32],
-    others: Vec<Verdict>,
-) -> Result<Vec<Verdict>, AllocError>
-    ensures { IfOk result (λ told. map verdict_view told.items ≡
-        with_cores asked.now (map verdict_view verdicts.items) places.now (map verdict_view others.items)) }
+    others: &mut Vec<Verdict>,
+)
+    requires asked { length verdicts.old.items ≡ length asked.now }
+    requires places { length others.old.items ≡ length places.now }
+    ensures { map verdict_view verdicts.new.items ≡
+        with_cores asked.now (map verdict_view verdicts.old.items) places.now (map verdict_view others.old.items) }
 {
-    let mut told = Vec::with_capacity(alloc, asked.len())?;
-    let mut left = verdicts.into_iter();
-    let mut rest = others.into_iter();
     let mut met = 0;
-    for place in asked {
-        if let Some(verdict) = left.next() {
-            if is_broken(&verdict) && is_next(places, met, *place) {
-                met += 1;
-                if let Some(other) = rest.next() {
-                    told.push(other)?;
-                }
-            } else {
-                told.push(verdict)?;
-            }
+    for number in 0..asked.len() {
+        if is_broken(&verdicts[number]) && is_next(places, met, asked[number]) {
+            swap(&mut verdicts[number], &mut others[met]);
+            met += 1;
         }
     }
-    Ok(told)
 }

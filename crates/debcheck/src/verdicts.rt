@@ -11,7 +11,7 @@ ghost use Rattle.deb_verdict.specs.Told.{IsToldVerdict};
 ghost use Rattle.work_draw.specs.Checks.{AnswersEach};
 ghost use Rattle.debcheck.specs.Standing.{AreFound, HaveCores, Merges, is_unmarked, wanted_by};
 
-use crate::later::{Findings, no_cores, place_cores, split_firsts, with_cores};
+use crate::later::{Findings, put_cores, split_cores};
 use deb_index::Index;
 use deb_report::{BrokenPackage, newly_broken};
 use deb_verdict::{Groundwork, Verdict, Wanted, find_installable};
@@ -150,11 +150,10 @@ fn find_broken<G: Gate + Sync, R: Threads + Sync>(
 {
     let (workers, chunk) = (config.workers, config.chunk);
     if config.tells_all_causes() {
-        let cores = find_cores(rt, alloc, groundwork, places, workers)?;
-        let mut later = no_cores(alloc, index.len() as usize)?;
-        let (verdicts, behind) = split_firsts(alloc, cores)?;
-        place_cores(&mut later, places, behind);
-        return Ok(Findings { verdicts, later });
+        let mut cores = find_cores(rt, alloc, groundwork, places, workers)?;
+        let found = split_cores(alloc, index.len() as usize, places, &mut cores);
+        drop(cores);
+        return found;
     }
     gate.start(0, places.len() as u32);
     let wanted = Wanted { sets, cores: true };
@@ -189,13 +188,16 @@ fn find_news<G: Gate + Sync, R: Threads + Sync>(
 {
     let sets = wanted.sets;
     let statuses = Wanted { sets, cores: false };
-    let found = find_on(rt, alloc, config, statuses, groundwork, asked, gate)?;
+    let mut found = find_on(rt, alloc, config, statuses, groundwork, asked, gate)?;
     let news = newly_broken(alloc, index, asked, found.as_slice(), before)?;
     let places = news.as_slice();
-    let broken = find_broken(rt, alloc, config, sets, index, groundwork, places, gate)?;
-    let verdicts = with_cores(alloc, asked, found, places, broken.verdicts)?;
+    let mut broken = find_broken(rt, alloc, config, sets, index, groundwork, places, gate)?;
+    put_cores(asked, &mut found, places, &mut broken.verdicts);
     let later = broken.later;
-    Ok(Findings { verdicts, later })
+    Ok(Findings {
+        verdicts: found,
+        later,
+    })
 }
 
 // As much as is wanted of the verdicts of the asked places, in their order, and their later cores where all causes are told. Where these packages were

@@ -1,12 +1,17 @@
-use Rattle.std.proofs.Common.{◌≡◌, drop, length}
-use Rattle.std.specs.Vec.Iter.{into_iter_items, into_iter_len}
+use Rattle.std.proofs.Common.{◌≡◌, ◌+◌, ◌++◌, drop, length, map}
+use Rattle.std.specs.Vec.{vec_capacity}
+use Rattle.deb_health.specs.Verdicts.{verdict_view}
 use Rattle.deb_report.specs.Told.{later_view}
-use Rattle.debcheck.specs.Standing.{placed}
+use Rattle.debcheck.specs.Standing.{placed, with_first}
 use Rattle.debcheck.proofs.later.place_cores.Given as goal
 
-abbrev pub invariant-loop-place : goal.invariant-loop-place
-invariant-loop-place l = record {
+abbrev pub invariant-loop-number : goal.invariant-loop-number
+invariant-loop-number l = record {
   count : length l.later.items ≡ length l.fn.later.items;
-  placed : placed (later_view l.later.items) (drop l.place-index l.places) (later_view (into_iter_items l.rest)) ≡ placed (later_view l.fn.later.items) l.places (later_view l.fn.cores.items);
-  counts : into_iter_len l.rest ≡ length (into_iter_items l.rest);
+  same : length l.cores.items ≡ length l.places;
+  room : vec_capacity l.verdicts ≡ vec_capacity l.fn.verdicts;
+  added : length l.verdicts.items ≡ length l.fn.verdicts.items + l.number;
+  firsts : map verdict_view l.verdicts.items ++ map with_first (later_view (drop l.number l.cores.items)) ≡ map verdict_view l.fn.verdicts.items ++ map with_first (later_view l.fn.cores.items);
+  placed : placed (later_view l.later.items) (drop l.number l.places) (map (drop 1) (later_view (drop l.number l.cores.items)))
+      ≡ placed (later_view l.fn.later.items) l.places (map (drop 1) (later_view l.fn.cores.items));
 }

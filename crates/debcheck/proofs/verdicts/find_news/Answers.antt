@@ -1,4 +1,4 @@
-use Rattle.std.proofs.Common.{◌≡◌, ◌<◌, ◌∙◌, All, List, ap, arith, false, length, map, subst, sym, ℕ}
+use Rattle.std.proofs.Common.{◌≡◌, ◌<◌, ◌∙◌, All, List, ap, arith, false, length, map, subst, sym, true, ℕ}
 use Rattle.std.proofs.lemmas.List.{length-map}
 use Rattle.deb_index.specs.Packages.{IndexView}
 use Rattle.deb_health.specs.Verdicts.{SpeaksOf, VerdictView, verdict_view}
@@ -40,6 +40,12 @@ find_broken-requires-clause-few g c κs within =
     let fewer = newly_few c.args.index.now (map broken_view c.args.before.now) c.args.asked.now (map verdict_view c.as_slice.result.now) in
     rw (c.as_slice-places.ensures.value, c.in_ok-news.ensures) (omega (arith, fewer, c.requires.few))
 
+pub put_cores-requires-clause-places : goal.put_cores-requires-clause-places
+put_cores-requires-clause-places g c =
+    let others = c.in_ok-broken.broken.verdicts.items in
+    sym (length-map others verdict_view)
+    ∙ AnswersEach-length (IsToldVerdict (wanting c.args.wanted.sets true) c.args.index.now) c.as_slice-places.result.now (map verdict_view others) c.in_ok-broken.ensures.each
+
 pub returns : goal.returns
 returns g c =
     let settings = settings_of c.args.config.now in
@@ -57,12 +63,12 @@ returns g c =
     c.as_slice-places.ensures.value ∙ c.in_ok-news.ensures ∙ ap (λ (verdicts : List Verdict). newly_broken index asked (map verdict_view verdicts) before) c.as_slice.ensures.value
     in
     let have : HaveCores settings wanted.sets index news others later = subst (λ (places : List ℕ). HaveCores settings wanted.sets index places others later) are c.in_ok-broken.ensures in
-    let told_is : map verdict_view c.in_ok-verdicts.verdicts.items ≡ with_cores asked base news others =
-    c.in_ok-verdicts.ensures ∙ ap (λ (places : List ℕ). with_cores asked base places others) are
+    let told_is : map verdict_view c.put_cores.new.verdicts.items ≡ with_cores asked base news others =
+    c.put_cores.ensures ∙ ap (λ (places : List ℕ). with_cores asked base places others) are
     in
     let told = told_now settings wanted c.requires.cores before index asked base others later c.requires.places each have in
     record {
-      same = sym (length-map c.in_ok-verdicts.verdicts.items verdict_view) ∙ ap length told_is
+      same = sym (length-map c.put_cores.new.verdicts.items verdict_view) ∙ ap length told_is
           ∙ AnswersEach-length (λ place. IsToldVerdict (wanted_at wanted index before place) index place) asked (with_cores asked base news others) told;
       within = subst (λ (verdicts : List VerdictView). All (SpeaksOf index) verdicts) (sym told_is) (speak_with index asked base news others speak have.within);
       of_index = have.of_index;
