@@ -176,6 +176,8 @@ impl Similar {
 
     /// The names of an index with the stems of the alternatives of all needs among the constraints: one pass over the index for all of these, and none
     /// where there is no such need.
+    ///
+    /// The constraints are of the index. `AllocError` where there is no memory for it.
     pub fn find(
         alloc: Global,
         index: &Index,
@@ -205,7 +207,9 @@ impl Similar {
         }
     }
 
-    /// The names that differ in numbers alone from those of the alternatives of a need among these constraints, alternative by alternative.
+    /// The names that differ in numbers alone from those of the alternatives of a need among these constraints, alternative by alternative: ten at most.
+    ///
+    /// The constraints are of the index, and their stems were looked for. `AllocError` where there is no memory for it.
     pub fn names(
         &self,
         alloc: Global,

@@ -83,7 +83,9 @@ fn gone_of<'b>(
     Ok(gone)
 }
 
-/// What became of the packages that were broken in an earlier index, in its order.
+/// What became of the packages that were broken in an earlier index, in its order: which are mended, and which are gone.
+///
+/// The places, and those of the broken, are of the index. `AllocError` where there is no memory for it.
 #[tactic(auto, unfolding(crate::specs::Since::amends_of))]
 pub fn amends_of<'b>(
     alloc: Global,

@@ -36,7 +36,7 @@ fn is_shown(show: Show, verdict: &Verdict) -> bool
     }
 }
 
-/// The status of a package.
+/// The status of a package, as a report has it: `ok` or `broken`.
 #[tactic(auto, unfolding(crate::specs::Outcome::status_of))]
 pub fn status_text(verdict: &Verdict) -> &'static [u8]
     ensures { result.now ≡ status_of (verdict_view verdict.now) }
@@ -47,7 +47,9 @@ pub fn status_text(verdict: &Verdict) -> &'static [u8]
     }
 }
 
-/// The asked places that are shown, in the order of the list.
+/// The asked places that are shown, in the order of the list, with their verdicts.
+///
+/// There are as many verdicts as places. `AllocError` where there is no memory for it.
 pub fn shown_of<'v>(
     alloc: Global,
     asked: &[u32],

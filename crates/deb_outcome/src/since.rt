@@ -24,6 +24,8 @@ fn is_news(index: &Index, marks: &[bool], one: &Shown<'_>) -> bool
 }
 
 /// Those of the broken that are newly broken: no package of their name was broken in the earlier index.
+///
+/// Their places are of the index. `AllocError` where there is no memory for it.
 pub fn news_of<'v>(
     alloc: Global,
     index: &Index,

@@ -96,7 +96,7 @@ impl Number {
 }
 
 /// The numbers of a report, of any count of asked places, each with its title: with a background its packages, and how many are newly broken,
-/// where that is asked.
+/// where that is asked. `AllocError` where there is no memory for it.
 #[tactic(auto, unfolding(crate::specs::Outcome::numbers_of))]
 pub fn numbers_of(
     alloc: Global,
