@@ -96,16 +96,15 @@ fn expect_lines(rt: &(impl Abort + AllocGlobal), fault: &LineFault, wanted: [&st
 }
 
 #[test]
-fn help_goes_to_the_output_and_all_else_to_the_errors(rt: HostRuntime) {
-    let text = |said| String::from_str(rt.alloc(), said).expect(&rt, "no memory");
-    let help = LineFault::Help {
-        text: text("Usage\n"),
-    };
-    let refused = LineFault::Refused {
-        text: text("error: no\n"),
-    };
-    expect_lines(&rt, &help, ["Usage\n", ""]);
-    expect_lines(&rt, &refused, ["", "error: no\n"]);
+fn help_goes_to_the_output(rt: HostRuntime) {
+    let text = String::from_str(rt.alloc(), "Usage\n").expect(&rt, "no memory");
+    expect_lines(&rt, &LineFault::Help { text }, ["Usage\n", ""]);
+}
+
+#[test]
+fn a_refusal_and_want_of_memory_go_to_the_errors(rt: HostRuntime) {
+    let text = String::from_str(rt.alloc(), "error: no\n").expect(&rt, "no memory");
+    expect_lines(&rt, &LineFault::Refused { text }, ["", "error: no\n"]);
     expect_lines(&rt, &LineFault::Memory, ["", "debcheck: out of memory\n"]);
 }
 
@@ -113,5 +112,7 @@ fn help_goes_to_the_output_and_all_else_to_the_errors(rt: HostRuntime) {
 #[test]
 fn the_errors_fail_at_the_fifth_write(rt: HostRuntime) {
     let (written, output, errors) = written_of(rt.alloc(), &LineFault::Memory, 5);
-    assert!(rt; !written && output.bytes.is_empty() && errors.bytes.as_slice() == b"debc");
+    assert!(rt;
+        !written && output.bytes.is_empty() && errors.bytes.as_slice() == b"debc".as_slice()
+    );
 }
