@@ -14,6 +14,11 @@ rising-cons x rest above rising (suc k) below =
     let next : suc k + 1 ≡ suc (k + 1) = omega arith in
     omega (arith, rising k (omega arith), ap (λ m. get_or (x ∷ rest) m 0) next)
 
+-- what they are, without a word of their own
+pub where_from : {A : Type 0} (test : A → Bool) (xs : List A) → places_where test xs ≡ map (λ e. e.0) (filter (λ e. test e.1) (enumerate_from 0 xs))
+unfolding places_where
+where_from test xs = refl
+
 module _ {A : Type 0} (test : A → Bool) where
   -- the places where it passes, counted from a number on
   abbrev pub places_from : ℕ → List A → List ℕ

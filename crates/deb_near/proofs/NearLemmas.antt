@@ -9,10 +9,10 @@ use Rattle.std.proofs.lemmas.List.Folds.{list_any-append}
 use Rattle.deb_relation.specs.Relationship.{AtomText}
 use Rattle.deb_index.specs.Meets.{is_providing, provided_at}
 use Rattle.deb_index.specs.Packages.{IndexView, PackageView, is_named, places_of, places_where}
-use Rattle.deb_index.proofs.MemberLemmas.{below-places_where, member-places_where, rising-places_where}
+use Rattle.deb_index.proofs.MemberLemmas.{below-places_where, member-places_where, rising-places_where, where_from}
 use Rattle.number_sets.proofs.RisingLists.{rising_once}
 use Rattle.deb_near.specs.Near.{is_near, near_places}
-use Rattle.list_steps.proofs.PlaceLemmas.{is_among, none-where, one-is-some, where_from}
+use Rattle.list_steps.proofs.PlaceLemmas.{is_among, none-where, one-is-some}
 
 -- a place that stands before each of some numbers is among these pairs' places where there is one
 repeated : (x k : ℕ) (js : List ℕ) → is_among k (map (λ (pair : ℕ × ℕ). pair.0) (map (λ (j : ℕ). (x, j)) js)) ≡ (not (length js == 0) && (x == k))

@@ -3,7 +3,8 @@ use Rattle.std.proofs.Common.{◌≡◌, ◌+◌, ◌∙◌, true, List, ℕ, Op
 use Rattle.std.specs.Option.{option_map_or}
 use Rattle.deb_index.specs.Packages.{IndexView, is_named, places_of}
 use Rattle.deb_outcome.specs.Asked.{asked_places, foreground_packages, is_empty, is_unknown, listed_places, unknown_in, unless_unknown}
-use Rattle.list_steps.proofs.PlaceLemmas.{none_below, none_in_front, places_from, where_from}
+use Rattle.deb_index.proofs.MemberLemmas.{where_from}
+use Rattle.list_steps.proofs.PlaceLemmas.{none_below, none_in_front, places_from}
 
 pub asked-known : (index : IndexView) (only : Option (List (List ℕ))) (places : List ℕ) → unknown_in index only ≡ None → places ≡ listed_places index only → asked_places index only ≡ Ok places
 unfolding asked_places

@@ -16,7 +16,7 @@ use Rattle.deb_index.specs.Meets.{group_satisfiers, meets_need}
 use Rattle.deb_index.specs.Packages.{IndexView, PackageView, first_of_each, is_named, name_at, need_at, places_of, places_where}
 use Rattle.deb_index.proofs.FirstLemmas.{any-map, first-push}
 use Rattle.deb_index.proofs.HoldsLemmas.{group-at}
-use Rattle.deb_index.proofs.MemberLemmas.{below-places_where, member-places_where, rising-places_where}
+use Rattle.deb_index.proofs.MemberLemmas.{below-places_where, member-places_where, rising-places_where, where_from}
 use Rattle.deb_index.proofs.PositionLemmas.{one_position}
 use Rattle.deb_index.proofs.TableLemmas.{any-turned, names-chain}
 use Rattle.deb_health.specs.Causes.{cause_in, is_final}
@@ -25,7 +25,7 @@ use Rattle.number_sets.specs.SparseSets.{Grows}
 use Rattle.number_sets.proofs.ListMembers.{same_test}
 use Rattle.number_sets.proofs.RisingLists.{rising_once}
 use Rattle.list_steps.proofs.ListLemmas.{or_assoc, or_false}
-use Rattle.list_steps.proofs.PlaceLemmas.{places_from, where_from}
+use Rattle.list_steps.proofs.PlaceLemmas.{places_from}
 use Rattle.deb_walk.proofs.HitLemmas.{rising-below}
 use Rattle.deb_report.specs.Causes.{is_answer_to, is_need, is_version_in, is_version_of, needs_in, same_constraint, says, says_same, versions_in}
 use Rattle.deb_report.specs.Numbering.{with_text}

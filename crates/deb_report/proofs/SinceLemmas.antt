@@ -10,7 +10,8 @@ use Rattle.deb_index.specs.Packages.{IndexView, is_named, no_package, package_at
 use Rattle.deb_index.proofs.FirstLemmas.{any-map, name-itself}
 use Rattle.deb_health.specs.Verdicts.{VerdictView}
 use Rattle.list_steps.proofs.ListLemmas.{all_seen, map-twice}
-use Rattle.list_steps.proofs.PlaceLemmas.{none-where, where_from}
+use Rattle.deb_index.proofs.MemberLemmas.{where_from}
+use Rattle.list_steps.proofs.PlaceLemmas.{none-where}
 use Rattle.deb_outcome.specs.Asked.{foreground_packages, is_empty}
 use Rattle.deb_outcome.specs.Outcome.{broken_ones, is_broken}
 use Rattle.deb_outcome.specs.Since.{BrokenView, amends_of, broken_at, broken_of, has_named, is_gone, is_mended, is_news, news_of, was_broken}

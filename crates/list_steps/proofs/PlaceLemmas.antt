@@ -5,15 +5,10 @@ use Rattle.std.proofs.lemmas.Bool.Decides.{nat_tests}
 use Rattle.std.proofs.lemmas.List.Elements.{All-nil, All-cons}
 use Rattle.std.specs.List.{enumerate_from, list_any}
 use Rattle.std.specs.Option.{option_map_or}
-use Rattle.deb_index.specs.Packages.{places_where}
 
 -- those places, where the first element stands at n
 abbrev pub places_from : {A : Type 0} → (A → Bool) → ℕ → List A → List ℕ
 places_from test n xs = map (λ e. e.0) (filter (λ e. test e.1) (enumerate_from n xs))
-
-pub where_from : {A : Type 0} (test : A → Bool) (xs : List A) → places_where test xs ≡ places_from test 0 xs
-unfolding places_where
-where_from test xs = refl
 
 -- with one there are some
 pub one-is-some : (place : ℕ) (places : List ℕ) → (length (place ∷ places) == 0) ≡ false

@@ -4,7 +4,8 @@ use Rattle.std.proofs.lemmas.List.Elements.{All-same}
 use Rattle.deb_index.specs.Packages.{no_package, package_at, places_where}
 use Rattle.deb_outcome.specs.Asked.{foreground_packages, is_listed}
 use Rattle.list_steps.proofs.ListLemmas.{front_of}
-use Rattle.list_steps.proofs.PlaceLemmas.{places-few, places-marked, places-within, places_from, where_from}
+use Rattle.deb_index.proofs.MemberLemmas.{where_from}
+use Rattle.list_steps.proofs.PlaceLemmas.{places-few, places-marked, places-within, places_from}
 use Rattle.deb_outcome.proofs.asked.listed_places.Goals as goal
 
 -- what is marked, and nothing else, is collected

@@ -1,6 +1,7 @@
 use Rattle.std.proofs.Common.{◌≡◌, ◌<◌, ◌++◌, ◌∙◌, [], ◌∷◌, ap, arith, false, get_or, length, rules, sym, take, true}
 use Rattle.std.proofs.lemmas.List.{take_all}
-use Rattle.list_steps.proofs.PlaceLemmas.{marked_more, places_from, unmarked_more, where_from}
+use Rattle.deb_index.proofs.MemberLemmas.{where_from}
+use Rattle.list_steps.proofs.PlaceLemmas.{marked_more, places_from, unmarked_more}
 use Rattle.deb_outcome.proofs.asked.marked_places.Goals as goal
 use Rattle.deb_outcome.proofs.asked.marked_places.Goals.{then-mark+in_ok-push, else-mark}
 
