@@ -1,68 +1,25 @@
--- What is shown speaks of what the index has, and what a report tells.
-use Rattle.std.proofs.Common.{◌≡◌, ◌<◌, ◌≤◌, ◌∙◌, ℕ, Bool, true, false, List, [], ◌∷◌, All, Global, Option, Some, Vec, ap, arith, filter, if◌then◌else◌, inl, inr, length, ltb, map, refl, sym}
+-- What a report tells, and the cores that it tells.
+use Rattle.std.proofs.Common.{◌≡◌, ◌≤◌, ◌∙◌, ℕ, Bool, true, false, List, [], All, Global, Option, Some, Vec, ap, arith, filter, if◌then◌else◌, inl, inr, length, ltb, map, refl, sym}
 use Rattle.std.proofs.lemmas.Bool.{cases_Bool, ltb-false, ltb-true}
 use Rattle.std.proofs.lemmas.List.{get_or_past, length-map}
-use Rattle.std.proofs.lemmas.List.Elements.{All-cons, All-filter, All-head, All-map, All-nil, All-same, All-tail, All-weaker}
+use Rattle.std.proofs.lemmas.List.Elements.{All-nil, All-same}
 use Rattle.std.proofs.lemmas.Slice.Zip.{length-zip}
 use Rattle.std.specs.List.{zip}
 use Rattle.deb_index.proofs.EnumerateLemmas.{filter-length}
 use Rattle.deb_index.specs.declared.constraint.Constraint.{Constraint}
 use Rattle.deb_index.specs.Constraints.{IsOfIndex}
 use Rattle.deb_index.specs.Packages.{IndexView}
-use Rattle.deb_health.specs.Verdicts.{SpeaksOf, VerdictView}
-use Rattle.run_settings.specs.declared.config.Show.{Show}
+use Rattle.deb_health.specs.Verdicts.{VerdictView}
 use Rattle.run_settings.specs.declared.config.Show.TheVariants.{Failures}
-use Rattle.list_steps.proofs.ListLemmas.{all_seen}
 use Rattle.deb_report.specs.declared.content.Content.{Content}
-use Rattle.deb_outcome.specs.declared.shown.Shown.{Shown}
 use Rattle.deb_report.specs.Causes.{CauseView}
 use Rattle.deb_report.specs.Content.{ContentView, causes_if, content_of, content_since}
+use Rattle.deb_outcome.specs.Outcome.{broken_ones, is_shown, numbers_of, shown_of, shown_view, summary_of, summary_with}
 use Rattle.deb_report.specs.Report.{TellingView, also_at, later_at}
-use Rattle.deb_outcome.specs.Outcome.{broken_ones, is_shown, numbers_of, shown_of, summary_of, summary_with, IsAskedOf, shown_view}
 use Rattle.run_settings.specs.Settings.{Settings}
 use Rattle.deb_outcome.specs.Since.{BrokenView, amends_of, is_news, news_of}
 use Rattle.deb_report.specs.Told.{AreLaterOf, content_view}
-
-asked-within : (index : IndexView) (asked : List ℕ) (verdicts : List VerdictView) → All (λ place. place < length index.packages) asked → All (SpeaksOf index) verdicts
-    → All (IsAskedOf index) (zip asked verdicts)
-asked-within index [] verdicts places within = All-nil (IsAskedOf index)
-asked-within index (p ∷ ps) [] places within = All-nil (IsAskedOf index)
-asked-within index (p ∷ ps) (v ∷ vs) places within =
-    All-cons (IsAskedOf index) (p, v) (zip ps vs)
-    (All-head (λ place. place < length index.packages) p ps places, All-head (SpeaksOf index) v vs within)
-    (asked-within index ps vs (All-tail (λ place. place < length index.packages) p ps places) (All-tail (SpeaksOf index) v vs within))
-
-pub shown-within : (index : IndexView) (show : Show) (asked : List ℕ) (verdicts : List VerdictView) (shown : List Shown) → map shown_view shown ≡ shown_of show asked verdicts
-    → All (λ place. place < length index.packages) asked → All (SpeaksOf index) verdicts → All (λ one. IsAskedOf index (shown_view one)) shown
-shown-within index show asked verdicts shown are places within =
-    all_seen (IsAskedOf index) shown_view shown
-    (All-same (IsAskedOf index) (map shown_view shown) (shown_of show asked verdicts) are
-    (All-filter (λ one. is_shown show one.1) (IsAskedOf index) (zip asked verdicts) (asked-within index asked verdicts places within)))
-
-asked-placed : (limit : ℕ) (asked : List ℕ) (verdicts : List VerdictView) → All (λ place. place < limit) asked → All (λ one. one.0 < limit) (zip asked verdicts)
-asked-placed limit [] verdicts places = All-nil (λ (one : ℕ × VerdictView). one.0 < limit)
-asked-placed limit (p ∷ ps) [] places = All-nil (λ (one : ℕ × VerdictView). one.0 < limit)
-asked-placed limit (p ∷ ps) (v ∷ vs) places =
-    All-cons (λ (one : ℕ × VerdictView). one.0 < limit) (p, v) (zip ps vs) (All-head (λ place. place < limit) p ps places) (asked-placed limit ps vs (All-tail (λ place. place < limit) p ps places))
-
-pub shown-placed : (limit : ℕ) (show : Show) (asked : List ℕ) (verdicts : List VerdictView) (shown : List Shown) → map shown_view shown ≡ shown_of show asked verdicts
-    → All (λ place. place < limit) asked → All (λ (one : Shown). one.place < limit) shown
-shown-placed limit show asked verdicts shown are places =
-    all_seen (λ (one : ℕ × VerdictView). one.0 < limit) shown_view shown
-    (All-same (λ (one : ℕ × VerdictView). one.0 < limit) (map shown_view shown) (shown_of show asked verdicts) are
-    (All-filter (λ one. is_shown show one.1) (λ (one : ℕ × VerdictView). one.0 < limit) (zip asked verdicts) (asked-placed limit asked verdicts places)))
-
-pub places-within : (index : IndexView) (told : List Shown) → All (λ one. IsAskedOf index (shown_view one)) told → All (λ place. place < length index.packages) (map (λ one. one.0) (map shown_view told))
-places-within index told all =
-    All-map (λ place. place < length index.packages) (λ (one : ℕ × VerdictView). one.0) (map shown_view told)
-    (All-map (λ (one : ℕ × VerdictView). one.0 < length index.packages) shown_view told
-    (All-weaker (λ (one : Shown). IsAskedOf index (shown_view one)) (λ (one : Shown). one.place < length index.packages) (λ one asked. asked.0) told all))
-
-pub kept-within : (index : IndexView) (test : ℕ × VerdictView → Bool) (told kept : List Shown) → map shown_view kept ≡ filter test (map shown_view told)
-    → All (λ one. IsAskedOf index (shown_view one)) told → All (λ one. IsAskedOf index (shown_view one)) kept
-kept-within index test told kept are all =
-    all_seen (IsAskedOf index) shown_view kept
-    (All-same (IsAskedOf index) (map shown_view kept) (filter test (map shown_view told)) are (All-filter test (IsAskedOf index) (map shown_view told) (All-map (IsAskedOf index) shown_view told all)))
+use Rattle.list_steps.proofs.ListLemmas.{all_seen}
 
 -- the cores behind the first are the index's
 later-within : (index : IndexView) (later : List (List (List Constraint))) → AreLaterOf index later → (place : ℕ) → All (All (IsOfIndex index)) (later_at later place)
