@@ -1,5 +1,6 @@
 //! Reading an index.
-ghost use Rattle.std.specs.Prelude.{◌≡◌, ◌≢◌, ◌≤◌, IfOk, IfErr, Ok, Err, length};
+ghost use Rattle.std.specs.Prelude.{◌≡◌, ◌≢◌, ◌≤◌, IfOk, IfErr, IfNone, IfSome, Ok, Err, length};
+ghost use Rattle.deb_index.specs.Packages.{IndexView};
 ghost use Rattle.deb_index.specs.Reading.{IsBare, byte_limit, index_of, index_of_both};
 
 use crate::builder::Builder;
@@ -29,6 +30,21 @@ impl Index {
             Err(BothError::Fore(fault)) => Err(fault),
             Err(BothError::Back(fault)) => Err(fault),
             Err(BothError::Memory) => Err(IndexError::Memory),
+        }
+    }
+
+    /// The fault for which `read` refuses a text, where it does: for whoever wants no index.
+    pub fn fault_of(alloc: Global, text: &[u8], arch: &str, essential: bool) -> Option<IndexError>
+        requires { length text.now ≤ byte_limit }
+        ensures refused { IfSome result (λ e. e ≢ IndexError.Memory → index_of text.now arch.now essential ≡ Err e) }
+        ensures accepted { IfNone result ((index : IndexView) × (index_of text.now arch.now essential ≡ Ok index)) }
+    {
+        match Index::read(alloc, text, arch, essential) {
+            Ok(index) => {
+                drop(index);
+                None
+            }
+            Err(fault) => Some(fault),
         }
     }
 

@@ -129,14 +129,11 @@ pub fn stanzas_before(
         Err(RunFault::Index(fault)) => stanza_of(fault),
         _ => return 0,
     };
-    match Index::read(alloc, piece, config.arch.as_str(), config.essential) {
-        Ok(index) => {
-            drop(index);
-            0
-        }
-        Err(own) => number
+    match Index::fault_of(alloc, piece, config.arch.as_str(), config.essential) {
+        Some(own) => number
             .unwrap_or(0)
             .saturating_sub(stanza_of(&own).unwrap_or(0)),
+        None => 0,
     }
 }
 
