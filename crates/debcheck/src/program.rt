@@ -9,14 +9,15 @@ ghost use Rattle.debcheck.specs.Program.{Asks, Ends, FailsToTake, Refuses, Runs,
 use crate::exit_status::status;
 use crate::output::{write_fault, write_line_fault};
 use crate::phases::{After, run_noting};
-use crate::progress::{Progress, Wiping};
 use crate::since::run_since_noting;
+use crate::wiping::Wiping;
 use command_line::{LineFault, line_status, read_line, words_of};
 use deb_input::{RunFault, read_names};
 use deb_report::Summary;
 use devices::{Disk, OpenFault, Opener, Recording, Sink, Source, Std};
 use input_hints::Input;
 use run_hints::{Clue, note, tell_hint};
+use run_progress::Progress;
 use run_settings::Config;
 use std::alloc::Global;
 use std::env::Env;

@@ -4,12 +4,11 @@ ghost use Rattle.deb_health.specs.Verdicts.{IsVerdict, SpeaksOf, verdict_view};
 ghost use Rattle.deb_verdict.specs.Told.{IsToldVerdict};
 ghost use Rattle.work_draw.specs.Checks.{AnswersEach};
 
-use crate::chunks::Gate;
 use crate::pieces::gather;
 use crate::workers::crew_told;
 use deb_index::Index;
 use deb_verdict::{Groundwork, Verdict, Wanted};
-use draw_board::new_board;
+use draw_board::{Gate, new_board};
 use std::alloc::{AllocError, Global};
 use std::thread::Threads;
 

@@ -1,4 +1,4 @@
-//! The verdicts of one chunk of the asked places, what finds them, and the gate that is told of it.
+//! The verdicts of one chunk of the asked places, and what finds them.
 ghost use Rattle.std.specs.Prelude.{◌<◌, ◌*◌, All, IfOk, length};
 ghost use Rattle.deb_index.specs.Constraints.{IsOfIndex};
 ghost use Rattle.deb_index.specs.Packages.{IndexView};
@@ -9,29 +9,8 @@ ghost use Rattle.work_draw.specs.Checks.{AnswersEach, IsFoundAs, chunk_of, cores
 
 use deb_index::Constraint;
 use deb_verdict::{Groundwork, Verdict, Wanted, Workspace, cores_in, told_verdict_in};
+use draw_board::Gate;
 use std::alloc::{AllocError, Global};
-
-/// Is told of each chunk, by the worker that checks it; shared between threads.
-pub trait Gate {
-    /// Before the first chunk: how many of the packages that are asked for are known already, and how many there are. Whoever knows the
-    /// first number calls it; `check_all` and `check_told` don't.
-    fn start(&self, _seen: u32, _all: u32) {}
-
-    /// Before the chunk with this number, counted from 0, is checked. May wait.
-    fn before(&self, number: u32);
-
-    /// After all verdicts of the chunk were found. May wait.
-    fn after(&self, number: u32);
-}
-
-/// Lets every chunk through at once.
-pub struct OpenGate;
-
-impl Gate for OpenGate {
-    fn before(&self, _number: u32) {}
-
-    fn after(&self, _number: u32) {}
-}
 
 /// Finds the verdicts and the cores of the packages of an index; shared between threads. A groundwork does, and workers name no type beside this
 /// trait: a closure for another thread tells its caller nothing where it captures a struct of references.

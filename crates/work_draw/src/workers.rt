@@ -5,11 +5,11 @@ ghost use Rattle.draw_board.specs.Board.{both_drawers};
 ghost use Rattle.work_draw.specs.Checks.{IsFoundAs, chunk_count};
 ghost use Rattle.work_draw.specs.Pieces.{AreFound, Find, Gains, GainsButLast, GainsInAll, IsLeftBy, IsReady, after_crew};
 
-use crate::chunks::{Finder, Gate, check_chunk};
+use crate::chunks::{Finder, check_chunk};
 use crate::pieces::{Drawn, Piece};
 use deb_index::Index;
 use deb_verdict::{Groundwork, Wanted, Workspace};
-use draw_board::{Board, Drawer};
+use draw_board::{Board, Drawer, Gate};
 use std::alloc::{AllocError, Global};
 use std::thread;
 use std::thread::Threads;
