@@ -12,10 +12,10 @@ use Rattle.deb_index.specs.Packages.{IndexView, first_of_each}
 use Rattle.deb_index.proofs.FirstLemmas.{any-map}
 use Rattle.deb_index.proofs.TableLemmas.{any-first}
 use Rattle.deb_health.specs.Verdicts.{VerdictView}
-use Rattle.deb_report.specs.Causes.{CauseView, by_count, by_first, causes_list, cores_of, found_causes, gathered, has_cause, has_count, is_broken_by, is_freed_by, is_said, same_cause, says, says_same}
-use Rattle.deb_report.proofs.FirstOnes.{all-get, first-keyed}
-use Rattle.deb_report.proofs.GatheredCauses.{count-kept, same-turned}
-use Rattle.deb_report.proofs.SaidLemmas.{said-too, said-within}
+use Rattle.deb_causes.specs.Causes.{CauseView, by_count, by_first, causes_list, cores_of, found_causes, gathered, has_cause, has_count, is_broken_by, is_freed_by, is_said, same_cause, says, says_same}
+use Rattle.deb_causes.proofs.FirstOnes.{all-get, first-keyed}
+use Rattle.deb_causes.proofs.GatheredCauses.{count-kept, same-turned}
+use Rattle.deb_causes.proofs.SaidLemmas.{said-too, said-within}
 
 -- ---- the first of each that say the same say what all say
 

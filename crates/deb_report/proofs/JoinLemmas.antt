@@ -4,22 +4,16 @@ use Rattle.std.proofs.lemmas.List.{length-map}
 use Rattle.std.proofs.lemmas.Result.{on_ok_weaker}
 use Rattle.std.proofs.lemmas.List.Folds.{flat_map-map}
 use Rattle.std.specs.List.{flat_map, join_by}
+use Rattle.list_steps.proofs.JoinLemmas.{joined_map, lines_map}
 use Rattle.deb_report.specs.Json.{closing, list_json, number_json, object}
-use Rattle.deb_report.specs.CauseLines.{titled_if, told_if}
+use Rattle.deb_report.specs.CauseLines.{titled_if}
+use Rattle.deb_texts.specs.Texts.{told_if}
 use Rattle.deb_report.specs.Report.{titled}
 use Rattle.deb_outcome.specs.Since.{BrokenView}
 
 -- what holds where a last call succeeds
 pub last_call : {T E P Q : Type 0} (r : Result T E) → OnOk r P → (P → Q) → OnOk r Q
 last_call r held gives = on_ok_weaker r gives held
-
--- the texts of images
-pub joined_map : {A B : Type 0} (text : B → List ℕ) (f : A → B) (separator : List ℕ) (xs : List A) → join_by text separator (map f xs) ≡ join_by (λ x. text (f x)) separator xs
-joined_map text f separator [] = refl
-joined_map text f separator (x ∷ xs) = ap (λ rest. text (f x) ++ rest) (flat_map-map (λ y. separator ++ text y) f xs)
-
-pub lines_map : {A B : Type 0} (text : B → List ℕ) (f : A → B) (xs : List A) → flat_map text (map f xs) ≡ flat_map (λ x. text (f x)) xs
-lines_map text f xs = flat_map-map text f xs
 
 -- under a title, where there are some
 pub titled_map : {A B : Type 0} (title : List ℕ) (text : B → List ℕ) (f : A → B) (xs : List A) → titled_if title text (map f xs) ≡ titled_if title (λ x. text (f x)) xs

@@ -1,16 +1,7 @@
 mod BlockLaws
 mod CauseLaws
-mod CauseOrder
-mod CoreLemmas
-mod FirstOnes
-mod GatheringLemmas
-mod GatheredCauses
 mod JoinLemmas
-mod MissingLemmas
 pub mod NewsLemmas
-mod NumberingLemmas
-mod SaidLemmas
-mod PartLemmas
 mod PlainIndex
 mod PlainTexts
 mod ReportLemmas
@@ -18,4 +9,3 @@ mod SinceLemmas
 mod SoughtLemmas
 mod WalkTextLemmas
 pub mod Unshown
-mod WrongsLemmas

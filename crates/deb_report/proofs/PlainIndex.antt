@@ -19,7 +19,7 @@ use Rattle.deb_index.specs.Packages.{IndexView, PackageView, aparts, first_of_ea
 use Rattle.deb_index.specs.Reading.{◌>>=◌, HeadView, atoms_in, collected, from_control, good_name, good_version, groups_in, head_of, in_back, in_field, in_fore, index_of_both, is_for, is_provided, kept, mandatory, package_of, provided, provides_in, reading_of, readings, relation_text, same_package, stanza_limit, stanza_reading}
 use Rattle.deb_index.proofs.SizeLemmas.{done, same}
 use Rattle.deb_report.specs.Plain.{has_plain_texts, is_plain}
-use Rattle.deb_report.specs.Report.{group_text}
+use Rattle.deb_texts.specs.Texts.{group_text}
 use Rattle.deb_report.proofs.PlainTexts.{entries-plain, groups-plain, name_text-plain, version_text-plain}
 
 -- ---- steps that did not fail

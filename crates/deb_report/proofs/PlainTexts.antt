@@ -6,9 +6,8 @@ use Rattle.std.specs.Char.{is_ascii_alphanumeric}
 use Rattle.std.specs.List.{AllZip, flat_map, list_all}
 use Rattle.deb_relation.specs.declared.bound.Op.{Op}
 use Rattle.deb_relation.specs.declared.bound.Op.TheVariants.{Lt, Le, Eq, Ge, Gt}
-use Rattle.deb_relation.specs.Form.{AtomText, IsAtom, IsBound, IsGroup, IsSingle, is_name, is_name_byte, is_qualifier, is_qualifier_byte, qualifier_text}
+use Rattle.deb_relation.specs.Form.{AtomText, IsAtom, IsBound, IsGroup, IsSingle, is_name, is_name_byte, is_qualifier, is_qualifier_byte, qualifier_text, filled_elements}
 use Rattle.deb_relation.specs.Relationship.{atoms_of, bound_text, groups_of, op_text, printed}
-use Rattle.deb_relation.specs.Form.{filled_elements}
 use Rattle.deb_relation.specs.Runs.{begins}
 use Rattle.deb_relation.specs.VersionText.{fault_of, is_upstream_byte}
 use Rattle.deb_relation.proofs.RunJoins.{list_all-join, list_all-wider}
@@ -17,7 +16,7 @@ use Rattle.deb_relation.proofs.VersionBytes.{version-bytes}
 use Rattle.deb_report.specs.Json.{escaped, escaped_byte}
 use Rattle.run_settings.specs.Settings.{is_architecture, is_architecture_byte, is_excluded}
 use Rattle.deb_report.specs.Plain.{is_plain, is_plain_byte}
-use Rattle.deb_report.specs.Report.{group_text}
+use Rattle.deb_texts.specs.Texts.{group_text}
 
 -- ---- bytes
 

@@ -19,7 +19,7 @@ use Rattle.deb_outcome.specs.declared.shown.Shown.{Shown}
 use Rattle.deb_report.specs.Similar.{FitsWalk}
 use Rattle.deb_report.specs.Sought.{core_in}
 use Rattle.deb_outcome.specs.Outcome.{IsAskedOf, shown_view}
-use Rattle.deb_report.proofs.FirstOnes.{all-each}
+use Rattle.deb_causes.proofs.FirstOnes.{all-each}
 
 -- what holds of those that are kept holds of each that passes
 all-kept : {A : Type 0} (test : A → Bool) (P : A → Type 0) (xs : List A) → All P (filter test xs) → All (λ x. test x ≡ true → P x) xs

@@ -19,7 +19,7 @@ use Rattle.deb_report.specs.Report.{TellingView, line, number_line, telling_of, 
 use Rattle.run_settings.specs.Settings.{Settings}
 use Rattle.deb_outcome.specs.Since.{BrokenView, amends_of, broken_at, broken_of, has_named, is_gone, news_of, summary_since, was_broken}
 use Rattle.deb_report.specs.Written.{text_in, written_since, written_told}
-use Rattle.deb_report.proofs.JoinLemmas.{joined_map, lines_map}
+use Rattle.list_steps.proofs.JoinLemmas.{joined_map, lines_map}
 
 -- a change of verdicts that leaves their statuses, what is explained in a block, and what causes are found in
 pub record LeavesTold (explain : Bool) (show : Show) (causes : Bool) (change : VerdictView → VerdictView) : Type 0 where

@@ -7,16 +7,13 @@ use Rattle.deb_index.specs.declared.constraint.Constraint.TheVariants.{Essential
 use Rattle.deb_index.specs.Packages.{IndexView, need_at, package_at}
 use Rattle.deb_near.specs.Near.{NearMissView, near_misses, similar_names}
 use Rattle.deb_walk.specs.Hits.{hits_of}
-use Rattle.deb_report.specs.Causes.{CauseView}
-use Rattle.deb_report.specs.Report.{asked_text, constraint_line, group_field, group_text, label_of, line, place_line, titled}
+use Rattle.deb_causes.specs.Causes.{CauseView}
+use Rattle.deb_report.specs.Report.{asked_text, constraint_line, group_field, label_of, line, place_line, titled}
+use Rattle.deb_texts.specs.Texts.{group_text}
 
 -- lines under a title, where there are some
 unfoldable pub titled_if : {A : Type 0} → List ℕ → (A → List ℕ) → List A → List ℕ
 titled_if title text elements = if length elements == 0 then [] else titled title (flat_map text elements)
-
--- elements in one line, with commas between, behind what leads to them, where there are some
-unfoldable pub told_if : {A : Type 0} → List ℕ → (A → List ℕ) → List A → List ℕ
-told_if lead text elements = if length elements == 0 then [] else lead ++ join_by text (codes ", ") elements
 
 -- what is wrong: of a need its alternatives alone, which are missing
 unfoldable pub wrong_line : IndexView → Constraint → List ℕ

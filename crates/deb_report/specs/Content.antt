@@ -3,7 +3,7 @@ use Rattle.std.specs.Prelude.{ℕ, Bool, List, [], Option, None, Some, if◌then
 use Rattle.deb_index.specs.declared.constraint.Constraint.{Constraint}
 use Rattle.deb_index.specs.Packages.{IndexView}
 use Rattle.deb_health.specs.Verdicts.{VerdictView}
-use Rattle.deb_report.specs.Causes.{CauseView, causes_list}
+use Rattle.deb_causes.specs.Causes.{CauseView, causes_list}
 use Rattle.deb_outcome.specs.Outcome.{broken_ones, numbers_of, shown_of, summary_of}
 use Rattle.run_settings.specs.Settings.{Settings}
 use Rattle.deb_outcome.specs.Since.{BrokenView, amends_of, news_of, summary_since}

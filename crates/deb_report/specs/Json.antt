@@ -10,9 +10,12 @@ use Rattle.deb_health.specs.Verdicts.{VerdictView, Found, Blocked}
 use Rattle.deb_near.specs.Near.{NearMissView, alternatives, near_miss_at, near_misses, similar_names}
 use Rattle.deb_walk.specs.Hits.{hits_of}
 use Rattle.deb_walk.specs.Walk.{brought}
-use Rattle.deb_report.specs.Causes.{CauseView}
+use Rattle.deb_causes.specs.Causes.{CauseView}
 use Rattle.deb_report.specs.Content.{ContentView}
-use Rattle.deb_report.specs.Report.{OfName, OfRelation, ReasonView, TellingView, group_field, group_text, is_missing, later_at, reason_of}
+use Rattle.deb_report.specs.Report.{OfName, OfRelation, ReasonView, TellingView, group_field, reason_of}
+use Rattle.deb_texts.specs.Texts.{group_text}
+use Rattle.deb_causes.specs.Missing.{is_missing}
+use Rattle.deb_causes.specs.Later.{later_at}
 use Rattle.deb_outcome.specs.Outcome.{status_of}
 use Rattle.deb_outcome.specs.Since.{BrokenView}
 

@@ -1,16 +1,8 @@
 pub mod Report
 pub mod Told
-pub mod Causes
 pub mod Similar
 pub mod CauseLines
 pub mod WalkLines
-pub mod Numbering
-pub mod Said
-pub mod Wrongs
-pub mod Numbered
-pub mod Gathering
-pub mod Gathered
-pub mod Positions
 pub use Rattle.deb_outcome.specs.Asked
 pub use Rattle.deb_outcome.specs.Outcome
 pub use Rattle.deb_outcome.specs.Since

@@ -4,7 +4,7 @@ use Rattle.std.specs.Int.{is_in_range}
 use Rattle.std.specs.List.{list_all}
 use Rattle.deb_relation.specs.Relationship.{printed}
 use Rattle.deb_index.specs.Packages.{PackageView, aparts, needs}
-use Rattle.deb_report.specs.Report.{group_text}
+use Rattle.deb_texts.specs.Texts.{group_text}
 
 -- a byte that stands for itself: printable ASCII, but for the quote and the backslash
 abbrev pub is_plain_byte : ℕ → Bool

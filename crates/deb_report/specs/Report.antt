@@ -29,14 +29,6 @@ place_line index place = line (codes "   - ") (label_of (package_at index place)
 
 -- ---- reasons
 
--- the atoms of a group, with a bar between
-unfoldable pub group_text : List AtomText → List ℕ
-group_text group = join_by printed (codes " | ") group
-
--- no package of the index meets any atom of the group
-unfoldable pub is_missing : IndexView → List AtomText → Bool
-is_missing index group = list_all (λ atom. is_empty (need_satisfiers index atom)) group
-
 -- the field that a group stands in: the groups of Pre-Depends come first
 unfoldable pub group_field : PackageView → ℕ → List ℕ
 group_field deb number = if nat_lt number (length deb.pre_depends) then codes "Pre-Depends" else codes "Depends"
@@ -99,10 +91,6 @@ telling_of settings since later = record {
   why = settings.why;
   options = if tells_options settings then options_of settings since else [];
 }
-
--- the cores behind the first of the package at a place; past the end of the list none
-abbrev pub later_at : List (List (List Constraint)) → ℕ → List (List Constraint)
-later_at later place = slice_index_or later place []
 
 -- those that are told
 abbrev pub also_at : TellingView → ℕ → List (List Constraint)

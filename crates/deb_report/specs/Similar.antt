@@ -7,8 +7,8 @@ use Rattle.deb_health.specs.Causes.{is_final}
 use Rattle.deb_near.specs.declared.similar.Similar.{Similar}
 use Rattle.deb_near.specs.Similar.{IsSimilarOf, stems_in}
 use Rattle.deb_near.specs.Stems.{AreSought}
-use Rattle.deb_report.specs.declared.gathered.Cause.{Cause}
-use Rattle.deb_report.specs.Causes.{IsCauseOf, cause_view}
+use Rattle.deb_causes.specs.declared.gathered.Cause.{Cause}
+use Rattle.deb_causes.specs.Causes.{IsCauseOf, cause_view}
 
 -- a cause of the index, whose stems were looked for in it
 pub record FitsCause (index : IndexView) (similar : Similar) (cause : Cause) : Type 0 where

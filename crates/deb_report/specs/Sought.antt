@@ -7,7 +7,7 @@ use Rattle.deb_near.specs.declared.similar.Similar.{Similar}
 use Rattle.deb_outcome.specs.declared.shown.Shown.{Shown}
 use Rattle.deb_report.specs.declared.telling.Telling.{Telling}
 use Rattle.deb_report.specs.Similar.{FitsWalk}
-use Rattle.deb_report.specs.Told.{AreLaterOf, later_view}
+use Rattle.deb_causes.specs.Later.{AreLaterOf, later_view}
 use Rattle.deb_outcome.specs.Outcome.{IsAskedOf, shown_view}
 
 -- the first core of an asked place

@@ -10,7 +10,7 @@ use Rattle.deb_report.specs.declared.content.Content.{Content}
 use Rattle.deb_report.specs.declared.reasons.Reason.{Reason}
 use Rattle.deb_report.specs.declared.reasons.Reason.TheVariants.{Name, Relation}
 use Rattle.deb_report.specs.declared.telling.Telling.{Telling}
-use Rattle.deb_report.specs.Causes.{IsCauseOf, cause_view}
+use Rattle.deb_causes.specs.Causes.{IsCauseOf, cause_view}
 use Rattle.deb_report.specs.Content.{ContentView}
 use Rattle.deb_report.specs.Report.{OfName, OfRelation, ReasonView, TellingView, telling_of}
 use Rattle.run_settings.specs.Settings.{settings_of}
@@ -21,16 +21,8 @@ abbrev pub reason_view : Reason → ReasonView
 reason_view (Name kind name) = OfName kind.now name.now
 reason_view (Relation kind deb field relation) = OfRelation kind.now (package_view deb.now) field.now (map atom_view relation.now)
 
--- cores by place
-abbrev pub later_view : List (Vec (Vec Constraint Global) Global) → List (List (List Constraint))
-later_view later = map (λ cores. map (λ core. core.items) cores.items) later
-
 abbrev pub telling_view : Telling → TellingView
 telling_view telling = telling_of (settings_of telling.config.now) telling.since (later_view telling.later.now)
-
--- they have constraints of the index alone
-abbrev pub AreLaterOf : IndexView → List (List (List Constraint)) → Type 0
-AreLaterOf index later = All (All (All (IsOfIndex index))) later
 
 abbrev pub content_view : Content → ContentView
 content_view content = record {

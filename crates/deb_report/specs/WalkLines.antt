@@ -11,8 +11,10 @@ use Rattle.deb_near.specs.Near.{NearMissView, alternatives, near_miss_at, near_m
 use Rattle.deb_walk.specs.declared.walk.Step.{Step}
 use Rattle.deb_walk.specs.declared.walk.Step.TheVariants.{Begin, Meet, Tell}
 use Rattle.deb_walk.specs.Walk.{are_told, brought, comers, first_steps, hits_in, own_steps, step_limit, versions_coming, walk}
-use Rattle.deb_report.specs.CauseLines.{provides_text, told_if}
-use Rattle.deb_report.specs.Report.{asked_text, entry_field, group_field, is_missing, label_of, titled}
+use Rattle.deb_report.specs.CauseLines.{provides_text}
+use Rattle.deb_texts.specs.Texts.{told_if}
+use Rattle.deb_report.specs.Report.{asked_text, entry_field, group_field, label_of, titled}
+use Rattle.deb_causes.specs.Missing.{is_missing}
 
 -- ---- what a step tells
 

@@ -6,19 +6,19 @@ ghost use Rattle.deb_relation.specs.Relationship.{printed};
 ghost use Rattle.deb_index.specs.Constraints.{IsOfIndex};
 ghost use Rattle.deb_near.specs.Near.{near_misses, near_view, similar_names};
 ghost use Rattle.deb_walk.specs.Hits.{hits_of};
-ghost use Rattle.deb_report.specs.Causes.{IsCauseOf, cause_view};
+ghost use Rattle.deb_causes.specs.Causes.{IsCauseOf, cause_view};
 ghost use Rattle.deb_report.specs.Json.{array, cause_json, member, near_json, needed_json, place_json, quoted, tall_array, wrong_json};
 ghost use Rattle.deb_report.specs.Similar.{FitsCause};
 
-use crate::gathered::Cause;
 use crate::json_parts::{IndexJson, push_package, push_relation};
 use crate::json_text::{push_array, push_number, push_quoted, push_text};
-use crate::print::Print;
 use crate::reasons::group_field;
 use crate::sought::similar_to_causes;
+use deb_causes::Cause;
 use deb_index::Constraint;
 use deb_near::{NearMiss, Similar, near_misses};
 use deb_relation::Atom;
+use deb_texts::Print;
 use deb_walk::hits_of;
 use std::alloc::AllocError;
 
@@ -144,7 +144,7 @@ impl<'p, 'i> Print<Cause> for CauseJson<'p, 'i> {
 }
 
 /// Adds the member with causes.
-#[tactic(auto, using(crate::proofs::JoinLemmas::joined_map), unfolding(crate::specs::Json::tall_array))]
+#[tactic(auto, using(list_steps::proofs::JoinLemmas::joined_map), unfolding(crate::specs::Json::tall_array))]
 pub(crate) fn push_causes(
     json: &IndexJson<'_>,
     out: &mut Vec<u8>,

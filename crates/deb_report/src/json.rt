@@ -5,23 +5,23 @@ ghost use Rattle.std.specs.List.{flat_map};
 ghost use Rattle.deb_index.specs.Constraints.{IsOfIndex};
 ghost use Rattle.deb_index.specs.Packages.{package_view};
 ghost use Rattle.deb_health.specs.Verdicts.{SpeaksOf, verdict_view};
-ghost use Rattle.deb_report.specs.Json.{also_json, array, block_json, broken_json, causes_json, closing, core_json, explanation_json, head_json, json_text};
-ghost use Rattle.deb_report.specs.Json.{list_json, member, number_json, quoted, tall_array, told_json};
+ghost use Rattle.deb_report.specs.Json.{also_json, array, block_json, broken_json, causes_json, closing, core_json, explanation_json, head_json, json_text, list_json, member, number_json, quoted, tall_array, told_json};
 ghost use Rattle.deb_outcome.specs.Since.{amends_view, broken_view};
 ghost use Rattle.deb_outcome.specs.Outcome.{IsAskedOf, number_view, shown_view};
-ghost use Rattle.deb_report.specs.Told.{AreLaterOf, IsContentOf, content_view, later_view, telling_view};
+ghost use Rattle.deb_report.specs.Told.{IsContentOf, content_view, telling_view};
+ghost use Rattle.deb_causes.specs.Later.{AreLaterOf, later_view};
 
 use crate::cause_json::push_causes;
 use crate::content::Content;
 use crate::json_parts::{IndexJson, push_front, push_label, push_package};
 use crate::json_text::{push_any_text, push_array, push_list, push_number, push_quoted, push_text};
-use crate::print::{Print, push_all};
 use crate::reasons::reason_of;
 use crate::telling::Telling;
 use crate::why_json::push_why;
 use deb_health::Verdict;
 use deb_index::{Constraint, Index};
 use deb_outcome::{Amends, BrokenPackage, Number, Shown, status_text};
+use deb_texts::{Print, push_all};
 use std::alloc::{AllocError, Global};
 
 /// What is told of an index, in JSON.
@@ -69,7 +69,7 @@ impl<'i> Print<&'static str> for Json<'i> {
 
 impl<'i> Json<'i> {
     /// Adds the member with cores behind the first.
-    #[tactic(auto, using(crate::proofs::JoinLemmas::joined_map), unfolding(crate::specs::Json::array))]
+    #[tactic(auto, using(list_steps::proofs::JoinLemmas::joined_map), unfolding(crate::specs::Json::array))]
     fn push_also(&self, out: &mut Vec<u8>, cores: &[Vec<Constraint>]) -> Result<(), AllocError>
         requires { All (λ core. All (IsOfIndex self.now.parts.index.now) core.items) cores.now }
         ensures { OnOk result (out.new.items ≡
@@ -165,7 +165,7 @@ impl<'i, 'b> Print<Amends<'b>> for Json<'i> {
 
     ghost text = { λ _ amends. codes "," ++ list_json (amends_view amends) };
 
-    #[tactic(auto, using(crate::proofs::JoinLemmas::joined_map), unfolding(crate::specs::Json::array))]
+    #[tactic(auto, using(list_steps::proofs::JoinLemmas::joined_map), unfolding(crate::specs::Json::array))]
     fn print(&self, out: &mut Vec<u8>, amends: &Amends<'b>) -> Result<(), AllocError> {
         push_array(
             out,
@@ -180,7 +180,7 @@ impl<'i, 'b> Print<Amends<'b>> for Json<'i> {
 
 impl<'i> Json<'i> {
     /// Adds the words that the document is made under.
-    #[tactic(auto, using(crate::proofs::JoinLemmas::joined_map), unfolding(crate::specs::Json::array))]
+    #[tactic(auto, using(list_steps::proofs::JoinLemmas::joined_map), unfolding(crate::specs::Json::array))]
     fn push_options(&self, out: &mut Vec<u8>, options: &[&'static str]) -> Result<(), AllocError>
         ensures { OnOk result (out.new.items ≡
             out.old.items ++ codes "," ++ member (codes "options") (array quoted (map (λ one. one.now) options.now))) }
@@ -204,7 +204,7 @@ impl<'i> Json<'i> {
     }
 
     /// Adds the member with the blocks.
-    #[tactic(auto, using(crate::proofs::JoinLemmas::joined_map), unfolding(crate::specs::Json::tall_array))]
+    #[tactic(auto, using(list_steps::proofs::JoinLemmas::joined_map), unfolding(crate::specs::Json::tall_array))]
     fn push_blocks(&self, out: &mut Vec<u8>, content: &Content<'_>) -> Result<(), AllocError>
         requires content { IsContentOf self.now.parts.index.now content.now }
         requires later { AreLaterOf self.now.parts.index.now (later_view self.now.telling.later.now) }

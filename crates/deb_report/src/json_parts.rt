@@ -7,15 +7,15 @@ ghost use Rattle.deb_index.specs.Constraints.{IsOfIndex};
 ghost use Rattle.deb_index.specs.Packages.{package_view};
 ghost use Rattle.deb_near.specs.Near.{near_view};
 ghost use Rattle.deb_report.specs.Json.{array, constraint_json, label_json, label_members, member, near_json, place_json, quoted, reason_front};
-ghost use Rattle.deb_report.specs.Report.{group_text};
+ghost use Rattle.deb_texts.specs.Texts.{group_text};
 ghost use Rattle.deb_report.specs.Told.{reason_view};
 
 use crate::json_text::{push_array, push_text, push_title};
-use crate::print::Print;
-use crate::reasons::{Reason, push_group, reason_of};
+use crate::reasons::{Reason, reason_of};
 use deb_index::{Constraint, Index, Package};
 use deb_near::NearMiss;
 use deb_relation::Atom;
+use deb_texts::{Print, push_group};
 use std::alloc::{AllocError, Global};
 
 /// An index, whose packages and constraints are told in JSON.
@@ -149,7 +149,7 @@ impl<'i, 'm> Print<NearMiss<'m>> for IndexJson<'i> {
 
 impl<'i> IndexJson<'i> {
     /// Adds the entries that a package provides.
-    #[tactic(auto, using(crate::proofs::JoinLemmas::joined_map), unfolding(crate::specs::Json::array))]
+    #[tactic(auto, using(list_steps::proofs::JoinLemmas::joined_map), unfolding(crate::specs::Json::array))]
     fn push_provides(&self, out: &mut Vec<u8>, provides: &[&Atom]) -> Result<(), AllocError>
         ensures { OnOk result (out.new.items ≡ out.old.items ++ codes "," ++ member (codes "provides")
             (array (λ entry. quoted (printed entry)) (map (λ entry. atom_view entry.now) provides.now))) }

@@ -4,7 +4,7 @@ ghost use Rattle.std.specs.Prelude.{◌≡◌, ◌++◌, ◌<◌, All, OnOk, cod
 ghost use Rattle.std.specs.Char.{digit_char};
 ghost use Rattle.deb_report.specs.Json.{array, escaped, escaped_byte, listed, member, quoted};
 
-use crate::print::{Print, push_joined, push_texts};
+use deb_texts::{Print, push_joined, push_texts};
 use std::alloc::{AllocError, Global};
 
 /// The letter of a digit below 16.

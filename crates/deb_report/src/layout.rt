@@ -4,7 +4,8 @@ ghost use Rattle.std.specs.Prelude.{◌≡◌, ◌<◌, ◌^◌, All, IfOk, leng
 ghost use Rattle.deb_health.specs.Verdicts.{SpeaksOf, verdict_view};
 ghost use Rattle.run_settings.specs.Settings.{settings_of};
 ghost use Rattle.deb_outcome.specs.Since.{broken_view, summary_since};
-ghost use Rattle.deb_report.specs.Told.{AreLaterOf, IsContentOf, content_view, later_view, telling_view};
+ghost use Rattle.deb_report.specs.Told.{IsContentOf, content_view, telling_view};
+ghost use Rattle.deb_causes.specs.Later.{AreLaterOf, later_view};
 ghost use Rattle.deb_report.specs.Written.{text_in, written_report, written_since, written_told};
 
 use crate::content::{Content, content_of, content_since};

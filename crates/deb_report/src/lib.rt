@@ -4,22 +4,17 @@
 //!
 //! - `layout`: the report in its form, by `lines` or by `json`; what lines are made of is in `line_parts`, and what a document is in `json_parts`.
 //!   `telling`: what of verdicts it tells; `options`: the words that it is made under.
-//! - `content`: what both tell; `reasons`, what stands against a package.
-//! - `causes`: what is wrong in the end, and what it breaks. `numbering` gives each text a number, `wrongs` one to each cause, `numbered` to each
-//!   core that of its cause; `gathered` gathers by these numbers, `cores` says what the cores of a cause tell.
+//! - `content`: what both tell, its causes by `deb_causes`; `reasons`, what stands against a package.
 //! - `cause_lines` and `cause_json` tell causes in both forms; `sought`: which names that differ in numbers alone are looked for.
 //! - `walk_lines` tells the steps of a core in lines; `why_json`: where a walk goes on, in JSON; `answers`: what answers a constraint.
-//! - `print`: texts of elements, one after the other; `json_text`: the texts, members and arrays of JSON.
+//! - `json_text`: the texts, members and arrays of JSON; texts of elements one after the other are `deb_texts`'.
 //! - `laws`: what holds of reports.
 #![tactic(auto)]
 
 mod answers;
 mod cause_json;
 mod cause_lines;
-mod causes;
 mod content;
-mod cores;
-mod gathered;
 mod json;
 mod json_parts;
 mod json_text;
@@ -27,16 +22,12 @@ pub mod laws;
 mod layout;
 mod line_parts;
 mod lines;
-mod numbered;
-mod numbering;
 mod options;
-mod print;
 mod reasons;
 mod sought;
 mod telling;
 mod walk_lines;
 mod why_json;
-mod wrongs;
 
 pub use deb_outcome::{
     AskedFault, BrokenPackage, Summary, asked_places, broken_packages, earlier_places,

@@ -9,10 +9,10 @@ ghost use Rattle.deb_report.specs.CauseLines.{provides_text};
 ghost use Rattle.deb_report.specs.Report.{OfName, OfRelation, asked_text, constraint_line, label_of, label_text, line, place_line, reason_line, titled};
 ghost use Rattle.deb_report.specs.Told.{reason_view};
 
-use crate::print::{Plainly, Print, push_all, push_joined, push_texts};
-use crate::reasons::{Reason, push_group, reason_of};
+use crate::reasons::{Reason, reason_of};
 use deb_index::{Constraint, Index, Package};
 use deb_relation::Atom;
+use deb_texts::{Plainly, Print, push_all, push_group, push_joined, push_texts};
 use std::alloc::{AllocError, Global};
 
 /// Adds a line of a title and a text.

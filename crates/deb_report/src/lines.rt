@@ -12,12 +12,12 @@ ghost use Rattle.deb_report.specs.Similar.{FitsWalk};
 ghost use Rattle.deb_outcome.specs.Since.{amends_view, broken_view};
 ghost use Rattle.deb_report.specs.Sought.{FitsBlock, IsWalked, core_in};
 ghost use Rattle.deb_outcome.specs.Outcome.{IsAskedOf, number_view, shown_view};
-ghost use Rattle.deb_report.specs.Told.{AreLaterOf, IsContentOf, content_view, later_view, telling_view};
+ghost use Rattle.deb_report.specs.Told.{IsContentOf, content_view, telling_view};
+ghost use Rattle.deb_causes.specs.Later.{AreLaterOf, later_view};
 
 use crate::cause_lines::push_causes;
 use crate::content::Content;
 use crate::line_parts::{IndexLines, push_line, push_titled};
-use crate::print::{Print, push_all, push_texts};
 use crate::sought::similar_to_walks;
 use crate::telling::Telling;
 use crate::walk_lines::push_walk;
@@ -25,6 +25,7 @@ use deb_health::Verdict;
 use deb_index::{Constraint, Index, Package};
 use deb_near::Similar;
 use deb_outcome::{Amends, BrokenPackage, Number, Shown, status_text};
+use deb_texts::{Print, push_all, push_texts};
 use std::alloc::{AllocError, Global};
 
 /// What is told of an index, in lines.
@@ -158,7 +159,7 @@ impl<'i, 'b> Print<Amends<'b>> for Lines<'i> {
 
     ghost text = { λ _ amends. list_lines (amends_view amends) };
 
-    #[tactic(auto, using(crate::proofs::JoinLemmas::lines_map), unfolding(crate::specs::Lines::list_lines))]
+    #[tactic(auto, using(list_steps::proofs::JoinLemmas::lines_map), unfolding(crate::specs::Lines::list_lines))]
     fn print(&self, out: &mut Vec<u8>, amends: &Amends<'b>) -> Result<(), AllocError> {
         out.extend_from_slice(amends.title.as_bytes())?;
         push_titled(out, ":", self, amends.packages.as_slice())
@@ -167,7 +168,7 @@ impl<'i, 'b> Print<Amends<'b>> for Lines<'i> {
 
 impl<'i> Lines<'i> {
     /// Adds the blocks.
-    #[tactic(auto, using(crate::proofs::JoinLemmas::lines_map))]
+    #[tactic(auto, using(list_steps::proofs::JoinLemmas::lines_map))]
     fn push_blocks(&self, out: &mut Vec<u8>, content: &Content<'_>) -> Result<(), AllocError>
         requires content { IsContentOf self.now.parts.index.now content.now }
         requires later { AreLaterOf self.now.parts.index.now (later_view self.now.telling.later.now) }

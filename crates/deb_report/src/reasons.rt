@@ -4,10 +4,12 @@ ghost use Rattle.std.specs.Prelude.{◌≡◌, ◌++◌, IfOk, OnOk, map};
 ghost use Rattle.deb_relation.specs.AtomView.{atom_view};
 ghost use Rattle.deb_index.specs.Constraints.{IsOfIndex};
 ghost use Rattle.deb_index.specs.Packages.{need_at, package_view};
-ghost use Rattle.deb_report.specs.Report.{entry_field, group_field, group_text, is_missing, need_reason, reason_of};
+ghost use Rattle.deb_report.specs.Report.{entry_field, group_field, need_reason, reason_of};
+ghost use Rattle.deb_texts.specs.Texts.{group_text};
+ghost use Rattle.deb_causes.specs.Missing.{is_missing};
 ghost use Rattle.deb_report.specs.Told.{reason_view};
 
-use crate::print::{Plainly, push_joined};
+use deb_causes::is_missing;
 use deb_index::{Constraint, Index, Package, RelField};
 use deb_relation::Atom;
 use std::alloc::{AllocError, Global};
@@ -28,28 +30,6 @@ pub(crate) enum Reason<'i> {
         field: &'static [u8],
         relation: &'i [Atom],
     },
-}
-
-/// Adds the atoms of a group.
-#[tactic(auto, using(crate::proofs::JoinLemmas::joined_map), unfolding(crate::specs::Report::group_text))]
-pub(crate) fn push_group(out: &mut Vec<u8>, group: &[Atom]) -> Result<(), AllocError>
-    ensures { OnOk result (out.new.items ≡ out.old.items ++ group_text (map atom_view group.now)) }
-{
-    push_joined(out, " | ", &Plainly, group)
-}
-
-/// Whether no package answers a group.
-pub(crate) fn is_missing(
-    alloc: Global,
-    index: &Index,
-    place: u32,
-    number: u32,
-) -> Result<bool, AllocError>
-    requires { IsOfIndex index.now (Constraint.Need place number) }
-    ensures { IfOk result (λ missing. missing ≡ is_missing index.now (need_at index.now place number)) }
-{
-    let mut found = Vec::new(alloc);
-    Ok(index.answers(place, number, &mut found)?.is_empty())
 }
 
 /// The field that a group stands in.

@@ -4,14 +4,13 @@ ghost use Rattle.std.specs.Prelude.{◌≡◌, ◌++◌, All, IfOk, OnOk};
 ghost use Rattle.std.specs.List.{flat_map};
 ghost use Rattle.deb_index.specs.Constraints.{IsOfIndex};
 ghost use Rattle.deb_health.specs.Causes.{cause_in};
-ghost use Rattle.deb_report.specs.Causes.{IsCauseOf, cause_view};
+ghost use Rattle.deb_causes.specs.Causes.{IsCauseOf, cause_view};
 ghost use Rattle.deb_report.specs.Similar.{FitsCause};
 ghost use Rattle.deb_report.specs.Sought.{IsWalked, core_in};
 ghost use Rattle.deb_outcome.specs.Outcome.{IsAskedOf, shown_view};
 
-use crate::gathered::Cause;
 use crate::telling::Telling;
-use crate::wrongs::is_final;
+use deb_causes::{Cause, is_final};
 use deb_health::Verdict;
 use deb_index::{Constraint, Index};
 use deb_near::Similar;

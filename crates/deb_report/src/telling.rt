@@ -4,8 +4,8 @@ ghost use Rattle.std.specs.Prelude.{◌≡◌, IfOk, map};
 ghost use Rattle.deb_report.specs.Report.{also_at};
 ghost use Rattle.deb_report.specs.Told.{telling_view};
 
-use crate::numbered::later_at;
 use crate::options::options_of;
+use deb_causes::later_at;
 use deb_index::Constraint;
 use run_settings::Config;
 use std::alloc::{AllocError, Global};

@@ -12,15 +12,15 @@ ghost use Rattle.deb_near.specs.Stems.{AreSought};
 ghost use Rattle.deb_walk.specs.declared.walk.Step.{Step};
 ghost use Rattle.deb_walk.specs.Walk.{IsStepOf, are_told, brought, own_steps, step_limit, steps_behind, told_behind};
 ghost use Rattle.deb_report.specs.Similar.{FitsWalk};
-ghost use Rattle.deb_report.specs.WalkLines.{above_text, constraint_text, lead, missing_text, near_text, need_ending, present_text};
-ghost use Rattle.deb_report.specs.WalkLines.{package_line, package_text, seen_text, similar_text, step_text, walk_lines, walk_text};
+ghost use Rattle.deb_report.specs.WalkLines.{above_text, constraint_text, lead, missing_text, near_text, need_ending, present_text, package_line, package_text, seen_text, similar_text, step_text, walk_lines, walk_text};
 
 use crate::line_parts::{push_asked, push_line, push_package, push_provides};
-use crate::print::{Print, push_joined, push_some, push_texts};
-use crate::reasons::{entry_field, group_field, is_missing, push_group};
+use crate::reasons::{entry_field, group_field};
+use deb_causes::is_missing;
 use deb_index::{Constraint, Index, Package};
 use deb_near::{NearMiss, Similar, answer_at, near_misses};
 use deb_relation::Atom;
+use deb_texts::{Print, push_group, push_joined, push_some, push_texts};
 use deb_walk::{
     OwnTable, PlaceSet, Step, are_told, brought, comers, first_steps, hits_in, met_steps,
     own_steps, put_before, those_coming,

@@ -12,14 +12,14 @@ ghost use Rattle.deb_report.specs.Json.{answers_to, array, member, near_json, pl
 use crate::answers::answers_to;
 use crate::json_parts::IndexJson;
 use crate::json_text::push_array;
-use crate::reasons::is_missing;
+use deb_causes::is_missing;
 use deb_index::Constraint;
 use deb_walk::hits_of;
 use std::alloc::AllocError;
 use std::slice;
 
 /// Adds the member with the packages that answer the need with a number.
-#[tactic(auto, using(crate::proofs::JoinLemmas::joined_map), unfolding(crate::specs::Json::array))]
+#[tactic(auto, using(list_steps::proofs::JoinLemmas::joined_map), unfolding(crate::specs::Json::array))]
 fn push_met(
     json: &IndexJson<'_>,
     out: &mut Vec<u8>,

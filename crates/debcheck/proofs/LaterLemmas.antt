@@ -18,9 +18,8 @@ use Rattle.deb_verdict.proofs.Cutting.{healthy_from_meets}
 use Rattle.deb_verdict.proofs.OneVerdict.{one_core}
 use Rattle.work_draw.specs.Checks.{AnswersEach, cores_view}
 use Rattle.deb_outcome.specs.Outcome.{is_broken}
-use Rattle.deb_report.specs.Report.{later_at}
+use Rattle.deb_causes.specs.Later.{later_at, AreLaterOf, later_view}
 use Rattle.run_settings.specs.Settings.{Settings, tells_all_causes}
-use Rattle.deb_report.specs.Told.{AreLaterOf, later_view}
 use Rattle.debcheck.specs.Later.{AreAllLater, AreLaterCores, AreLaterIf}
 use Rattle.debcheck.specs.Standing.{HaveCores, is_next, placed, wanting, with_cores, with_first}
 

@@ -11,7 +11,7 @@ use Rattle.deb_verdict.specs.Told.{IsToldCore, IsToldVerdict}
 use Rattle.deb_verdict.specs.declared.wanted.Wanted.{Wanted}
 use Rattle.work_draw.specs.Checks.{AnswersEach}
 use Rattle.deb_outcome.specs.Outcome.{is_broken}
-use Rattle.deb_report.specs.Report.{later_at}
+use Rattle.deb_causes.specs.Later.{later_at}
 use Rattle.run_settings.specs.Settings.{Settings, tells_all_causes}
 use Rattle.deb_outcome.specs.Since.{BrokenView, is_new, newly_broken, news_of}
 use Rattle.debcheck.specs.Later.{AreAllLater, AreLaterIf}

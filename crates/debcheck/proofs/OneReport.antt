@@ -9,7 +9,7 @@ use Rattle.number_sets.specs.Sets.{members_of}
 use Rattle.work_draw.specs.Checks.{AnswersEach}
 use Rattle.deb_outcome.specs.declared.summary.Summary.{Summary}
 use Rattle.deb_outcome.specs.Outcome.{summary_of}
-use Rattle.deb_report.specs.Report.{later_at}
+use Rattle.deb_causes.specs.Later.{later_at}
 use Rattle.run_settings.specs.Settings.{Settings, tells_all_causes}
 use Rattle.deb_report.specs.Written.{written_since, written_told}
 use Rattle.deb_outcome.specs.Asked.{listed_places}

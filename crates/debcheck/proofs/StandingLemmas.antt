@@ -19,7 +19,7 @@ use Rattle.run_settings.specs.declared.config.Show.{Show}
 use Rattle.run_settings.specs.declared.config.Show.TheVariants as show
 use Rattle.deb_outcome.specs.declared.summary.Summary.{Summary}
 use Rattle.deb_outcome.specs.Outcome.{is_broken, is_shown, summary_of}
-use Rattle.deb_report.specs.Report.{later_at}
+use Rattle.deb_causes.specs.Later.{later_at}
 use Rattle.run_settings.specs.Settings.{Settings, shows_installable, shows_sets, tells_all_causes}
 use Rattle.deb_outcome.specs.Since.{BrokenView, is_new}
 use Rattle.deb_report.specs.Written.{written_told}

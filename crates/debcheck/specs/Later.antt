@@ -6,7 +6,7 @@ use Rattle.number_sets.specs.Sets.{members_of}
 use Rattle.deb_health.specs.Causes.{AreCores}
 use Rattle.deb_health.specs.Verdicts.{Blocked, Found, VerdictView}
 use Rattle.work_draw.specs.Checks.{AnswersEach}
-use Rattle.deb_report.specs.Report.{later_at}
+use Rattle.deb_causes.specs.Later.{later_at}
 use Rattle.run_settings.specs.Settings.{Settings, tells_all_causes}
 
 -- those of a package with this verdict; one that can be installed has none

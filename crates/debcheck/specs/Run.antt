@@ -10,8 +10,7 @@ use Rattle.deb_index.specs.declared.error.BothError.TheVariants.{Back}
 use Rattle.deb_index.specs.declared.error.IndexError.TheVariants as index_error
 use Rattle.deb_input.specs.Inputs.{Input, IsRead, IsTooLong, input}
 use Rattle.deb_input.specs.declared.fault.RunFault.{RunFault}
-use Rattle.deb_input.specs.declared.fault.RunFault.TheVariants.{Read, TooLong, BackgroundRead, BackgroundTooLong, Index}
-use Rattle.deb_input.specs.declared.fault.RunFault.TheVariants.{Background, UnknownAsked, Slipped, Memory, Write}
+use Rattle.deb_input.specs.declared.fault.RunFault.TheVariants.{Read, TooLong, BackgroundRead, BackgroundTooLong, Index, Background, UnknownAsked, Slipped, Memory, Write}
 use Rattle.deb_outcome.specs.declared.summary.Summary.{Summary}
 use Rattle.deb_outcome.specs.Asked.{asked_places}
 use Rattle.devices.specs.Devices.{AppendsPart}

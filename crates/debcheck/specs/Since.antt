@@ -11,11 +11,9 @@ use Rattle.deb_outcome.specs.Asked.{listed_places}
 use Rattle.deb_outcome.specs.Since.{BrokenView, broken_of, summary_since}
 use Rattle.deb_report.specs.Written.{written_since}
 use Rattle.deb_input.specs.declared.fault.RunFault.{RunFault}
-use Rattle.deb_input.specs.declared.fault.RunFault.TheVariants.{Read, TooLong, BackgroundRead, BackgroundTooLong, EarlierRead}
-use Rattle.deb_input.specs.declared.fault.RunFault.TheVariants.{EarlierTooLong, Index, Earlier, Write}
+use Rattle.deb_input.specs.declared.fault.RunFault.TheVariants.{Read, TooLong, BackgroundRead, BackgroundTooLong, EarlierRead, EarlierTooLong, Index, Earlier, Write}
 use Rattle.deb_input.specs.Inputs.{Input, is_unread}
-use Rattle.debcheck.specs.Run.{Fails, FailsToIndex, HasAsked, HasIndex, IfIndexed, IfTold}
-use Rattle.debcheck.specs.Run.{IsReportBy, Leaves, WritesBy, WritesFrontBy, WritesReport}
+use Rattle.debcheck.specs.Run.{Fails, FailsToIndex, HasAsked, HasIndex, IfIndexed, IfTold, IsReportBy, Leaves, WritesBy, WritesFrontBy, WritesReport}
 
 -- ---- the report
 

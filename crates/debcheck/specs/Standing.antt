@@ -1,6 +1,5 @@
 -- Verdicts that a report may be made of in the place of the true ones.
-use Rattle.std.specs.Prelude.{◌≡◌, ℕ, ◌==◌, Bool, false, true, not, ◌&&◌, ◌||◌, List, [], ◌∷◌}
-use Rattle.std.specs.Prelude.{◌++◌, All, drop, filter, if◌then◌else◌, length, map, set, slice_index_or, take, zip}
+use Rattle.std.specs.Prelude.{◌≡◌, ℕ, ◌==◌, Bool, false, true, not, ◌&&◌, ◌||◌, List, [], ◌∷◌, ◌++◌, All, drop, filter, if◌then◌else◌, length, map, set, slice_index_or, take, zip}
 use Rattle.deb_index.specs.declared.constraint.Constraint.{Constraint}
 use Rattle.deb_index.specs.Packages.{IndexView}
 use Rattle.deb_health.specs.Verdicts.{Blocked, Found, IsVerdict, SpeaksOf, VerdictView}
@@ -8,10 +7,9 @@ use Rattle.deb_verdict.specs.Told.{IsToldVerdict, as_told}
 use Rattle.deb_verdict.specs.declared.wanted.Wanted.{Wanted}
 use Rattle.work_draw.specs.Checks.{AnswersEach}
 use Rattle.deb_outcome.specs.Outcome.{is_broken, is_shown}
-use Rattle.deb_report.specs.Report.{later_at}
+use Rattle.deb_causes.specs.Later.{later_at, AreLaterOf}
 use Rattle.run_settings.specs.Settings.{Settings, shows_sets, tells_all_causes}
 use Rattle.deb_outcome.specs.Since.{BrokenView, is_new}
-use Rattle.deb_report.specs.Told.{AreLaterOf}
 use Rattle.debcheck.specs.Later.{AreLater}
 
 -- as much of a verdict: with a set or without, and with a core or without

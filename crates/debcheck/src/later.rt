@@ -4,7 +4,7 @@ ghost use Rattle.std.specs.Prelude.{◌≡◌, ◌<◌, ◌≤◌, ◌+◌, ◌+
 ghost use Rattle.std.specs.Vec.{vec_capacity};
 ghost use Rattle.deb_health.specs.Verdicts.{verdict_view};
 ghost use Rattle.deb_outcome.specs.Outcome.{is_broken};
-ghost use Rattle.deb_report.specs.Told.{later_view};
+ghost use Rattle.deb_causes.specs.Later.{later_view};
 ghost use Rattle.work_draw.specs.Checks.{cores_view};
 ghost use Rattle.debcheck.specs.Standing.{is_next, placed, with_cores, with_first};
 

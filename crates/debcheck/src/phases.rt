@@ -5,8 +5,7 @@ ghost use Rattle.std.specs.Io.KnownBytes.{IsAtEnd};
 ghost use Rattle.deb_index.specs.Reading.{byte_limit, index_of_both};
 ghost use Rattle.run_settings.specs.Settings.{settings_of};
 ghost use Rattle.deb_input.specs.Inputs.{FailsToAccept, IsReadAs, input, is_unread};
-ghost use Rattle.debcheck.specs.Run.{Fails, FailsToIndex, FailsToReadBehind, FailsToReport, IsReportOn, Leaves, ReadsAs, TellsReport};
-ghost use Rattle.debcheck.specs.Run.{WritesReport, behind};
+ghost use Rattle.debcheck.specs.Run.{Fails, FailsToIndex, FailsToReadBehind, FailsToReport, IsReportOn, Leaves, ReadsAs, TellsReport, WritesReport, behind};
 
 use crate::asked::ask_noting;
 use crate::verdicts::{find_told, wanted_of};

@@ -7,8 +7,7 @@ ghost use Rattle.run_settings.specs.Settings.{settings_of};
 ghost use Rattle.deb_outcome.specs.Since.{broken_view};
 ghost use Rattle.deb_input.specs.Inputs.{Input, IsReadAs, input, is_unread};
 ghost use Rattle.debcheck.specs.Run.{FailsToIndex, FailsToReport, HasAsked, IfIndexed, ReadsAs, behind};
-ghost use Rattle.debcheck.specs.Since.{FailsEarlier, FailsSince, IsReportAfter, LeavesSince, TellsReportSince, WereBroken, WritesReportSince, earlier_fault};
-ghost use Rattle.debcheck.specs.Since.{is_unread_behind, wanted_since};
+ghost use Rattle.debcheck.specs.Since.{FailsEarlier, FailsSince, IsReportAfter, LeavesSince, TellsReportSince, WereBroken, WritesReportSince, earlier_fault, is_unread_behind, wanted_since};
 
 use crate::asked::ask_noting;
 use crate::phases::{After, index_from, let_go, read_texts};

@@ -6,7 +6,7 @@ ghost use Rattle.deb_health.specs.Health.{IsHopeless};
 ghost use Rattle.deb_health.specs.Verdicts.{SpeaksOf, verdict_view};
 ghost use Rattle.run_settings.specs.Settings.{settings_of, tells_all_causes};
 ghost use Rattle.deb_outcome.specs.Since.{broken_view};
-ghost use Rattle.deb_report.specs.Told.{AreLaterOf, later_view};
+ghost use Rattle.deb_causes.specs.Later.{AreLaterOf, later_view};
 ghost use Rattle.deb_verdict.specs.Told.{IsToldVerdict};
 ghost use Rattle.work_draw.specs.Checks.{AnswersEach};
 ghost use Rattle.debcheck.specs.Standing.{AreFound, HaveCores, Merges, is_unmarked, wanted_by};

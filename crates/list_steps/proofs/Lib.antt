@@ -1,3 +1,4 @@
 pub mod AtomSteps
+pub mod JoinLemmas
 pub mod ListLemmas
 pub mod PlaceLemmas

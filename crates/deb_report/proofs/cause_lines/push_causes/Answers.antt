@@ -1,11 +1,12 @@
 use Rattle.std.proofs.Common.{append_assoc, codes, decimal, length}
 use Rattle.std.proofs.lemmas.List.{length-map}
 use Rattle.std.specs.List.{flat_map}
-use Rattle.deb_report.specs.declared.gathered.Cause.{Cause}
+use Rattle.deb_causes.specs.declared.gathered.Cause.{Cause}
 use Rattle.deb_report.specs.CauseLines.{cause_text}
-use Rattle.deb_report.specs.Causes.{cause_view}
+use Rattle.deb_causes.specs.Causes.{cause_view}
 use Rattle.deb_report.specs.Report.{line}
-use Rattle.deb_report.proofs.JoinLemmas.{last_call, lines_map}
+use Rattle.deb_report.proofs.JoinLemmas.{last_call}
+use Rattle.list_steps.proofs.JoinLemmas.{lines_map}
 use Rattle.deb_report.proofs.cause_lines.push_causes.Goals as goal
 
 pub push_all-requires : goal.push_all-requires

@@ -3,11 +3,11 @@ use Rattle.std.specs.Option.{option_map}
 use Rattle.deb_health.specs.Verdicts.{verdict_view}
 use Rattle.run_settings.specs.declared.config.Show.TheVariants.{Failures}
 use Rattle.deb_outcome.specs.declared.shown.Shown.{Shown}
-use Rattle.deb_report.specs.Causes.{cause_view}
+use Rattle.deb_causes.specs.Causes.{cause_view}
 use Rattle.deb_report.specs.Content.{causes_if}
 use Rattle.deb_outcome.specs.Outcome.{number_view, numbers_of, shown_view, summary_of}
 use Rattle.run_settings.specs.Settings.{settings_of}
-use Rattle.deb_report.specs.Told.{later_view}
+use Rattle.deb_causes.specs.Later.{later_view}
 use Rattle.deb_outcome.proofs.ShownLemmas.{shown-within}
 use Rattle.deb_report.proofs.ReportLemmas.{content-is}
 use Rattle.deb_report.proofs.content.content_of.Goals as goal

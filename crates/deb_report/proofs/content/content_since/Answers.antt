@@ -4,12 +4,12 @@ use Rattle.std.specs.Option.{option_map}
 use Rattle.deb_health.specs.Verdicts.{verdict_view}
 use Rattle.run_settings.specs.declared.config.Show.TheVariants.{Failures}
 use Rattle.deb_outcome.specs.declared.shown.Shown.{Shown}
-use Rattle.deb_report.specs.Causes.{cause_view}
+use Rattle.deb_causes.specs.Causes.{cause_view}
 use Rattle.deb_report.specs.Content.{causes_if}
 use Rattle.deb_outcome.specs.Outcome.{broken_ones, number_view, numbers_of, shown_view, summary_with}
 use Rattle.run_settings.specs.Settings.{settings_of}
 use Rattle.deb_outcome.specs.Since.{amends_view, broken_view, is_news}
-use Rattle.deb_report.specs.Told.{later_view}
+use Rattle.deb_causes.specs.Later.{later_view}
 use Rattle.deb_outcome.proofs.ShownLemmas.{kept-within, shown-within}
 use Rattle.deb_report.proofs.ReportLemmas.{since-is}
 use Rattle.deb_report.proofs.content.content_since.Goals as goal

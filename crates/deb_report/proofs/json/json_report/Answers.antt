@@ -3,7 +3,8 @@ use Rattle.deb_report.specs.Json.{block_json, causes_json, escaped, head_json, j
 use Rattle.deb_outcome.specs.Since.{amends_view}
 use Rattle.deb_outcome.specs.Outcome.{number_view}
 use Rattle.deb_report.specs.Told.{content_view, telling_view}
-use Rattle.deb_report.proofs.JoinLemmas.{document-of, lines_map}
+use Rattle.deb_report.proofs.JoinLemmas.{document-of}
+use Rattle.list_steps.proofs.JoinLemmas.{lines_map}
 use Rattle.deb_report.proofs.json.json_report.Goals as goal
 
 pub returns : goal.returns

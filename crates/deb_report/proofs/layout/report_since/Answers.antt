@@ -2,7 +2,7 @@ use Rattle.std.proofs.Common.{arith, map}
 use Rattle.deb_health.specs.Verdicts.{verdict_view}
 use Rattle.run_settings.specs.Settings.{settings_of}
 use Rattle.deb_outcome.specs.Since.{broken_view}
-use Rattle.deb_report.specs.Told.{later_view}
+use Rattle.deb_causes.specs.Later.{later_view}
 use Rattle.deb_report.proofs.ReportLemmas.{few-blocks}
 use Rattle.deb_report.proofs.layout.report_since.Goals as goal
 

@@ -5,7 +5,7 @@ use Rattle.deb_relation.specs.declared.atom.Atom.{Atom}
 use Rattle.deb_relation.specs.AtomView.{atom_view}
 use Rattle.deb_relation.specs.Relationship.{AtomText, printed}
 use Rattle.deb_report.specs.CauseLines.{provides_text}
-use Rattle.deb_report.proofs.JoinLemmas.{joined_map}
+use Rattle.list_steps.proofs.JoinLemmas.{joined_map}
 use Rattle.deb_report.proofs.line_parts.push_provides.Goals as goal
 
 pub returns-in_ok-extend_from_slice-2 : goal.returns-in_ok-extend_from_slice-2

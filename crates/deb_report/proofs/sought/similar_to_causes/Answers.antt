@@ -3,8 +3,8 @@ use Rattle.deb_index.specs.Constraints.{IsOfIndex}
 use Rattle.deb_near.specs.Similar.{stems_in}
 use Rattle.deb_near.specs.Stems.{AreSought}
 use Rattle.deb_walk.proofs.WalkLemmas.{flat_all}
-use Rattle.deb_report.specs.declared.gathered.Cause.{Cause}
-use Rattle.deb_report.specs.Causes.{IsCauseOf, cause_view}
+use Rattle.deb_causes.specs.declared.gathered.Cause.{Cause}
+use Rattle.deb_causes.specs.Causes.{IsCauseOf, cause_view}
 use Rattle.deb_report.proofs.SoughtLemmas.{sought-each}
 use Rattle.deb_report.proofs.sought.similar_to_causes.Goals as goal
 

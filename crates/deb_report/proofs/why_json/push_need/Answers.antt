@@ -3,8 +3,9 @@ use Rattle.deb_relation.specs.AtomView.{atom_view}
 use Rattle.deb_relation.specs.Relationship.{printed}
 use Rattle.deb_index.specs.Packages.{need_at}
 use Rattle.deb_report.specs.Json.{array, quoted, why_json}
-use Rattle.deb_report.specs.Report.{is_missing}
-use Rattle.deb_report.proofs.JoinLemmas.{joined_map, last_call}
+use Rattle.deb_causes.specs.Missing.{is_missing}
+use Rattle.deb_report.proofs.JoinLemmas.{last_call}
+use Rattle.list_steps.proofs.JoinLemmas.{joined_map}
 use Rattle.deb_report.proofs.why_json.push_need.Goals as goal
 
 pub returns-then-branch : goal.returns-then-branch

@@ -1,6 +1,6 @@
 use Rattle.std.proofs.Common.{◌≡◌, ◌≤◌, [], length, replicate}
 use Rattle.std.specs.Vec.{vec_capacity}
-use Rattle.deb_report.specs.Told.{later_view}
+use Rattle.deb_causes.specs.Later.{later_view}
 use Rattle.debcheck.proofs.later.no_cores.Given as goal
 
 abbrev pub invariant-loop : goal.invariant-loop

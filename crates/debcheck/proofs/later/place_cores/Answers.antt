@@ -3,7 +3,7 @@ use Rattle.std.proofs.lemmas.Grind.{get_or-set_at}
 use Rattle.std.proofs.lemmas.List.{drop-set-lt, drop_more, length-set, map-append, map-set}
 use Rattle.deb_index.specs.declared.constraint.Constraint.{Constraint}
 use Rattle.deb_health.specs.Verdicts.{VerdictView, verdict_view}
-use Rattle.deb_report.specs.Told.{later_view}
+use Rattle.deb_causes.specs.Later.{later_view}
 use Rattle.work_draw.specs.Checks.{cores_view}
 use Rattle.debcheck.specs.Standing.{placed, with_first}
 use Rattle.debcheck.proofs.LaterLemmas.{placed_next}

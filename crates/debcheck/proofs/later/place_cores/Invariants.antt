@@ -1,7 +1,7 @@
 use Rattle.std.proofs.Common.{◌≡◌, ◌+◌, ◌++◌, drop, length, map}
 use Rattle.std.specs.Vec.{vec_capacity}
 use Rattle.deb_health.specs.Verdicts.{verdict_view}
-use Rattle.deb_report.specs.Told.{later_view}
+use Rattle.deb_causes.specs.Later.{later_view}
 use Rattle.debcheck.specs.Standing.{placed, with_first}
 use Rattle.debcheck.proofs.later.place_cores.Given as goal
 

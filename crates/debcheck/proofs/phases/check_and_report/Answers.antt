@@ -2,7 +2,7 @@ use Rattle.std.proofs.Common.{◌≡◌, ◌∙◌, List, None, Ok, [], ap, map,
 use Rattle.std.proofs.lemmas.Bool.{or_left}
 use Rattle.deb_outcome.specs.Asked.{asked_places}
 use Rattle.run_settings.specs.Settings.{settings_of, tells_all_causes}
-use Rattle.deb_report.specs.Told.{later_view}
+use Rattle.deb_causes.specs.Later.{later_view}
 use Rattle.deb_health.specs.Verdicts.{verdict_view}
 use Rattle.deb_verdict.specs.declared.wanted.Wanted.{Wanted}
 use Rattle.debcheck.specs.Standing.{AreFound, wanted_by}

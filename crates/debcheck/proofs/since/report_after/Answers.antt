@@ -5,7 +5,7 @@ use Rattle.deb_verdict.specs.declared.wanted.Wanted.{Wanted}
 use Rattle.deb_outcome.specs.Asked.{asked_places}
 use Rattle.run_settings.specs.Settings.{settings_of, tells_all_causes}
 use Rattle.deb_outcome.specs.Since.{broken_view}
-use Rattle.deb_report.specs.Told.{later_view}
+use Rattle.deb_causes.specs.Later.{later_view}
 use Rattle.debcheck.specs.Standing.{AreFound}
 use Rattle.debcheck.specs.Since.{wanted_since}
 use Rattle.deb_input.specs.Strict.{slip_of}

@@ -8,7 +8,7 @@ use Rattle.deb_health.specs.Causes.{AreCores}
 use Rattle.deb_health.specs.Verdicts.{SpeaksOf, VerdictView, verdict_view}
 use Rattle.deb_verdict.specs.Told.{IsToldVerdict}
 use Rattle.run_settings.specs.Settings.{settings_of, tells_all_causes}
-use Rattle.deb_report.specs.Told.{AreLaterOf, later_view}
+use Rattle.deb_causes.specs.Later.{AreLaterOf, later_view}
 use Rattle.work_draw.specs.Checks.{AnswersEach}
 use Rattle.debcheck.specs.Later.{AreLaterIf}
 use Rattle.debcheck.specs.Standing.{HaveCores, placed, wanting, with_first}

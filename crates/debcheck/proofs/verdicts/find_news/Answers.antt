@@ -6,7 +6,7 @@ use Rattle.deb_health.specs.declared.answer.Verdict.{Verdict}
 use Rattle.deb_verdict.specs.Told.{IsToldVerdict}
 use Rattle.run_settings.specs.Settings.{settings_of}
 use Rattle.deb_outcome.specs.Since.{broken_view, newly_broken}
-use Rattle.deb_report.specs.Told.{later_view}
+use Rattle.deb_causes.specs.Later.{later_view}
 use Rattle.work_draw.specs.Checks.{AnswersEach}
 use Rattle.work_draw.proofs.Answered.{AnswersEach-length}
 use Rattle.debcheck.specs.Standing.{AreFound, HaveCores, wanted_at, wanting, with_cores}

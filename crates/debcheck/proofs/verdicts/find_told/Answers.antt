@@ -3,7 +3,7 @@ use Rattle.std.proofs.lemmas.Bool.{and_right, eqb-true, false_from_ne_true, true
 use Rattle.deb_health.specs.Verdicts.{verdict_view}
 use Rattle.run_settings.specs.Settings.{settings_of, tells_all_causes}
 use Rattle.deb_outcome.specs.Since.{broken_view, is_new}
-use Rattle.deb_report.specs.Told.{later_view}
+use Rattle.deb_causes.specs.Later.{later_view}
 use Rattle.debcheck.proofs.LaterLemmas.{empty_list}
 use Rattle.debcheck.proofs.StandingLemmas.{found-first}
 use Rattle.debcheck.proofs.verdicts.find_told.Goals as goal

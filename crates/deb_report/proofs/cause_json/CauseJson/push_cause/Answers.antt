@@ -2,7 +2,8 @@ use Rattle.std.proofs.Common.{arith, ◌≡◌, [], ◌∷◌, ℕ, Bor, List, c
 use Rattle.deb_near.specs.declared.near.NearMiss.{NearMiss}
 use Rattle.deb_near.specs.Near.{near_view}
 use Rattle.deb_report.specs.Json.{array, cause_json, member, near_json, needed_json, place_json, quoted, wrong_json}
-use Rattle.deb_report.proofs.JoinLemmas.{joined_map, object-of}
+use Rattle.deb_report.proofs.JoinLemmas.{object-of}
+use Rattle.list_steps.proofs.JoinLemmas.{joined_map}
 use Rattle.deb_report.proofs.cause_json.CauseJson.push_cause.Goals as goal
 
 pub returns : goal.returns

@@ -3,7 +3,7 @@ use Rattle.deb_report.specs.Lines.{lines_text, list_lines}
 use Rattle.deb_report.specs.Report.{number_line}
 use Rattle.deb_outcome.specs.Since.{amends_view}
 use Rattle.deb_outcome.specs.Outcome.{number_view}
-use Rattle.deb_report.proofs.JoinLemmas.{lines_map}
+use Rattle.list_steps.proofs.JoinLemmas.{lines_map}
 use Rattle.deb_report.proofs.lines.Lines.text.Goals as goal
 
 pub returns : goal.returns

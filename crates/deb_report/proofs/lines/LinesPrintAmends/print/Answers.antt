@@ -4,7 +4,8 @@ use Rattle.std.specs.List.{flat_map}
 use Rattle.deb_report.specs.Lines.{broken_line, list_lines}
 use Rattle.deb_report.specs.Report.{line}
 use Rattle.deb_outcome.specs.Since.{broken_view}
-use Rattle.deb_report.proofs.JoinLemmas.{last_call, lines_map}
+use Rattle.deb_report.proofs.JoinLemmas.{last_call}
+use Rattle.list_steps.proofs.JoinLemmas.{lines_map}
 use Rattle.deb_report.proofs.lines.LinesPrintAmends.print.Goals as goal
 
 pub returns : goal.returns

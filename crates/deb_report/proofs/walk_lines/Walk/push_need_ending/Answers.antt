@@ -1,6 +1,6 @@
 use Rattle.std.proofs.Common.{◌∙◌, sym}
 use Rattle.deb_index.specs.Packages.{need_at}
-use Rattle.deb_report.proofs.MissingLemmas.{missing-where}
+use Rattle.deb_causes.proofs.MissingLemmas.{missing-where}
 use Rattle.deb_report.proofs.walk_lines.Walk.push_need_ending.Goals as goal
 
 pub push_missing-requires-clause-sought : goal.push_missing-requires-clause-sought

@@ -1,0 +1,10 @@
+pub mod CauseOrder
+pub mod CoreLemmas
+pub mod FirstOnes
+pub mod GatheringLemmas
+pub mod GatheredCauses
+pub mod MissingLemmas
+pub mod NumberingLemmas
+pub mod SaidLemmas
+pub mod PartLemmas
+pub mod WrongsLemmas

@@ -1,0 +1,55 @@
+use Rattle.std.proofs.Common.{◌≡◌, ℕ, ◌<◌, List, All, ap, length, map, subst, sym, ◌∙◌}
+use Rattle.std.specs.List.{flat_map}
+use Rattle.std.proofs.lemmas.List.Elements.{All-same, All-map}
+use Rattle.deb_index.specs.Constraints.{IsOfIndex, below}
+use Rattle.deb_health.specs.Verdicts.{VerdictView}
+use Rattle.deb_causes.specs.declared.numbered.NumberedCore.{NumberedCore}
+use Rattle.deb_causes.specs.declared.numbered.NumberedPackage.{NumberedPackage}
+use Rattle.deb_causes.specs.Causes.{by_first, cores_of}
+use Rattle.deb_causes.specs.Gathered.{cause_from}
+use Rattle.deb_causes.specs.Gathering.{part_of, part_view}
+use Rattle.deb_causes.specs.Numbered.{package_view}
+use Rattle.deb_outcome.specs.Outcome.{IsAskedOf, shown_view}
+use Rattle.deb_causes.specs.Later.{later_view}
+use Rattle.deb_causes.specs.Wrongs.{causes_of}
+use Rattle.deb_causes.proofs.GatheredCauses.{cores-own, numbers-below, numbers-within, parts-causes, parts-some, parts-within, some-cores, told-within}
+use Rattle.deb_causes.proofs.causes.parts_in.Goals as goal
+
+pub parts_of-requires : goal.parts_of-requires
+parts_of-requires c =
+    let all = c.in_ok-packages.packages.items in
+    let within = numbers-below all (length (causes_of c.number_packages.new.wrongs))
+    (numbers-within c.args.index.now c.new-wrongs.result c.number_packages.new.wrongs (map package_view all) c.in_ok-packages.ensures.numbers c.new-wrongs.ensures.said c.new-wrongs.ensures.causes) in
+    let counted = subst (λ n. All (λ (one : NumberedPackage). All (λ (core : NumberedCore). core.number < n) one.cores.items) all) (sym c.count.ensures) within in
+    All-same (λ (one : NumberedPackage). All (λ (core : NumberedCore). core.number < c.count.result) one.cores.items) c.as_slice.result.now all c.as_slice.ensures.value counted
+
+pub returns-clause-causes : goal.returns-clause-causes
+returns-clause-causes c =
+    let packages = map package_view c.in_ok-packages.packages.items in
+    let index = c.args.index.now in
+    let views : map part_view c.in_ok-parts.parts.items ≡ map (part_of packages) (below (length (causes_of c.number_packages.new.wrongs))) =
+    c.in_ok-parts.ensures ∙ ap (λ ps. map (part_of (map package_view ps)) (below c.count.result)) c.as_slice.ensures.value ∙ ap (λ n. map (part_of packages) (below n)) c.count.ensures in
+    ap (map (cause_from index)) views
+    ∙ parts-causes index c.new-wrongs.result c.number_packages.new.wrongs packages c.in_ok-packages.ensures.numbers c.new-wrongs.ensures.said c.new-wrongs.ensures.causes
+    ∙ ap (by_first index) c.in_ok-packages.ensures.cores
+
+pub returns-clause-some : goal.returns-clause-some
+returns-clause-some c =
+    let packages = map package_view c.in_ok-packages.packages.items in
+    let views : map part_view c.in_ok-parts.parts.items ≡ map (part_of packages) (below (length (causes_of c.number_packages.new.wrongs))) =
+    c.in_ok-parts.ensures ∙ ap (λ ps. map (part_of (map package_view ps)) (below c.count.result)) c.as_slice.ensures.value ∙ ap (λ n. map (part_of packages) (below n)) c.count.ensures in
+    some-cores c.in_ok-parts.parts.items _ views
+    (parts-some c.args.index.now c.new-wrongs.result c.number_packages.new.wrongs packages c.in_ok-packages.ensures.numbers c.new-wrongs.ensures.said c.new-wrongs.ensures.causes)
+
+pub returns-clause-within : goal.returns-clause-within
+returns-clause-within c =
+    let packages = map package_view c.in_ok-packages.packages.items in
+    let index = c.args.index.now in
+    let later = later_view c.args.later.now in
+    let told : List (ℕ × VerdictView) = map shown_view c.args.broken.now in
+    let views : map part_view c.in_ok-parts.parts.items ≡ map (part_of packages) (below c.count.result) =
+    c.in_ok-parts.ensures ∙ ap (λ ps. map (part_of (map package_view ps)) (below c.count.result)) c.as_slice.ensures.value in
+    let within : All (All (IsOfIndex index)) (flat_map (λ one. one.1) (map (cores_of later) told)) =
+    told-within index later told c.requires.later (All-map (IsAskedOf index) shown_view c.args.broken.now c.requires.broken) in
+    cores-own index c.in_ok-parts.parts.items _ views
+    (parts-within index packages c.count.result (subst (λ broken. All (All (IsOfIndex index)) (flat_map (λ one. one.1) broken)) (sym c.in_ok-packages.ensures.cores) within))

@@ -1,0 +1,10 @@
+pub mod Missing
+pub mod Later
+pub mod Causes
+pub mod Numbering
+pub mod Said
+pub mod Wrongs
+pub mod Numbered
+pub mod Gathering
+pub mod Gathered
+pub mod Positions

@@ -1,0 +1,27 @@
+-- Texts with numbers, in the order of their coming.
+use Rattle.std.specs.Prelude.{◌≡◌, ℕ, List, [], ◌∷◌, ◌++◌, map, if◌then◌else◌}
+use Rattle.std.specs.List.{list_any}
+use Rattle.std.specs.Str.{bytes_eq}
+use Rattle.deb_index.specs.Packages.{first_of_each}
+use Rattle.deb_causes.specs.declared.numbering.Numbering.{Numbering}
+
+-- the texts, by their numbers
+abbrev pub texts_of : Numbering → List (List ℕ)
+texts_of numbering = map (λ text. text.items) numbering.texts.keys
+
+-- the texts with one more, where it is not among them
+abbrev pub with_text : List (List ℕ) → List ℕ → List (List ℕ)
+with_text texts text = if list_any (bytes_eq text) texts then texts else (texts ++ text ∷ [])
+
+-- the texts come first among others
+abbrev pub IsFront : List (List ℕ) → List (List ℕ) → Type 0
+IsFront front texts = (rest : List (List ℕ)) × (texts ≡ front ++ rest)
+
+-- each of the texts stands there once
+abbrev pub StandOnce : List (List ℕ) → Type 0
+StandOnce texts = (before : List (List ℕ)) × (texts ≡ first_of_each bytes_eq before)
+
+-- the texts grow by these, each of which is added where it is new
+pub record Grows (old new added : List (List ℕ)) : Type 0 where
+  pub front : (texts : List (List ℕ)) → IsFront new texts → IsFront old texts
+  pub firsts : (before : List (List ℕ)) → old ≡ first_of_each bytes_eq before → new ≡ first_of_each bytes_eq (before ++ added)

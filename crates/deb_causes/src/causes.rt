@@ -1,0 +1,121 @@
+//! The causes of broken packages.
+
+ghost use Rattle.std.specs.Prelude.{◌≡◌, ◌<◌, ◌≤◌, ℕ, All, IfOk, OnOk, count_by, length, map};
+ghost use Rattle.deb_index.specs.Constraints.{IsOfIndex};
+ghost use Rattle.deb_causes.specs.Causes.{IsCauseOf, by_count, by_first, cause_view, causes_list, cores_of};
+ghost use Rattle.deb_causes.specs.Gathered.{cause_from};
+ghost use Rattle.deb_causes.specs.Gathering.{part_view, share_view};
+ghost use Rattle.deb_outcome.specs.Outcome.{IsAskedOf, shown_view};
+ghost use Rattle.deb_causes.specs.Later.{AreLaterOf, later_view};
+
+use crate::cores::{needs_in, versions_in, wrongs_in};
+use crate::gathered::{Cause, Part, Share, parts_of};
+use crate::numbered::number_packages;
+use crate::wrongs::Wrongs;
+use deb_index::{Constraint, Index};
+use deb_outcome::Shown;
+use std::alloc::{AllocError, Global};
+
+/// The places of packages.
+fn places_of(alloc: Global, shares: &[Share]) -> Result<Vec<u32>, AllocError>
+    ensures { IfOk result (λ places. places.items ≡ map (λ share. share.0) (map share_view shares.now)) }
+{
+    let mut places = Vec::new(alloc);
+    for share in shares {
+        places.push(share.place)?;
+    }
+    Ok(places)
+}
+
+/// How many of the packages have no other cause.
+fn count_alone(shares: &[Share]) -> usize
+    ensures { result ≡ count_by (λ share. share.1) (map share_view shares.now) }
+{
+    let mut count = 0;
+    for share in shares {
+        if share.alone {
+            count += 1;
+        }
+    }
+    count
+}
+
+/// The cause that some cores have, with what is told of them and of the packages.
+fn cause_of(alloc: Global, index: &Index, part: &Part) -> Result<Cause, AllocError>
+    requires some { 0 < length part.now.cores.items }
+    requires within { All (λ core. All (IsOfIndex index.now) core.now) part.now.cores.items }
+    ensures { IfOk result (λ cause. cause_view cause ≡ cause_from index.now (part_view part.now)) }
+{
+    let cores = part.cores.as_slice();
+    let shares = part.shares.as_slice();
+    Ok(Cause {
+        constraints: wrongs_in(alloc, index, cores[0])?,
+        places: places_of(alloc, shares)?,
+        frees: count_alone(shares),
+        needs: needs_in(alloc, index, cores)?,
+        versions: versions_in(alloc, index, cores)?,
+    })
+}
+
+/// The causes of all parts.
+fn list_causes(alloc: Global, index: &Index, parts: &[Part]) -> Result<Vec<Cause>, AllocError>
+    requires some { All (λ part. 0 < length part.cores.items) parts.now }
+    requires within { All (λ part. All (λ core. All (IsOfIndex index.now) core.now) part.cores.items) parts.now }
+    ensures { IfOk result (λ causes. map cause_view causes.items ≡ map (cause_from index.now) (map part_view parts.now)) }
+{
+    let mut causes = Vec::new(alloc);
+    for part in parts {
+        causes.push(cause_of(alloc, index, part)?)?;
+    }
+    Ok(causes)
+}
+
+/// Brings causes of more packages to the front.
+fn sort_by_count(causes: &mut Vec<Cause>) -> Result<(), AllocError>
+    ensures { OnOk result ((most : ℕ) → All (λ cause. length cause.places.items ≤ most) causes.old.items
+        → map cause_view causes.new.items ≡ by_count most (map cause_view causes.old.items)) }
+{
+    causes.sort_by(|a, b| b.places.len().cmp(&a.places.len()))?;
+    Ok(())
+}
+
+/// What each cause of broken packages has, in the order of the first packages.
+fn parts_in<'v>(
+    alloc: Global,
+    index: &Index,
+    later: &'v [Vec<Vec<Constraint>>],
+    broken: &[Shown<'v>],
+) -> Result<Vec<Part<'v>>, AllocError>
+    requires broken { All (λ one. IsAskedOf index.now (shown_view one)) broken.now }
+    requires later { AreLaterOf index.now (later_view later.now) }
+    ensures causes { IfOk result (λ parts. map (cause_from index.now) (map part_view parts.items)
+        ≡ by_first index.now (map (cores_of (later_view later.now)) (map shown_view broken.now))) }
+    ensures some { IfOk result (λ parts. All (λ part. 0 < length part.cores.items) parts.items) }
+    ensures within { IfOk result (λ parts. All (λ part. All (λ core. All (IsOfIndex index.now) core.now) part.cores.items) parts.items) }
+{
+    let mut wrongs = Wrongs::new(alloc);
+    let packages = number_packages(alloc, index, later, broken, &mut wrongs)?;
+    let parts = parts_of(alloc, wrongs.count(), packages.as_slice())?;
+    Ok(parts)
+}
+
+/// The causes of broken packages, each with what is gathered of it: those of more packages first, among equals those whose first package is
+/// first in the list.
+///
+/// The packages, their verdicts and the later cores speak of what the index has. `AllocError` where there is no memory for it.
+pub fn causes_of(
+    alloc: Global,
+    index: &Index,
+    later: &[Vec<Vec<Constraint>>],
+    broken: &[Shown<'_>],
+) -> Result<Vec<Cause>, AllocError>
+    requires broken { All (λ one. IsAskedOf index.now (shown_view one)) broken.now }
+    requires later { AreLaterOf index.now (later_view later.now) }
+    ensures causes { IfOk result (λ causes. map cause_view causes.items ≡ causes_list index.now (later_view later.now) (map shown_view broken.now)) }
+    ensures within { IfOk result (λ causes. All (λ cause. IsCauseOf index.now (cause_view cause)) causes.items) }
+{
+    let parts = parts_in(alloc, index, later, broken)?;
+    let mut causes = list_causes(alloc, index, parts.as_slice())?;
+    sort_by_count(&mut causes)?;
+    Ok(causes)
+}

@@ -1,9 +1,0 @@
-use Rattle.std.proofs.Common.{◌≡◌, map, take}
-use Rattle.deb_index.specs.Constraints.{below}
-use Rattle.deb_report.specs.Gathering.{part_of, part_view}
-use Rattle.deb_report.specs.Numbered.{package_view}
-use Rattle.deb_report.proofs.gathered.parts_of.Given as goal
-
-abbrev pub invariant-loop-one : goal.invariant-loop-one
-invariant-loop-one l =
-    map part_view l.parts.items ≡ map (part_of (map package_view (take l.one-index l.packages))) (below l.count)

@@ -1,0 +1,17 @@
+//! The text of a group of alternatives.
+
+ghost use Rattle.std.specs.Prelude.{◌≡◌, ◌++◌, OnOk, map};
+ghost use Rattle.deb_relation.specs.AtomView.{atom_view};
+ghost use Rattle.deb_texts.specs.Texts.{group_text};
+
+use crate::print::{Plainly, push_joined};
+use deb_relation::Atom;
+use std::alloc::AllocError;
+
+/// Adds the atoms of a group.
+#[tactic(auto, using(list_steps::proofs::JoinLemmas::joined_map), unfolding(crate::specs::Texts::group_text))]
+pub fn push_group(out: &mut Vec<u8>, group: &[Atom]) -> Result<(), AllocError>
+    ensures { OnOk result (out.new.items ≡ out.old.items ++ group_text (map atom_view group.now)) }
+{
+    push_joined(out, " | ", &Plainly, group)
+}
