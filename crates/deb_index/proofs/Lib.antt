@@ -7,6 +7,7 @@ pub mod TableLemmas
 pub mod NextLemmas
 pub mod SmallLemmas
 pub mod Examples
+pub mod BelowLemmas
 pub mod MemberLemmas
 pub mod RisingLemmas
 pub mod FoundLemmas

@@ -2,8 +2,7 @@
 use Rattle.std.proofs.Common.{◌≡◌, ◌==◌, ◌∙◌, ℕ, OnOk, Result, List, [], ◌∷◌, ◌++◌, append_assoc, ap, ap₂, codes, fold, if◌then◌else◌, map, refl, sym}
 use Rattle.std.proofs.lemmas.List.{length-map}
 use Rattle.std.proofs.lemmas.Result.{on_ok_weaker}
-use Rattle.std.proofs.lemmas.List.Folds.{flat_map-map}
-use Rattle.std.specs.List.{flat_map, join_by}
+use Rattle.std.specs.List.{flat_map}
 use Rattle.list_steps.proofs.JoinLemmas.{joined_map, lines_map}
 use Rattle.deb_report.specs.Json.{closing, list_json, number_json, object}
 use Rattle.deb_report.specs.CauseLines.{titled_if}

@@ -1,13 +1,11 @@
 -- The report on an index.
 use Rattle.std.specs.Prelude.{ℕ, Bool, nat_lt, List, [], ◌∷◌}
-use Rattle.std.specs.Prelude.{◌++◌, length, codes, decimal, if◌then◌else◌, slice_index_or}
-use Rattle.std.specs.List.{flat_map, join_by, list_all}
-use Rattle.deb_relation.specs.Relationship.{AtomText, printed}
+use Rattle.std.specs.Prelude.{◌++◌, length, codes, decimal, if◌then◌else◌}
+use Rattle.std.specs.List.{flat_map}
+use Rattle.deb_relation.specs.Relationship.{AtomText}
 use Rattle.deb_index.specs.declared.constraint.Constraint.{Constraint}
 use Rattle.deb_index.specs.declared.constraint.Constraint.TheVariants.{Essential, Need, Apart, Only}
 use Rattle.deb_index.specs.Packages.{IndexView, PackageView, package_at, name_at, need_at, apart_at}
-use Rattle.deb_index.specs.Meets.{need_satisfiers}
-use Rattle.deb_outcome.specs.Asked.{is_empty}
 use Rattle.run_settings.specs.Settings.{Settings, options_of, tells_options}
 
 -- ---- lines

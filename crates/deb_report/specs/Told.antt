@@ -1,10 +1,7 @@
 -- What a report tells, without where it lies in memory.
-use Rattle.std.specs.Prelude.{List, All, IfSome, Vec, map}
-use Rattle.std.specs.declared.alloc.Global.{Global}
+use Rattle.std.specs.Prelude.{All, IfSome, map}
 use Rattle.std.specs.Option.{option_map}
 use Rattle.deb_relation.specs.AtomView.{atom_view}
-use Rattle.deb_index.specs.declared.constraint.Constraint.{Constraint}
-use Rattle.deb_index.specs.Constraints.{IsOfIndex}
 use Rattle.deb_index.specs.Packages.{IndexView, package_view}
 use Rattle.deb_report.specs.declared.content.Content.{Content}
 use Rattle.deb_report.specs.declared.reasons.Reason.{Reason}

@@ -1,9 +1,9 @@
 -- Sets of places to which places come.
 use Rattle.std.proofs.Common.{◌≡◌, ℕ, ◌+◌, ◌<◌, ◌==◌, ◌||◌, Bool, true, false, cond, List, [], ◌∷◌, ◌++◌, get_or, length, take, refl, sym, ap, ◌∙◌, inl, inr}
 use Rattle.std.proofs.lemmas.Bool.{cases_Bool, eqb-true}
-use Rattle.std.proofs.lemmas.List.{take_more}
 use Rattle.std.proofs.lemmas.List.Folds.{list_any-append}
 use Rattle.number_sets.specs.Sets.{members_of}
+use Rattle.number_sets.proofs.MembersLemmas.{members-more}
 use Rattle.number_sets.specs.SparseSets.{with_number}
 use Rattle.list_steps.proofs.ListLemmas.{or_false}
 
@@ -36,13 +36,6 @@ with_number-members places n q =
               there ∙ sym (ap (λ b. members_of places q || b) same ∙ or_true (members_of places q))
           | inr other ↦ sym (ap (λ b. members_of places q || b) other ∙ or_false (members_of places q))
         ]
-
--- the members of a row, with one more
-pub members-more : (numbers : List ℕ) (i k : ℕ) → i < length numbers → members_of (take (i + 1) numbers) k ≡ (members_of (take i numbers) k || (get_or numbers i 0 == k))
-members-more numbers i k inside =
-    ap (λ front. members_of front k) (take_more numbers i 0 inside)
-    ∙ list_any-append (λ member. member == k) (take i numbers) (get_or numbers i 0 ∷ [])
-    ∙ ap (λ last. members_of (take i numbers) k || last) (or_false (get_or numbers i 0 == k))
 
 -- one more of a row has come
 pub came : (start before after row : List ℕ) (i q n : ℕ) → i < length row → n ≡ get_or row i 0 → after ≡ with_number before n

@@ -1,8 +1,8 @@
 -- The list of the variables that are in, one variable after another.
-use Rattle.std.proofs.Common.{◌≡◌, ℕ, ◌+◌, ◌<◌, ◌≤◌, Bool, true, false, ◌||◌, eqb, List, [], ◌∷◌, ◌++◌, length, get_or, refl, sym, ◌∙◌, ap, inl, inr, arith}
+use Rattle.std.proofs.Common.{◌≡◌, ◌==◌, ℕ, ◌+◌, ◌<◌, ◌≤◌, Bool, true, false, ◌||◌, eqb, List, [], ◌∷◌, ◌++◌, length, get_or, take, refl, sym, ◌∙◌, ap, inl, inr, arith}
 use Rattle.std.proofs.Math.Bool.{or-false}
 use Rattle.std.proofs.lemmas.Bool.{cases_lt, eq-eqb, ne_eqb, or_left, or_right}
-use Rattle.std.proofs.lemmas.List.{get_or_append_left, get_or_push, length-append}
+use Rattle.std.proofs.lemmas.List.{get_or_append_left, get_or_push, length-append, take_more}
 use Rattle.std.proofs.lemmas.List.Folds.{list_any-append, list_any_none}
 use Rattle.std.specs.List.Sorted.{IsStrictlyIncreasing}
 use Rattle.std.specs.List.{All}
@@ -102,3 +102,10 @@ lists_all set bound numbers lists none number =
       | inl below ↦ lists.same number below
       | inr past ↦ members_of_past numbers bound number lists.small past ∙ sym (none number past)
     ]
+
+-- the members of a row, with one more
+pub members-more : (numbers : List ℕ) (i k : ℕ) → i < length numbers → members_of (take (i + 1) numbers) k ≡ (members_of (take i numbers) k || (get_or numbers i 0 == k))
+members-more numbers i k inside =
+    ap (λ front. members_of front k) (take_more numbers i 0 inside)
+    ∙ list_any-append (λ member. member == k) (take i numbers) (get_or numbers i 0 ∷ [])
+    ∙ ap (λ last. members_of (take i numbers) k || last) (or-false (get_or numbers i 0 == k))
