@@ -41,7 +41,7 @@ fn first_said(
 }
 
 /// What a core says is wrong: of its final constraints the first of each that say the same.
-pub fn wrongs_in(
+pub(crate) fn wrongs_in(
     alloc: Global,
     index: &Index,
     core: &[Constraint],
@@ -91,7 +91,7 @@ fn constraints_at(
 }
 
 /// The needs of the cores that no package meets, each once, in the index's order.
-pub fn needs_in(
+pub(crate) fn needs_in(
     alloc: Global,
     index: &Index,
     cores: &[&[Constraint]],
@@ -174,7 +174,7 @@ fn push_versions(
 }
 
 /// The places, rising, of the packages that the cores ask for, by a name of which there may be one version.
-pub fn versions_in(
+pub(crate) fn versions_in(
     alloc: Global,
     index: &Index,
     cores: &[&[Constraint]],

@@ -31,17 +31,17 @@ pub struct Cause {
 
 /// A package that has a cause.
 #[derive(Drop)]
-pub struct Share {
-    pub place: u32,
+pub(crate) struct Share {
+    pub(crate) place: u32,
     /// Whether it has no other cause.
-    pub alone: bool,
+    pub(crate) alone: bool,
 }
 
 /// What has the number of a cause.
 #[derive(Drop)]
-pub struct Part<'v> {
-    pub cores: Vec<&'v [Constraint]>,
-    pub shares: Vec<Share>,
+pub(crate) struct Part<'v> {
+    pub(crate) cores: Vec<&'v [Constraint]>,
+    pub(crate) shares: Vec<Share>,
 }
 
 /// As many parts, with nothing in them.
@@ -145,7 +145,7 @@ fn add_package<'v>(
 }
 
 /// What has each number below the count.
-pub fn parts_of<'v>(
+pub(crate) fn parts_of<'v>(
     alloc: Global,
     count: usize,
     packages: &[NumberedPackage<'v>],

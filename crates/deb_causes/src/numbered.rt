@@ -18,16 +18,16 @@ use std::alloc::{AllocError, Global};
 
 /// A core, and the number of its cause.
 #[derive(Drop)]
-pub struct NumberedCore<'v> {
-    pub number: u32,
-    pub core: &'v [Constraint],
+pub(crate) struct NumberedCore<'v> {
+    pub(crate) number: u32,
+    pub(crate) core: &'v [Constraint],
 }
 
 /// An asked place, and the cores of all its causes.
 #[derive(Drop)]
-pub struct NumberedPackage<'v> {
-    pub place: u32,
-    pub cores: Vec<NumberedCore<'v>>,
+pub(crate) struct NumberedPackage<'v> {
+    pub(crate) place: u32,
+    pub(crate) cores: Vec<NumberedCore<'v>>,
 }
 
 /// The cores behind the first of the package at a place: past the end of the list none.
@@ -89,7 +89,7 @@ fn number_cores<'v>(
 }
 
 /// The cores of broken packages, each with the number of its cause.
-pub fn number_packages<'v>(
+pub(crate) fn number_packages<'v>(
     alloc: Global,
     index: &Index,
     later: &'v [Vec<Vec<Constraint>>],

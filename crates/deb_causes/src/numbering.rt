@@ -8,7 +8,7 @@ use std::alloc::{AllocError, Global};
 
 /// Texts, each once, in the order of their coming: the number of a text is its place.
 #[derive(Drop)]
-pub struct Numbering {
+pub(crate) struct Numbering {
     texts: IndexSet<Vec<u32>>,
 }
 
@@ -17,7 +17,7 @@ impl Numbering {
     ghost use Rattle.deb_causes.specs.Numbering.{texts_of, with_text};
 
     /// No text so far.
-    pub fn new(alloc: Global) -> Numbering
+    pub(crate) fn new(alloc: Global) -> Numbering
         ensures { texts_of result ≡ [] }
     {
         Numbering {
@@ -26,14 +26,14 @@ impl Numbering {
     }
 
     /// How many texts there are.
-    pub fn len(&self) -> usize
+    pub(crate) fn len(&self) -> usize
         ensures { result ≡ length (texts_of self.now) }
     {
         self.texts.len()
     }
 
     /// The number of a text, which goes last where it is new.
-    pub fn number(&mut self, text: Vec<u32>) -> Result<u32, AllocError>
+    pub(crate) fn number(&mut self, text: Vec<u32>) -> Result<u32, AllocError>
         ensures texts { OnOk result (texts_of self.new ≡ with_text (texts_of self.old) text.items) }
         ensures number { IfOk result (λ number. number_in text.items (texts_of self.new) ≡ Some number) }
     {

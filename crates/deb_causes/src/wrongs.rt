@@ -15,7 +15,7 @@ use deb_texts::push_group;
 use number_sets::sort_once;
 use std::alloc::{AllocError, Global};
 
-/// Whether a constraint is no need that some package of the index meets.
+/// Whether a constraint is no need that some package of the index meets. `AllocError` where there is no memory to look.
 pub fn is_final(alloc: Global, index: &Index, constraint: Constraint) -> Result<bool, AllocError>
     requires { IsOfIndex index.now constraint }
     ensures { IfOk result (λ last. last ≡ is_final index.now constraint) }
@@ -58,7 +58,7 @@ fn says_of(alloc: Global, index: &Index, constraint: Constraint) -> Result<Vec<u
 }
 
 /// The number of what a constraint says.
-pub fn number_of(
+pub(crate) fn number_of(
     alloc: Global,
     index: &Index,
     constraint: Constraint,
@@ -95,7 +95,7 @@ fn numbers_said(
 
 /// What constraints say, and what causes say, each by the numbers of what its constraints say.
 #[derive(Drop)]
-pub struct Wrongs {
+pub(crate) struct Wrongs {
     said: Numbering,
     causes: Numbering,
 }
@@ -104,7 +104,7 @@ impl Wrongs {
     ghost use Rattle.deb_causes.specs.Wrongs.{AreNumbered, causes_of, said_of};
 
     /// None so far.
-    pub fn new(alloc: Global) -> Wrongs
+    pub(crate) fn new(alloc: Global) -> Wrongs
         ensures said { said_of result ≡ [] }
         ensures causes { causes_of result ≡ [] }
     {
@@ -115,14 +115,14 @@ impl Wrongs {
     }
 
     /// How many causes there are.
-    pub fn count(&self) -> usize
+    pub(crate) fn count(&self) -> usize
         ensures { result ≡ length (causes_of self.now) }
     {
         self.causes.len()
     }
 
     /// The number of the cause that a core has.
-    pub fn number(
+    pub(crate) fn number(
         &mut self,
         alloc: Global,
         index: &Index,

@@ -15,13 +15,13 @@ pub trait Print<T> {
 
     ghost text: { Self → T → List ℕ };
 
-    /// Adds the text of an element.
+    /// Adds the text of an element. `AllocError` where there is no memory; then some of it may be added.
     fn print(&self, out: &mut Vec<u8>, element: &T) -> Result<(), AllocError>
         requires { fits self.now element.now }
         ensures { OnOk result (out.new.items ≡ out.old.items ++ text self.now element.now) };
 }
 
-/// Adds the texts of elements, with a separator between two.
+/// Adds the texts of elements, with a separator between two. `AllocError` where there is no memory; then some of it may be added.
 pub fn push_joined<T, P: Print<T>>(
     out: &mut Vec<u8>,
     separator: &str,
@@ -42,7 +42,7 @@ pub fn push_joined<T, P: Print<T>>(
     Ok(())
 }
 
-/// Adds the texts of elements.
+/// Adds the texts of elements. `AllocError` where there is no memory; then some of it may be added.
 pub fn push_all<T, P: Print<T>>(
     out: &mut Vec<u8>,
     printer: &P,
@@ -54,7 +54,7 @@ pub fn push_all<T, P: Print<T>>(
     push_joined(out, "", printer, elements)
 }
 
-/// Adds the texts of elements with commas between, behind what leads to them, where there are some.
+/// Adds the texts of elements with commas between, behind what leads to them, where there are some. `AllocError` where there is no memory; then some of it may be added.
 #[tactic(auto, unfolding(crate::specs::Texts::told_if))]
 pub fn push_some<T, P: Print<T>>(
     out: &mut Vec<u8>,
@@ -72,7 +72,7 @@ pub fn push_some<T, P: Print<T>>(
     Ok(())
 }
 
-/// Adds texts.
+/// Adds texts. `AllocError` where there is no memory; then some of it may be added.
 pub fn push_texts(out: &mut Vec<u8>, texts: &[&[u8]]) -> Result<(), AllocError>
     ensures { OnOk result (out.new.items ≡ out.old.items ++ flat_map (λ text. text.now) texts.now) }
 {
