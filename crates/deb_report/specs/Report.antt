@@ -6,6 +6,9 @@ use Rattle.deb_relation.specs.Relationship.{AtomText}
 use Rattle.deb_index.specs.declared.constraint.Constraint.{Constraint}
 use Rattle.deb_index.specs.declared.constraint.Constraint.TheVariants.{Essential, Need, Apart, Only}
 use Rattle.deb_index.specs.Packages.{IndexView, PackageView, package_at, name_at, need_at, apart_at}
+use Rattle.deb_texts.specs.Texts.{group_text}
+use Rattle.deb_causes.specs.Later.{later_at}
+use Rattle.deb_causes.specs.Missing.{is_missing}
 use Rattle.run_settings.specs.Settings.{Settings, options_of, tells_options}
 
 -- ---- lines

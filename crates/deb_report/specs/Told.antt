@@ -8,6 +8,7 @@ use Rattle.deb_report.specs.declared.reasons.Reason.{Reason}
 use Rattle.deb_report.specs.declared.reasons.Reason.TheVariants.{Name, Relation}
 use Rattle.deb_report.specs.declared.telling.Telling.{Telling}
 use Rattle.deb_causes.specs.Causes.{IsCauseOf, cause_view}
+use Rattle.deb_causes.specs.Later.{later_view}
 use Rattle.deb_report.specs.Content.{ContentView}
 use Rattle.deb_report.specs.Report.{OfName, OfRelation, ReasonView, TellingView, telling_of}
 use Rattle.run_settings.specs.Settings.{settings_of}
