@@ -28,7 +28,7 @@ use Rattle.deb_causes.specs.Numbered.{core_view, package_view, unnumbered}
 use Rattle.deb_causes.specs.Numbering.{StandOnce}
 use Rattle.deb_causes.specs.Said.{IsKnown, IsNumbered, key_of}
 use Rattle.deb_causes.specs.Later.{AreLaterOf}
-use Rattle.deb_outcome.specs.Outcome.{IsAskedOf}
+use Rattle.deb_health.specs.Shown.{IsAskedOf}
 use Rattle.deb_causes.specs.Wrongs.{AreNumbered, causes_of, said_of}
 use Rattle.deb_causes.proofs.FirstOnes.{Starts, all-each, all-get, first-kept, first-keyed, first-starts, range-all, range-seen}
 use Rattle.deb_causes.proofs.NumberingLemmas.{front-same}

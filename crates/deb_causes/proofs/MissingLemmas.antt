@@ -1,5 +1,5 @@
 -- A group is missing where no place answers it.
-use Rattle.std.proofs.Common.{◌≡◌, ℕ, ◌+◌, Bool, true, false, ◌&&◌, ◌||◌, List, [], ◌∷◌, refl, sym, ap, ◌∙◌, inl, inr}
+use Rattle.std.proofs.Common.{◌≡◌, ◌==◌, ℕ, ◌+◌, length, Bool, true, false, ◌&&◌, ◌||◌, List, [], ◌∷◌, refl, sym, ap, ◌∙◌, inl, inr}
 use Rattle.std.specs.List.{list_any}
 use Rattle.std.proofs.lemmas.Bool.{cases_Bool}
 use Rattle.deb_relation.specs.Relationship.{AtomText}
@@ -7,8 +7,10 @@ use Rattle.deb_index.specs.Meets.{group_satisfiers, meets_need, need_satisfiers}
 use Rattle.deb_index.specs.Packages.{IndexView, places_where}
 use Rattle.deb_index.proofs.EssentialLemmas.{places-none}
 use Rattle.list_steps.proofs.PlaceLemmas.{one-is-some, places_from}
-use Rattle.deb_outcome.specs.Asked.{is_empty}
 use Rattle.deb_causes.specs.Missing.{is_missing}
+
+abbrev pub is_empty : List ℕ → Bool
+is_empty places = length places == 0
 
 -- no element passes one of two tests where none passes either
 none-of-both : {A : Type 0} (p q : A → Bool) (n : ℕ) (xs : List A) → is_empty (places_from (λ x. p x || q x) n xs) ≡ (is_empty (places_from p n xs) && is_empty (places_from q n xs))

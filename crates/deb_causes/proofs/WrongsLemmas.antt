@@ -14,7 +14,7 @@ use Rattle.deb_causes.specs.Causes.{cores_of, says}
 use Rattle.deb_causes.specs.Numbering.{Grows}
 use Rattle.deb_causes.specs.Later.{later_at, AreLaterOf}
 use Rattle.deb_causes.specs.Said.{IsNumbered, key_of}
-use Rattle.deb_outcome.specs.Outcome.{IsAskedOf}
+use Rattle.deb_health.specs.Shown.{IsAskedOf}
 use Rattle.deb_causes.specs.Wrongs.{AreNumbered, causes_of, said_of}
 use Rattle.deb_causes.proofs.NumberingLemmas.{grows-more, grows-none}
 

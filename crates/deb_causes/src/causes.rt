@@ -5,15 +5,15 @@ ghost use Rattle.deb_index.specs.Constraints.{IsOfIndex};
 ghost use Rattle.deb_causes.specs.Causes.{IsCauseOf, by_count, by_first, cause_view, causes_list, cores_of};
 ghost use Rattle.deb_causes.specs.Gathered.{cause_from};
 ghost use Rattle.deb_causes.specs.Gathering.{part_view, share_view};
-ghost use Rattle.deb_outcome.specs.Outcome.{IsAskedOf, shown_view};
+ghost use Rattle.deb_health.specs.Shown.{IsAskedOf, shown_view};
 ghost use Rattle.deb_causes.specs.Later.{AreLaterOf, later_view};
 
 use crate::cores::{needs_in, versions_in, wrongs_in};
 use crate::gathered::{Cause, Part, Share, parts_of};
 use crate::numbered::number_packages;
 use crate::wrongs::Wrongs;
+use deb_health::Shown;
 use deb_index::{Constraint, Index};
-use deb_outcome::Shown;
 use std::alloc::{AllocError, Global};
 
 /// The places of packages.

@@ -7,13 +7,12 @@ ghost use Rattle.deb_index.specs.Constraints.{IsOfIndex};
 ghost use Rattle.deb_causes.specs.Causes.{cores_of};
 ghost use Rattle.deb_causes.specs.Numbered.{core_view, package_view, unnumbered};
 ghost use Rattle.deb_causes.specs.Later.{later_at, AreLaterOf, later_view};
-ghost use Rattle.deb_outcome.specs.Outcome.{IsAskedOf, shown_view};
+ghost use Rattle.deb_health.specs.Shown.{IsAskedOf, shown_view};
 ghost use Rattle.deb_causes.specs.Wrongs.{AreNumbered};
 
 use crate::wrongs::Wrongs;
-use deb_health::Verdict;
+use deb_health::{Shown, Verdict};
 use deb_index::{Constraint, Index};
-use deb_outcome::Shown;
 use std::alloc::{AllocError, Global};
 
 /// A core, and the number of its cause.

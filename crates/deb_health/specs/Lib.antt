@@ -1,3 +1,4 @@
 pub mod Health
 pub mod Verdicts
+pub mod Shown
 pub mod Causes

@@ -5,8 +5,9 @@ use Rattle.std.specs.List.{zip}
 use Rattle.deb_index.specs.Packages.{IndexView}
 use Rattle.deb_health.specs.Verdicts.{SpeaksOf, VerdictView}
 use Rattle.run_settings.specs.declared.config.Show.{Show}
-use Rattle.deb_outcome.specs.declared.shown.Shown.{Shown}
-use Rattle.deb_outcome.specs.Outcome.{IsAskedOf, is_shown, shown_of, shown_view}
+use Rattle.deb_health.specs.declared.shown.Shown.{Shown}
+use Rattle.deb_health.specs.Shown.{IsAskedOf, shown_view}
+use Rattle.deb_outcome.specs.Outcome.{is_shown, shown_of}
 use Rattle.list_steps.proofs.ListLemmas.{all_seen}
 
 asked-within : (index : IndexView) (asked : List ℕ) (verdicts : List VerdictView) → All (λ place. place < length index.packages) asked → All (SpeaksOf index) verdicts

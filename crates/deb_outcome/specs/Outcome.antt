@@ -1,11 +1,10 @@
 -- Which asked packages are shown with their verdicts, and the numbers of that.
-use Rattle.std.specs.Prelude.{ℕ, ◌-◌, ◌<◌, Bool, true, false, not, List, [], ◌∷◌, ◌++◌, Option, None, Some, codes, count_by, filter, if◌then◌else◌, length}
+use Rattle.std.specs.Prelude.{ℕ, ◌-◌, Bool, true, false, not, List, [], ◌∷◌, ◌++◌, Option, None, Some, codes, count_by, filter, if◌then◌else◌, length}
 use Rattle.std.specs.List.{zip}
 use Rattle.deb_index.specs.Packages.{IndexView}
-use Rattle.deb_health.specs.Verdicts.{SpeaksOf, VerdictView, Found, Blocked, verdict_view}
+use Rattle.deb_health.specs.Verdicts.{VerdictView, Found, Blocked}
 use Rattle.run_settings.specs.declared.config.Show.{Show}
 use Rattle.run_settings.specs.declared.config.Show.TheVariants.{All, Failures, Successes}
-use Rattle.deb_outcome.specs.declared.shown.Shown.{Shown}
 use Rattle.deb_outcome.specs.declared.summary.Number.{Number}
 use Rattle.deb_outcome.specs.declared.summary.Summary.{Summary}
 
@@ -34,13 +33,6 @@ broken_ones asked verdicts = shown_of Failures asked verdicts
 unfoldable pub status_of : VerdictView → List ℕ
 status_of (Found places) = codes "ok"
 status_of (Blocked constraints) = codes "broken"
-
-abbrev pub shown_view : Shown → ℕ × VerdictView
-shown_view shown = (shown.place, verdict_view shown.verdict.now)
-
--- both speak of what the index has
-abbrev pub IsAskedOf : IndexView → ℕ × VerdictView → Type 0
-IsAskedOf index asked = (asked.0 < length index.packages) × SpeaksOf index asked.1
 
 -- ---- numbers
 

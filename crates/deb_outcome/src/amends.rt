@@ -3,12 +3,13 @@
 ghost use Rattle.std.specs.Prelude.{◌≡◌, ◌<◌, ◌&&◌, All, IfOk, filter, length, map, not};
 ghost use Rattle.deb_index.specs.Packages.{names};
 ghost use Rattle.deb_outcome.specs.Since.{AreMarks, amends_of, amends_view, broken_view, has_named, is_gone, is_mended, mark_of};
-ghost use Rattle.deb_outcome.specs.Outcome.{IsAskedOf, shown_view};
+ghost use Rattle.deb_health.specs.Shown.{IsAskedOf, shown_view};
 
 use crate::asked::is_unknown;
 use crate::broken::BrokenPackage;
 use crate::marks::marks_at;
-use crate::shown::{Shown, places_of};
+use crate::shown::places_of;
+use deb_health::Shown;
 use deb_index::Index;
 use std::alloc::{AllocError, Global};
 

@@ -19,6 +19,6 @@ mod summary;
 pub use amends::{Amends, amends_of};
 pub use asked::{AskedFault, asked_places, earlier_places};
 pub use broken::{BrokenPackage, broken_packages};
-pub use shown::{Shown, shown_of, status_text};
+pub use shown::{shown_of, status_text};
 pub use since::{newly_broken, news_of};
 pub use summary::{Number, Summary, numbers_of, summary_of, summary_with};

@@ -2,18 +2,12 @@
 
 ghost use Rattle.std.specs.Prelude.{◌≡◌, IfOk, length, map};
 ghost use Rattle.deb_health.specs.Verdicts.{verdict_view};
-ghost use Rattle.deb_outcome.specs.Outcome.{is_broken, is_shown, shown_of, shown_view, status_of};
+ghost use Rattle.deb_outcome.specs.Outcome.{is_broken, is_shown, shown_of, status_of};
+ghost use Rattle.deb_health.specs.Shown.{shown_view};
 
-use deb_health::Verdict;
+use deb_health::{Shown, Verdict};
 use run_settings::Show;
 use std::alloc::{AllocError, Global};
-
-/// An asked place and its verdict.
-#[derive(Drop)]
-pub struct Shown<'v> {
-    pub place: u32,
-    pub verdict: &'v Verdict,
-}
 
 /// Whether the package cannot be installed.
 pub(crate) fn is_broken(verdict: &Verdict) -> bool

@@ -4,12 +4,12 @@ ghost use Rattle.std.specs.Prelude.{◌≡◌, ◌<◌, ℕ, Bool, List, All, If
 ghost use Rattle.deb_health.specs.Verdicts.{SpeaksOf, verdict_view};
 ghost use Rattle.deb_index.specs.Packages.{names, package_at};
 ghost use Rattle.deb_outcome.specs.Since.{AreMarks, broken_view, is_news, newly_broken};
-ghost use Rattle.deb_outcome.specs.Outcome.{IsAskedOf, shown_view};
+ghost use Rattle.deb_health.specs.Shown.{IsAskedOf, shown_view};
 
 use crate::broken::BrokenPackage;
 use crate::marks::marks_of;
-use crate::shown::{Shown, places_of, shown_of};
-use deb_health::Verdict;
+use crate::shown::{places_of, shown_of};
+use deb_health::{Shown, Verdict};
 use deb_index::Index;
 use run_settings::Show;
 use std::alloc::{AllocError, Global};

@@ -14,7 +14,8 @@ use Rattle.run_settings.specs.declared.config.Show.TheVariants.{Failures}
 use Rattle.deb_report.specs.declared.content.Content.{Content}
 use Rattle.deb_causes.specs.Causes.{CauseView}
 use Rattle.deb_report.specs.Content.{ContentView, causes_if, content_of, content_since}
-use Rattle.deb_outcome.specs.Outcome.{broken_ones, is_shown, numbers_of, shown_of, shown_view, summary_of, summary_with}
+use Rattle.deb_outcome.specs.Outcome.{broken_ones, is_shown, numbers_of, shown_of, summary_of, summary_with}
+use Rattle.deb_health.specs.Shown.{shown_view}
 use Rattle.deb_report.specs.Report.{TellingView, also_at}
 use Rattle.deb_causes.specs.Later.{later_at, AreLaterOf}
 use Rattle.run_settings.specs.Settings.{Settings}

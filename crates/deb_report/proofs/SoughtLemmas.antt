@@ -15,10 +15,10 @@ use Rattle.deb_near.specs.Similar.{IsSimilarOf, stems_in}
 use Rattle.deb_near.specs.Stems.{AreSought, has_text}
 use Rattle.deb_near.proofs.SimilarLemmas.{all-grow}
 use Rattle.deb_walk.proofs.WalkLemmas.{filter_all, flat_all}
-use Rattle.deb_outcome.specs.declared.shown.Shown.{Shown}
+use Rattle.deb_health.specs.declared.shown.Shown.{Shown}
 use Rattle.deb_report.specs.Similar.{FitsWalk}
 use Rattle.deb_report.specs.Sought.{core_in}
-use Rattle.deb_outcome.specs.Outcome.{IsAskedOf, shown_view}
+use Rattle.deb_health.specs.Shown.{IsAskedOf, shown_view}
 use Rattle.deb_causes.proofs.FirstOnes.{all-each}
 
 -- what holds of those that are kept holds of each that passes

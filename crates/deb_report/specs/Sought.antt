@@ -4,11 +4,11 @@ use Rattle.deb_index.specs.declared.constraint.Constraint.{Constraint}
 use Rattle.deb_index.specs.Packages.{IndexView}
 use Rattle.deb_health.specs.Verdicts.{VerdictView, Found, Blocked}
 use Rattle.deb_near.specs.declared.similar.Similar.{Similar}
-use Rattle.deb_outcome.specs.declared.shown.Shown.{Shown}
+use Rattle.deb_health.specs.declared.shown.Shown.{Shown}
 use Rattle.deb_report.specs.declared.telling.Telling.{Telling}
 use Rattle.deb_report.specs.Similar.{FitsWalk}
 use Rattle.deb_causes.specs.Later.{AreLaterOf, later_view}
-use Rattle.deb_outcome.specs.Outcome.{IsAskedOf, shown_view}
+use Rattle.deb_health.specs.Shown.{IsAskedOf, shown_view}
 
 -- the first core of an asked place
 abbrev pub core_in : ℕ × VerdictView → List Constraint

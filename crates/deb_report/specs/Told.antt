@@ -12,7 +12,8 @@ use Rattle.deb_causes.specs.Later.{later_view}
 use Rattle.deb_report.specs.Content.{ContentView}
 use Rattle.deb_report.specs.Report.{OfName, OfRelation, ReasonView, TellingView, telling_of}
 use Rattle.run_settings.specs.Settings.{settings_of}
-use Rattle.deb_outcome.specs.Outcome.{IsAskedOf, number_view, shown_view}
+use Rattle.deb_health.specs.Shown.{IsAskedOf, shown_view}
+use Rattle.deb_outcome.specs.Outcome.{number_view}
 use Rattle.deb_outcome.specs.Since.{amends_view}
 
 abbrev pub reason_view : Reason → ReasonView

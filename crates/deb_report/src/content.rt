@@ -7,14 +7,14 @@ ghost use Rattle.deb_causes.specs.Causes.{IsCauseOf, cause_view};
 ghost use Rattle.deb_report.specs.Content.{causes_if, content_of, content_since};
 ghost use Rattle.run_settings.specs.Settings.{settings_of};
 ghost use Rattle.deb_outcome.specs.Since.{broken_view};
-ghost use Rattle.deb_outcome.specs.Outcome.{IsAskedOf, shown_view};
+ghost use Rattle.deb_health.specs.Shown.{IsAskedOf, shown_view};
 ghost use Rattle.deb_report.specs.Told.{IsContentOf, content_view};
 ghost use Rattle.deb_causes.specs.Later.{AreLaterOf, later_view};
 
 use deb_causes::{Cause, causes_of};
-use deb_health::Verdict;
+use deb_health::{Shown, Verdict};
 use deb_index::{Constraint, Index};
-use deb_outcome::{Amends, BrokenPackage, Number, Shown, amends_of, news_of, numbers_of, shown_of};
+use deb_outcome::{Amends, BrokenPackage, Number, amends_of, news_of, numbers_of, shown_of};
 use run_settings::{Config, Show};
 use std::alloc::{AllocError, Global};
 

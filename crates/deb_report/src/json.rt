@@ -7,7 +7,8 @@ ghost use Rattle.deb_index.specs.Packages.{package_view};
 ghost use Rattle.deb_health.specs.Verdicts.{SpeaksOf, verdict_view};
 ghost use Rattle.deb_report.specs.Json.{also_json, array, block_json, broken_json, causes_json, closing, core_json, explanation_json, head_json, json_text, list_json, member, number_json, quoted, tall_array, told_json};
 ghost use Rattle.deb_outcome.specs.Since.{amends_view, broken_view};
-ghost use Rattle.deb_outcome.specs.Outcome.{IsAskedOf, number_view, shown_view};
+ghost use Rattle.deb_health.specs.Shown.{IsAskedOf, shown_view};
+ghost use Rattle.deb_outcome.specs.Outcome.{number_view};
 ghost use Rattle.deb_report.specs.Told.{IsContentOf, content_view, telling_view};
 ghost use Rattle.deb_causes.specs.Later.{AreLaterOf, later_view};
 
@@ -18,9 +19,9 @@ use crate::json_text::{push_any_text, push_array, push_list, push_number, push_q
 use crate::reasons::reason_of;
 use crate::telling::Telling;
 use crate::why_json::push_why;
-use deb_health::Verdict;
+use deb_health::{Shown, Verdict};
 use deb_index::{Constraint, Index};
-use deb_outcome::{Amends, BrokenPackage, Number, Shown, status_text};
+use deb_outcome::{Amends, BrokenPackage, Number, status_text};
 use deb_texts::{Print, push_all};
 use std::alloc::{AllocError, Global};
 

@@ -11,7 +11,8 @@ ghost use Rattle.deb_report.specs.Report.{also_at, core_lines, heading, line, nu
 ghost use Rattle.deb_report.specs.Similar.{FitsWalk};
 ghost use Rattle.deb_outcome.specs.Since.{amends_view, broken_view};
 ghost use Rattle.deb_report.specs.Sought.{FitsBlock, IsWalked, core_in};
-ghost use Rattle.deb_outcome.specs.Outcome.{IsAskedOf, number_view, shown_view};
+ghost use Rattle.deb_health.specs.Shown.{IsAskedOf, shown_view};
+ghost use Rattle.deb_outcome.specs.Outcome.{number_view};
 ghost use Rattle.deb_report.specs.Told.{IsContentOf, content_view, telling_view};
 ghost use Rattle.deb_causes.specs.Later.{AreLaterOf, later_view};
 
@@ -21,10 +22,10 @@ use crate::line_parts::{IndexLines, push_line, push_titled};
 use crate::sought::similar_to_walks;
 use crate::telling::Telling;
 use crate::walk_lines::push_walk;
-use deb_health::Verdict;
+use deb_health::{Shown, Verdict};
 use deb_index::{Constraint, Index, Package};
 use deb_near::Similar;
-use deb_outcome::{Amends, BrokenPackage, Number, Shown, status_text};
+use deb_outcome::{Amends, BrokenPackage, Number, status_text};
 use deb_texts::{Print, push_all, push_texts};
 use std::alloc::{AllocError, Global};
 

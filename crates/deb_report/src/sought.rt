@@ -7,14 +7,13 @@ ghost use Rattle.deb_health.specs.Causes.{cause_in};
 ghost use Rattle.deb_causes.specs.Causes.{IsCauseOf, cause_view};
 ghost use Rattle.deb_report.specs.Similar.{FitsCause};
 ghost use Rattle.deb_report.specs.Sought.{IsWalked, core_in};
-ghost use Rattle.deb_outcome.specs.Outcome.{IsAskedOf, shown_view};
+ghost use Rattle.deb_health.specs.Shown.{IsAskedOf, shown_view};
 
 use crate::telling::Telling;
 use deb_causes::{Cause, is_final};
-use deb_health::Verdict;
+use deb_health::{Shown, Verdict};
 use deb_index::{Constraint, Index};
 use deb_near::Similar;
-use deb_outcome::Shown;
 use std::alloc::{AllocError, Global};
 
 /// The constraints of causes, one after the other.

@@ -5,7 +5,7 @@ use Rattle.list_steps.proofs.ListLemmas.{all_seen}
 use Rattle.deb_causes.specs.Causes.{IsCauseOf, by_first, cause_view, causes_list, cores_of}
 use Rattle.deb_causes.specs.Gathered.{cause_from}
 use Rattle.deb_causes.specs.Gathering.{part_view}
-use Rattle.deb_outcome.specs.Outcome.{IsAskedOf, shown_view}
+use Rattle.deb_health.specs.Shown.{IsAskedOf, shown_view}
 use Rattle.deb_causes.specs.Later.{later_view}
 use Rattle.deb_causes.proofs.GatheredCauses.{causes-within, few-places-of, listed}
 use Rattle.deb_causes.proofs.causes.causes_of.Goals as goal

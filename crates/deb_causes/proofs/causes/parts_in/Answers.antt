@@ -9,7 +9,7 @@ use Rattle.deb_causes.specs.Causes.{by_first, cores_of}
 use Rattle.deb_causes.specs.Gathered.{cause_from}
 use Rattle.deb_causes.specs.Gathering.{part_of, part_view}
 use Rattle.deb_causes.specs.Numbered.{package_view}
-use Rattle.deb_outcome.specs.Outcome.{IsAskedOf, shown_view}
+use Rattle.deb_health.specs.Shown.{IsAskedOf, shown_view}
 use Rattle.deb_causes.specs.Later.{later_view}
 use Rattle.deb_causes.specs.Wrongs.{causes_of}
 use Rattle.deb_causes.proofs.GatheredCauses.{cores-own, numbers-below, numbers-within, parts-causes, parts-some, parts-within, some-cores, told-within}

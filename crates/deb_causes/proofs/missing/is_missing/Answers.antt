@@ -1,7 +1,6 @@
 use Rattle.std.proofs.Common.{◌∙◌, ap, sym}
 use Rattle.deb_index.specs.Packages.{need_at}
-use Rattle.deb_outcome.specs.Asked.{is_empty}
-use Rattle.deb_causes.proofs.MissingLemmas.{missing-where}
+use Rattle.deb_causes.proofs.MissingLemmas.{is_empty, missing-where}
 use Rattle.deb_causes.proofs.missing.is_missing.Goals as goal
 
 pub returns : goal.returns

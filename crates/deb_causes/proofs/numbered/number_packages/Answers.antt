@@ -8,10 +8,10 @@ use Rattle.deb_index.specs.Constraints.{IsOfIndex}
 use Rattle.list_steps.proofs.AtomSteps.{map_more}
 use Rattle.list_steps.proofs.ListLemmas.{all_item, all_seen, map-twice}
 use Rattle.deb_causes.specs.declared.numbered.NumberedPackage.{NumberedPackage}
-use Rattle.deb_outcome.specs.declared.shown.Shown.{Shown}
+use Rattle.deb_health.specs.declared.shown.Shown.{Shown}
 use Rattle.deb_causes.specs.Causes.{cores_of}
 use Rattle.deb_causes.specs.Numbered.{core_view, package_view, unnumbered}
-use Rattle.deb_outcome.specs.Outcome.{IsAskedOf, shown_view}
+use Rattle.deb_health.specs.Shown.{IsAskedOf, shown_view}
 use Rattle.deb_causes.specs.Later.{later_view}
 use Rattle.deb_causes.specs.Wrongs.{AreNumbered}
 use Rattle.deb_causes.proofs.WrongsLemmas.{cores-within, named-cores, numbered-more, numbered-none}

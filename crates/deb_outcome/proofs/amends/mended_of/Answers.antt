@@ -2,7 +2,7 @@ use Rattle.std.proofs.Common.{◌≡◌, ◌<◌, ◌∙◌, Bor, ℕ, List, ap,
 use Rattle.deb_health.specs.Verdicts.{VerdictView}
 use Rattle.deb_outcome.specs.declared.broken.BrokenPackage.{BrokenPackage}
 use Rattle.deb_outcome.specs.Since.{AreMarks, broken_view, has_named, is_mended}
-use Rattle.deb_outcome.specs.Outcome.{shown_view}
+use Rattle.deb_health.specs.Shown.{shown_view}
 use Rattle.list_steps.proofs.AtomSteps.{kept, left_out}
 use Rattle.deb_outcome.proofs.MarkLemmas.{mended-tells}
 use Rattle.deb_outcome.proofs.ShownLemmas.{places-within}

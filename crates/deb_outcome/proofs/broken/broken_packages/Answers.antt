@@ -2,9 +2,9 @@ use Rattle.std.proofs.Common.{◌≡◌, ◌<◌, ◌∙◌, ℕ, arith, ap, len
 use Rattle.std.proofs.lemmas.List.{take_all}
 use Rattle.deb_health.specs.Verdicts.{VerdictView, verdict_view}
 use Rattle.run_settings.specs.declared.config.Show.TheVariants.{Failures}
-use Rattle.deb_outcome.specs.declared.shown.Shown.{Shown}
+use Rattle.deb_health.specs.declared.shown.Shown.{Shown}
 use Rattle.deb_outcome.specs.Since.{broken_at, broken_of}
-use Rattle.deb_outcome.specs.Outcome.{shown_view}
+use Rattle.deb_health.specs.Shown.{shown_view}
 use Rattle.list_steps.proofs.ListLemmas.{all_item, map-twice}
 use Rattle.deb_outcome.proofs.ShownLemmas.{shown-placed}
 use Rattle.deb_outcome.proofs.broken.broken_packages.Goals as goal

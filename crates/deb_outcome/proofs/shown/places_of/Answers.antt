@@ -1,8 +1,8 @@
 use Rattle.std.proofs.Common.{◌≡◌, ◌∙◌, ℕ, arith, ap, map, sym, take}
 use Rattle.std.proofs.lemmas.List.{take_all}
 use Rattle.deb_health.specs.Verdicts.{VerdictView}
-use Rattle.deb_outcome.specs.declared.shown.Shown.{Shown}
-use Rattle.deb_outcome.specs.Outcome.{shown_view}
+use Rattle.deb_health.specs.declared.shown.Shown.{Shown}
+use Rattle.deb_health.specs.Shown.{shown_view}
 use Rattle.list_steps.proofs.ListLemmas.{map-twice}
 use Rattle.deb_outcome.proofs.shown.places_of.Goals as goal
 

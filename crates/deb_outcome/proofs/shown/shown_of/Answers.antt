@@ -2,7 +2,8 @@ use Rattle.std.proofs.Common.{◌≡◌, ◌<◌, ◌++◌, ◌∷◌, [], ◌�
 use Rattle.std.specs.List.{zip}
 use Rattle.std.proofs.lemmas.List.{map-append}
 use Rattle.deb_health.specs.Verdicts.{VerdictView, verdict_view}
-use Rattle.deb_outcome.specs.Outcome.{is_shown, shown_view}
+use Rattle.deb_outcome.specs.Outcome.{is_shown}
+use Rattle.deb_health.specs.Shown.{shown_view}
 use Rattle.list_steps.proofs.ListLemmas.{filter_fails, filter_passes, zip_more}
 use Rattle.deb_outcome.proofs.shown.shown_of.Goals as goal
 use Rattle.deb_outcome.proofs.shown.shown_of.Goals.{then-is_shown+in_ok-push, else-is_shown}

@@ -2,7 +2,8 @@ use Rattle.std.proofs.Common.{◌≡◌, ◌∙◌, ℕ, ap, filter, map}
 use Rattle.std.proofs.lemmas.Result.{IfOk-weaker}
 use Rattle.deb_health.specs.Verdicts.{VerdictView, verdict_view}
 use Rattle.run_settings.specs.declared.config.Show.TheVariants.{Failures}
-use Rattle.deb_outcome.specs.Outcome.{broken_ones, shown_view}
+use Rattle.deb_outcome.specs.Outcome.{broken_ones}
+use Rattle.deb_health.specs.Shown.{shown_view}
 use Rattle.deb_outcome.specs.Since.{broken_view, is_news, news_of}
 use Rattle.deb_outcome.proofs.ShownLemmas.{shown-within}
 use Rattle.deb_outcome.proofs.since.newly_broken.Goals as goal

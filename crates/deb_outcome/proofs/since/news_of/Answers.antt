@@ -1,7 +1,7 @@
 use Rattle.std.proofs.Common.{◌≡◌, ◌<◌, ◌∙◌, ap, arith, false, length, map, sym, true}
-use Rattle.deb_outcome.specs.declared.shown.Shown.{Shown}
+use Rattle.deb_health.specs.declared.shown.Shown.{Shown}
 use Rattle.deb_outcome.specs.Since.{broken_view, is_news, was_broken}
-use Rattle.deb_outcome.specs.Outcome.{IsAskedOf, shown_view}
+use Rattle.deb_health.specs.Shown.{IsAskedOf, shown_view}
 use Rattle.list_steps.proofs.AtomSteps.{kept, left_out}
 use Rattle.list_steps.proofs.ListLemmas.{all_item}
 use Rattle.deb_outcome.proofs.since.news_of.Goals as goal

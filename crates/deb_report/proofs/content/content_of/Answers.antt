@@ -2,10 +2,11 @@ use Rattle.std.proofs.Common.{◌∙◌, List, ap, map}
 use Rattle.std.specs.Option.{option_map}
 use Rattle.deb_health.specs.Verdicts.{verdict_view}
 use Rattle.run_settings.specs.declared.config.Show.TheVariants.{Failures}
-use Rattle.deb_outcome.specs.declared.shown.Shown.{Shown}
+use Rattle.deb_health.specs.declared.shown.Shown.{Shown}
 use Rattle.deb_causes.specs.Causes.{cause_view}
 use Rattle.deb_report.specs.Content.{causes_if}
-use Rattle.deb_outcome.specs.Outcome.{number_view, numbers_of, shown_view, summary_of}
+use Rattle.deb_outcome.specs.Outcome.{number_view, numbers_of, summary_of}
+use Rattle.deb_health.specs.Shown.{shown_view}
 use Rattle.run_settings.specs.Settings.{settings_of}
 use Rattle.deb_causes.specs.Later.{later_view}
 use Rattle.deb_outcome.proofs.ShownLemmas.{shown-within}

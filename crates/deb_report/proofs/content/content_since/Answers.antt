@@ -3,10 +3,11 @@ use Rattle.std.proofs.lemmas.List.{length-map}
 use Rattle.std.specs.Option.{option_map}
 use Rattle.deb_health.specs.Verdicts.{verdict_view}
 use Rattle.run_settings.specs.declared.config.Show.TheVariants.{Failures}
-use Rattle.deb_outcome.specs.declared.shown.Shown.{Shown}
+use Rattle.deb_health.specs.declared.shown.Shown.{Shown}
 use Rattle.deb_causes.specs.Causes.{cause_view}
 use Rattle.deb_report.specs.Content.{causes_if}
-use Rattle.deb_outcome.specs.Outcome.{broken_ones, number_view, numbers_of, shown_view, summary_with}
+use Rattle.deb_outcome.specs.Outcome.{broken_ones, number_view, numbers_of, summary_with}
+use Rattle.deb_health.specs.Shown.{shown_view}
 use Rattle.run_settings.specs.Settings.{settings_of}
 use Rattle.deb_outcome.specs.Since.{amends_view, broken_view, is_news}
 use Rattle.deb_causes.specs.Later.{later_view}

@@ -2,7 +2,7 @@ use Rattle.std.proofs.Common.{◌≡◌, take}
 use Rattle.std.specs.List.{flat_map}
 use Rattle.deb_health.specs.Causes.{cause_in}
 use Rattle.deb_report.specs.Sought.{core_in}
-use Rattle.deb_outcome.specs.Outcome.{shown_view}
+use Rattle.deb_health.specs.Shown.{shown_view}
 use Rattle.deb_report.proofs.sought.final_in.Given as goal
 
 abbrev pub invariant-loop-one : goal.invariant-loop-one

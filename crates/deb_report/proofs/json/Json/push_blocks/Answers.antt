@@ -1,6 +1,6 @@
 use Rattle.std.proofs.lemmas.List.Elements.{All-weaker}
-use Rattle.deb_outcome.specs.declared.shown.Shown.{Shown}
-use Rattle.deb_outcome.specs.Outcome.{IsAskedOf, shown_view}
+use Rattle.deb_health.specs.declared.shown.Shown.{Shown}
+use Rattle.deb_health.specs.Shown.{IsAskedOf, shown_view}
 use Rattle.deb_causes.specs.Later.{AreLaterOf, later_view}
 use Rattle.deb_report.proofs.json.Json.push_blocks.Goals as goal
 

@@ -2,7 +2,8 @@ use Rattle.std.proofs.Common.{◌≡◌, ◌∙◌, ◌++◌, Bool, true, List, 
 use Rattle.deb_index.specs.Packages.{package_view}
 use Rattle.deb_health.specs.Verdicts.{verdict_view}
 use Rattle.deb_report.specs.Json.{architecture_json, block_json, explanation_json, label_json, member, object, quoted}
-use Rattle.deb_outcome.specs.Outcome.{shown_view, status_of}
+use Rattle.deb_health.specs.Shown.{shown_view}
+use Rattle.deb_outcome.specs.Outcome.{status_of}
 use Rattle.deb_report.specs.Told.{telling_view}
 use Rattle.deb_report.proofs.JoinLemmas.{object-of, object-with}
 use Rattle.deb_report.proofs.json.JsonPrintShown.print.Goals as goal
