@@ -2,9 +2,8 @@
 use Rattle.std.proofs.Common.{◌≡◌, ℕ, ◌+◌, ◌<◌, List, length, get_or, take, All, sym, subst, arith}
 use Rattle.std.proofs.lemmas.List.{take_more, length-take-le}
 use Rattle.deb_index.specs.declared.constraint.Constraint.{Constraint}
-use Rattle.deb_index.specs.Packages.{IndexView, names, is_named, places_of, is_essential, essential_names}
+use Rattle.deb_index.specs.Packages.{IndexView}
 use Rattle.deb_index.specs.Constraints.{Holds}
-use Rattle.deb_index.proofs.MemberLemmas.{below-places_where}
 use Rattle.sat_solve.specs.Clauses.{Clauses}
 use Rattle.deb_encode.specs.Play.{AddsPlaces, TellsPlaces}
 use Rattle.deb_encode.proofs.AddLemmas.{tells_more}
@@ -14,14 +13,6 @@ pub below_moved : (xs ys : List ℕ) (limit bound : ℕ) → xs ≡ ys → limit
 below_moved xs ys limit bound same size below =
     let Below : List ℕ → Type 0 = λ zs. All (λ q. q < limit) zs in
     subst Below (sym same) (λ k d inside. omega (arith, below k d inside, size))
-
--- the places of a name, and those that meet an atom, are places
-pub named_below : (index : IndexView) (name : List ℕ) → All (λ q. q < length index.packages) (places_of index name)
-named_below index name = below-places_where (is_named name) index.packages
-
--- the numbers of essential names are numbers of names
-pub essential_below : (index : IndexView) → All (λ number. number < length (names index)) (essential_names index)
-essential_below index = below-places_where (is_essential index) (names index)
 
 -- one constraint more has its clauses
 pub tells_step : (index : IndexView) (forced candidates : List ℕ) (constraints : List Constraint) (group : ℕ) (d : Constraint) (before after : Clauses) → group < length constraints

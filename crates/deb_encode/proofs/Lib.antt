@@ -6,7 +6,6 @@ pub mod EncoderLemmas
 pub mod Excluding
 pub mod Filtered
 pub mod Grouped
-pub mod IndexFacts
 pub mod OneVersion
 pub mod PlayLemmas
 pub mod Skipped

@@ -1,12 +1,11 @@
 -- How places stand, read off the list of those that are in and the list of those that have variables.
-use Rattle.std.proofs.Common.{◌≡◌, ℕ, zero, suc, ◌<◌, ◌≤◌, false, ◌||◌, List, length, get_or, Some, slice_get, All, refl, sym, ◌∙◌, ap, arith}
+use Rattle.std.proofs.Common.{◌≡◌, ℕ, ◌<◌, false, ◌||◌, List, length, get_or, Some, slice_get, sym, ◌∙◌, ap}
 use Rattle.std.specs.List.Sorted.{IsStrictlyIncreasing}
 use Rattle.std.proofs.lemmas.Bool.{both_ways, false_from_ne_true}
 use Rattle.std.proofs.lemmas.Option.{slice_get_within, get_or_from_slice_get}
 use Rattle.number_sets.specs.Sets.{NumberSet, members_of, positions_of}
 use Rattle.deb_encode.specs.Play.{placed}
 use Rattle.number_sets.proofs.ListMembers.{at_members_of}
-use Rattle.number_sets.proofs.SparseSetLemmas.{position_at_most}
 use Rattle.number_sets.proofs.PositionsOf.{group_at, same_position}
 
 placed_free : (forced candidates : List ℕ) (vars : NumberSet) (place : ℕ) → members_of forced place ≡ false → placed forced candidates vars place ≡ positions_of candidates vars place
@@ -27,11 +26,3 @@ placed_out forced candidates place out free vars =
     ∙ false_from_ne_true (positions_of candidates vars place) (λ is_in.
     let at = group_at candidates vars place is_in in
     both_ways (members_of candidates place) free (ap (members_of candidates) (sym at.3) ∙ at_members_of candidates at.0 at.1))
-
--- a rising list of numbers below a bound is no longer than the bound
-last_above : (xs : List ℕ) (size : ℕ) → length xs ≡ size → IsStrictlyIncreasing xs → (bound : ℕ) → All (λ q. q < bound) xs → size ≤ bound
-last_above xs zero size_is rising bound below = omega arith
-last_above xs (suc size) size_is rising bound below = omega (arith, position_at_most xs size rising (omega arith), below size 0 (omega arith))
-
-pub rising_length : (xs : List ℕ) → IsStrictlyIncreasing xs → (bound : ℕ) → All (λ q. q < bound) xs → length xs ≤ bound
-rising_length xs rising bound below = last_above xs (length xs) refl rising bound below

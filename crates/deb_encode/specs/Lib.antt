@@ -1,5 +1,4 @@
 pub mod Adding
-pub mod Alone
 pub mod Encoders
 pub mod Exclusions
 pub mod Play

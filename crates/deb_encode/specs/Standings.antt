@@ -2,7 +2,7 @@
 use Rattle.std.specs.Prelude.{◌≡◌, ℕ, ◌<◌, Bool, true, false, ◌||◌, ◌&&◌, ◌==◌, not, nat_le, List, All, length}
 use Rattle.deb_relation.specs.Relationship.{AtomText}
 use Rattle.deb_index.specs.declared.constraint.Constraint.TheVariants.{Essential, Apart}
-use Rattle.deb_index.specs.Packages.{IndexView, package_at, places_of, essential_names, aparts_at, apart_at}
+use Rattle.deb_index.specs.Packages.{IndexView, essential_names, aparts_at, apart_at}
 use Rattle.deb_index.specs.Meets.{meets_at, satisfiers}
 use Rattle.deb_index.specs.Rows.{candidate_count, row_limit}
 use Rattle.deb_index.specs.Constraints.{Holds}
@@ -42,21 +42,9 @@ abbrev pub is_narrow : IndexView → ℕ → ℕ → Bool
 is_narrow index place j =
     nat_le (candidate_count index (apart_at index place j)) row_limit && nat_le (length (satisfiers index (apart_at index place j))) narrow_limit
 
--- none of the owners is in the set together with another one of these places
-abbrev pub AreApart : List ℕ → List ℕ → NumberSet → Type 0
-AreApart owners places set = (q r : ℕ) → members_of owners q ≡ true → members_of places r ≡ true → set q ≡ true → set r ≡ true → q ≡ r
-
 -- some package of each essential name is in the set
 abbrev pub MeetsEssentials : IndexView → NumberSet → Type 0
 MeetsEssentials index set = (number : ℕ) → members_of (essential_names index) number ≡ true → Holds index set (Essential number)
-
--- at most one of these places is in the set
-abbrev pub HasOneOf : List ℕ → NumberSet → Type 0
-HasOneOf places = AreApart places places
-
--- at most one package of the name of the package at a place is in the set
-abbrev pub HasOneVersion : IndexView → NumberSet → ℕ → Type 0
-HasOneVersion index set place = HasOneOf (places_of index (package_at index place).name) set
 
 -- an entry holds if it hits few packages, by a row of them, or if it is one of the others
 abbrev pub MeetsEntry : Bool → IndexView → NumberSet → ℕ → ℕ → Type 0

@@ -1,2 +1,3 @@
 pub mod CauseLemmas
 pub mod CoreLemmas
+pub mod IndexFacts

@@ -2,3 +2,4 @@ pub mod Health
 pub mod Verdicts
 pub mod Shown
 pub mod Causes
+pub mod Apart

@@ -1,9 +1,7 @@
 -- Sets of places cut down to those that matter.
-use Rattle.std.proofs.Common.{◌≡◌, ◌⊎◌, ℕ, ◌<◌, true, false, refl, sym, ◌∙◌, ap, inl, inr}
-use Rattle.std.specs.Prelude.{length, slice_index_or}
+use Rattle.std.proofs.Common.{◌≡◌, ◌⊎◌, ℕ, true, false, refl, sym, ◌∙◌, ap, inl, inr}
 use Rattle.std.specs.List.{list_any}
 use Rattle.std.proofs.lemmas.Bool.{cases_Bool, false≢true, true≢false, and_parts, and_from, both_ways}
-use Rattle.std.proofs.lemmas.Option.{slice_get-get_or}
 use Rattle.deb_index.specs.declared.constraint.Constraint.{Constraint}
 use Rattle.deb_index.specs.declared.constraint.Constraint.TheVariants.{Essential, Need, Apart, Only}
 use Rattle.deb_index.specs.Packages.{IndexView, places_of, name_at}
@@ -13,7 +11,8 @@ use Rattle.number_sets.proofs.SetLemmas.{first_within}
 use Rattle.deb_health.specs.Health.{IsHealthy, IsInstallation, MeetsAt, Admits, AdmitsNone}
 use Rattle.deb_verdict.specs.Gathering.{HasNames}
 use Rattle.deb_verdict.specs.Closure.{cut, IsClosed, is_kept, is_kept_there, kept}
-use Rattle.deb_encode.proofs.IndexFacts.{All-at, IsRight, all_right, some_named}
+use Rattle.deb_health.proofs.IndexFacts.{All-at, IsRight, all_right, some_named}
+use Rattle.deb_health.proofs.IndexFacts.{healthy_from_meets}
 
 -- a part of the places in which a forced place answers each need of a member, or else all that may answer it are members too
 pub record IsEnough (index : IndexView) (forced within : NumberSet) : Type 0 where
@@ -48,10 +47,6 @@ pub cut_meets : (index : IndexView) (forced within : NumberSet) → IsEnough ind
     → (positions : NumberSet) → MeetsAt index set positions → MeetsAt index (cut set within) positions
 cut_meets index forced within enough set has positions meets k constraint asked there =
     cut_holds index forced within enough set has constraint (All-at (IsRight index) (constraints_of index) k constraint (all_right index) there) (meets k constraint asked there)
-
-pub healthy_from_meets : (index : IndexView) (set all : NumberSet) → ((k : ℕ) → k < length (constraints_of index) → all k ≡ true) → MeetsAt index set all → IsHealthy index set
-healthy_from_meets index set all whole meets k d below =
-    meets k (slice_index_or (constraints_of index) k d) (whole k below) (slice_get-get_or (constraints_of index) k d below)
 
 pub meets_from_healthy : (index : IndexView) (set positions : NumberSet) → IsHealthy index set → MeetsAt index set positions
 meets_from_healthy index set positions healthy k constraint asked there = All-at (Holds index set) (constraints_of index) k constraint healthy there

@@ -15,14 +15,14 @@ use Rattle.deb_health.specs.Health.{IsHealthy}
 use Rattle.deb_encode.specs.declared.encoder.Encoder.{Encoder}
 use Rattle.deb_encode.specs.declared.play.Play.{Play}
 use Rattle.deb_encode.specs.Encoders.{IsSame, Tells}
-use Rattle.deb_encode.specs.Standings.{is_narrow, HasOneVersion, MeetsNarrow}
-use Rattle.deb_verdict.proofs.Healthy.{MeetsNeeds, MeetsEntries, MeetsPlace}
+use Rattle.deb_encode.specs.Standings.{is_narrow, MeetsNarrow}
+use Rattle.deb_health.specs.Apart.{HasOneVersion}
+use Rattle.deb_groundwork.proofs.Healthy.{MeetsNeeds, MeetsEntries, MeetsPlace, healthy_parts, healthy_from_parts}
 use Rattle.deb_verdict.specs.declared.gather.Candidates.{Candidates}
 use Rattle.deb_verdict.specs.Gathering.{IsGathered}
 use Rattle.number_sets.proofs.ListMembers.{members_of_at}
 use Rattle.deb_encode.proofs.AddLemmas.{adds_both, adds_as}
 use Rattle.deb_encode.proofs.Told.{placed_in_play}
-use Rattle.deb_verdict.proofs.Healthy.{healthy_parts, healthy_from_parts}
 use Rattle.deb_encode.proofs.Each.{meaning_of_essential, meaning_of_narrow, added_vars, added_groups, added_in_group, added_says}
 use Rattle.deb_encode.proofs.EncoderLemmas.{same_still, adds_since}
 

@@ -1,6 +1,5 @@
 -- Candidates and needs that come, so that what is asked for is told.
 use Rattle.std.proofs.Common.{◌≡◌, ◌⊎◌, ℕ, ◌+◌, ◌<◌, ◌≤◌, true, ◌||◌, List, [], ◌∷◌, ◌++◌, length, get_or, All, Contains, refl, sym, subst, ◌∙◌, ap, inl, inr, arith}
-use mathlib.Core.Path.{fun_ext}
 use Rattle.std.specs.List.{list_any}
 use Rattle.std.specs.List.Sorted.{IsStrictlyIncreasing}
 use Rattle.std.proofs.lemmas.Bool.{cases_lt, false≢true, or_cases, or_left, or_right}
@@ -16,28 +15,16 @@ use Rattle.number_sets.specs.SparseSets.{AreNumbers, Grows}
 use Rattle.number_sets.proofs.ListMembers.{members_of_at, any_member, below_members}
 use Rattle.number_sets.proofs.Placing.{grows_none, grows_both, grows_keeps}
 use Rattle.deb_encode.specs.Play.{places_in_play}
-use Rattle.deb_encode.proofs.IndexFacts.{member_named, answers_is_place}
+use Rattle.deb_health.proofs.IndexFacts.{member_named}
 use Rattle.deb_verdict.specs.declared.gather.UnmetNeed.{UnmetNeed}
 use Rattle.deb_verdict.specs.declared.gather.Candidates.{Candidates}
 use Rattle.deb_verdict.specs.Gathering.{HasNames, IsTold, Gathers, IsGathered}
-use Rattle.deb_verdict.specs.Groundwork.{HasAnswers}
+use Rattle.deb_groundwork.specs.Groundwork.{HasAnswers}
 use Rattle.deb_verdict.proofs.Cutting.{IsEnough}
-use Rattle.deb_verdict.proofs.Forcing.{member_answers}
-use Rattle.deb_verdict.proofs.GroundworkLemmas.{answered_by_row}
-
--- what holds below a number holds below the next one, too
-pub more_below : (Then Now : ℕ → Type 0) (i : ℕ) → ((k : ℕ) → k < i → Then k → Now k) → ((k : ℕ) → k < i → Then k) → Now i → (k : ℕ) → k < i + 1 → Now k
-more_below Then Now i still so_far here k below =
-    elim (cases_lt k i) [
-      | inl earlier ↦ still k earlier (so_far k earlier)
-      | inr last ↦ let same : i ≡ k = omega arith in subst Now same here
-    ]
-
--- the row of a need has places only
-pub row_within : (index : IndexView) (place j : ℕ) (row : List ℕ) → row ≡ group_satisfiers index (need_at index place j) → All (λ q. q < length index.packages) row
-row_within index place j row row_is =
-    below_members row (length index.packages)
-    (λ q is_in. answers_is_place index place j q (sym (ap (λ list. members_of list q) row_is ∙ member_answers index place j q) ∙ is_in))
+use Rattle.deb_groundwork.proofs.Forcing.{member_answers}
+use Rattle.deb_groundwork.proofs.GroundworkLemmas.{answered_by_row}
+use Rattle.deb_groundwork.proofs.RowLemmas.{more_below}
+use mathlib.Core.Path.{fun_ext}
 
 -- past the last group nothing is asked
 pub no_answer : (index : IndexView) (place j q : ℕ) → length (needs_at index place) ≤ j → answers index place j q ≡ true → ⊥

@@ -13,11 +13,11 @@ use Rattle.number_sets.specs.Sets.{members_of, IsWithin}
 use Rattle.number_sets.proofs.MembersLemmas.{members_of_push}
 use Rattle.deb_verdict.specs.Closure.{kept, is_kept, is_kept_there}
 use Rattle.deb_verdict.specs.Listing.{Lists}
-use Rattle.deb_verdict.proofs.Healthy.{name_is}
-use Rattle.deb_encode.proofs.IndexFacts.{All-at, IsRight, all_right, member_named}
+use Rattle.deb_groundwork.proofs.Healthy.{name_is}
+use Rattle.deb_health.proofs.IndexFacts.{All-at, IsRight, all_right, member_named}
 use Rattle.core_extract.proofs.Kept.{pushed_has}
 use Rattle.number_sets.proofs.ListMembers.{any_member}
-use Rattle.deb_verdict.proofs.Names.{one_number}
+use Rattle.deb_groundwork.proofs.Names.{one_number}
 
 -- what constraints ask for: an essential name; a need, or a conflict, of the package at a place
 abbrev pub IsAnEssential : Constraint → Type 0

@@ -3,36 +3,29 @@ use Rattle.std.proofs.Common.{◌≡◌, ℕ, ◌+◌, ◌<◌, ◌≤◌, true,
 use Rattle.std.specs.Prelude.{nat_eq}
 use Rattle.std.specs.List.{list_any, IsDistinct}
 use Rattle.std.specs.Option.{option_map_or}
-use mathlib.Core.Path.{fun_ext}
 use Rattle.std.proofs.lemmas.Bool.{cases_Bool, cases_lt, false≢true, or_cases, or_left, or_right, or_parts, or_from, both_ways, eqb-true, eq-eqb, lt-ltb, ltb-true}
 use Rattle.std.proofs.lemmas.List.{get_or_past, drop_more, drop-append-le, drop_all, get_or_default}
 use Rattle.std.proofs.lemmas.List.Folds.{list_any_at, list_any-append, Any-from_list_any}
 use Rattle.deb_relation.specs.Relationship.{AtomText}
-use Rattle.deb_index.specs.Packages.{IndexView, PackageView, needs_at, names, name_at, essential_names, is_essential, places_of}
+use Rattle.deb_index.specs.Packages.{IndexView, PackageView, needs_at, name_at, essential_names, places_of}
 use Rattle.deb_index.specs.Meets.{meets_need, meets_need_at, group_satisfiers}
 use Rattle.deb_index.specs.Constraints.{has_name, answers}
-use Rattle.deb_index.proofs.MemberLemmas.{below-places_where, member-places_where}
+use Rattle.deb_index.proofs.MemberLemmas.{member-places_where}
 use Rattle.number_sets.specs.Sets.{NumberSet, members_of, IsWithin, all_below}
 use Rattle.deb_verdict.specs.Closure.{IsClosed, IsClosure}
 use Rattle.deb_verdict.specs.Reach.{Joins}
 use Rattle.number_sets.proofs.ListMembers.{take_whole, below_members}
-use Rattle.deb_encode.proofs.IndexFacts.{member_named, named_is_place, answers_is_place}
+use Rattle.deb_health.proofs.IndexFacts.{member_named, named_is_place, answers_is_place}
 use Rattle.deb_verdict.proofs.JoinLemmas.{joins_as, joins_both, joins_keep, joins_more}
 use Rattle.number_sets.proofs.SparseSetLemmas.{few_below}
 use Rattle.deb_verdict.proofs.Reaching.{IsReaching, IsVisit, visit_reaches, reached}
+use mathlib.Core.Path.{fun_ext}
 
 -- the places that meet an alternative of one of the groups, as a need
 abbrev pub meeting_any : IndexView → List (List AtomText) → NumberSet
 meeting_any index groups q = list_any (λ group. list_any (meets_need_at index q) group) groups
 
 -- ---- what comes in
-
--- the numbers of the essential names are those of names
-pub essential_below : (index : IndexView) (list : List ℕ) → list ≡ essential_names index → (i : ℕ) → i < length list → get_or list i 0 < length (names index)
-essential_below index list is_that i inside =
-    let Below : List ℕ → Type 0 = λ xs. All (λ n. n < length (names index)) xs in
-    let all : All (λ n. n < length (names index)) list = subst Below (sym is_that) (below-places_where (is_essential index) (names index)) in
-    all i 0 inside
 
 -- the places of one name more
 pub named_joined : (index : IndexView) (list places : List ℕ) (i : ℕ) (before between after : List ℕ) → i < length list → places ≡ places_of index (name_at index (get_or list i 0))

@@ -12,11 +12,10 @@ ghost use Rattle.deb_verdict.specs.Formulas.{Tells};
 
 use crate::core_formula::CoreFormula;
 use crate::first_core::first_positions;
-use crate::groundwork::Groundwork;
 use crate::kept_positions::list_constraints;
-use crate::part::Part;
 use crate::question::refute_part;
 use crate::workspace::Workspace;
+use deb_groundwork::{Groundwork, Part};
 use deb_index::{Constraint, Index};
 use number_sets::sort_once;
 use std::alloc::{AllocError, Global};

@@ -10,13 +10,13 @@ ghost use Rattle.deb_verdict.specs.Told.{IsToldCore, IsToldSet, IsToldVerdict};
 ghost use Rattle.deb_health.specs.Health.{IsHopeless, IsInstallable};
 ghost use Rattle.deb_health.specs.Verdicts.{IsVerdict, SpeaksOf, verdict_view};
 
+use crate::essentials::groundwork_of;
 use crate::first_core::first_core;
 use crate::first_set::first_set;
-use crate::groundwork::Groundwork;
-use crate::installable::is_seen_installable;
 use crate::reach::reach;
 use crate::wanted::Wanted;
 use crate::workspace::Workspace;
+use deb_groundwork::{Groundwork, is_seen_installable};
 use deb_health::Verdict;
 use deb_index::{Constraint, Index};
 use number_sets::SparseSet;
@@ -49,7 +49,7 @@ fn verdict_by(
     ensures verdict { IfOk result (λ found. IsVerdict index.now p (verdict_view found)) }
     ensures within { IfOk result (λ found. SpeaksOf index.now (verdict_view found)) }
 {
-    let groundwork = Groundwork::new(alloc, index)?;
+    let groundwork = groundwork_of(alloc, index)?;
     let found = verdict_in(alloc, workspace, &groundwork, p);
     drop(groundwork);
     found

@@ -8,8 +8,8 @@ ghost use Rattle.deb_verdict.specs.Encoding.{IsDescription};
 ghost use Rattle.deb_verdict.specs.Gathering.{IsGathered};
 
 use crate::gather::{Candidates, UnmetNeed};
-use crate::groundwork::Groundwork;
 use deb_encode::{Encoder, Play, Rivals, Versions};
+use deb_groundwork::Groundwork;
 use deb_index::Constraint;
 use number_sets::SparseSet;
 use sat_solve::{Formula, Lit};

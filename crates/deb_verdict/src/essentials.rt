@@ -3,13 +3,11 @@
 
 ghost use Rattle.std.specs.Prelude.{◌≡◌, ◌<◌, All, IfOk, OnOk, length};
 ghost use Rattle.number_sets.specs.Sets.{members_of};
-ghost use Rattle.deb_verdict.specs.Hopeless.{AreHopeless};
+ghost use Rattle.deb_groundwork.specs.Hopeless.{AreHopeless};
 
 use crate::decision::is_installable_in;
-use crate::groundwork::Groundwork;
-use crate::hopeless::spread_by_essential;
-use crate::rows::has_any;
 use crate::workspace::Workspace;
+use deb_groundwork::{Groundwork, has_any, spread_by_essential};
 use deb_index::Index;
 use number_sets::SparseSet;
 use std::alloc::{AllocError, Global};
@@ -88,23 +86,19 @@ fn find_hopeless(alloc: Global, groundwork: &Groundwork<'_>) -> Result<SparseSet
     Ok(hopeless)
 }
 
-impl<'a> Groundwork<'a> {
-    ghost use Rattle.std.specs.Prelude.{◌≡◌};
-
-    /// Goes once through the packages of the index, which stays as it is. The error is want of memory.
-    pub fn new(alloc: Global, index: &'a Index) -> Result<Groundwork<'a>, AllocError>
-        ensures { IfOk result (λ groundwork. groundwork.index.now ≡ index.now) }
-    {
-        let mut groundwork = Groundwork::of(alloc, index)?;
-        match find_hopeless(alloc, &groundwork) {
-            Ok(hopeless) => {
-                groundwork.hopeless = hopeless;
-                Ok(groundwork)
-            }
-            Err(error) => {
-                drop(groundwork);
-                Err(error)
-            }
+/// What the verdicts of an index have in common, found once for all of them, with a search for its essential names. The error is want of memory.
+pub fn groundwork_of(alloc: Global, index: &Index) -> Result<Groundwork<'_>, AllocError>
+    ensures { IfOk result (λ groundwork. groundwork.index.now ≡ index.now) }
+{
+    let mut groundwork = Groundwork::new(alloc, index)?;
+    match find_hopeless(alloc, &groundwork) {
+        Ok(hopeless) => {
+            groundwork.hopeless = hopeless;
+            Ok(groundwork)
+        }
+        Err(error) => {
+            drop(groundwork);
+            Err(error)
         }
     }
 }

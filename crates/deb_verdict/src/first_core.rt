@@ -11,12 +11,11 @@ ghost use Rattle.deb_health.specs.Verdicts.{IsFirstCore};
 ghost use Rattle.deb_verdict.specs.Formulas.{Tells};
 
 use crate::core_formula::CoreFormula;
-use crate::groundwork::Groundwork;
 use crate::kept_positions::list_constraints;
-use crate::needed::find_needed;
 use crate::question::Blocking;
 use crate::workspace::Workspace;
 use core_extract::first_failing;
+use deb_groundwork::{Groundwork, find_needed};
 use deb_index::Constraint;
 use std::alloc::{AllocError, Global};
 use std::mem;

@@ -8,8 +8,8 @@ ghost use Rattle.deb_encode.specs.Play.{placed};
 ghost use Rattle.deb_health.specs.Verdicts.{IsFirstInstallation};
 
 use crate::describe::describe;
-use crate::groundwork::Groundwork;
 use crate::workspace::Workspace;
+use deb_groundwork::Groundwork;
 use deb_index::Index;
 use number_sets::sort_once;
 use std::alloc::{AllocError, Global};

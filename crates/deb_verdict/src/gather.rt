@@ -6,8 +6,7 @@ ghost use Rattle.deb_index.specs.Packages.{needs_at};
 ghost use Rattle.number_sets.specs.Sets.{members_of, IsWithin};
 ghost use Rattle.number_sets.specs.SparseSets.{AreNumbers, Grows};
 
-use crate::groundwork::Groundwork;
-use crate::rows::has_any;
+use deb_groundwork::{Groundwork, has_any};
 use deb_index::Index;
 use number_sets::SparseSet;
 use std::alloc::{AllocError, Global};

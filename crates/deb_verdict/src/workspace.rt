@@ -3,12 +3,9 @@
 ghost use Rattle.std.specs.Prelude.{IfOk};
 ghost use Rattle.deb_verdict.specs.Workspaces.{IsFresh};
 
-use crate::base_set::BaseSet;
 use crate::gather::Candidates;
-use crate::growth::Witness;
-use crate::installation::Installation;
-use crate::propagation::Propagation;
 use deb_encode::{Rivals, Versions};
+use deb_groundwork::{BaseSet, Installation, Propagation, Witness};
 use deb_index::Constraint;
 use number_sets::SparseSet;
 use sat_solve::{Formula, Lit};

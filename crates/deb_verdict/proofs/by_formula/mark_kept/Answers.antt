@@ -4,7 +4,7 @@ use Rattle.number_sets.specs.Sets.{members_of}
 use Rattle.number_sets.proofs.ListMembers.{take_whole}
 use Rattle.core_extract.specs.Reduction.{left}
 use Rattle.deb_health.specs.Causes.{without}
-use Rattle.deb_verdict.specs.Parts.{positions_in}
+use Rattle.deb_groundwork.specs.Parts.{positions_in}
 use Rattle.deb_verdict.proofs.by_formula.mark_kept.Goals as goal
 
 pub loop-position-preserved : goal.loop-position-preserved

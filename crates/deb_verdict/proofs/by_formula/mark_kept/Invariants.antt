@@ -1,5 +1,5 @@
 use Rattle.std.proofs.Common.{◌≡◌, map, take}
-use Rattle.deb_verdict.specs.Parts.{positions_in}
+use Rattle.deb_groundwork.specs.Parts.{positions_in}
 use Rattle.deb_verdict.proofs.by_formula.mark_kept.Given as goal
 
 abbrev pub invariant-loop-position : goal.invariant-loop-position

@@ -4,7 +4,7 @@ use Rattle.std.proofs.lemmas.Bool.{false≢true, true≢false}
 use Rattle.number_sets.specs.Sets.{NumberSet, members_of}
 use Rattle.sat_solve.specs.Clauses.{IsTrueSet, AreWithin}
 use Rattle.deb_verdict.specs.Formulas.{IsChosen}
-use Rattle.deb_verdict.specs.Parts.{positions_in}
+use Rattle.deb_groundwork.specs.Parts.{positions_in}
 use Rattle.deb_verdict.proofs.Settled.{kept_has}
 use Rattle.deb_verdict.proofs.by_formula.refute_described.Goals as goal
 

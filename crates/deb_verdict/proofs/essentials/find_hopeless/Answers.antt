@@ -1,4 +1,4 @@
-use Rattle.deb_verdict.proofs.HopelessLemmas.{hopeless_of}
+use Rattle.deb_groundwork.proofs.HopelessLemmas.{hopeless_of}
 use Rattle.deb_verdict.proofs.essentials.find_hopeless.Goals as goal
 
 pub search_lacked-requires : goal.search_lacked-requires

@@ -1,4 +1,4 @@
-use Rattle.deb_verdict.proofs.HopelessLemmas.{hopeless_with}
+use Rattle.deb_groundwork.proofs.HopelessLemmas.{hopeless_with}
 use Rattle.deb_verdict.proofs.essentials.search_each.Goals as goal
 
 pub loop-place-preserved : goal.loop-place-preserved

@@ -1,8 +1,8 @@
 use Rattle.std.proofs.Common.{◌<◌, ℕ, length, get_or}
 use Rattle.std.proofs.lemmas.List.Elements.{All-same}
 use Rattle.deb_index.specs.Packages.{places_of, name_at}
-use Rattle.deb_encode.proofs.AddSteps.{named_below}
-use Rattle.deb_verdict.proofs.ReachLemmas.{essential_below}
+use Rattle.deb_health.proofs.IndexFacts.{named_below}
+use Rattle.deb_groundwork.proofs.RowLemmas.{essential_below}
 use Rattle.deb_verdict.proofs.essentials.search_names.Goals as goal
 
 pub places_named-places-requires : goal.places_named-places-requires

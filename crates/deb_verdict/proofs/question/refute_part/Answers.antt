@@ -1,6 +1,6 @@
 use Rattle.std.proofs.Common.{◌∙◌}
 use Rattle.std.proofs.lemmas.Bool.{false≢true, true≢false}
-use Rattle.deb_verdict.proofs.BaseLemmas.{empty_is_base}
+use Rattle.deb_groundwork.proofs.BaseLemmas.{empty_is_base}
 use Rattle.deb_verdict.proofs.question.refute_part.Goals as goal
 
 pub is_seen_to_admit-requires-then-may_admit-2-clause-base : goal.is_seen_to_admit-requires-then-may_admit-2-clause-base

@@ -1,7 +1,8 @@
 use Rattle.std.proofs.Common.{◌∙◌, ap, []}
 use Rattle.number_sets.specs.SparseSets.{with_number}
 use Rattle.deb_verdict.proofs.JoinLemmas.{joins_place}
-use Rattle.deb_verdict.proofs.ReachLemmas.{essential_below, named_joined, start_joined}
+use Rattle.deb_groundwork.proofs.RowLemmas.{essential_below}
+use Rattle.deb_verdict.proofs.ReachLemmas.{named_joined, start_joined}
 use Rattle.deb_verdict.proofs.reach.start.Goals as goal
 
 pub places_named-requires : goal.places_named-requires

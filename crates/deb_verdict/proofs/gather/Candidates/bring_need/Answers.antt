@@ -1,6 +1,7 @@
 use Rattle.std.proofs.Common.{length, sym, ◌∙◌, refl}
 use Rattle.number_sets.specs.Sets.{members_of}
-use Rattle.deb_verdict.proofs.GatherLemmas.{row_within, gathers_met, gathers_unmet}
+use Rattle.deb_groundwork.proofs.RowLemmas.{row_within}
+use Rattle.deb_verdict.proofs.GatherLemmas.{gathers_met, gathers_unmet}
 use Rattle.deb_verdict.proofs.gather.Candidates.bring_need.Goals as goal
 
 pub returns-then-has_any : goal.returns-then-has_any

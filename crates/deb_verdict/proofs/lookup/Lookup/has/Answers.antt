@@ -1,6 +1,6 @@
 use Rattle.std.proofs.Common.{rules, Ok, Err}
 use Rattle.std.specs.List.Sorted.{IsStrictlyIncreasing}
-use Rattle.deb_verdict.proofs.Searched.{among, lacking}
+use Rattle.deb_groundwork.proofs.Searched.{among, lacking}
 use Rattle.deb_verdict.proofs.lookup.Lookup.has.Goals as goal
 
 pub invariant_of-self : goal.invariant_of-self

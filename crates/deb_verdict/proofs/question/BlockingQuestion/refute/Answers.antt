@@ -3,7 +3,7 @@ use Rattle.std.proofs.lemmas.Bool.{false≢true, true≢false}
 use Rattle.number_sets.specs.Sets.{NumberSet, members_of}
 use Rattle.core_extract.specs.Reduction.{left, listed}
 use Rattle.deb_health.specs.Causes.{without}
-use Rattle.deb_verdict.proofs.NeededLemmas.{lacking_admits}
+use Rattle.deb_groundwork.proofs.NeededLemmas.{lacking_admits}
 use Rattle.deb_verdict.proofs.Whole.{refuted_listed, refuted_same, refuted_without}
 use Rattle.deb_verdict.proofs.question.BlockingQuestion.refute.Goals as goal
 

@@ -1,0 +1,15 @@
+pub mod BaseLemmas
+pub mod BearerLemmas
+pub mod Derived
+pub mod Forcing
+pub mod GroundworkLemmas
+pub mod Healthy
+pub mod HopelessLemmas
+pub mod InstallableLemmas
+pub mod Names
+pub mod NeededLemmas
+pub mod Propagated
+pub mod RowLemmas
+pub mod Searched
+pub mod Standing
+pub mod WitnessLemmas

@@ -1,0 +1,8 @@
+-- what contracts of deb_verdict cite, too
+pub mod BaseSets
+pub mod Needed
+pub mod Parts
+-- ---- the inside
+pub mod Deriving
+pub mod Groundwork
+pub mod Hopeless

@@ -1,0 +1,105 @@
+//! A large set of packages of an index, each with what it asks for: what a question looks for grows on it, and need not be found anew for each one.
+
+ghost use Rattle.std.specs.Prelude.{◌≡◌, [], ◌<◌, true, All, length};
+ghost use Rattle.number_sets.specs.Sets.{members_of};
+ghost use Rattle.deb_health.specs.Causes.{either};
+ghost use Rattle.deb_groundwork.specs.BaseSets.{HasRoom, IsBase};
+
+use crate::answering::are_answered;
+use crate::check::has_no_earlier;
+use crate::installation::{Installation, weight_of_all};
+use crate::rows::{Places, has_free_name, stands_apart, take_hits};
+use deb_index::Index;
+use number_sets::SparseSet;
+use std::alloc::Global;
+
+/// How often at most, in all, as much as the whole index comes to the set, or is taken out again.
+const TIMES: u64 = 2;
+
+/// Places, of which each has what its package asks for among them.
+#[derive(Drop)]
+pub struct BaseSet {
+    pub members: SparseSet,
+    /// What an entry of a member hits.
+    pub hit: SparseSet,
+}
+
+/// A base set, and more places.
+#[derive(Clone, Copy)]
+pub(crate) struct OnBase<'a> {
+    pub(crate) base: &'a BaseSet,
+    pub(crate) more: &'a SparseSet,
+}
+
+impl Places for OnBase<'_> {
+    ghost members = { λ set. either (members_of set.base.now.members) (members_of set.more.now) };
+
+    fn has(&self, place: u32) -> bool {
+        self.base.members.contains(place) || self.more.contains(place)
+    }
+}
+
+impl BaseSet {
+    /// No places, and no room yet.
+    pub fn empty(alloc: Global) -> BaseSet
+        ensures { result.members ≡ [] }
+    {
+        BaseSet {
+            members: SparseSet::new(alloc),
+            hit: SparseSet::new(alloc),
+        }
+    }
+
+    /// Takes all out, and keeps the room.
+    pub fn clear(&mut self)
+        ensures members { self.new.members ≡ [] }
+        ensures hit { self.new.hit ≡ [] }
+    {
+        self.members.clear();
+        self.hit.clear();
+    }
+
+    /// These places, if each is seen to have what its package asks for among them; else none.
+    fn of(alloc: Global, index: &Index, members: SparseSet) -> BaseSet
+        requires { All (λ place. place < length index.now.packages) members }
+        ensures { IsBase index.now result }
+    {
+        let mut hit = SparseSet::new(alloc);
+        for place in members.as_slice() {
+            if !are_answered(index, &members, *place)
+                || !stands_apart(index, &members, *place)
+                || !has_no_earlier(index, &members, *place)
+                || !take_hits(index, *place, &mut hit)
+            {
+                return BaseSet::empty(alloc);
+            }
+        }
+        BaseSet { members, hit }
+    }
+
+    /// A package of each essential name, if there can be, and of all others those that fit, each with what it asks for. What lacks a need is not
+    /// tried.
+    pub(crate) fn find(alloc: Global, index: &Index, hopeless: &SparseSet) -> BaseSet
+        ensures { IsBase index.now result }
+    {
+        let spare = weight_of_all(index).saturating_mul(TIMES);
+        let mut installation = Installation::new(alloc, spare);
+        installation.add_essentials(index, hopeless);
+        for place in 0..index.len() {
+            installation.add(index, hopeless, place);
+        }
+        BaseSet::of(alloc, index, installation.members)
+    }
+
+    /// Whether nothing of the set is in the way of a package: no entry of a member hits it, and no member has its name. `false` where very many
+    /// packages have it.
+    pub(crate) fn has_room(&self, index: &Index, place: u32) -> bool
+        requires { place < length index.now.packages }
+        ensures { result ≡ true → HasRoom index.now self.now place }
+    {
+        if self.hit.contains(place) {
+            return false;
+        }
+        has_free_name(index, &self.members, place)
+    }
+}

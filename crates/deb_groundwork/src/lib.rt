@@ -1,0 +1,43 @@
+//! What is told of the packages of an index, and of parts of its constraints, without a search.
+//!
+//! `deb_verdict` searches for what is left. `specs/Lib` names first the definitions that its contracts cite, then those of the inside. The modules:
+//!
+//! - Common to all: `rows` tells what a set has of a row of places, `answering` whether it answers a need, be there a row or not; a `part` is some of
+//!   the constraints of an index, by their positions.
+//! - The `groundwork` knows what all verdicts of an index have in common: `forced` finds places that are in every healthy set, `hopeless` places that
+//!   no healthy set has, and a `base_set` has many packages, each with what it asks for.
+//! - `installable` finds many packages that some healthy set has, for which no set need be shown: an `installation` grows without a search, and is
+//!   looked up by `check`.
+//! - Whether a part admits none with a package. `witness` sees that some set meets it: that is the `growth` of a set on the base set, by a `choice` of
+//!   one answer for each need, and `check` looks it up. `propagation` refutes it by what the package asks for with no choice; `derivation` has the
+//!   steps of such a refutation, and checks them. `needed` finds constraints without which no part admits none.
+#![tactic(auto)]
+
+mod answering;
+mod base_set;
+mod check;
+mod choice;
+mod derivation;
+mod forced;
+mod groundwork;
+mod growth;
+mod hopeless;
+mod installable;
+mod installation;
+mod needed;
+mod part;
+mod propagation;
+mod rows;
+mod witness;
+
+pub use base_set::BaseSet;
+pub use groundwork::Groundwork;
+pub use growth::Witness;
+pub use hopeless::spread_by_essential;
+pub use installable::{find_installable, is_seen_installable};
+pub use installation::Installation;
+pub use needed::find_needed;
+pub use part::{Part, is_among};
+pub use propagation::{Propagation, refute_by_forcing, refute_by_last_steps};
+pub use rows::{Places, has_any};
+pub use witness::is_seen_to_admit;

@@ -1,0 +1,314 @@
+//! Refutes a part of the constraints by forcing alone: what the package asks for with no choice, down to a contradiction. Members of a base set are
+//! passed over, since each has what it asks for. Where memory is wanting no contradiction is seen.
+
+ghost use Rattle.std.specs.Prelude.{◌≡◌, ℕ, ◌<◌, true, false, All, IfSome, length};
+ghost use Rattle.deb_index.specs.Packages.{aparts_at};
+ghost use Rattle.number_sets.specs.SparseSets.{AreNumbers};
+ghost use Rattle.deb_groundwork.specs.Deriving.{row_of};
+ghost use Rattle.deb_groundwork.specs.Parts.{IsRefutedBy};
+
+use crate::base_set::BaseSet;
+use crate::derivation::{Outcome, Step, is_refutation, name_outcome, need_outcome};
+use crate::part::Part;
+use crate::rows::other_in;
+use deb_index::Index;
+use number_sets::SparseSet;
+use std::alloc::Global;
+use std::mem;
+
+/// The buffers of propagation.
+#[derive(Drop)]
+pub struct Propagation {
+    /// What is forced, in the order in which it came.
+    forced: SparseSet,
+    /// The step that forced each of these but the first.
+    causes: Vec<Step>,
+    /// Which of these steps the contradiction rests on.
+    needed: Vec<bool>,
+    /// The steps that it rests on, with its own.
+    steps: Vec<Step>,
+    /// What is in by the steps that are checked.
+    checked: SparseSet,
+    /// The positions of their constraints.
+    positions: Vec<u32>,
+}
+
+/// Another place that is in and that an entry hits. `None` where what it hits is too much for a row.
+fn hit_in(index: &Index, place: u32, number: u32, forced: &SparseSet) -> Option<u32>
+    requires place { place < length index.now.packages }
+    requires number { number < length (aparts_at index.now place) }
+{
+    match index.hit_row(place, number) {
+        Some(row) => other_in(forced, row, place),
+        None => None,
+    }
+}
+
+/// Another place of the name that is in. `None` where the name has more places than are in.
+fn version_in(index: &Index, place: u32, forced: &SparseSet) -> Option<u32>
+    requires { place < length index.now.packages }
+{
+    let row = index.versions_of(place);
+    if row.len() > forced.as_slice().len() {
+        return None;
+    }
+    other_in(forced, row, place)
+}
+
+/// A constraint of the part that keeps a place that is in from another one.
+fn conflict_of(part: &Part<'_>, place: u32, forced: &SparseSet) -> Option<Step>
+    requires { place < length part.now.index.now.packages }
+{
+    let index = part.index;
+    for number in 0..index.apart_count(place) {
+        if let Some(other) = hit_in(index, place, number, forced) {
+            if part.has(index.apart_position(place, number)) {
+                return Some(Step::Apart(place, number, other));
+            }
+        }
+    }
+    if !part.has(index.only_position(index.name_of(place))) {
+        return None;
+    }
+    let other = version_in(index, place, forced)?;
+    Some(Step::Only(place, other))
+}
+
+/// A constraint of the part that keeps two places apart that are in.
+fn conflict_in(part: &Part<'_>, forced: &SparseSet) -> Option<Step>
+    requires { AreNumbers (length part.now.index.now.packages) forced.now }
+{
+    for place in forced.as_slice() {
+        if let Some(step) = conflict_of(part, *place, forced) {
+            return Some(step);
+        }
+    }
+    None
+}
+
+/// Marks the step that forced a place; the first place needs none.
+fn mark(forced: &SparseSet, place: u32, needed: &mut [bool])
+    ensures { length needed.new ≡ length needed.old }
+{
+    if let Some(number) = forced.position_of(place) {
+        if number > 0 && number <= needed.len() {
+            needed[number - 1] = true;
+        }
+    }
+}
+
+/// Marks the steps that forced the places that a step is held against.
+fn mark_places(forced: &SparseSet, step: Step, needed: &mut [bool])
+    ensures { length needed.new ≡ length needed.old }
+{
+    match step {
+        Step::Essential(_) => {}
+        Step::Need(place, _) => mark(forced, place, needed),
+        Step::Apart(place, _, other) => {
+            mark(forced, place, needed);
+            mark(forced, other, needed);
+        }
+        Step::Only(first, second) => {
+            mark(forced, first, needed);
+            mark(forced, second, needed);
+        }
+    }
+}
+
+/// Marks the steps that marked ones rest on: these are earlier.
+fn mark_causes(forced: &SparseSet, causes: &[Step], needed: &mut [bool])
+    requires { length needed.old ≡ length causes.now }
+    ensures { length needed.new ≡ length needed.old }
+{
+    for number in (0..causes.len()).rev() {
+        if needed[number] {
+            mark_places(forced, causes[number], needed);
+        }
+    }
+}
+
+impl Propagation {
+    /// Buffers with no room yet.
+    pub fn new(alloc: Global) -> Propagation {
+        Propagation {
+            forced: SparseSet::new(alloc),
+            causes: Vec::new(alloc),
+            needed: Vec::new(alloc),
+            steps: Vec::new(alloc),
+            checked: SparseSet::new(alloc),
+            positions: Vec::new(alloc),
+        }
+    }
+
+    /// Takes in what a step gives: a place, unless an earlier step forced it, or it is in the base set. `true`: the step contradicts.
+    fn take(&mut self, base: &BaseSet, outcome: Option<Outcome>, step: Step) -> bool
+        ensures { (count : ℕ) → IfSome outcome (λ gives. All (λ place. place < count) (row_of gives)) → AreNumbers count self.old.forced
+            → AreNumbers count self.new.forced }
+    {
+        let Some(gives) = outcome else {
+            return false;
+        };
+        let place = match gives {
+            Outcome::Forced(place) => place,
+            Outcome::Contradiction => return true,
+        };
+        if base.members.contains(place) || self.forced.contains(place) {
+            return false;
+        }
+        let Ok(()) = self.forced.insert(place) else {
+            self.forced.clear();
+            return false;
+        };
+        let _noted = self.causes.push(step);
+        false
+    }
+
+    /// Forces what alone answers a need of a place. A need that nothing answers is a contradiction. Last needs go first, since the first core lacks
+    /// early constraints.
+    fn visit(&mut self, part: &Part<'_>, base: &BaseSet, place: u32) -> Option<Step>
+        requires place { place < length part.now.index.now.packages }
+        requires forced { AreNumbers (length part.now.index.now.packages) self.old.forced }
+        ensures { AreNumbers (length part.now.index.now.packages) self.new.forced }
+    {
+        for number in (0..part.index.need_count(place)).rev() {
+            if !part.has(part.index.need_position(place, number)) {
+                continue;
+            }
+            let step = Step::Need(place, number);
+            if self.take(base, need_outcome(part.index, place, number), step) {
+                return Some(step);
+            }
+        }
+        None
+    }
+
+    /// Forces from the first places on that are not visited, and looks for a contradiction.
+    fn propagate(&mut self, part: &Part<'_>, base: &BaseSet, start: usize) -> Option<Step>
+        requires { AreNumbers (length part.now.index.now.packages) self.old.forced }
+        ensures { AreNumbers (length part.now.index.now.packages) self.new.forced }
+    {
+        let mut visited = start;
+        while visited < self.forced.as_slice().len() {
+            let place = self.forced.as_slice()[visited];
+            if let Some(step) = self.visit(part, base, place) {
+                return Some(step);
+            }
+            visited += 1;
+        }
+        conflict_in(part, &self.forced)
+    }
+
+    /// Forces the packages of essential names that have one only.
+    fn force_essential(&mut self, part: &Part<'_>, base: &BaseSet)
+        requires { AreNumbers (length part.now.index.now.packages) self.old.forced }
+        ensures { AreNumbers (length part.now.index.now.packages) self.new.forced }
+    {
+        let index = part.index;
+        let _names = index.name_count();
+        for (number, name) in index.essential_names().iter().enumerate() {
+            let number = number as u32;
+            if !part.has(number) {
+                continue;
+            }
+            self.take(base, name_outcome(index, *name), Step::Essential(number));
+        }
+    }
+
+    /// The step that contradicts, where forcing leads to one. What the package itself asks for goes first.
+    fn find(&mut self, part: &Part<'_>, base: &BaseSet, p: u32) -> Option<Step>
+        requires { p < length part.now.index.now.packages }
+        ensures { AreNumbers (length part.now.index.now.packages) self.new.forced }
+    {
+        self.forced.clear();
+        self.causes.clear();
+        let Ok(()) = self.forced.insert(p) else {
+            self.forced.clear();
+            return None;
+        };
+        if let Some(step) = self.propagate(part, base, 0) {
+            return Some(step);
+        }
+        let visited = self.forced.as_slice().len();
+        self.force_essential(part, base);
+        if self.forced.as_slice().len() == visited {
+            return None;
+        }
+        self.propagate(part, base, visited)
+    }
+
+    /// Whether a base set has no room for something that was forced last.
+    pub fn lacks_room(&self, index: &Index, base: &BaseSet) -> bool
+        requires { AreNumbers (length index.now.packages) self.now.forced }
+    {
+        for place in self.forced.as_slice() {
+            if !base.has_room(index, *place) {
+                return true;
+            }
+        }
+        false
+    }
+
+    /// Writes down the steps that a contradiction rests on. `false` for want of memory.
+    fn derive(&mut self, conflict: Step) -> bool
+        ensures { self.new.forced ≡ self.old.forced }
+    {
+        self.needed.clear();
+        let Ok(()) = self.needed.resize(self.causes.len(), false) else {
+            return false;
+        };
+        mark_places(&self.forced, conflict, &mut self.needed);
+        mark_causes(&self.forced, &self.causes, &mut self.needed);
+        self.steps.clear();
+        for (cause, is_needed) in self.causes.iter().zip(&self.needed) {
+            if *is_needed && self.steps.push(*cause).is_err() {
+                return false;
+            }
+        }
+        self.steps.push(conflict).is_ok()
+    }
+}
+
+/// Whether the steps that forcing took last, for whatever package and part, show that a part of the constraints admits no set with the package
+/// at a place. Where they do, `used` has the positions of constraints of the part that already admit none.
+pub fn refute_by_last_steps(
+    part: &Part<'_>,
+    p: u32,
+    buffers: &mut Propagation,
+    used: &mut Vec<u32>,
+) -> bool
+    ensures refuted { result ≡ true → IsRefutedBy used.new.items part.now p }
+    ensures still { result ≡ false → used.new.items ≡ used.old.items }
+    ensures forced { buffers.new.forced ≡ buffers.old.forced }
+{
+    let holds = is_refutation(
+        part,
+        p,
+        &buffers.steps,
+        &mut buffers.checked,
+        &mut buffers.positions,
+    );
+    if holds {
+        mem::swap(&mut buffers.positions, used);
+    }
+    holds
+}
+
+/// Whether a part of the constraints is seen to admit no set with the package at a place, by forcing alone, and none but what is beside the base
+/// set. Where it is, `used` has the positions of constraints of the part that already admit none.
+pub fn refute_by_forcing(
+    part: &Part<'_>,
+    p: u32,
+    base: &BaseSet,
+    buffers: &mut Propagation,
+    used: &mut Vec<u32>,
+) -> bool
+    requires { p < length part.now.index.now.packages }
+    ensures refuted { result ≡ true → IsRefutedBy used.new.items part.now p }
+    ensures still { result ≡ false → used.new.items ≡ used.old.items }
+    ensures forced { AreNumbers (length part.now.index.now.packages) buffers.new.forced }
+{
+    let Some(conflict) = buffers.find(part, base, p) else {
+        return false;
+    };
+    buffers.derive(conflict) && refute_by_last_steps(part, p, buffers, used)
+}

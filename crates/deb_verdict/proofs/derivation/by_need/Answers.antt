@@ -1,9 +1,0 @@
-use Rattle.std.proofs.Common.{◌∙◌, sym}
-use Rattle.number_sets.specs.Sets.{members_of}
-use Rattle.deb_verdict.proofs.Derived.{need_gives}
-use Rattle.deb_verdict.proofs.derivation.by_need.Goals as goal
-
-pub returns : goal.returns
-returns c =
-    need_gives c.args.index.now (members_of c.args.forced.now) c.args.place c.args.number c.need_position.result c.in_ok-outcome.outcome c.need_position.ensures
-    (sym c.contains.ensures ∙ c.if-not-contains.false) c.in_ok-outcome.ensures

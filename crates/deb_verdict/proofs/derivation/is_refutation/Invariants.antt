@@ -1,6 +1,0 @@
-use Rattle.deb_verdict.specs.Parts.{positions_in}
-use Rattle.deb_verdict.proofs.Derived.{IsDerived}
-use Rattle.deb_verdict.proofs.derivation.is_refutation.Given as goal
-
-abbrev pub invariant-loop-step : goal.invariant-loop-step
-invariant-loop-step l = IsDerived l.part.index.now l.p (positions_in l.part) l.positions.items l.forced

@@ -1,5 +1,0 @@
-use Rattle.deb_verdict.specs.Groundwork.{KeepsForced}
-use Rattle.deb_verdict.proofs.forced.force_needs.Given as goal
-
-abbrev pub invariant-loop-number : goal.invariant-loop-number
-invariant-loop-number l = KeepsForced l.index l.initial.forced l.forced

@@ -1,5 +1,0 @@
-use Rattle.deb_verdict.proofs.GatherLemmas.{row_within}
-use Rattle.deb_verdict.proofs.growth.Witness.take_answer.Goals as goal
-
-pub take_one-requires : goal.take_one-requires
-take_one-requires c = row_within c.args.part.now.index.now c.args.place c.args.number c.in-Some.row.now c.in-Some.ensures.row

@@ -1,6 +1,0 @@
-use Rattle.number_sets.specs.Sets.{members_of}
-use Rattle.deb_verdict.specs.Hopeless.{AreHopeless}
-use Rattle.deb_verdict.proofs.hopeless.find_lacking.Given as goal
-
-abbrev pub invariant-loop-pass : goal.invariant-loop-pass
-invariant-loop-pass l = AreHopeless l.index (members_of l.hopeless)

@@ -1,7 +1,0 @@
-use Rattle.deb_verdict.proofs.HopelessLemmas.{hopeless_with}
-use Rattle.deb_verdict.proofs.hopeless.visit.Goals as goal
-
-pub returns-in_ok-insert : goal.returns-in_ok-insert
-returns-in_ok-insert c =
-    hopeless_with c.args.index.now c.args.hopeless.now c.insert.new.self c.args.place c.in_ok-insert.ensures c.requires.hopeless
-    (c.has_unanswered.ensures c.if-has_unanswered.true)
