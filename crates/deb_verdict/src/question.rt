@@ -15,7 +15,9 @@ use crate::by_formula::refute_by_formula;
 use crate::core_formula::CoreFormula;
 use crate::workspace::Workspace;
 use core_extract::{Question, next_of};
-use deb_groundwork::{BaseSet, Groundwork, Part, is_among, is_seen_to_admit, refute_by_forcing, refute_by_last_steps};
+use deb_groundwork::{
+    BaseSet, Groundwork, Part, is_among, is_seen_to_admit, refute_by_forcing, refute_by_last_steps,
+};
 use number_sets::{SparseSet, sort_once};
 use std::alloc::{AllocError, Global};
 use std::mem;

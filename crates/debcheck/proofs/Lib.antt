@@ -1,10 +1,1 @@
-mod BackgroundLemmas
-mod LaterLemmas
-mod MergeLemmas
-mod NewsLemmas
-mod OneReport
-mod PhaseLemmas
 mod ProgramLemmas
-mod RunLemmas
-mod SinceLemmas
-mod StandingLemmas

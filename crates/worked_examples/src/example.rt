@@ -1,7 +1,12 @@
 //! What an example is, and how it is run.
 ghost use Rattle.std.specs.Prelude.{◌≡◌, ◌<◌, ◌≤◌, IfSome, false};
 
-use debcheck::{Config, RunFault, Source, Std, Summary, fault_line, read_line, run, status};
+use command_line::read_line;
+use deb_input::{RunFault, fault_line};
+use deb_report::Summary;
+use debcheck_run::{run, status};
+use devices::{Source, Std};
+use run_settings::Config;
 use std::alloc::{AllocError, Global};
 use std::thread::Threads;
 use work_draw::OpenGate;

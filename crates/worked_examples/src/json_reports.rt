@@ -3,7 +3,8 @@
 ghost use Rattle.std.specs.Prelude.{◌≡◌, ◌<◌, ◌≤◌, IfOk};
 
 use crate::example::{Example, gives_under};
-use debcheck::{Config, Format, Std};
+use devices::Std;
+use run_settings::{Config, Format};
 use std::alloc::{AllocError, Global};
 
 pub static EXAMPLES: &str = r#"empty_index gives 0 under --arch amd64 --format json --explain

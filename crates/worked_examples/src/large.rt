@@ -2,7 +2,7 @@
 
 use crate::example::{EXPLAINED, Example, gives, gives_on};
 use crate::relations::EMPTY_REPORT;
-use debcheck::{DeviceFault, Source};
+use devices::{DeviceFault, Source};
 use std::alloc::{AllocError, Global};
 use std::thread::Threads;
 

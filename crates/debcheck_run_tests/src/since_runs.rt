@@ -1,0 +1,326 @@
+//! Runs since an earlier index, with devices that fail.
+
+use crate::cases::{Case, EMPTY, NOTHING, Settings, Torn, Way, expect_answer};
+use deb_report::Summary;
+use run_settings::{Format, Show};
+use std::process::Abort;
+use std::thread::Threads;
+
+/// One package, which is broken.
+const INDEX: &[u8] = b"Package: d\nVersion: 1\nArchitecture: all\nDepends: y\n";
+
+/// Another one, which was.
+const EARLIER: &[u8] = b"Package: b\nVersion: 2\nArchitecture: all\nDepends: y\n";
+
+const BACKGROUND: &[u8] = b"Package: z\nVersion: 1\nArchitecture: all\n";
+
+const REPORT: &[u8] = b"architecture: amd64
+report:
+ -
+  package: d
+  version: 1
+  architecture: all
+  status: broken
+  reasons:
+   - missing: d 1 Depends: y
+stanzas: 2
+skipped: 0
+duplicates: 0
+background: 1
+asked: 1
+broken: 1
+newly-broken: 1
+mended:
+gone:
+ - b 2
+";
+
+/// The usual settings.
+const USUAL: Settings = Settings {
+    workers: 4,
+    chunk: 64,
+    show: Show::All,
+    explain: true,
+    all_reasons: false,
+    causes: false,
+    why: false,
+    format: Format::Text,
+};
+
+/// A run on all three, byte by byte.
+const GOES_ON: Case<'static> = Case {
+    name: "readers that go on",
+    way: Way::Since,
+    settings: USUAL,
+    index: INDEX,
+    background: Some(BACKGROUND),
+    earlier: EARLIER,
+    begun: 3,
+    room: 50,
+    written: REPORT,
+    status: 1,
+    summary: Some(Summary {
+        stanzas: 2,
+        background: 1,
+        asked: 1,
+        broken: 1,
+        newly_broken: Some(1),
+        ..NOTHING
+    }),
+    ..EMPTY
+};
+
+/// The same, in larger pieces.
+pub const SINCE: Case<'static> = Case {
+    name: "since an earlier index",
+    step: 11,
+    ..GOES_ON
+};
+
+/// The same where all reasons are told; there is one.
+pub const SINCE_WITH_ALL_REASONS: Case<'static> = Case {
+    name: "since an earlier index, with all reasons",
+    settings: Settings {
+        all_reasons: true,
+        ..USUAL
+    },
+    ..SINCE
+};
+
+/// The index fails; nothing behind it is read.
+const TORN: Case<'static> = Case {
+    name: "a reader of the index that fails",
+    torn: Torn::Index,
+    begun: 1,
+    written: b"",
+    status: 67,
+    told: "index",
+    summary: None,
+    ..GOES_ON
+};
+
+/// The background fails; the earlier index is not read.
+const TORN_BACKGROUND: Case<'static> = Case {
+    name: "a reader of the background that fails",
+    torn: Torn::Background,
+    begun: 2,
+    told: "background",
+    ..TORN
+};
+
+const TORN_EARLIER: Case<'static> = Case {
+    name: "a reader of the earlier index that fails",
+    torn: Torn::Earlier,
+    begun: 3,
+    told: "earlier",
+    ..TORN
+};
+
+/// A fault of the index goes before it.
+const FAULT: Case<'static> = Case {
+    name: "a fault of the index",
+    index: b" x",
+    status: 65,
+    told: "bad line in stanza 1",
+    ..TORN_EARLIER
+};
+
+static TORN_ONES: [Case<'static>; 3] = [TORN, TORN_BACKGROUND, TORN_EARLIER];
+
+/// The reader that fails does so behind so many bytes of its text.
+fn expect_torn(
+    rt: &(impl Abort + Threads + Sync + AllocGlobal),
+    torn: &Case<'static>,
+    count: usize,
+) {
+    let mut case = *torn;
+    match torn.torn {
+        Torn::Background => case.background = Some(&BACKGROUND[..count.min(BACKGROUND.len())]),
+        Torn::Earlier => case.earlier = &EARLIER[..count.min(EARLIER.len())],
+        _ => case.index = &INDEX[..count.min(INDEX.len())],
+    }
+    expect_answer(rt, &case);
+}
+
+#[test]
+fn readers_fail_behind_each_byte(rt: HostRuntime) {
+    for torn in &TORN_ONES {
+        for count in 0..=INDEX.len() {
+            expect_torn(&rt, torn, count);
+        }
+    }
+}
+
+/// One package that was broken and is still, a newly broken one, each for two reasons, and one that is fine.
+const NEWS: &[u8] = b"Package: a
+Version: 1
+Architecture: all
+Depends: x, y
+
+Package: b
+Version: 1
+Architecture: all
+Depends: y, c (>= 2)
+
+Package: c
+Version: 1
+Architecture: all
+";
+
+const BEFORE: &[u8] = b"Package: a
+Version: 1
+Architecture: all
+Depends: x
+";
+
+/// The index with news since the one before it.
+const FIRST: Case<'static> = Case {
+    name: "first reasons of news",
+    index: NEWS,
+    earlier: BEFORE,
+    step: 50,
+    written: FIRST_REASONS,
+    summary: Some(Summary {
+        stanzas: 4,
+        background: 1,
+        asked: 3,
+        broken: 2,
+        newly_broken: Some(1),
+        ..NOTHING
+    }),
+    ..GOES_ON
+};
+
+const FIRST_REASONS: &[u8] = b"architecture: amd64
+report:
+ -
+  package: b
+  version: 1
+  architecture: all
+  status: broken
+  reasons:
+   - missing: b 1 Depends: c (>= 2)
+stanzas: 4
+skipped: 0
+duplicates: 0
+background: 1
+asked: 3
+broken: 2
+newly-broken: 1
+mended:
+gone:
+";
+
+const WALKED: Case<'static> = Case {
+    name: "all reasons and causes of news",
+    settings: Settings {
+        all_reasons: true,
+        causes: true,
+        why: true,
+        ..USUAL
+    },
+    written: WALKS_AND_CAUSES,
+    ..FIRST
+};
+
+const WALKS_AND_CAUSES: &[u8] = b"architecture: amd64
+report:
+ -
+  package: b
+  version: 1
+  architecture: all
+  status: broken
+  why:
+   - b 1 Depends: c (>= 2) missing; present: c 1
+  also:
+   - missing: b 1 Depends: y
+stanzas: 4
+skipped: 0
+duplicates: 0
+background: 1
+asked: 3
+broken: 2
+newly-broken: 1
+mended:
+gone:
+causes: 2
+ -
+  packages: 1
+  frees: 0
+  reasons:
+   - missing: c (>= 2)
+  needed-by:
+   - b 1 Depends: c (>= 2)
+  present:
+   - c 1
+  broken:
+   - b 1
+ -
+  packages: 1
+  frees: 0
+  reasons:
+   - missing: y
+  needed-by:
+   - b 1 Depends: y
+  broken:
+   - b 1
+";
+
+const IN_JSON: Case<'static> = Case {
+    name: "all reasons and causes of news in JSON",
+    settings: Settings {
+        all_reasons: true,
+        causes: true,
+        format: Format::Json,
+        ..USUAL
+    },
+    written: DOCUMENT,
+    ..FIRST
+};
+
+const DOCUMENT: &[u8] =
+    br#"{"format":1,"options":["explain","bg","since","causes","all-reasons"],"architecture":"amd64","report":[
+{"package":"b","version":"1","architecture":"all","status":"broken","reasons":[{"kind":"missing","package":"b","version":"1","field":"Depends","relation":"c (>= 2)"}],"also":[[{"kind":"missing","package":"b","version":"1","field":"Depends","relation":"y"}]]}
+],"stanzas":4,"skipped":0,"duplicates":0,"background":1,"asked":3,"broken":2,"newly-broken":1,"mended":[],"gone":[],"causes":[
+{"packages":1,"frees":0,"reasons":[{"kind":"missing","relation":"c (>= 2)"}],"needed-by":[{"package":"b","version":"1","field":"Depends","relation":"c (>= 2)"}],"hits":[],"versions":[],"present":[{"package":"c","version":"1"}],"similar":[],"broken":[{"package":"b","version":"1"}]},
+{"packages":1,"frees":0,"reasons":[{"kind":"missing","relation":"y"}],"needed-by":[{"package":"b","version":"1","field":"Depends","relation":"y"}],"hits":[],"versions":[],"present":[],"similar":[],"broken":[{"package":"b","version":"1"}]}
+]}
+"#;
+
+/// Without explanations and causes no core is told.
+const UNEXPLAINED: Case<'static> = Case {
+    name: "statuses of news",
+    settings: Settings {
+        explain: false,
+        ..USUAL
+    },
+    written: STATUSES,
+    ..FIRST
+};
+
+const STATUSES: &[u8] = b"architecture: amd64
+report:
+ -
+  package: b
+  version: 1
+  architecture: all
+  status: broken
+stanzas: 4
+skipped: 0
+duplicates: 0
+background: 1
+asked: 3
+broken: 2
+newly-broken: 1
+mended:
+gone:
+";
+
+static RUNS: [Case<'static>; 6] = [GOES_ON, FAULT, FIRST, WALKED, IN_JSON, UNEXPLAINED];
+
+#[test]
+fn runs_since_an_earlier_index(rt: HostRuntime) {
+    for case in &RUNS {
+        expect_answer(&rt, case);
+    }
+}
