@@ -3,7 +3,6 @@ pub mod CoreLemmas
 pub mod FirstOnes
 pub mod GatheringLemmas
 pub mod GatheredCauses
-pub mod MissingLemmas
 pub mod NumberingLemmas
 pub mod SaidLemmas
 pub mod PartLemmas

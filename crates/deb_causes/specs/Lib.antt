@@ -1,4 +1,3 @@
-pub mod Missing
 pub mod Later
 pub mod Causes
 pub mod Numbering

@@ -2,20 +2,18 @@
 //!
 //! The modules, in reading order:
 //!
-//! - `missing`: what no package meets; `numbering` gives each text a number, `wrongs` one to each cause, `numbered` to each core that of its cause;
+//! - `numbering` gives each text a number, `wrongs` one to each cause, `numbered` to each core that of its cause;
 //! - `gathered` gathers by these numbers, `cores` says what the cores of a cause tell, and `causes` lists them.
 #![tactic(auto)]
 
 mod causes;
 mod cores;
 mod gathered;
-mod missing;
 mod numbered;
 mod numbering;
 mod wrongs;
 
 pub use causes::causes_of;
 pub use gathered::Cause;
-pub use missing::is_missing;
 pub use numbered::later_at;
 pub use wrongs::is_final;

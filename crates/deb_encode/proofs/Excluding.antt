@@ -13,7 +13,7 @@ use Rattle.sat_solve.proofs.ExclusionLemmas.{exclusions_in, exclusions_have}
 use Rattle.deb_encode.specs.Adding.{Adds}
 use Rattle.deb_encode.specs.Play.{placed, AddsPlaces}
 use Rattle.deb_encode.specs.Exclusions.{AreNotIn, AreNumbersOf}
-use Rattle.deb_health.specs.Apart.{AreApart}
+use Rattle.deb_index.specs.Apart.{AreApart}
 use Rattle.deb_encode.specs.Standings.{is_other}
 use Rattle.number_sets.proofs.ListMembers.{members_of_at, at_members_of}
 use Rattle.deb_encode.proofs.AddLemmas.{adds_both, adds_as, in_push, front_in, last_in, taken_either, taken_before, taken_last}

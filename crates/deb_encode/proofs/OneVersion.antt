@@ -11,12 +11,12 @@ use Rattle.number_sets.specs.Sets.{NumberSet, members_of}
 use Rattle.sat_solve.specs.Clauses.{Clauses}
 use Rattle.deb_encode.specs.Play.{places_in_play, placed, AddsPlaces}
 use Rattle.deb_encode.specs.Exclusions.{AreNamesOf}
-use Rattle.deb_health.specs.Apart.{IsAlone, HasOneOf, HasOneVersion}
+use Rattle.deb_index.specs.Apart.{IsAlone, HasOneOf, HasOneVersion}
 use Rattle.number_sets.specs.SparseSets.{with_number}
 use Rattle.number_sets.proofs.ListMembers.{members_of_at, take_whole, below_members}
 use Rattle.deb_encode.proofs.AddLemmas.{adds_none, adds_as, taken_either, taken_before, taken_last}
 use Rattle.deb_encode.proofs.Each.{AddsEach, meaning_of_only}
-use Rattle.deb_health.proofs.IndexFacts.{once_says_only, named_is_place}
+use Rattle.deb_index.proofs.IndexFacts.{once_says_only, named_is_place}
 use Rattle.number_sets.proofs.Placing.{with_number_has, with_number_only, grows_keeps, grows_with}
 use Rattle.deb_encode.proofs.Told.{in_play_placed}
 

@@ -2,7 +2,7 @@
 use Rattle.std.proofs.Common.{ℕ, List}
 use Rattle.deb_index.specs.Packages.{IndexView}
 use Rattle.sat_solve.specs.Clauses.{Clauses}
-use Rattle.deb_health.specs.Apart.{IsAlone}
+use Rattle.deb_index.specs.Apart.{IsAlone}
 use Rattle.deb_encode.specs.Play.{placed, AddsPlaces}
 use Rattle.deb_encode.specs.Standings.{MeetsNarrow}
 use Rattle.deb_encode.proofs.AddLemmas.{adds_none}

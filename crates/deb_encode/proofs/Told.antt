@@ -15,7 +15,7 @@ use Rattle.deb_encode.specs.Play.{places_in_play, placed, AddsPlaces}
 use Rattle.deb_encode.specs.Adding.{Adds}
 use Rattle.deb_encode.specs.Standings.{is_other, is_hit}
 use Rattle.number_sets.proofs.ListMembers.{at_members_of}
-use Rattle.deb_health.proofs.IndexFacts.{member_satisfiers}
+use Rattle.deb_index.proofs.IndexFacts.{member_satisfiers}
 use Rattle.deb_encode.proofs.AddLemmas.{adds_none, adds_as}
 use Rattle.number_sets.proofs.PositionsOf.{group_at}
 use Rattle.deb_encode.proofs.Clearing.{AddsOut, meaning_of_out}

@@ -13,7 +13,7 @@ use Rattle.sat_solve.specs.Clauses.{Clauses}
 use Rattle.deb_encode.specs.declared.rivals.Entry.{Entry}
 use Rattle.deb_encode.specs.Play.{places_in_play, placed, AddsPlaces}
 use Rattle.deb_encode.specs.Exclusions.{IsWide, AddsWide, entry_at, IsRun}
-use Rattle.deb_health.specs.Apart.{IsAlone, AreApart}
+use Rattle.deb_index.specs.Apart.{IsAlone, AreApart}
 use Rattle.deb_encode.specs.Standings.{is_narrow, MeetsWide}
 use Rattle.deb_encode.proofs.AddLemmas.{adds_both, adds_as, taken_either, in_push, front_in, last_in}
 use Rattle.number_sets.proofs.ListMembers.{take_whole}

@@ -6,7 +6,7 @@ use Rattle.deb_index.specs.Packages.{IndexView, package_at, names, name_at, apar
 use Rattle.deb_index.specs.Constraints.{Holds}
 use Rattle.number_sets.specs.Sets.{NumberSet, members_of}
 use Rattle.deb_encode.specs.declared.rivals.Entry.{Entry}
-use Rattle.deb_health.specs.Apart.{IsAlone}
+use Rattle.deb_index.specs.Apart.{IsAlone}
 use Rattle.deb_encode.specs.Standings.{is_narrow}
 
 -- a list has just the numbers of a set

@@ -3,7 +3,7 @@
 ghost use Rattle.std.specs.Prelude.{◌≡◌, ℕ, ◌<◌, ◌^◌, ◌||◌, not, true, false, Some, All, IfOk, IfSome, IfNone, length, slice_get};
 ghost use Rattle.std.specs.List.Sorted.{IsStrictlyIncreasing};
 ghost use Rattle.number_sets.specs.Sets.{NumberSet, members_of, MarksOnly};
-ghost use Rattle.deb_health.specs.Apart.{IsAlone};
+ghost use Rattle.deb_index.specs.Apart.{IsAlone};
 ghost use Rattle.deb_encode.specs.Play.{placed};
 ghost use Rattle.deb_encode.specs.Standings.{is_in, is_out, IsBelow, Widens};
 

@@ -6,7 +6,7 @@ ghost use Rattle.deb_index.specs.Constraints.{Holds};
 ghost use Rattle.number_sets.specs.Sets.{members_of};
 ghost use Rattle.deb_encode.specs.Encoders.{Tells, in_play};
 ghost use Rattle.deb_encode.specs.Exclusions.{Lists, AddsNumbers, AddsNames, is_of_name};
-ghost use Rattle.deb_health.specs.Apart.{HasOneVersion};
+ghost use Rattle.deb_index.specs.Apart.{HasOneVersion};
 
 use crate::encoder::Encoder;
 use crate::exclusion::Exclusion;

@@ -18,7 +18,7 @@ use Rattle.number_sets.proofs.ListMembers.{member_any, members_of_at}
 use Rattle.number_sets.proofs.Placing.{grows_keeps}
 use Rattle.deb_health.specs.Causes.{either}
 use Rattle.deb_health.specs.Health.{MeetsAt}
-use Rattle.deb_health.proofs.IndexFacts.{member_named, member_satisfiers}
+use Rattle.deb_index.proofs.IndexFacts.{member_named, member_satisfiers}
 use Rattle.deb_groundwork.specs.declared.base_set.BaseSet.{BaseSet}
 use Rattle.deb_groundwork.specs.declared.part.Part.{Part}
 use Rattle.deb_groundwork.specs.BaseSets.{HasHits, HasRoom, IsBase}

@@ -12,7 +12,7 @@ use Rattle.deb_index.proofs.FirstLemmas.{any-map}
 use Rattle.deb_index.proofs.MemberLemmas.{member-places_where}
 use Rattle.number_sets.specs.Sets.{NumberSet}
 use Rattle.number_sets.proofs.ListMembers.{any_member, member_any}
-use Rattle.deb_health.proofs.IndexFacts.{named_below}
+use Rattle.deb_index.proofs.IndexFacts.{named_below}
 use Rattle.deb_groundwork.proofs.Forcing.{member_answers}
 
 -- pairs that begin with numbers of packages, counted from a number on

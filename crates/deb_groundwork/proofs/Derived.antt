@@ -20,7 +20,7 @@ use Rattle.deb_groundwork.specs.Deriving.{row_of, Gives}
 use Rattle.deb_health.specs.Health.{AdmitsNone, MeetsAt}
 use Rattle.number_sets.specs.SparseSets.{with_number}
 use Rattle.core_extract.specs.Reduction.{IsRefutation}
-use Rattle.deb_health.proofs.IndexFacts.{member_named}
+use Rattle.deb_index.proofs.IndexFacts.{member_named}
 use Rattle.deb_groundwork.proofs.Forcing.{member_answers}
 use Rattle.number_sets.proofs.Placing.{with_number_only}
 use Rattle.deb_groundwork.proofs.RowLemmas.{essential_below}

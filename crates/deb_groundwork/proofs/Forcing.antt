@@ -14,7 +14,7 @@ use Rattle.number_sets.specs.Sets.{NumberSet, members_of, IsWithin}
 use Rattle.number_sets.specs.SparseSets.{with_number}
 use Rattle.deb_health.specs.Health.{IsHealthy}
 use Rattle.deb_groundwork.specs.Groundwork.{KeepsForced}
-use Rattle.deb_health.proofs.IndexFacts.{All-at, member_named, named_is_place, answers_is_place}
+use Rattle.deb_index.proofs.IndexFacts.{All-at, member_named, named_is_place, answers_is_place}
 use Rattle.number_sets.proofs.Placing.{grows_none, grows_both, grows_with, with_number_only}
 use Rattle.deb_groundwork.proofs.Standing.{need_stands, essential_stands}
 

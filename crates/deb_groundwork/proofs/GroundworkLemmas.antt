@@ -9,11 +9,11 @@ use Rattle.deb_index.specs.Meets.{satisfiers, group_satisfiers}
 use Rattle.deb_index.specs.Constraints.{answers, hits}
 use Rattle.number_sets.specs.Sets.{NumberSet, members_of, MarksOnly, IsWithin}
 use Rattle.deb_groundwork.specs.Groundwork.{KeepsForced}
-use Rattle.deb_health.specs.Apart.{IsAlone}
+use Rattle.deb_index.specs.Apart.{IsAlone}
 use Rattle.number_sets.specs.SparseSets.{AreNumbers, Grows, with_number}
 use Rattle.deb_health.specs.Health.{IsHealthy, IsInstallation}
 use Rattle.deb_groundwork.proofs.Forcing.{member_answers}
-use Rattle.deb_health.proofs.IndexFacts.{member_satisfiers}
+use Rattle.deb_index.proofs.IndexFacts.{member_satisfiers}
 use Rattle.number_sets.proofs.Placing.{numbers_empty, grows_with, grows_keeps, with_number_has, with_number_only}
 use Rattle.number_sets.proofs.ListMembers.{any_member, all_member}
 

@@ -12,7 +12,7 @@ use Rattle.number_sets.specs.SparseSets.{with_number}
 use Rattle.deb_health.specs.Health.{IsHopeless}
 use Rattle.deb_groundwork.specs.Hopeless.{AreHopeless}
 use Rattle.deb_groundwork.proofs.Forcing.{member_answers}
-use Rattle.deb_health.proofs.IndexFacts.{All-at, member_named}
+use Rattle.deb_index.proofs.IndexFacts.{All-at, member_named}
 use Rattle.number_sets.proofs.ListMembers.{all_member}
 use Rattle.number_sets.proofs.Placing.{with_number_only}
 use Rattle.deb_groundwork.proofs.Standing.{need_stands, essential_stands}

@@ -9,7 +9,7 @@ use Rattle.number_sets.specs.Sets.{members_of, MarksOnly}
 use Rattle.deb_health.specs.Causes.{without}
 use Rattle.deb_health.specs.Health.{IsHealthy, IsInstallable, MeetsAt}
 use Rattle.core_extract.specs.Reduction.{left}
-use Rattle.deb_health.proofs.IndexFacts.{healthy_from_meets}
+use Rattle.deb_health.proofs.HealthLemmas.{healthy_from_meets}
 
 -- a set that meets all constraints from the first one on is healthy
 pub healthy_from_all : (index : IndexView) (set : List ℕ) → MeetsAt index (members_of set) (without (members_of []) (left (members_of []) 0)) → IsHealthy index (members_of set)

@@ -15,7 +15,7 @@ use Rattle.core_extract.specs.Reduction.{left}
 use Rattle.deb_health.specs.Causes.{either, without}
 use Rattle.deb_health.specs.Health.{AdmitsNone, MeetsAt, admits_none_upward}
 use Rattle.deb_health.proofs.CoreLemmas.{without_has, without_left}
-use Rattle.deb_health.proofs.IndexFacts.{All-at}
+use Rattle.deb_index.proofs.IndexFacts.{All-at}
 use Rattle.deb_groundwork.specs.declared.base_set.BaseSet.{BaseSet}
 use Rattle.deb_groundwork.specs.declared.part.Part.{Part}
 use Rattle.deb_groundwork.specs.BaseSets.{HasHits, HasRoom, IsBase}

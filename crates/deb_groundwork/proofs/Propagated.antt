@@ -10,7 +10,7 @@ use Rattle.deb_groundwork.specs.Deriving.{row_of}
 use Rattle.deb_groundwork.specs.declared.derivation.Outcome.{Outcome}
 use Rattle.deb_groundwork.specs.declared.derivation.Outcome.TheVariants.{Forced}
 use Rattle.number_sets.specs.SparseSets.{Grows, with_number}
-use Rattle.deb_health.proofs.IndexFacts.{named_below, rising_length}
+use Rattle.deb_index.proofs.IndexFacts.{named_below, rising_length}
 use Rattle.deb_groundwork.proofs.RowLemmas.{row_within}
 use Rattle.number_sets.proofs.Placing.{grows_with}
 

@@ -5,7 +5,7 @@ use Rattle.deb_index.specs.Packages.{IndexView, essential_names, need_at, names,
 use Rattle.deb_index.specs.Meets.{group_satisfiers}
 use Rattle.number_sets.specs.Sets.{members_of}
 use Rattle.number_sets.proofs.ListMembers.{below_members}
-use Rattle.deb_health.proofs.IndexFacts.{answers_is_place}
+use Rattle.deb_index.proofs.IndexFacts.{answers_is_place}
 use Rattle.deb_groundwork.proofs.Forcing.{member_answers}
 use Rattle.deb_index.proofs.MemberLemmas.{below-places_where}
 

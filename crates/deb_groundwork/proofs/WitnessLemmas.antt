@@ -16,7 +16,7 @@ use Rattle.deb_groundwork.specs.Parts.{HasNoEarlier, positions_in, IsAsked, Meet
 use Rattle.deb_groundwork.specs.declared.part.Part.{Part}
 use Rattle.number_sets.proofs.ListMembers.{members_of_at, any_member, contains_member}
 use Rattle.deb_groundwork.proofs.Healthy.{only_says, name_is}
-use Rattle.deb_health.proofs.IndexFacts.{All-at, IsRight, all_right, member_named, member_satisfiers}
+use Rattle.deb_index.proofs.IndexFacts.{All-at, IsRight, all_right, member_named, member_satisfiers}
 use Rattle.deb_groundwork.proofs.Names.{one_number}
 
 -- what is said where nothing was found, and nothing was

@@ -9,7 +9,7 @@ ghost use Rattle.number_sets.specs.Sets.{NumberSet, members_of, MarksOnly, IsWit
 ghost use Rattle.number_sets.specs.SparseSets.{AreNumbers};
 ghost use Rattle.deb_groundwork.specs.BaseSets.{IsBase};
 ghost use Rattle.deb_groundwork.specs.Groundwork.{HasAnswers};
-ghost use Rattle.deb_health.specs.Apart.{IsAlone};
+ghost use Rattle.deb_index.specs.Apart.{IsAlone};
 ghost use Rattle.deb_health.specs.Health.{IsHealthy, IsHopeless, IsInstallation};
 ghost use Rattle.deb_groundwork.specs.Hopeless.{AreHopeless};
 

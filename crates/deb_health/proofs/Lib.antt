@@ -1,3 +1,3 @@
 pub mod CauseLemmas
 pub mod CoreLemmas
-pub mod IndexFacts
+pub mod HealthLemmas

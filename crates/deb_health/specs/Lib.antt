@@ -2,4 +2,3 @@ pub mod Health
 pub mod Verdicts
 pub mod Shown
 pub mod Causes
-pub mod Apart

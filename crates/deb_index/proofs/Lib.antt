@@ -36,3 +36,4 @@ pub mod LinkLemmas
 pub mod ViewLemmas
 pub mod PositionLemmas
 pub mod OnceLemmas
+pub mod IndexFacts

@@ -11,3 +11,4 @@ pub mod Built
 pub mod Memo
 pub mod Parts
 pub mod Pieces
+pub mod Apart

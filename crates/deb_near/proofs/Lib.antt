@@ -1,3 +1,4 @@
 mod NearLemmas
 pub mod SimilarLemmas
 mod StemLemmas
+pub mod MissingLemmas

@@ -1,3 +1,4 @@
 pub mod Near
 pub mod Stems
 pub mod Similar
+pub mod Missing

@@ -1,30 +1,19 @@
 -- Texts of elements, one after the other.
-use Rattle.std.proofs.Common.{◌≡◌, ◌==◌, ◌∙◌, ℕ, OnOk, Result, List, [], ◌∷◌, ◌++◌, append_assoc, ap, ap₂, codes, fold, if◌then◌else◌, map, refl, sym}
+use Rattle.std.proofs.Common.{◌≡◌, ◌==◌, ◌∙◌, ℕ, List, [], ◌∷◌, ◌++◌, append_assoc, ap, ap₂, codes, fold, if◌then◌else◌, map, refl, sym}
 use Rattle.std.proofs.lemmas.List.{length-map}
-use Rattle.std.proofs.lemmas.Result.{on_ok_weaker}
 use Rattle.std.specs.List.{flat_map}
-use Rattle.list_steps.proofs.JoinLemmas.{joined_map, lines_map}
-use Rattle.deb_report.specs.Json.{closing, list_json, number_json, object}
+use Rattle.list_steps.proofs.JoinLemmas.{lines_map}
+use Rattle.deb_reasons.specs.JsonParts.{closing, object, listed}
+use Rattle.deb_report.specs.Json.{list_json, number_json}
 use Rattle.deb_report.specs.CauseLines.{titled_if}
-use Rattle.deb_texts.specs.Texts.{told_if}
-use Rattle.deb_report.specs.Report.{titled}
+use Rattle.deb_reasons.specs.Reasons.{titled}
 use Rattle.deb_outcome.specs.Since.{BrokenView}
-
--- what holds where a last call succeeds
-pub last_call : {T E P Q : Type 0} (r : Result T E) → OnOk r P → (P → Q) → OnOk r Q
-last_call r held gives = on_ok_weaker r gives held
 
 -- under a title, where there are some
 pub titled_map : {A B : Type 0} (title : List ℕ) (text : B → List ℕ) (f : A → B) (xs : List A) → titled_if title text (map f xs) ≡ titled_if title (λ x. text (f x)) xs
 unfolding titled_if
 titled_map title text f [] = refl
 titled_map title text f (x ∷ xs) = ap₂ (λ (count : ℕ) (lines : List ℕ). if count == 0 then [] else titled title lines) (length-map (x ∷ xs) f) (lines_map text f (x ∷ xs))
-
--- in one line, where there are some
-pub told_map : {A B : Type 0} (lead : List ℕ) (text : B → List ℕ) (f : A → B) (xs : List A) → told_if lead text (map f xs) ≡ told_if lead (λ x. text (f x)) xs
-unfolding told_if
-told_map lead text f [] = refl
-told_map lead text f (x ∷ xs) = ap₂ (λ (count : ℕ) (texts : List ℕ). if count == 0 then [] else (lead ++ texts)) (length-map (x ∷ xs) f) (joined_map text f (codes ", ") (x ∷ xs))
 
 -- texts behind one another
 pub in-order : (out first : List ℕ) (others : List (List ℕ)) → fold (λ text one. text ++ one) (out ++ first) others ≡ out ++ fold (λ text one. text ++ one) first others

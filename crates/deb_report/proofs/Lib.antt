@@ -7,5 +7,4 @@ mod PlainTexts
 mod ReportLemmas
 mod SinceLemmas
 mod SoughtLemmas
-mod WalkTextLemmas
 pub mod Unshown

@@ -10,10 +10,12 @@ use Rattle.run_settings.specs.declared.config.Format.TheVariants.{Json, Text}
 use Rattle.deb_report.specs.CauseLines.{causes_text}
 use Rattle.deb_causes.specs.Causes.{CauseView, by_count, by_first, causes_list, cores_of}
 use Rattle.deb_report.specs.Content.{causes_if, content_since}
-use Rattle.deb_report.specs.Json.{block_json, causes_json, escaped, explanation_json, head_json, json_text, list_json, member, number_json, object, quoted, tall_array, told_json}
+use Rattle.deb_report.specs.Json.{block_json, causes_json, explanation_json, head_json, json_text, list_json, number_json, tall_array, told_json}
+use Rattle.deb_reasons.specs.JsonParts.{escaped, member, object, quoted}
 use Rattle.deb_report.specs.Lines.{block_of, explanation, lines_text, list_lines}
 use Rattle.deb_outcome.specs.Outcome.{broken_ones, is_broken, numbers_of}
-use Rattle.deb_report.specs.Report.{TellingView, line, number_line, telling_of, titled}
+use Rattle.deb_report.specs.Report.{TellingView, number_line, telling_of}
+use Rattle.deb_reasons.specs.Reasons.{line, titled}
 use Rattle.deb_causes.specs.Later.{later_at}
 use Rattle.run_settings.specs.Settings.{Settings}
 use Rattle.deb_outcome.specs.Since.{BrokenView, amends_of, has_named, is_gone, is_new, is_news, news_of, summary_since}

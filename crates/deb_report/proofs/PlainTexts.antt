@@ -13,7 +13,7 @@ use Rattle.deb_relation.specs.VersionText.{fault_of, is_upstream_byte}
 use Rattle.deb_relation.proofs.RunJoins.{list_all-join, list_all-wider}
 use Rattle.deb_relation.proofs.ValueForms.{atoms-form, groups-form}
 use Rattle.deb_relation.proofs.VersionBytes.{version-bytes}
-use Rattle.deb_report.specs.Json.{escaped, escaped_byte}
+use Rattle.deb_reasons.specs.JsonParts.{escaped, escaped_byte}
 use Rattle.run_settings.specs.Settings.{is_architecture, is_architecture_byte, is_excluded}
 use Rattle.deb_report.specs.Plain.{is_plain, is_plain_byte}
 use Rattle.deb_texts.specs.Texts.{group_text}

@@ -12,10 +12,12 @@ use Rattle.run_settings.specs.declared.config.Show.{Show}
 use Rattle.run_settings.specs.declared.config.Show.TheVariants.{All, Failures, Successes}
 use Rattle.deb_report.specs.CauseLines.{causes_text}
 use Rattle.deb_report.specs.Content.{ContentView, causes_if, content_of, content_since}
-use Rattle.deb_report.specs.Json.{block_json, causes_json, escaped, head_json, json_text, list_json, member, number_json, object, quoted, tall_array}
+use Rattle.deb_report.specs.Json.{block_json, causes_json, head_json, json_text, list_json, number_json, tall_array}
+use Rattle.deb_reasons.specs.JsonParts.{escaped, member, object, quoted}
 use Rattle.deb_report.specs.Lines.{block_of, lines_text, list_lines}
 use Rattle.deb_outcome.specs.Outcome.{broken_ones, is_broken, is_shown, numbers_of, shown_of, status_of, summary_of}
-use Rattle.deb_report.specs.Report.{TellingView, line, number_line, telling_of, titled}
+use Rattle.deb_report.specs.Report.{TellingView, number_line, telling_of}
+use Rattle.deb_reasons.specs.Reasons.{line, titled}
 use Rattle.run_settings.specs.Settings.{Settings}
 use Rattle.deb_outcome.specs.Since.{BrokenView, amends_of, broken_at, broken_of, has_named, is_gone, news_of, summary_since, was_broken}
 use Rattle.deb_report.specs.Written.{text_in, written_since, written_told}

@@ -1,14 +1,13 @@
 -- The lines of causes.
 use Rattle.std.specs.Prelude.{ℕ, ◌==◌, List, [], ◌++◌, Option, None, Some, length, codes, decimal, if◌then◌else◌}
-use Rattle.std.specs.List.{flat_map, join_by}
-use Rattle.deb_relation.specs.Relationship.{AtomText, printed}
+use Rattle.std.specs.List.{flat_map}
 use Rattle.deb_index.specs.declared.constraint.Constraint.{Constraint}
 use Rattle.deb_index.specs.declared.constraint.Constraint.TheVariants.{Essential, Need, Apart, Only}
 use Rattle.deb_index.specs.Packages.{IndexView, need_at, package_at}
 use Rattle.deb_near.specs.Near.{NearMissView, near_misses, similar_names}
 use Rattle.deb_walk.specs.Hits.{hits_of}
 use Rattle.deb_causes.specs.Causes.{CauseView}
-use Rattle.deb_report.specs.Report.{asked_text, constraint_line, group_field, label_of, line, place_line, titled}
+use Rattle.deb_reasons.specs.Reasons.{asked_text, constraint_line, group_field, label_of, line, place_line, titled, provides_text}
 use Rattle.deb_texts.specs.Texts.{group_text}
 
 -- lines under a title, where there are some
@@ -27,10 +26,6 @@ unfoldable pub needed_line : IndexView → Constraint → List ℕ
 needed_line index (Need place number) = let deb = package_at index place in
     codes "   - " ++ asked_text deb (group_field deb number) (need_at index place number) ++ codes "\n"
 needed_line index constraint = constraint_line index constraint
-
--- what a package provides, where it comes near by that alone
-unfoldable pub provides_text : List AtomText → List ℕ
-provides_text entries = if length entries == 0 then [] else codes " (provides " ++ join_by printed (codes ", ") entries ++ codes ")"
 
 -- the line of a near miss
 unfoldable pub near_line : NearMissView → List ℕ

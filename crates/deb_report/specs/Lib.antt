@@ -2,7 +2,6 @@ pub mod Report
 pub mod Told
 pub mod Similar
 pub mod CauseLines
-pub mod WalkLines
 pub use Rattle.deb_outcome.specs.Asked
 pub use Rattle.deb_outcome.specs.Outcome
 pub use Rattle.deb_outcome.specs.Since

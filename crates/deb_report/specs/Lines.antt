@@ -6,10 +6,11 @@ use Rattle.deb_index.specs.Packages.{IndexView, package_at}
 use Rattle.deb_health.specs.Verdicts.{VerdictView, Found, Blocked}
 use Rattle.deb_report.specs.CauseLines.{causes_text}
 use Rattle.deb_report.specs.Content.{ContentView}
-use Rattle.deb_report.specs.Report.{TellingView, also_at, core_lines, heading, label_text, line, number_line, place_line, titled}
+use Rattle.deb_report.specs.Report.{TellingView, also_at, core_lines, heading, number_line}
+use Rattle.deb_reasons.specs.Reasons.{label_text, line, place_line, titled}
 use Rattle.deb_outcome.specs.Outcome.{status_of}
 use Rattle.deb_outcome.specs.Since.{BrokenView}
-use Rattle.deb_report.specs.WalkLines.{walk_lines}
+use Rattle.deb_reasons.specs.WalkLines.{walk_lines}
 
 -- the first core, as a list or as it is walked from the package at a place
 abbrev pub first_core : IndexView → TellingView → ℕ → List Constraint → List ℕ

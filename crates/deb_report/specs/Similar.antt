@@ -1,9 +1,5 @@
--- The similar names of an index that causes and walks tell.
-use Rattle.std.specs.Prelude.{◌≡◌, true, [], ◌∷◌}
-use Rattle.deb_index.specs.declared.constraint.Constraint.{Constraint}
-use Rattle.deb_index.specs.Constraints.{IsOfIndex}
+-- The similar names of an index that causes tell.
 use Rattle.deb_index.specs.Packages.{IndexView}
-use Rattle.deb_health.specs.Causes.{is_final}
 use Rattle.deb_near.specs.declared.similar.Similar.{Similar}
 use Rattle.deb_near.specs.Similar.{IsSimilarOf, stems_in}
 use Rattle.deb_near.specs.Stems.{AreSought}
@@ -15,9 +11,3 @@ pub record FitsCause (index : IndexView) (similar : Similar) (cause : Cause) : T
   pub of_index : IsCauseOf index (cause_view cause)
   pub found : IsSimilarOf index similar
   pub sought : AreSought index (stems_in similar) cause.constraints.items
-
--- a constraint of the index; where it is a need that no package meets, its stems were looked for in the index
-pub record FitsWalk (index : IndexView) (similar : Similar) (constraint : Constraint) : Type 0 where
-  pub of_index : IsOfIndex index constraint
-  pub found : IsSimilarOf index similar
-  pub sought : is_final index constraint ≡ true → AreSought index (stems_in similar) (constraint ∷ [])

@@ -6,7 +6,7 @@ use Rattle.deb_health.specs.Verdicts.{VerdictView, Found, Blocked}
 use Rattle.deb_near.specs.declared.similar.Similar.{Similar}
 use Rattle.deb_health.specs.declared.shown.Shown.{Shown}
 use Rattle.deb_report.specs.declared.telling.Telling.{Telling}
-use Rattle.deb_report.specs.Similar.{FitsWalk}
+use Rattle.deb_reasons.specs.Similar.{FitsWalk}
 use Rattle.deb_causes.specs.Later.{AreLaterOf, later_view}
 use Rattle.deb_health.specs.Shown.{IsAskedOf, shown_view}
 

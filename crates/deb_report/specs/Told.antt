@@ -1,24 +1,17 @@
 -- What a report tells, without where it lies in memory.
 use Rattle.std.specs.Prelude.{All, IfSome, map}
 use Rattle.std.specs.Option.{option_map}
-use Rattle.deb_relation.specs.AtomView.{atom_view}
-use Rattle.deb_index.specs.Packages.{IndexView, package_view}
+use Rattle.deb_index.specs.Packages.{IndexView}
 use Rattle.deb_report.specs.declared.content.Content.{Content}
-use Rattle.deb_report.specs.declared.reasons.Reason.{Reason}
-use Rattle.deb_report.specs.declared.reasons.Reason.TheVariants.{Name, Relation}
 use Rattle.deb_report.specs.declared.telling.Telling.{Telling}
 use Rattle.deb_causes.specs.Causes.{IsCauseOf, cause_view}
 use Rattle.deb_causes.specs.Later.{later_view}
 use Rattle.deb_report.specs.Content.{ContentView}
-use Rattle.deb_report.specs.Report.{OfName, OfRelation, ReasonView, TellingView, telling_of}
+use Rattle.deb_report.specs.Report.{TellingView, telling_of}
 use Rattle.run_settings.specs.Settings.{settings_of}
 use Rattle.deb_health.specs.Shown.{IsAskedOf, shown_view}
 use Rattle.deb_outcome.specs.Outcome.{number_view}
 use Rattle.deb_outcome.specs.Since.{amends_view}
-
-abbrev pub reason_view : Reason → ReasonView
-reason_view (Name kind name) = OfName kind.now name.now
-reason_view (Relation kind deb field relation) = OfRelation kind.now (package_view deb.now) field.now (map atom_view relation.now)
 
 abbrev pub telling_view : Telling → TellingView
 telling_view telling = telling_of (settings_of telling.config.now) telling.since (later_view telling.later.now)

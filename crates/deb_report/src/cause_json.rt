@@ -7,16 +7,17 @@ ghost use Rattle.deb_index.specs.Constraints.{IsOfIndex};
 ghost use Rattle.deb_near.specs.Near.{near_misses, near_view, similar_names};
 ghost use Rattle.deb_walk.specs.Hits.{hits_of};
 ghost use Rattle.deb_causes.specs.Causes.{IsCauseOf, cause_view};
-ghost use Rattle.deb_report.specs.Json.{array, cause_json, member, near_json, needed_json, place_json, quoted, tall_array, wrong_json};
+ghost use Rattle.deb_reasons.specs.JsonParts.{array, member, near_json, place_json, quoted};
+ghost use Rattle.deb_report.specs.Json.{cause_json, needed_json, tall_array, wrong_json};
 ghost use Rattle.deb_report.specs.Similar.{FitsCause};
 
-use crate::json_parts::{IndexJson, push_package, push_relation};
-use crate::json_text::{push_array, push_number, push_quoted, push_text};
-use crate::reasons::group_field;
 use crate::sought::similar_to_causes;
 use deb_causes::Cause;
 use deb_index::Constraint;
 use deb_near::{NearMiss, Similar, near_misses};
+use deb_reasons::json_parts::{IndexJson, push_package, push_relation};
+use deb_reasons::json_text::{push_array, push_number, push_quoted, push_text};
+use deb_reasons::reasons::group_field;
 use deb_relation::Atom;
 use deb_texts::Print;
 use deb_walk::hits_of;
@@ -95,7 +96,7 @@ struct CauseJson<'p, 'i> {
 
 impl<'p, 'i> CauseJson<'p, 'i> {
     /// Adds a cause: what is wrong, who needs it, the packages that stand in the way, what comes near, and what is broken.
-    #[tactic(auto, unfolding(crate::specs::Json::cause_json, crate::specs::Json::array))]
+    #[tactic(auto, unfolding(crate::specs::Json::cause_json, deb_reasons::specs::JsonParts::array))]
     fn push_cause(
         &self,
         out: &mut Vec<u8>,

@@ -5,7 +5,8 @@ ghost use Rattle.std.specs.List.{flat_map};
 ghost use Rattle.deb_index.specs.Constraints.{IsOfIndex};
 ghost use Rattle.deb_index.specs.Packages.{package_view};
 ghost use Rattle.deb_health.specs.Verdicts.{SpeaksOf, verdict_view};
-ghost use Rattle.deb_report.specs.Json.{also_json, array, block_json, broken_json, causes_json, closing, core_json, explanation_json, head_json, json_text, list_json, member, number_json, quoted, tall_array, told_json};
+ghost use Rattle.deb_report.specs.Json.{also_json, block_json, broken_json, causes_json, core_json, explanation_json, head_json, json_text, list_json, number_json, tall_array, told_json};
+ghost use Rattle.deb_reasons.specs.JsonParts.{array, closing, member, quoted};
 ghost use Rattle.deb_outcome.specs.Since.{amends_view, broken_view};
 ghost use Rattle.deb_health.specs.Shown.{IsAskedOf, shown_view};
 ghost use Rattle.deb_outcome.specs.Outcome.{number_view};
@@ -14,14 +15,16 @@ ghost use Rattle.deb_causes.specs.Later.{AreLaterOf, later_view};
 
 use crate::cause_json::push_causes;
 use crate::content::Content;
-use crate::json_parts::{IndexJson, push_front, push_label, push_package};
-use crate::json_text::{push_any_text, push_array, push_list, push_number, push_quoted, push_text};
-use crate::reasons::reason_of;
 use crate::telling::Telling;
-use crate::why_json::push_why;
 use deb_health::{Shown, Verdict};
 use deb_index::{Constraint, Index};
 use deb_outcome::{Amends, BrokenPackage, Number, status_text};
+use deb_reasons::json_parts::{IndexJson, push_front, push_label, push_package};
+use deb_reasons::json_text::{
+    push_any_text, push_array, push_list, push_number, push_quoted, push_text,
+};
+use deb_reasons::reasons::reason_of;
+use deb_reasons::why_json::push_why;
 use deb_texts::{Print, push_all};
 use std::alloc::{AllocError, Global};
 
@@ -70,7 +73,7 @@ impl<'i> Print<&'static str> for Json<'i> {
 
 impl<'i> Json<'i> {
     /// Adds the member with cores behind the first.
-    #[tactic(auto, using(list_steps::proofs::JoinLemmas::joined_map), unfolding(crate::specs::Json::array))]
+    #[tactic(auto, using(list_steps::proofs::JoinLemmas::joined_map), unfolding(deb_reasons::specs::JsonParts::array))]
     fn push_also(&self, out: &mut Vec<u8>, cores: &[Vec<Constraint>]) -> Result<(), AllocError>
         requires { All (λ core. All (IsOfIndex self.now.parts.index.now) core.items) cores.now }
         ensures { OnOk result (out.new.items ≡
@@ -93,7 +96,7 @@ impl<'i> Json<'i> {
     }
 
     /// Adds what explains a verdict.
-    #[tactic(auto, unfolding(crate::specs::Json::explanation_json, crate::specs::Json::array))]
+    #[tactic(auto, unfolding(crate::specs::Json::explanation_json, deb_reasons::specs::JsonParts::array))]
     fn push_explanation(&self, out: &mut Vec<u8>, shown: &Shown<'_>) -> Result<(), AllocError>
         requires asked { IsAskedOf self.now.parts.index.now (shown_view shown.now) }
         requires later { AreLaterOf self.now.parts.index.now (later_view self.now.telling.later.now) }
@@ -166,7 +169,7 @@ impl<'i, 'b> Print<Amends<'b>> for Json<'i> {
 
     ghost text = { λ _ amends. codes "," ++ list_json (amends_view amends) };
 
-    #[tactic(auto, using(list_steps::proofs::JoinLemmas::joined_map), unfolding(crate::specs::Json::array))]
+    #[tactic(auto, using(list_steps::proofs::JoinLemmas::joined_map), unfolding(deb_reasons::specs::JsonParts::array))]
     fn print(&self, out: &mut Vec<u8>, amends: &Amends<'b>) -> Result<(), AllocError> {
         push_array(
             out,
@@ -181,7 +184,7 @@ impl<'i, 'b> Print<Amends<'b>> for Json<'i> {
 
 impl<'i> Json<'i> {
     /// Adds the words that the document is made under.
-    #[tactic(auto, using(list_steps::proofs::JoinLemmas::joined_map), unfolding(crate::specs::Json::array))]
+    #[tactic(auto, using(list_steps::proofs::JoinLemmas::joined_map), unfolding(deb_reasons::specs::JsonParts::array))]
     fn push_options(&self, out: &mut Vec<u8>, options: &[&'static str]) -> Result<(), AllocError>
         ensures { OnOk result (out.new.items ≡
             out.old.items ++ codes "," ++ member (codes "options") (array quoted (map (λ one. one.now) options.now))) }
@@ -190,7 +193,7 @@ impl<'i> Json<'i> {
     }
 
     /// Adds the brace of the object, and the members that stand before all others, where words are told.
-    #[tactic(auto, unfolding(crate::specs::Json::head_json, crate::specs::Json::member))]
+    #[tactic(auto, unfolding(crate::specs::Json::head_json, deb_reasons::specs::JsonParts::member))]
     fn push_head(&self, out: &mut Vec<u8>, options: &[&'static str]) -> Result<(), AllocError>
         ensures { OnOk result (out.new.items ≡
             out.old.items ++ codes "{" ++ flat_map (λ one. one ++ codes ",") (head_json (map (λ one. one.now) options.now))) }

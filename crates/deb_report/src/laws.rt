@@ -9,7 +9,7 @@ ghost use Rattle.deb_health.specs.Causes.{cause_in};
 ghost use Rattle.deb_health.specs.Verdicts.{IsVerdict, Blocked, VerdictView};
 ghost use Rattle.deb_outcome.specs.Asked.{foreground_packages};
 ghost use Rattle.deb_causes.specs.Causes.{CauseView, causes_list, same_cause};
-ghost use Rattle.deb_report.specs.Json.{escaped};
+ghost use Rattle.deb_reasons.specs.JsonParts.{escaped};
 ghost use Rattle.deb_report.specs.Plain.{has_plain_texts, is_plain};
 ghost use Rattle.deb_outcome.specs.Outcome.{broken_ones, is_broken};
 ghost use Rattle.run_settings.specs.Settings.{is_architecture};

@@ -7,8 +7,9 @@ ghost use Rattle.deb_index.specs.Packages.{package_view};
 ghost use Rattle.deb_health.specs.Verdicts.{SpeaksOf, verdict_view};
 ghost use Rattle.deb_report.specs.CauseLines.{causes_text};
 ghost use Rattle.deb_report.specs.Lines.{block_of, broken_line, explanation, first_core, lines_text, list_lines};
-ghost use Rattle.deb_report.specs.Report.{also_at, core_lines, heading, line, number_line, titled};
-ghost use Rattle.deb_report.specs.Similar.{FitsWalk};
+ghost use Rattle.deb_report.specs.Report.{also_at, core_lines, heading, number_line};
+ghost use Rattle.deb_reasons.specs.Reasons.{line, titled};
+ghost use Rattle.deb_reasons.specs.Similar.{FitsWalk};
 ghost use Rattle.deb_outcome.specs.Since.{amends_view, broken_view};
 ghost use Rattle.deb_report.specs.Sought.{FitsBlock, IsWalked, core_in};
 ghost use Rattle.deb_health.specs.Shown.{IsAskedOf, shown_view};
@@ -18,14 +19,14 @@ ghost use Rattle.deb_causes.specs.Later.{AreLaterOf, later_view};
 
 use crate::cause_lines::push_causes;
 use crate::content::Content;
-use crate::line_parts::{IndexLines, push_line, push_titled};
 use crate::sought::similar_to_walks;
 use crate::telling::Telling;
-use crate::walk_lines::push_walk;
 use deb_health::{Shown, Verdict};
 use deb_index::{Constraint, Index, Package};
 use deb_near::Similar;
 use deb_outcome::{Amends, BrokenPackage, Number, status_text};
+use deb_reasons::line_parts::{IndexLines, push_line, push_titled};
+use deb_reasons::walk_lines::push_walk;
 use deb_texts::{Print, push_all, push_texts};
 use std::alloc::{AllocError, Global};
 
@@ -147,7 +148,7 @@ impl<'i, 'b> Print<&'b BrokenPackage> for Lines<'i> {
 
     ghost text = { λ _ deb. broken_line (broken_view deb.now) };
 
-    #[tactic(auto, unfolding(crate::specs::Report::label_text, crate::specs::Report::line, crate::specs::Lines::broken_line))]
+    #[tactic(auto, unfolding(deb_reasons::specs::Reasons::label_text, deb_reasons::specs::Reasons::line, crate::specs::Lines::broken_line))]
     fn print(&self, out: &mut Vec<u8>, deb: &&'b BrokenPackage) -> Result<(), AllocError> {
         let name = deb.name.as_slice();
         let version = deb.version.as_slice();

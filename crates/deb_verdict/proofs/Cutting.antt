@@ -11,8 +11,8 @@ use Rattle.number_sets.proofs.SetLemmas.{first_within}
 use Rattle.deb_health.specs.Health.{IsHealthy, IsInstallation, MeetsAt, Admits, AdmitsNone}
 use Rattle.deb_verdict.specs.Gathering.{HasNames}
 use Rattle.deb_verdict.specs.Closure.{cut, IsClosed, is_kept, is_kept_there, kept}
-use Rattle.deb_health.proofs.IndexFacts.{All-at, IsRight, all_right, some_named}
-use Rattle.deb_health.proofs.IndexFacts.{healthy_from_meets}
+use Rattle.deb_index.proofs.IndexFacts.{All-at, IsRight, all_right, some_named}
+use Rattle.deb_health.proofs.HealthLemmas.{healthy_from_meets}
 
 -- a part of the places in which a forced place answers each need of a member, or else all that may answer it are members too
 pub record IsEnough (index : IndexView) (forced within : NumberSet) : Type 0 where

@@ -16,7 +16,7 @@ use Rattle.deb_encode.specs.declared.encoder.Encoder.{Encoder}
 use Rattle.deb_encode.specs.declared.play.Play.{Play}
 use Rattle.deb_encode.specs.Encoders.{IsSame, Tells}
 use Rattle.deb_encode.specs.Standings.{is_narrow, MeetsNarrow}
-use Rattle.deb_health.specs.Apart.{HasOneVersion}
+use Rattle.deb_index.specs.Apart.{HasOneVersion}
 use Rattle.deb_groundwork.proofs.Healthy.{MeetsNeeds, MeetsEntries, MeetsPlace, healthy_parts, healthy_from_parts}
 use Rattle.deb_verdict.specs.declared.gather.Candidates.{Candidates}
 use Rattle.deb_verdict.specs.Gathering.{IsGathered}

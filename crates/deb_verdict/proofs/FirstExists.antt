@@ -16,8 +16,8 @@ use Rattle.deb_health.specs.Verdicts.{Blocked, Found, IsFirstCore, IsFirstInstal
 use Rattle.deb_verdict.specs.Told.{IsToldCore, IsToldSet, IsToldVerdict, as_told}
 use Rattle.deb_verdict.specs.declared.wanted.Wanted.{Wanted}
 use Rattle.deb_verdict.proofs.Cutting.{IsEnough, none_of, cut_meets, has_nothing, meets_from_healthy}
-use Rattle.deb_health.proofs.IndexFacts.{healthy_from_meets}
-use Rattle.deb_health.proofs.IndexFacts.{named_is_place, answers_is_place}
+use Rattle.deb_health.proofs.HealthLemmas.{healthy_from_meets}
+use Rattle.deb_index.proofs.IndexFacts.{named_is_place, answers_is_place}
 use Rattle.deb_verdict.proofs.FirstOfSets.{Decides, cut_at, cut_under, first_of_all, first_or_none, listed}
 use Rattle.deb_verdict.proofs.Whole.{all_admit_none, named_all, none_in_list}
 

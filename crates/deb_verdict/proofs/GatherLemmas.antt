@@ -15,7 +15,7 @@ use Rattle.number_sets.specs.SparseSets.{AreNumbers, Grows}
 use Rattle.number_sets.proofs.ListMembers.{members_of_at, any_member, below_members}
 use Rattle.number_sets.proofs.Placing.{grows_none, grows_both, grows_keeps}
 use Rattle.deb_encode.specs.Play.{places_in_play}
-use Rattle.deb_health.proofs.IndexFacts.{member_named}
+use Rattle.deb_index.proofs.IndexFacts.{member_named}
 use Rattle.deb_verdict.specs.declared.gather.UnmetNeed.{UnmetNeed}
 use Rattle.deb_verdict.specs.declared.gather.Candidates.{Candidates}
 use Rattle.deb_verdict.specs.Gathering.{HasNames, IsTold, Gathers, IsGathered}

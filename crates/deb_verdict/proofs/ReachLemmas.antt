@@ -15,7 +15,7 @@ use Rattle.number_sets.specs.Sets.{NumberSet, members_of, IsWithin, all_below}
 use Rattle.deb_verdict.specs.Closure.{IsClosed, IsClosure}
 use Rattle.deb_verdict.specs.Reach.{Joins}
 use Rattle.number_sets.proofs.ListMembers.{take_whole, below_members}
-use Rattle.deb_health.proofs.IndexFacts.{member_named, named_is_place, answers_is_place}
+use Rattle.deb_index.proofs.IndexFacts.{member_named, named_is_place, answers_is_place}
 use Rattle.deb_verdict.proofs.JoinLemmas.{joins_as, joins_both, joins_keep, joins_more}
 use Rattle.number_sets.proofs.SparseSetLemmas.{few_below}
 use Rattle.deb_verdict.proofs.Reaching.{IsReaching, IsVisit, visit_reaches, reached}

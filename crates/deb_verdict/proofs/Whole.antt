@@ -17,8 +17,8 @@ use Rattle.deb_health.specs.Causes.{without}
 use Rattle.deb_health.specs.Health.{IsInstallation, AdmitsNone, admits_none_upward}
 use Rattle.deb_health.proofs.CoreLemmas.{without_has, without_left, without_within}
 use Rattle.core_extract.specs.Reduction.{listed, IsRefutation}
-use Rattle.deb_health.proofs.IndexFacts.{healthy_from_meets}
-use Rattle.deb_health.proofs.IndexFacts.{All-at}
+use Rattle.deb_health.proofs.HealthLemmas.{healthy_from_meets}
+use Rattle.deb_index.proofs.IndexFacts.{All-at}
 
 module _ (index : IndexView) (p : ℕ) where
   -- where no healthy set has p, all constraints admit none

@@ -26,7 +26,6 @@ use Rattle.deb_index.specs.Tables.{asked_count, asked_limit}
 use Rattle.deb_index.proofs.ConstraintLemmas.{constraints-few, where-short}
 use Rattle.deb_index.proofs.FirstLemmas.{name-itself, names-turned, same-name}
 use Rattle.deb_index.proofs.PositionLemmas.{one_position}
-use Rattle.deb_health.specs.Verdicts.{IsFirstCore}
 use Rattle.list_steps.proofs.ListLemmas.{or_assoc}
 use Rattle.deb_walk.specs.declared.walk.Step.{Step}
 use Rattle.deb_walk.specs.declared.walk.Step.TheVariants.{Begin, Meet, Tell}
@@ -393,14 +392,15 @@ same-constraint a b same = sym (itself a) ∙ ap from_numbers (same-name (in_num
     itself (Apart place number) = refl
     itself (Only name) = refl
 
-module _ (index : IndexView) (place : ℕ) (core : List Constraint) (is : IsFirstCore index place core) where
-  lengths : length is.positions ≡ length core
-  lengths = sym (length-map is.positions (slice_get (constraints_of index))) ∙ ap (λ list. length list) is.stand_there ∙ length-map core Some
+module _ (index : IndexView) (place : ℕ) (core : List Constraint) (positions : List ℕ) (rising : IsStrictlyIncreasing positions)
+    (stand_there : map (slice_get (constraints_of index)) positions ≡ map Some core) where
+  lengths : length positions ≡ length core
+  lengths = sym (length-map positions (slice_get (constraints_of index))) ∙ ap (λ list. length list) stand_there ∙ length-map core Some
 
-  there : (i : ℕ) (d : Constraint) → i < length core → slice_get (constraints_of index) (get_or is.positions i 0) ≡ Some (get_or core i d)
+  there : (i : ℕ) (d : Constraint) → i < length core → slice_get (constraints_of index) (get_or positions i 0) ≡ Some (get_or core i d)
   there i d inside =
-      sym (get_or-map (slice_get (constraints_of index)) is.positions i 0 None (omega (arith, inside, lengths)))
-      ∙ ap (λ list. get_or list i None) is.stand_there ∙ get_or-map Some core i d None inside
+      sym (get_or-map (slice_get (constraints_of index)) positions i 0 None (omega (arith, inside, lengths)))
+      ∙ ap (λ list. get_or list i None) stand_there ∙ get_or-map Some core i d None inside
 
   short : length index.packages ≤ stanza_limit → sum_by asked_count index.packages ≤ asked_limit → length core < 2 ^ 32
   short few few_asked = by (length core) refl
@@ -412,19 +412,19 @@ module _ (index : IndexView) (place : ℕ) (core : List Constraint) (is : IsFirs
           omega (
             arith,
             size,
-            position_at_most is.positions n is.rising (omega (arith, inside, lengths)),
-            slice_get_within (constraints_of index) (get_or is.positions n 0) (get_or core n (Essential 0)) (there n (Essential 0) inside),
+            position_at_most positions n rising (omega (arith, inside, lengths)),
+            slice_get_within (constraints_of index) (get_or positions n 0) (get_or core n (Essential 0)) (there n (Essential 0) inside),
             constraints-few index few few_asked,
           )
 
   apart : (i j : ℕ) (d : Constraint) → i < j → j < length core → are_same (get_or core i d) (get_or core j d) ≡ false
   apart i j d less inside =
       false_from_ne_true (are_same (get_or core i d) (get_or core j d)) (λ same.
-      let one : slice_get (constraints_of index) (get_or is.positions i 0) ≡ Some (get_or core j d) = there i d (omega arith) ∙ ap Some (same-constraint (get_or core i d) (get_or core j d) same) in
+      let one : slice_get (constraints_of index) (get_or positions i 0) ≡ Some (get_or core j d) = there i d (omega arith) ∙ ap Some (same-constraint (get_or core i d) (get_or core j d) same) in
       omega (
         arith,
-        rising_lt is.positions is.rising i j less (omega (arith, inside, lengths)),
-        one_position index (get_or is.positions i 0) (get_or is.positions j 0) (get_or core j d) one (there j d inside),
+        rising_lt positions rising i j less (omega (arith, inside, lengths)),
+        one_position index (get_or positions i 0) (get_or positions j 0) (get_or core j d) one (there j d inside),
       ))
 
   -- the walk of a first core tells each of its constraints, and no two of what it tells are one

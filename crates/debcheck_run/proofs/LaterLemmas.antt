@@ -14,7 +14,7 @@ use Rattle.deb_health.specs.Verdicts.{Blocked, Found, IsFirstCore, IsVerdict, Sp
 use Rattle.deb_health.proofs.CoreLemmas.{first_is_first, none_of_installable, one_list}
 use Rattle.deb_verdict.specs.Told.{IsToldSet, IsToldVerdict}
 use Rattle.deb_verdict.proofs.CoresExist.{cores_exist}
-use Rattle.deb_health.proofs.IndexFacts.{healthy_from_meets}
+use Rattle.deb_health.proofs.HealthLemmas.{healthy_from_meets}
 use Rattle.deb_verdict.proofs.OneVerdict.{one_core}
 use Rattle.work_draw.specs.Checks.{AnswersEach, cores_view}
 use Rattle.deb_outcome.specs.Outcome.{is_broken}

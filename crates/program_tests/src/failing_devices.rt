@@ -8,7 +8,7 @@ use debcheck::OpenFault;
 use std::process::Abort;
 use std::thread::Threads;
 use std::time::Clock;
-use test_devices::{BACKGROUND, Cabinet, Feed, Held, INDEX, Screen, sink_of, source_of};
+use test_devices::{BACKGROUND, Cabinet, Feed, Held, INDEX, sink_of, source_of};
 
 /// The program comes to what the case says, where its background fails behind this front.
 fn expect_refusal(
@@ -79,16 +79,7 @@ fn written_to(
 {
     let files = [("others", BACKGROUND)];
     let files = Cabinet::new(&files, OpenFault::Unopened);
-    let screen = Screen::new(false, b"");
-    run_line(
-        rt,
-        words,
-        &files,
-        &mut source_of(INDEX, 11),
-        &screen,
-        output,
-        errors,
-    )
+    run_line(rt, words, &files, &mut source_of(INDEX, 11), output, errors)
 }
 
 /// What is written to an output, by how many writes and flushes.

@@ -2,24 +2,17 @@
 //!
 //! `runs` runs one, on devices over memory. `programs` runs some, those that tell all causes, of `more_reasons`, and those since an earlier index, of
 //! `since_programs`; `named_programs` runs those whose names stand in a file, `unread_files` those whose files can't be read. `failing_devices` has each
-//! device fail in turn, `growths` a program that wants memory. What a screen shows of a program: `progress` looks at the line during a run, `hints` at the
-//! lines after it.
+//! device fail in turn. What a screen shows of a program, `screen_tests` tries.
 #![tactic(auto)]
 
 #[cfg(test)]
 mod failing_devices;
-#[cfg(test)]
-mod growths;
-#[cfg(test)]
-mod hints;
 #[cfg(test)]
 mod more_reasons;
 #[cfg(test)]
 mod named_programs;
 #[cfg(test)]
 mod programs;
-#[cfg(test)]
-mod progress;
 #[cfg(test)]
 mod runs;
 #[cfg(test)]

@@ -7,54 +7,40 @@ use std::alloc::Global;
 use std::process::Abort;
 use std::thread::Threads;
 use std::time::Clock;
-use test_devices::{Beside, Cabinet, Feed, Held, Screen, sink_of, source_of, words_in};
+use test_devices::{Cabinet, Feed, Held, Screen, sink_of, source_of, words_in};
 
-/// Words of a program that checks packages one by one.
-pub const ONE_BY_ONE: &str = "|--arch|amd64|--explain|--workers|1|--chunk|1";
-
-/// What a program left, and how often it wrote to its output and to its errors while a line stood on the screen.
+/// What a program left.
 #[derive(Drop)]
 pub struct Left {
     pub status: u8,
     pub output: Held,
     pub errors: Held,
-    pub crowded: [u32; 2],
 }
 
 fn words_of_line(alloc: Global, line: &str) -> Result<Vec<String>, LineFault> {
     Ok(words_in(alloc, line)?)
 }
 
-/// The program under the words of a line.
+/// The program under the words of a line, on a screen that is none.
 pub fn run_line<O: Opener, S: Source, R: Clock + Threads + Sync + AllocGlobal>(
     rt: &R,
     line: &str,
     files: &O,
     reader: &mut S,
-    screen: &Screen<'_>,
     output: Held,
-    errors: Held,
+    mut errors: Held,
 ) -> Left
     requires reader { S.failed reader.old ≡ false }
     requires output { output.failed ≡ false }
     requires errors { errors.failed ≡ false }
 {
+    let screen = Screen::new(false, b"");
     let words = words_of_line(rt.alloc(), line);
-    let output = Beside::new(screen, output);
-    let mut errors = Beside::new(screen, errors);
-    let ended = run_program(rt, words, files, reader, output, &mut errors, screen);
+    let ended = run_program(rt, words, files, reader, output, &mut errors, &screen);
     Left {
         status: ended.status,
-        crowded: [ended.output.crowded, errors.crowded],
-        output: ended.output.held,
-        errors: errors.held,
-    }
-}
-
-impl Left {
-    /// No line stood where anything was written, and no line, nor the end of one, stands there.
-    pub fn is_uncrowded(&self, screen: &Screen<'_>) -> bool {
-        self.crowded == [0, 0] && !screen.stands() && screen.ends_left() == 0
+        output: ended.output,
+        errors,
     }
 }
 
@@ -68,7 +54,7 @@ pub struct Case {
     pub told: &'static [u8],
 }
 
-/// The program under the words of a line, on a screen that is none.
+/// The program under the words of a line, on sinks that take all.
 pub fn run_on(
     rt: &(impl Clock + Threads + Sync + AllocGlobal),
     line: &str,
@@ -78,9 +64,8 @@ pub fn run_on(
     requires { reader.old.failed ≡ false }
 {
     let alloc = rt.alloc();
-    let screen = Screen::new(false, b"");
     let (output, errors) = (sink_of(alloc, 50, 0, false), sink_of(alloc, 50, 0, false));
-    run_line(rt, line, files, reader, &screen, output, errors)
+    run_line(rt, line, files, reader, output, errors)
 }
 
 /// A device has this text, and was flushed where there is one.

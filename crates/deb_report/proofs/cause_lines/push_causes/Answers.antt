@@ -4,8 +4,8 @@ use Rattle.std.specs.List.{flat_map}
 use Rattle.deb_causes.specs.declared.gathered.Cause.{Cause}
 use Rattle.deb_report.specs.CauseLines.{cause_text}
 use Rattle.deb_causes.specs.Causes.{cause_view}
-use Rattle.deb_report.specs.Report.{line}
-use Rattle.deb_report.proofs.JoinLemmas.{last_call}
+use Rattle.deb_reasons.specs.Reasons.{line}
+use Rattle.deb_reasons.proofs.TextLemmas.{last_call}
 use Rattle.list_steps.proofs.JoinLemmas.{lines_map}
 use Rattle.deb_report.proofs.cause_lines.push_causes.Goals as goal
 

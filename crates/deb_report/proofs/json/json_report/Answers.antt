@@ -1,5 +1,6 @@
 use Rattle.std.proofs.Common.{◌++◌, codes}
-use Rattle.deb_report.specs.Json.{block_json, causes_json, escaped, head_json, json_text, list_json, member, number_json, quoted, tall_array}
+use Rattle.deb_report.specs.Json.{block_json, causes_json, head_json, json_text, list_json, number_json, tall_array}
+use Rattle.deb_reasons.specs.JsonParts.{escaped, member, quoted}
 use Rattle.deb_outcome.specs.Since.{amends_view}
 use Rattle.deb_outcome.specs.Outcome.{number_view}
 use Rattle.deb_report.specs.Told.{content_view, telling_view}

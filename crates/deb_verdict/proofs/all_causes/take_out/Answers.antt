@@ -4,7 +4,7 @@ use Rattle.std.proofs.Math.Bool.{or-false}
 use Rattle.deb_index.specs.declared.constraint.Constraint.{Constraint}
 use Rattle.deb_index.specs.Constraints.{IsOfIndex, constraints_of}
 use Rattle.deb_index.proofs.ConstraintLemmas.{constraints-within}
-use Rattle.deb_health.proofs.IndexFacts.{All-at}
+use Rattle.deb_index.proofs.IndexFacts.{All-at}
 use Rattle.number_sets.specs.Sets.{NumberSet, members_of}
 use Rattle.number_sets.proofs.ListMembers.{take_whole}
 use Rattle.deb_health.specs.Causes.{cause_at, either, is_final, is_final_at}

@@ -5,5 +5,5 @@ pub returns : goal.returns
 returns c = record {
   all = λ index place core. tells-all index core place;
   ends = λ index place core. ends index core place;
-  first = λ index place core few few_asked is. tells-each-once index place core is few few_asked;
+  first = λ index place core positions few few_asked rising there. tells-each-once index place core positions rising there few few_asked;
 }

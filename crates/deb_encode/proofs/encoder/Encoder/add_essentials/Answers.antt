@@ -2,7 +2,7 @@ use Rattle.std.proofs.Common.{◌<◌, ℕ, List, length, refl, sym, subst, ◌�
 use Rattle.deb_index.specs.Packages.{names, essential_names}
 use Rattle.deb_encode.specs.declared.play.Play.{Play}
 use Rattle.deb_encode.proofs.AddSteps.{below_moved}
-use Rattle.deb_health.proofs.IndexFacts.{essential_below}
+use Rattle.deb_index.proofs.IndexFacts.{essential_below}
 use Rattle.deb_encode.proofs.Each.{AddsEach, each_more, each_whole, meaning_of_essential}
 use Rattle.deb_encode.proofs.EncoderLemmas.{same_still, adds_since}
 use Rattle.deb_encode.proofs.encoder.Encoder.add_essentials.Goals as goal

@@ -1,5 +1,5 @@
 use Rattle.std.proofs.Common.{◌≤◌, length, arith}
-use Rattle.deb_health.proofs.IndexFacts.{rising_length}
+use Rattle.deb_index.proofs.IndexFacts.{rising_length}
 use Rattle.deb_encode.proofs.play.Play.new.Goals as goal
 
 pub invariant_of-result-clause-few : goal.invariant_of-result-clause-few

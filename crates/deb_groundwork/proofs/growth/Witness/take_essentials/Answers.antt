@@ -2,7 +2,7 @@ use Rattle.std.proofs.Common.{◌<◌, ℕ, length, get_or, ap, arith}
 use Rattle.std.proofs.lemmas.List.Elements.{All-same}
 use Rattle.deb_index.specs.Packages.{names, is_essential, places_of, name_at}
 use Rattle.deb_index.proofs.ConstraintLemmas.{where-short}
-use Rattle.deb_health.proofs.IndexFacts.{named_below}
+use Rattle.deb_index.proofs.IndexFacts.{named_below}
 use Rattle.deb_groundwork.proofs.RowLemmas.{essential_below}
 use Rattle.deb_groundwork.proofs.growth.Witness.take_essentials.Goals as goal
 

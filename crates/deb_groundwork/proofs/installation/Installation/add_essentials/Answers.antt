@@ -1,7 +1,7 @@
 use Rattle.std.proofs.Common.{◌<◌, ℕ, length, get_or}
 use Rattle.std.proofs.lemmas.List.Elements.{All-same}
 use Rattle.deb_index.specs.Packages.{places_of, name_at}
-use Rattle.deb_health.proofs.IndexFacts.{named_below}
+use Rattle.deb_index.proofs.IndexFacts.{named_below}
 use Rattle.deb_groundwork.proofs.RowLemmas.{essential_below}
 use Rattle.deb_groundwork.proofs.installation.Installation.add_essentials.Goals as goal
 

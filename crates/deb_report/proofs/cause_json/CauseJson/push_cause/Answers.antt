@@ -1,7 +1,8 @@
 use Rattle.std.proofs.Common.{arith, ◌≡◌, [], ◌∷◌, ℕ, Bor, List, codes, decimal, length}
 use Rattle.deb_near.specs.declared.near.NearMiss.{NearMiss}
 use Rattle.deb_near.specs.Near.{near_view}
-use Rattle.deb_report.specs.Json.{array, cause_json, member, near_json, needed_json, place_json, quoted, wrong_json}
+use Rattle.deb_reasons.specs.JsonParts.{array, member, near_json, place_json, quoted}
+use Rattle.deb_report.specs.Json.{cause_json, needed_json, wrong_json}
 use Rattle.deb_report.proofs.JoinLemmas.{object-of}
 use Rattle.list_steps.proofs.JoinLemmas.{joined_map}
 use Rattle.deb_report.proofs.cause_json.CauseJson.push_cause.Goals as goal

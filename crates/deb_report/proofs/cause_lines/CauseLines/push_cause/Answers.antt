@@ -3,8 +3,9 @@ use Rattle.std.specs.List.{flat_map}
 use Rattle.deb_near.specs.declared.near.NearMiss.{NearMiss}
 use Rattle.deb_near.specs.Near.{near_view}
 use Rattle.deb_report.specs.CauseLines.{cause_text, name_line, near_line, needed_line, titled_if, wrong_line}
-use Rattle.deb_report.specs.Report.{line, place_line, titled}
-use Rattle.deb_report.proofs.JoinLemmas.{in-order, last_call, titled_map}
+use Rattle.deb_reasons.specs.Reasons.{line, place_line, titled}
+use Rattle.deb_report.proofs.JoinLemmas.{in-order, titled_map}
+use Rattle.deb_reasons.proofs.TextLemmas.{last_call}
 use Rattle.deb_report.proofs.cause_lines.CauseLines.push_cause.Goals as goal
 
 pub returns : goal.returns

@@ -1,7 +1,8 @@
 use Rattle.std.proofs.Common.{◌≡◌, ◌∙◌, ◌++◌, Bool, true, List, ℕ, [], ◌∷◌, ap, codes, if◌then◌else◌, refl}
 use Rattle.deb_index.specs.Packages.{package_view}
 use Rattle.deb_health.specs.Verdicts.{verdict_view}
-use Rattle.deb_report.specs.Json.{architecture_json, block_json, explanation_json, label_json, member, object, quoted}
+use Rattle.deb_report.specs.Json.{architecture_json, block_json, explanation_json}
+use Rattle.deb_reasons.specs.JsonParts.{label_json, member, object, quoted}
 use Rattle.deb_health.specs.Shown.{shown_view}
 use Rattle.deb_outcome.specs.Outcome.{status_of}
 use Rattle.deb_report.specs.Told.{telling_view}

@@ -2,7 +2,7 @@ use Rattle.std.proofs.Common.{◌++◌, Global, List, Vec, ℕ, ap, codes, sym}
 use Rattle.deb_index.specs.declared.constraint.Constraint.{Constraint}
 use Rattle.deb_report.specs.Report.{core_lines}
 use Rattle.deb_report.specs.Told.{telling_view}
-use Rattle.deb_report.proofs.JoinLemmas.{last_call}
+use Rattle.deb_reasons.proofs.TextLemmas.{last_call}
 use Rattle.list_steps.proofs.JoinLemmas.{lines_map}
 use Rattle.deb_report.proofs.ReportLemmas.{also-within}
 use Rattle.deb_report.proofs.lines.Lines.push_later.Goals as goal

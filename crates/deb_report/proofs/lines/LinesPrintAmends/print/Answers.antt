@@ -2,9 +2,9 @@ use Rattle.std.proofs.Common.{[], ◌++◌, Bor, append_assoc, codes}
 use Rattle.deb_outcome.specs.declared.broken.BrokenPackage.{BrokenPackage}
 use Rattle.std.specs.List.{flat_map}
 use Rattle.deb_report.specs.Lines.{broken_line, list_lines}
-use Rattle.deb_report.specs.Report.{line}
+use Rattle.deb_reasons.specs.Reasons.{line}
 use Rattle.deb_outcome.specs.Since.{broken_view}
-use Rattle.deb_report.proofs.JoinLemmas.{last_call}
+use Rattle.deb_reasons.proofs.TextLemmas.{last_call}
 use Rattle.list_steps.proofs.JoinLemmas.{lines_map}
 use Rattle.deb_report.proofs.lines.LinesPrintAmends.print.Goals as goal
 

@@ -3,7 +3,7 @@ use Rattle.std.proofs.lemmas.List.Elements.{All-same}
 use Rattle.number_sets.specs.Sets.{members_of}
 use Rattle.number_sets.proofs.Placing.{grows_none, grows_both}
 use Rattle.deb_index.specs.Packages.{places_of, name_at}
-use Rattle.deb_health.proofs.IndexFacts.{named_below}
+use Rattle.deb_index.proofs.IndexFacts.{named_below}
 use Rattle.deb_groundwork.proofs.RowLemmas.{essential_below}
 use Rattle.deb_verdict.proofs.GatherLemmas.{names_more, names_all}
 use Rattle.deb_verdict.proofs.gather.Candidates.bring_essentials.Goals as goal
