@@ -1,13 +1,15 @@
-//! Tests of what a screen shows of a whole program.
+//! Tests of what a screen shows.
 //!
-//! `runs` runs one, on devices over memory and a screen. `progress` looks at the line during a run, `hints` at the lines after it; in `growths` a program
-//! wants memory.
+//! `line` has the line that tells how far a run has come, by itself. `runs` runs whole programs, on devices over memory and a screen: `progress` looks at
+//! the line during a run, `hints` at the lines after it; in `growths` a program wants memory.
 #![tactic(auto)]
 
 #[cfg(test)]
 mod growths;
 #[cfg(test)]
 mod hints;
+#[cfg(test)]
+mod line;
 #[cfg(test)]
 mod progress;
 #[cfg(test)]
