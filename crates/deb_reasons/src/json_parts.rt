@@ -10,7 +10,7 @@ ghost use Rattle.deb_reasons.specs.JsonParts.{array, constraint_json, label_json
 ghost use Rattle.deb_texts.specs.Texts.{group_text};
 ghost use Rattle.deb_reasons.specs.Told.{reason_view};
 
-use crate::json_text::{push_array, push_text, push_title};
+use crate::json_text::{push_array, push_quoted, push_text, push_title};
 use crate::reasons::{Reason, reason_of};
 use deb_index::{Constraint, Index, Package};
 use deb_near::NearMiss;
@@ -155,5 +155,15 @@ impl<'i> IndexJson<'i> {
             (array (λ entry. quoted (printed entry)) (map (λ entry. atom_view entry.now) provides.now))) }
     {
         push_array(out, ",", "provides", self, provides, "]")
+    }
+}
+
+impl<'i, 'n> Print<&'n [u8]> for IndexJson<'i> {
+    ghost fits = { λ _ _. Unit {0} };
+
+    ghost text = { λ _ name. quoted name.now };
+
+    fn print(&self, out: &mut Vec<u8>, name: &&'n [u8]) -> Result<(), AllocError> {
+        push_quoted(out, name)
     }
 }

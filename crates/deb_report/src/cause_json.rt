@@ -16,7 +16,7 @@ use deb_causes::Cause;
 use deb_index::Constraint;
 use deb_near::{NearMiss, Similar, near_misses};
 use deb_reasons::json_parts::{IndexJson, push_package, push_relation};
-use deb_reasons::json_text::{push_array, push_number, push_quoted, push_text};
+use deb_reasons::json_text::{push_array, push_number, push_text};
 use deb_reasons::reasons::group_field;
 use deb_relation::Atom;
 use deb_texts::Print;
@@ -74,16 +74,6 @@ impl<'p, 'i> Print<Constraint> for NeededJson<'p, 'i> {
                 self.json.push_constraint(out, *constraint)
             }
         }
-    }
-}
-
-impl<'i, 'n> Print<&'n [u8]> for IndexJson<'i> {
-    ghost fits = { λ _ _. Unit {0} };
-
-    ghost text = { λ _ name. quoted name.now };
-
-    fn print(&self, out: &mut Vec<u8>, name: &&'n [u8]) -> Result<(), AllocError> {
-        push_quoted(out, name)
     }
 }
 

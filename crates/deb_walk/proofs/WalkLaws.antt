@@ -1,8 +1,9 @@
--- The walk of a core tells each of its constraints as often as the core has it, and that of a first core each once.
+-- The walk of a core tells each of its constraints, and that of constraints at rising positions each once.
 use Rattle.std.proofs.Common.{◌≡◌, ◌≢◌, ◌==◌, ℕ, zero, suc, ◌+◌, ◌*◌, ◌<◌, ◌≤◌, ◌^◌, ◌||◌, Bool, true, false, not, List, [], ◌∷◌, ◌++◌, None, Some, IsPermutation, filter, get_or, length, map, slice_get, append-nil, append_assoc, refl, sym, ap, ap₂, subst, ◌∙◌, inl, inr, arith}
 use Rattle.std.specs.Prelude.{if◌then◌else◌, sum_by}
 use Rattle.std.specs.Cmp.{nat_eq_equiv}
 use Rattle.std.specs.List.{AllPairs, flat_map, list_any}
+use Rattle.std.specs.List.Sorted.{IsStrictlyIncreasing}
 use Rattle.std.specs.Str.{bytes_eq}
 use Rattle.std.proofs.lemmas.Bool.{cases_Bool, eq-eqb, eqb-true, false_from_ne_true, false≢true, or_left, or_right}
 use Rattle.std.proofs.lemmas.Grind.{flat_map-append}
@@ -427,7 +428,7 @@ module _ (index : IndexView) (place : ℕ) (core : List Constraint) (positions :
         one_position index (get_or positions i 0) (get_or positions j 0) (get_or core j d) one (there j d inside),
       ))
 
-  -- the walk of a first core tells each of its constraints, and no two of what it tells are one
+  -- the walk tells each of these constraints, and no two of what it tells are one
   pub tells-each-once : length index.packages ≤ stanza_limit → sum_by asked_count index.packages ≤ asked_limit
       → IsPermutation core (told_in index place core) × AllPairs (λ one other. one ≢ other) (told_in index place core)
   tells-each-once few few_asked =
