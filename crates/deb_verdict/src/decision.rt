@@ -1,22 +1,23 @@
 //! The closure and the verdict of a package: whether some set of packages of the index contains it and meets every dependency of a
 //! member and no conflict, and what stands in its way (Debian Policy 7.2 to 7.5; dose-debcheck(1)).
 
-ghost use Rattle.std.specs.Prelude.{◌≡◌, ◌<◌, false, true, All, IfNone, IfOk, IfSome, length};
+ghost use Rattle.std.specs.Prelude.{◌<◌, All, IfNone, IfOk, IfSome, length};
 ghost use Rattle.std.specs.List.Sorted.{IsStrictlyIncreasing};
 ghost use Rattle.number_sets.specs.Sets.{members_of};
 ghost use Rattle.deb_index.specs.Constraints.{IsOfIndex};
 ghost use Rattle.deb_verdict.specs.Closure.{IsClosure};
 ghost use Rattle.deb_verdict.specs.Told.{IsToldCore, IsToldSet, IsToldVerdict};
-ghost use Rattle.deb_health.specs.Health.{IsHopeless, IsInstallable};
+ghost use Rattle.deb_health.specs.Health.{IsHopeless};
 ghost use Rattle.deb_health.specs.Verdicts.{IsVerdict, SpeaksOf, verdict_view};
 
 use crate::essentials::groundwork_of;
 use crate::first_core::first_core;
 use crate::first_set::first_set;
+use crate::installability::is_installable_in;
 use crate::reach::reach;
 use crate::wanted::Wanted;
 use crate::workspace::Workspace;
-use deb_groundwork::{Groundwork, is_seen_installable};
+use deb_groundwork::Groundwork;
 use deb_health::Verdict;
 use deb_index::{Constraint, Index};
 use number_sets::SparseSet;
@@ -69,30 +70,6 @@ pub fn verdict(alloc: Global, index: &Index, p: u32) -> Result<Verdict, AllocErr
     let found = verdict_by(alloc, &mut workspace, index, p);
     drop(workspace);
     found
-}
-
-/// Whether some healthy set has the package at a place of the index of a groundwork: `true` exactly where one has it.
-///
-/// It is found in the buffers of an earlier verdict, of whatever package and index, without a search where a set is seen at once. `p` is
-/// below the index's `len()`. The one error is want of memory.
-pub fn is_installable_in(
-    alloc: Global,
-    workspace: &mut Workspace,
-    groundwork: &Groundwork<'_>,
-    p: u32,
-) -> Result<bool, AllocError>
-    requires { p < length groundwork.now.index.now.packages }
-    ensures has { IfOk result (λ found. found ≡ true → IsInstallable groundwork.now.index.now p) }
-    ensures lacks { IfOk result (λ found. found ≡ false → IsHopeless groundwork.now.index.now p) }
-{
-    if groundwork.is_hopeless(p) {
-        return Ok(false);
-    }
-    if is_seen_installable(groundwork, p, &mut workspace.installation) {
-        return Ok(true);
-    }
-    let found = first_set(alloc, workspace, groundwork, p)?;
-    Ok(found.is_some())
 }
 
 /// The places of the first healthy set that has the package at a place, or none where sets are not told. `None` where no healthy set has it.

@@ -5,7 +5,7 @@ ghost use Rattle.std.specs.Prelude.{◌≡◌, ◌<◌, All, IfOk, OnOk, length}
 ghost use Rattle.number_sets.specs.Sets.{members_of};
 ghost use Rattle.deb_groundwork.specs.Hopeless.{AreHopeless};
 
-use crate::decision::is_installable_in;
+use crate::installability::is_installable_in;
 use crate::workspace::Workspace;
 use deb_groundwork::{Groundwork, has_any, spread_by_essential};
 use deb_index::Index;

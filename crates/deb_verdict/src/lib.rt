@@ -8,7 +8,7 @@
 //! - The closure: `reach` finds it.
 //! - The first healthy set: `gather` finds the candidates beside the places that are in every healthy set, and the needs that these leave open,
 //!   `describe` has the encoder of `deb_encode` make clauses of all constraints that speak of these places, and `first_set` has the solver find the
-//!   first true set of the clauses.
+//!   first true set of the clauses. `installability` tells whether there is one, by a set that is seen at once, or else by the first.
 //! - The first core: `first_core` finds the first set of constraints that no set meets. The crate `core_extract` takes out those that no
 //!   refutation needs, and asks `question` whether a part of the constraints admits none: where `deb_groundwork` can't tell, `by_formula` does. It
 //!   knows of each part, by the `core_formula` of the package, which is made once: each constraint that speaks of the closure (`kept_positions`
@@ -26,6 +26,7 @@ mod essentials;
 mod first_core;
 mod first_set;
 mod gather;
+mod installability;
 mod kept_positions;
 pub mod laws;
 mod lookup;
@@ -37,7 +38,8 @@ mod workspace;
 pub use all_causes::{cause_in, cores_in};
 pub use deb_groundwork::{Groundwork, find_installable};
 pub use deb_health::Verdict;
-pub use decision::{closure, is_installable_in, told_verdict_in, verdict, verdict_in};
+pub use decision::{closure, told_verdict_in, verdict, verdict_in};
 pub use essentials::groundwork_of;
+pub use installability::is_installable_in;
 pub use wanted::Wanted;
 pub use workspace::Workspace;

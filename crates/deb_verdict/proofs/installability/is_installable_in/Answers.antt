@@ -1,6 +1,6 @@
 use Rattle.std.proofs.Common.{◌∙◌, sym}
 use Rattle.deb_verdict.proofs.ToldLemmas.{none_hopeless, some_installable}
-use Rattle.deb_verdict.proofs.decision.is_installable_in.Goals as goal
+use Rattle.deb_verdict.proofs.installability.is_installable_in.Goals as goal
 
 pub returns-clause-has : goal.returns-clause-has
 returns-clause-has c = λ there. some_installable c.args.groundwork.now.index.now c.args.p c.in_ok-found.found c.in_ok-found.ensures.first (sym c.is_some.ensures ∙ there)
