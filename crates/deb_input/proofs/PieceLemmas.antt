@@ -1,5 +1,5 @@
 -- Lemmas on a text that is read piece by piece.
-use Rattle.std.proofs.Common.{◌≡◌, ◌≢◌, ◌∙◌, ℕ, ◌+◌, ◌<◌, ◌≤◌, Bool, List, [], ◌++◌, Option, Some, None, Result, Ok, Err, IfOk, IfSome, OnOk, ap, append-nil, append_assoc, arith, drop, inl, inr, length, length-append, refl, subst, sym}
+use Rattle.std.proofs.Common.{◌≡◌, ◌≢◌, ◌∙◌, ℕ, ◌+◌, ◌<◌, ◌≤◌, Bool, List, [], ◌++◌, Option, Some, None, Result, Ok, Err, IfSome, OnOk, ap, append-nil, append_assoc, arith, drop, inl, inr, length, length-append, refl, subst, sym}
 use Rattle.std.proofs.lemmas.List.{drop_at}
 use Rattle.std.specs.Io.KnownBytes.{Consumes, IsAtEnd}
 use Rattle.deb_control.specs.Stanzas.{IsClosed, runs, stanzas_of}
@@ -209,16 +209,6 @@ fault-behind settings old mid new before failed front held rest room fault reads
       record { consumes = consumes_more old mid new (reads.text ++ held) rest reads.consumes consumes; ends = ends; unfailed = kept; within = omega arith },
       (meant, refuses meant reads.text rest reads.is_front),
     )
-
--- so it is after a call that reads what is left of it
-pub text-behind : {X : Type 0} (outcome_of : X → Result FrontView IndexError) (settings : Settings) (old mid new : Option (List ℕ)) (before marked failed : Bool) (front : FrontView) (held : List ℕ) (room : ℕ)
-    (fault : IndexError) (r : Result X RunFault) → ReadsFront settings old mid front held → OnOk r ((rest : List ℕ) × Consumes mid new rest × (length rest ≤ room)) → OnOk r (IsAtEnd new) → OnOk r (failed ≡ marked)
-    → IfOk r (λ read. outcome_of read ≡ Err fault) → marked ≡ before → front.size + length held + room ≤ byte_limit → fault ≢ index_error.Memory → RefusesPiece settings front held fault
-    → IfOk r (λ read. ReadsText settings old new before failed (outcome_of read))
-text-behind outcome_of settings old mid new before marked failed front held room fault (Ok read) reads rest ends kept is same within meant refuses =
-    subst (λ (outcome : Result FrontView IndexError). ReadsText settings old new before failed outcome) (sym is)
-    (fault-behind settings old mid new before failed front held rest.0 room fault reads rest.1 ends (kept ∙ same) rest.2 within meant refuses)
-text-behind outcome_of settings old mid new before marked failed front held room fault (Err e) reads rest ends kept is same within meant refuses = tt
 
 -- what holds anyhow holds after `Ok`
 pub on-ok : {X E : Type 0} (r : Result X E) (P : Type 0) → P → OnOk r P

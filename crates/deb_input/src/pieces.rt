@@ -1,10 +1,11 @@
 //! A text that is read piece by piece: little more of it is held than a piece.
 
-ghost use Rattle.std.specs.Prelude.{◌≡◌, ◌<◌, ◌≤◌, ◌+◌, ℕ, List, Err, IfErr, IfOk, Ok, OnOk, drop, false, length};
+ghost use Rattle.std.specs.Prelude.{◌≡◌, ◌<◌, ◌≤◌, ◌+◌, ◌-◌, [], ℕ, List, IfErr, IfOk, Ok, OnOk, drop, false, length, true};
 ghost use Rattle.std.specs.Io.KnownBytes.{Consumes, IsAtEnd};
 ghost use Rattle.deb_index.specs.Reading.{byte_limit, index_of_both};
 ghost use Rattle.run_settings.specs.Settings.{settings_of};
-ghost use Rattle.deb_input.specs.Pieces.{FailsInPieces, FailsToFinish, MakesIndex, ReadsAll, ReadsText, RefusesPiece, TakesLast, TakesPiece};
+ghost use Rattle.deb_input.specs.Pieces.{FailsInPieces, FailsToFinish, HoldsMore, MakesIndex, ReadsAll, ReadsText};
+ghost use Rattle.deb_input.specs.Pieces.{RefusesPiece, TakesLast, TakesPiece};
 ghost use Rattle.deb_input.specs.Inputs.{FailsToRead, is_unread};
 
 use crate::fault::RunFault;
@@ -14,7 +15,7 @@ use deb_control::cut_behind_blank;
 use deb_index::{BothError, Index, IndexError, PART_SIZE, PartialIndex, TEXT_LIMIT};
 use devices::Source;
 use run_settings::Config;
-use std::alloc::{AllocError, Global};
+use std::alloc::Global;
 use std::thread::Threads;
 
 /// How many bytes of a text are read before some of them are taken into the index.
@@ -58,59 +59,87 @@ fn take_last<R: Threads + Sync>(
     config: &Config,
     front: PartialIndex,
     held: &[u8],
-) -> Result<Result<PartialIndex, IndexError>, AllocError>
+) -> Result<Result<PartialIndex, IndexError>, RunFault>
     requires short { front.size + length held.now ≤ byte_limit }
-    ensures { IfOk result (TakesLast (settings_of config.now) front held.now) }
+    ensures outcome { IfOk result (TakesLast (settings_of config.now) front held.now) }
+    ensures refused { IfErr result (λ fault. fault ≡ RunFault.Memory) }
 {
     match front.take(rt, alloc, held, config.workers, PART_SIZE) {
         Ok(whole) => Ok(Ok(whole)),
-        Err(IndexError::Memory) => Err(AllocError),
+        Err(IndexError::Memory) => Err(RunFault::Memory),
         Err(fault) => Ok(Err(fault)),
     }
 }
 
-// What a text comes to that ends with what is held.
-fn end_of<R: Threads + Sync>(
+// Reads a piece more behind what is held, or all that is left where that is less, and tells whether it was less. No more than the limit is held.
+fn read_piece<S: Source>(
+    reader: &mut S,
+    held: &mut Held,
+    piece: usize,
+    limit: usize,
+) -> Result<bool, RunFault>
+    requires piece { 0 < piece }
+    requires held { length held.old ≤ limit }
+    requires limit { limit ≤ byte_limit }
+    ensures bytes { OnOk result (HoldsMore held.old held.new (S.remaining reader.old) (S.remaining reader.new)) }
+    ensures within { OnOk result (length held.new ≤ limit) }
+    ensures more { IfOk result (λ last. last ≡ false → length held.old < length held.new) }
+    ensures end { IfOk result (λ last. last ≡ true → IsAtEnd (S.remaining reader.new)) }
+    ensures mark { OnOk result (S.failed reader.new ≡ S.failed reader.old) }
+    ensures refused { IfErr result (FailsToRead (S.remaining reader.old) (S.failed reader.old) (S.failed reader.new) (limit - length held.old)) }
+{
+    // Where no empty line was found, as much again is read before the next try, so that a text without such lines is looked through a few times
+    // only.
+    let count = piece.max(held.len()).min(limit + 1 - held.len());
+    let full = held.read_more(reader, count)?;
+    if held.len() > limit {
+        return Err(RunFault::TooLong);
+    }
+    Ok(!full)
+}
+
+// What all that is left in a reader comes to. It is read into what is held, which is in the end the piece that was taken last, or the one with the
+// fault. A failed read goes before the fault, and so does that the text is too long.
+fn read_outcome<S: Source, R: Threads + Sync>(
     rt: &R,
     alloc: Global,
     config: &Config,
-    front: PartialIndex,
-    held: Held,
-) -> Result<TextRead, RunFault>
-    requires short { front.size + length held ≤ byte_limit }
-    ensures outcome { IfOk result (λ read. TakesLast (settings_of config.now) front held read.outcome) }
-    ensures last { IfOk result (λ read. read.last.items ≡ held) }
-    ensures refused { IfErr result (λ fault. fault ≡ RunFault.Memory) }
-{
-    let outcome = take_last(rt, alloc, config, front, held.as_slice())?;
-    Ok(TextRead {
-        outcome,
-        last: held.into_bytes(),
-    })
-}
-
-// What a text comes to that has a fault in what is held, with room for so many bytes behind it. A failed read goes before the fault, and so does
-// that the text is too long.
-fn refused_text<S: Source>(
-    alloc: Global,
     reader: &mut S,
-    room: usize,
-    fault: IndexError,
-    held: Held,
-) -> Result<TextRead, RunFault>
-    requires { room ≤ byte_limit }
-    ensures rest { OnOk result ((bytes : List ℕ) × Consumes (S.remaining reader.old) (S.remaining reader.new) bytes × (length bytes ≤ room)) }
+    held: &mut Held,
+    piece: usize,
+) -> Result<Result<PartialIndex, IndexError>, RunFault>
+    requires piece { 0 < piece }
+    requires held { held.old ≡ [] }
     ensures end { OnOk result (IsAtEnd (S.remaining reader.new)) }
     ensures mark { OnOk result (S.failed reader.new ≡ S.failed reader.old) }
-    ensures outcome { IfOk result (λ read. read.outcome ≡ Err fault) }
-    ensures last { IfOk result (λ read. read.last.items ≡ held) }
-    ensures refused { IfErr result (FailsToRead (S.remaining reader.old) (S.failed reader.old) (S.failed reader.new) room) }
+    ensures held { OnOk result (length held.new ≤ byte_limit) }
+    ensures text { IfOk result (ReadsText (settings_of config.now)
+        (S.remaining reader.old) (S.remaining reader.new) (S.failed reader.old) (S.failed reader.new)) }
+    ensures refused { IfErr result (FailsToRead (S.remaining reader.old) (S.failed reader.old) (S.failed reader.new) byte_limit) }
 {
-    skip_rest(alloc, reader, room)?;
-    Ok(TextRead {
-        outcome: Err(fault),
-        last: held.into_bytes(),
-    })
+    let mut front = PartialIndex::new(alloc, config.arch.as_str(), config.essential)?;
+    'pieces: loop {
+        let limit = TEXT_LIMIT - front.size();
+        match read_piece(reader, held, piece, limit) {
+            Ok(true) => return take_last(rt, alloc, config, front, held.as_slice()),
+            Ok(false) => {}
+            Err(fault) => {
+                drop(front);
+                return Err(fault);
+            }
+        }
+        match take_piece(rt, alloc, config, front, held.as_slice()) {
+            Ok((next, taken)) => {
+                front = next;
+                held.drop_front(taken);
+            }
+            Err(IndexError::Memory) => return Err(RunFault::Memory),
+            Err(fault) => {
+                skip_rest(alloc, reader, limit - held.len())?;
+                return Ok(Err(fault));
+            }
+        }
+    }
 }
 
 /// Reads all that is left in a reader, a piece of at least so many bytes at a time, each of which is taken into the index by the workers side by side
@@ -132,30 +161,12 @@ pub fn read_text<S: Source, R: Threads + Sync>(
         (S.remaining reader.old) (S.remaining reader.new) (S.failed reader.old) (S.failed reader.new) read.outcome) }
     ensures refused { IfErr result (FailsToRead (S.remaining reader.old) (S.failed reader.old) (S.failed reader.new) byte_limit) }
 {
-    let mut front = PartialIndex::new(alloc, config.arch.as_str(), config.essential)?;
     let mut held = Held::new(alloc);
-    let mut read = 0;
-    'pieces: loop {
-        // Where no empty line was found, as much again is read before the next try, so that a text without such lines is looked through a few
-        // times only.
-        let count = piece.max(held.len()).min(TEXT_LIMIT + 1 - read);
-        if !held.read_more(reader, count)? {
-            return end_of(rt, alloc, config, front, held);
-        }
-        read += count;
-        if read > TEXT_LIMIT {
-            drop(front);
-            return Err(RunFault::TooLong);
-        }
-        match take_piece(rt, alloc, config, front, held.as_slice()) {
-            Ok((next, taken)) => {
-                front = next;
-                held.drop_front(taken);
-            }
-            Err(IndexError::Memory) => return Err(RunFault::Memory),
-            Err(fault) => return refused_text(alloc, reader, TEXT_LIMIT - read, fault, held),
-        }
-    }
+    let outcome = read_outcome(rt, alloc, config, reader, &mut held, piece)?;
+    Ok(TextRead {
+        outcome,
+        last: held.into_bytes(),
+    })
 }
 
 /// The index of a text that was read to its end, and of what stands behind it.
