@@ -66,13 +66,6 @@ pub(crate) fn file_in(text: &str) -> Option<&str>
     text.strip_prefix('@')
 }
 
-// The parts of a text between its commas.
-fn parts_of<'t>(alloc: Global, text: &'t str) -> Result<Vec<&'t str>, AllocError>
-    ensures { IfOk result (λ parts. map (λ part. part.now) parts.items ≡ names_in text.now) }
-{
-    text.split(',').collect(alloc)
-}
-
 // The first part of a list that is no package name.
 pub(crate) fn wrong_part(text: &str) -> Option<&str>
     ensures { is_none result ≡ list_all is_name (names_in text.now) }
@@ -84,9 +77,8 @@ pub(crate) fn wrong_part(text: &str) -> Option<&str>
 pub(crate) fn names_of(alloc: Global, text: &str) -> Result<Vec<Vec<u8>>, AllocError>
     ensures { IfOk result (λ names. map (λ name. name.items) names.items ≡ names_in text.now) }
 {
-    let parts = parts_of(alloc, text)?;
     let mut names = Vec::new(alloc);
-    for part in parts.as_slice() {
+    for part in text.split(',') {
         names.push(Vec::from_slice(alloc, part.as_bytes())?)?;
     }
     Ok(names)

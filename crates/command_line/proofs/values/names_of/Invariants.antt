@@ -1,5 +1,5 @@
-use Rattle.std.proofs.Common.{◌≡◌, map, take}
+use Rattle.std.proofs.Common.{◌≡◌, map}
 use Rattle.command_line.proofs.values.names_of.Given as goal
 
 abbrev pub invariant-loop-part : goal.invariant-loop-part
-invariant-loop-part l = map (λ name. name.items) l.names.items ≡ map (λ part. part.now) (take l.part-index l.part-items)
+invariant-loop-part l = map (λ name. name.items) l.names.items ≡ map (λ part. part.now) l.yielded
