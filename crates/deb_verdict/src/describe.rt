@@ -58,6 +58,5 @@ pub(crate) fn describe(
     add_needs(&mut encoder, &candidates.unmet)?;
     encoder.add_narrow()?;
     encoder.add_wide(rivals)?;
-    encoder.add_versions(versions)?;
-    Ok(())
+    encoder.add_versions(versions)
 }

@@ -1,7 +1,7 @@
 //! Essential names that no healthy set can have. Where they are at odds with each other nothing of the index can be installed, and one search tells
 //! that of all packages.
 
-ghost use Rattle.std.specs.Prelude.{◌≡◌, ◌<◌, All, IfOk, OnOk, length};
+ghost use Rattle.std.specs.Prelude.{◌≡◌, ◌<◌, [], All, IfOk, OnOk, length};
 ghost use Rattle.number_sets.specs.Sets.{members_of};
 ghost use Rattle.deb_groundwork.specs.Hopeless.{AreHopeless};
 
@@ -75,15 +75,18 @@ fn search_lacked(
     searched
 }
 
-/// What no healthy set has, as far as it is known with a search for essential names.
-fn find_hopeless(alloc: Global, groundwork: &Groundwork<'_>) -> Result<SparseSet, AllocError>
-    ensures { IfOk result (λ hopeless. AreHopeless groundwork.now.index.now (members_of hopeless)) }
+/// Puts in what no healthy set has, as far as it is known with a search for essential names.
+fn find_hopeless(
+    alloc: Global,
+    groundwork: &Groundwork<'_>,
+    hopeless: &mut SparseSet,
+) -> Result<(), AllocError>
+    requires { hopeless.old ≡ [] }
+    ensures { OnOk result (AreHopeless groundwork.now.index.now (members_of hopeless.new)) }
 {
-    let mut hopeless = SparseSet::new(alloc);
     hopeless.extend(groundwork.hopeless.as_slice())?;
-    search_lacked(alloc, groundwork, &mut hopeless)?;
-    spread_by_essential(groundwork.index, &mut hopeless)?;
-    Ok(hopeless)
+    search_lacked(alloc, groundwork, hopeless)?;
+    spread_by_essential(groundwork.index, hopeless)
 }
 
 /// What the verdicts of an index have in common, found once for all of them, with a search for its essential names. The error is want of memory.
@@ -91,8 +94,9 @@ pub fn groundwork_of(alloc: Global, index: &Index) -> Result<Groundwork<'_>, All
     ensures { IfOk result (λ groundwork. groundwork.index.now ≡ index.now) }
 {
     let mut groundwork = Groundwork::new(alloc, index)?;
-    match find_hopeless(alloc, &groundwork) {
-        Ok(hopeless) => {
+    let mut hopeless = SparseSet::new(alloc);
+    match find_hopeless(alloc, &groundwork, &mut hopeless) {
+        Ok(()) => {
             groundwork.hopeless = hopeless;
             Ok(groundwork)
         }

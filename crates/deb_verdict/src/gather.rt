@@ -51,8 +51,7 @@ impl Candidates {
         if has_any(forced, row) {
             return Ok(());
         }
-        self.places.extend(row)?;
-        Ok(())
+        self.places.extend(row)
     }
 
     /// Brings in the packages of each essential name that no forced place has.

@@ -1,4 +1,5 @@
 use Rattle.std.proofs.Common.{◌≡◌, List, sym, subst, ◌∙◌, ap, rules}
+use Rattle.std.proofs.lemmas.Result.{on_ok_weaker}
 use Rattle.deb_encode.specs.declared.play.Play.{Play}
 use Rattle.deb_verdict.specs.declared.gather.UnmetNeed.{UnmetNeed}
 use Rattle.deb_verdict.proofs.Described.{AreUnmet, unmet_of, unmet_moved, described}
@@ -16,10 +17,10 @@ add_needs-requires c =
 pub returns : goal.returns
 returns c =
     let Of : List UnmetNeed → Type 0 = λ list. AreUnmet c.args.groundwork.now.index.now c.args.forced.now c.args.candidates.now.places list in
-    described c.args.groundwork.now.index.now c.args.forced.now c.args.candidates.now.places c.deref-2.result.now c.args.formula.now
+    on_ok_weaker c.add_versions.result (λ adds. described c.args.groundwork.now.index.now c.args.forced.now c.args.candidates.now.places c.deref-2.result.now c.args.formula.now
     c.new-encoder.result c.add_essentials.new.self c.add_needs.new.encoder c.add_narrow.new.self c.add_wide.new.self c.add_versions.new.self
     (ap (λ (play : Play). play.index.now) c.new-encoder.ensures.play ∙ c.new-play.ensures.index) (ap (λ (play : Play). play.forced.now) c.new-encoder.ensures.play ∙ c.new-play.ensures.forced)
     (ap (λ (play : Play). play.candidates.now) c.new-encoder.ensures.play ∙ c.new-play.ensures.candidates) c.new-encoder.ensures.group c.new-encoder.ensures.formula c.requires.empty
     (subst Of (sym c.deref-2.ensures.value) (unmet_of c.args.groundwork.now.index.now c.args.forced.now c.args.candidates.now c.requires.gathered))
-    c.in_ok-add_essentials.ensures.adds c.in_ok-add_needs.ensures.adds c.in_ok-add_narrow.ensures.adds c.in_ok-add_wide.ensures.adds c.in_ok-add_versions.ensures.adds
-    _ (search rules)
+    c.in_ok-add_essentials.ensures.adds c.in_ok-add_needs.ensures.adds c.in_ok-add_narrow.ensures.adds c.in_ok-add_wide.ensures.adds adds
+    _ (search rules)) c.add_versions.ensures.adds

@@ -1,4 +1,5 @@
 use Rattle.std.proofs.Common.{inl, inr, sym, ◌∙◌, refl}
+use Rattle.std.proofs.lemmas.Result.{on_ok_weaker}
 use Rattle.number_sets.proofs.Placing.{grows_none}
 use Rattle.deb_verdict.proofs.gather.Candidates.bring.Goals as goal
 
@@ -9,5 +10,8 @@ returns-then-has_any c = record {
   unmet = refl;
 }
 
-pub returns : goal.returns
-returns c = record { grows = c.in_ok-extend.ensures.grows; has = inr c.in_ok-extend.ensures.has; unmet = refl }
+pub returns-clause-has : goal.returns-clause-has
+returns-clause-has c = on_ok_weaker c.extend.result inr c.extend.ensures.has
+
+pub returns-clause-unmet : goal.returns-clause-unmet
+returns-clause-unmet c = on_ok_weaker c.extend.result (λ _. refl) c.extend.ensures.has
