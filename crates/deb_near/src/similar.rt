@@ -1,11 +1,12 @@
 //! Which names of an index differ in numbers alone from missing ones.
 
 ghost use Rattle.std.specs.Prelude.{◌≡◌, ◌≤◌, ◌++◌, ◌∷◌, [], true, ℕ, List, All, IfOk, OnOk, length, map, vec_len};
+ghost use Rattle.std.specs.List.{flat_map};
 ghost use Rattle.deb_relation.specs.AtomView.{atom_view};
 ghost use Rattle.deb_relation.specs.Relationship.{AtomText};
 ghost use Rattle.deb_index.specs.Constraints.{IsOfIndex};
 ghost use Rattle.deb_index.specs.Packages.{package_view};
-ghost use Rattle.deb_near.specs.Near.{first_with_stem, is_one_of, names_of, similar_names};
+ghost use Rattle.deb_near.specs.Near.{first_with_stem, is_one_of, names_of, similar_names, stem};
 ghost use Rattle.deb_near.specs.Stems.{first_told, has_text};
 
 use crate::near::alternatives_of;
@@ -44,16 +45,16 @@ fn push_first(alloc: Global, name: &[u8], names: &mut Vec<Vec<u8>>) -> Result<()
     Ok(())
 }
 
-/// The names that some atoms have.
-fn own_names(alloc: Global, atoms: &[&Atom]) -> Result<IndexSet<Vec<u8>>, AllocError>
-    ensures { IfOk result (λ own. (name : List ℕ) → has_text (map (λ one. one.items) own.keys) name
+/// Puts the names of some atoms into a set that has none.
+fn add_names(alloc: Global, atoms: &[&Atom], own: &mut IndexSet<Vec<u8>>) -> Result<(), AllocError>
+    requires { own.old.keys ≡ [] }
+    ensures { OnOk result ((name : List ℕ) → has_text (map (λ one. one.items) own.new.keys) name
         ≡ is_one_of (map (λ atom. atom_view atom.now) atoms.now) name) }
 {
-    let mut own = IndexSet::new(alloc);
     for atom in atoms {
-        insert_once(alloc, atom.name.as_slice(), &mut own)?;
+        insert_once(alloc, atom.name.as_slice(), own)?;
     }
-    Ok(own)
+    Ok(())
 }
 
 /// Names that are told, and with them those that aren't to be told.
@@ -89,6 +90,13 @@ impl<'s> Told<'s> {
         }
         Ok(())
     }
+
+    /// The names that are told.
+    fn into_names(self) -> Vec<&'s [u8]>
+        ensures { result ≡ self.entry.names }
+    {
+        self.names
+    }
 }
 
 /// As many lists, with no name in them.
@@ -113,7 +121,7 @@ pub struct Similar {
 }
 
 impl Similar {
-    ghost use Rattle.deb_near.specs.Similar.{IsFoundIn, IsSimilarOf, stems_in};
+    ghost use Rattle.deb_near.specs.Similar.{IsFoundIn, IsSimilarOf, IsTold, stems_in};
     ghost use Rattle.deb_near.specs.Stems.{AreSought};
 
     /// No names so far.
@@ -207,6 +215,28 @@ impl Similar {
         }
     }
 
+    /// Tells the names that have the stem of an atom's name, and are none of the atoms', atom by atom.
+    fn tell<'s>(
+        &'s self,
+        alloc: Global,
+        atoms: &[&Atom],
+        told: &mut Told<'s>,
+    ) -> Result<(), AllocError>
+        requires sought { All (λ atom. has_text (stems_in self.now) (stem atom.name) ≡ true) (map (λ atom. atom_view atom.now) atoms.now) }
+        requires known { told.old.known.keys ≡ [] }
+        requires none { told.old.names.items ≡ [] }
+        ensures { OnOk result ((seen : List (List ℕ)) → IsFoundIn seen self.now → IsTold (map (λ atom. atom_view atom.now) atoms.now)
+            (flat_map (λ atom. first_with_stem seen (stem atom.name)) (map (λ atom. atom_view atom.now) atoms.now)) told.new) }
+    {
+        add_names(alloc, atoms, &mut told.known)?;
+        let mut stem = Vec::new(alloc);
+        for atom in atoms {
+            put_stem(&mut stem, atom.name.as_slice())?;
+            told.push_all(alloc, self.list(stem.as_slice()))?;
+        }
+        Ok(())
+    }
+
     /// The names that differ in numbers alone from those of the alternatives of a need among these constraints, alternative by alternative: ten at most.
     ///
     /// The constraints are of the index, and their stems were looked for. `AllocError` where there is no memory for it.
@@ -223,14 +253,13 @@ impl Similar {
     {
         let atoms = alternatives_of(alloc, index, constraints)?;
         let mut told = Told {
-            known: own_names(alloc, atoms.as_slice())?,
+            known: IndexSet::new(alloc),
             names: Vec::new(alloc),
         };
-        let mut stem = Vec::new(alloc);
-        for atom in atoms.as_slice() {
-            put_stem(&mut stem, atom.name.as_slice())?;
-            told.push_all(alloc, self.list(stem.as_slice()))?;
-        }
-        Ok(told.names)
+        let done = self.tell(alloc, atoms.as_slice(), &mut told);
+        drop(atoms);
+        let names = told.into_names();
+        done?;
+        Ok(names)
     }
 }

@@ -1,15 +1,17 @@
 //! What is left of names without their numbers.
 
-ghost use Rattle.std.specs.Prelude.{◌≡◌, ◌==◌, ◌<◌, ◌++◌, ◌∷◌, ◌||◌, ℕ, List, All, IfNone, IfOk, IfSome, OnOk, length, map, not};
+ghost use Rattle.std.specs.Prelude.{◌≡◌, ◌==◌, ◌<◌, ◌++◌, ◌∷◌, ◌||◌, ℕ, List, All, IfNone, IfOk, IfSome, OnOk, length, map, not, true};
 ghost use Rattle.std.specs.Char.{is_ascii_digit};
 ghost use Rattle.std.specs.List.{list_any, position};
 ghost use Rattle.std.specs.Str.{bytes_eq};
+ghost use Rattle.deb_relation.specs.AtomView.{atom_view};
 ghost use Rattle.deb_index.specs.Constraints.{IsOfIndex};
 ghost use Rattle.deb_near.specs.Near.{is_numeric, is_sum, stem, stem_of_word};
 ghost use Rattle.deb_near.specs.Stems.{AreSought, has_text};
 
 use crate::near::alternatives_of;
 use deb_index::{Constraint, Index};
+use deb_relation::Atom;
 use indexmap::IndexSet;
 use std::alloc::{AllocError, Global};
 
@@ -105,6 +107,23 @@ pub(crate) fn insert_once(
     Ok(true)
 }
 
+/// Adds the stems of the names that some atoms have.
+fn add_stems(
+    alloc: Global,
+    atoms: &[&Atom],
+    stems: &mut IndexSet<Vec<u8>>,
+) -> Result<(), AllocError>
+    ensures { OnOk result (All (λ atom. has_text (map (λ one. one.items) stems.new.keys) (stem atom.name) ≡ true)
+        (map (λ atom. atom_view atom.now) atoms.now)) }
+{
+    let mut buffer = Vec::new(alloc);
+    for atom in atoms {
+        put_stem(&mut buffer, atom.name.as_slice())?;
+        insert_once(alloc, buffer.as_slice(), stems)?;
+    }
+    Ok(())
+}
+
 /// The stems of the alternatives of all needs among the constraints.
 pub(crate) fn stems_of(
     alloc: Global,
@@ -114,11 +133,10 @@ pub(crate) fn stems_of(
     requires { All (IsOfIndex index.now) constraints.now }
     ensures { IfOk result (λ stems. AreSought index.now (map (λ one. one.items) stems.keys) constraints.now) }
 {
+    let atoms = alternatives_of(alloc, index, constraints)?;
     let mut stems = IndexSet::new(alloc);
-    let mut buffer = Vec::new(alloc);
-    for atom in alternatives_of(alloc, index, constraints)?.as_slice() {
-        put_stem(&mut buffer, atom.name.as_slice())?;
-        insert_once(alloc, buffer.as_slice(), &mut stems)?;
-    }
+    let added = add_stems(alloc, atoms.as_slice(), &mut stems);
+    drop(atoms);
+    added?;
     Ok(stems)
 }

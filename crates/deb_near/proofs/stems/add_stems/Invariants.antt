@@ -2,7 +2,7 @@ use Rattle.std.proofs.Common.{◌≡◌, true, All, map, take}
 use Rattle.deb_relation.specs.AtomView.{atom_view}
 use Rattle.deb_near.specs.Near.{stem}
 use Rattle.deb_near.specs.Stems.{has_text}
-use Rattle.deb_near.proofs.stems.stems_of.Given as goal
+use Rattle.deb_near.proofs.stems.add_stems.Given as goal
 
 abbrev pub invariant-loop-atom : goal.invariant-loop-atom
-invariant-loop-atom l = All (λ atom. has_text (map (λ one. one.items) l.stems.keys) (stem atom.name) ≡ true) (map (λ atom. atom_view atom.now) (take l.atom-index l.atom-items))
+invariant-loop-atom l = All (λ atom. has_text (map (λ one. one.items) l.stems.keys) (stem atom.name) ≡ true) (map (λ atom. atom_view atom.now) (take l.atom-index l.atoms))

@@ -1,4 +1,4 @@
-use Rattle.std.proofs.Common.{◌≡◌, ◌<◌, ◌∙◌, All, Bor, ap, arith, length, map, subst, sym, take, true}
+use Rattle.std.proofs.Common.{◌≡◌, ◌<◌, ◌∙◌, All, Bor, ap, arith, length, map, subst, sym, true}
 use Rattle.std.proofs.lemmas.List.{take_all}
 use Rattle.deb_relation.specs.declared.atom.Atom.{Atom}
 use Rattle.deb_relation.specs.AtomView.{atom_view}
@@ -6,14 +6,14 @@ use Rattle.deb_relation.specs.Relationship.{AtomText}
 use Rattle.deb_near.specs.Near.{stem}
 use Rattle.deb_near.specs.Stems.{has_text}
 use Rattle.deb_near.proofs.SimilarLemmas.{more-has, more-keep, sought-more}
-use Rattle.deb_near.proofs.stems.stems_of.Goals as goal
+use Rattle.deb_near.proofs.stems.add_stems.Goals as goal
 
 abbrev view : Bor Atom → AtomText
 view atom = atom_view atom.now
 
 pub loop-atom-preserved : goal.loop-atom-preserved
 loop-atom-preserved c =
-    let atoms = c.as_slice-atom-items.result.now in
+    let atoms = c.args.atoms.now in
     let olds = map (λ one. one.items) c.loop-atom.stems.keys in
     let news = map (λ one. one.items) c.insert_once.new.texts.keys in
     let text = c.as_slice-in-loop-atom.result.now in
@@ -25,7 +25,6 @@ loop-atom-preserved c =
 
 pub returns : goal.returns
 returns c =
-    let atoms = c.as_slice-atom-items.result.now in
+    let atoms = c.args.atoms.now in
     let sought : AtomText → Type 0 = λ atom. has_text (map (λ one. one.items) c.loop-atom.stems.keys) (stem atom.name) ≡ true in
-    let whole : take c.loop-atom.atom-index atoms ≡ atoms = take_all _ _ (omega arith) in
-    subst (All sought) (ap (map view) whole ∙ ap (map view) c.as_slice-atom-items.ensures.value ∙ c.in_ok-alternatives_of.ensures) c.loop-atom.invariant
+    subst (λ xs. All sought (map view xs)) (take_all c.loop-atom.atom-index atoms (omega arith)) c.loop-atom.invariant

@@ -6,7 +6,7 @@ use Rattle.deb_near.specs.Near.{is_one_of}
 use Rattle.deb_near.specs.Stems.{has_text}
 use Rattle.list_steps.proofs.ListLemmas.{any_more}
 use Rattle.deb_near.proofs.SimilarLemmas.{or-turned}
-use Rattle.deb_near.proofs.similar.own_names.Goals as goal
+use Rattle.deb_near.proofs.similar.add_names.Goals as goal
 
 pub loop-atom-preserved : goal.loop-atom-preserved
 loop-atom-preserved c = λ name.
