@@ -9,8 +9,8 @@ use Rattle.deb_input.specs.declared.fault.RunFault.TheVariants.{Read, TooLong, B
 use Rattle.deb_outcome.specs.declared.summary.Summary.{Summary}
 use Rattle.devices.specs.Devices.{AppendsPart}
 use Rattle.run_settings.specs.Settings.{Settings}
-use Rattle.deb_input.specs.Inputs.{FailsToAccept, Input, IsRead, IsReadAs, input}
-use Rattle.debcheck_run.specs.Run.{Fails, FailsToIndex, FailsToReport, HasAsked, HasIndex, IfIndexed, IfTold, IsReport, IsReportOn, Leaves, ReadsAs, Reports, TellsReport, WritesBy, WritesFrontBy, behind}
+use Rattle.deb_input.specs.Inputs.{FailsToAccept, Input, IsRead, IsReadAs, input, is_unread}
+use Rattle.debcheck_run.specs.Run.{Fails, FailsToIndex, FailsToReadBehind, FailsToReport, HasAsked, HasIndex, IfIndexed, IfTold, IsReport, IsReportOn, Leaves, ReadsAs, Reports, TellsReport, WritesBy, WritesFrontBy, behind}
 use Rattle.debcheck_run.proofs.BackgroundLemmas.{back-asked}
 use Rattle.deb_input.proofs.IndexLemmas.{both-fore}
 
@@ -42,6 +42,26 @@ told_both : (settings : Settings) (text background : Input) (bytes more : List �
     → IfTold settings text background P
 told_both settings text background bytes more P first second h =
     told_text text.text bytes (λ (a : List ℕ). IfSome (behind settings background).text (P a)) first.1 (told_text (behind settings background).text more (P bytes) second.1 h)
+
+-- a background that could not be read, behind a text that was
+pub behind-fails : (settings : Settings) (text background : Input) (fault : RunFault) → IsRead text → FailsToReadBehind (behind settings background) fault
+    → FailsToIndex settings text background fault × (is_unread fault ≡ false)
+behind-fails settings text background Read read h = absurd h
+behind-fails settings text background TooLong read h = absurd h
+behind-fails settings text background BackgroundRead read h = ((read, h), refl)
+behind-fails settings text background BackgroundTooLong read h = ((read, h), refl)
+behind-fails settings text background EarlierRead read h = absurd h
+behind-fails settings text background EarlierTooLong read h = absurd h
+behind-fails settings text background NamesRead read h = absurd h
+behind-fails settings text background NamesTooLong read h = absurd h
+behind-fails settings text background (BadNameLine line) read h = absurd h
+behind-fails settings text background (Index fault) read h = absurd h
+behind-fails settings text background (Background fault) read h = absurd h
+behind-fails settings text background (Earlier fault) read h = absurd h
+behind-fails settings text background (UnknownAsked name) read h = absurd h
+behind-fails settings text background (Slipped slip) read h = absurd h
+behind-fails settings text background Memory read h = ((read.0, h), refl)
+behind-fails settings text background Write read h = absurd h
 
 -- texts that were read and are no index
 pub accept-fails : (settings : Settings) (text background : Input) (bytes more : List ℕ) (fault : RunFault) → IsReadAs text bytes → IsReadAs (behind settings background) more

@@ -1,12 +1,12 @@
 //! A run that tells what became of an earlier index.
 
-ghost use Rattle.std.specs.Prelude.{◌≡◌, ◌≢◌, ◌<◌, ◌≤◌, ◌⊎◌, Err, IfErr, IfOk, IsOkAnd, OnOk, false, length, map, true};
+ghost use Rattle.std.specs.Prelude.{◌≡◌, ◌≢◌, ◌^◌, ◌<◌, ◌≤◌, ◌⊎◌, All, Err, IfErr, IfOk, IsOkAnd, OnOk, false, length, map, true};
 ghost use Rattle.std.specs.Io.KnownBytes.{IsAtEnd};
 ghost use Rattle.deb_index.specs.Reading.{byte_limit};
 ghost use Rattle.run_settings.specs.Settings.{settings_of};
 ghost use Rattle.deb_outcome.specs.Since.{broken_view};
 ghost use Rattle.deb_input.specs.Inputs.{Input, IsReadAs, input, is_unread};
-ghost use Rattle.debcheck_run.specs.Run.{FailsToIndex, FailsToReport, HasAsked, IfIndexed, ReadsAs, behind};
+ghost use Rattle.debcheck_run.specs.Run.{FailsToIndex, FailsToReport, HasAsked, IfIndexed, IsAsked, ReadsAs, behind};
 ghost use Rattle.debcheck_run.specs.Since.{FailsEarlier, FailsSince, IsReportAfter, LeavesSince, TellsReportSince, WereBroken, WritesReportSince, earlier_fault, is_unread_behind, wanted_since};
 
 use crate::asked::ask_noting;
@@ -127,6 +127,31 @@ fn wanted_since(config: &Config) -> Wanted
     }
 }
 
+// The report of these asked places since these packages were broken.
+fn report_news<G: Gate + Sync, R: Threads + Sync>(
+    rt: &R,
+    alloc: Global,
+    config: &Config,
+    index: &Index,
+    asked: &[u32],
+    before: &[BrokenPackage],
+    gate: &G,
+) -> Result<(Vec<u8>, Summary), RunFault>
+    requires asked { IsAsked (settings_of config.now) index.now asked.now }
+    requires few { length asked.now < 2 ^ 32 }
+    requires within { All (λ place. place < length index.now.packages) asked.now }
+    requires workers { (0 < config.now.workers) × (config.now.workers ≤ 64) }
+    requires chunk { 0 < config.now.chunk }
+    ensures report { IfOk result (λ r. IsReportAfter (map broken_view before.now) (settings_of config.now) index.now r.0.items r.1) }
+    ensures refused { IfErr result (λ fault. fault ≡ RunFault.Memory) }
+{
+    let wanted = wanted_since(config);
+    let found = find_told(rt, alloc, config, wanted, index, asked, before, gate)?;
+    let verdicts = found.verdicts.as_slice();
+    let later = found.later.as_slice();
+    Ok(report_since(alloc, index, asked, verdicts, later, before, config)?)
+}
+
 // Checks the asked places, and makes the report since these packages were broken; where it isn't known which were, the fault of that is told behind
 // those of the asked names. What was seen of the earlier index is noted.
 fn report_after<G: Gate + Sync, R: Threads + Sync>(
@@ -150,11 +175,7 @@ fn report_after<G: Gate + Sync, R: Threads + Sync>(
     note_seen(clue, seen);
     let broken = before?;
     let (asked, before) = (asked.as_slice(), broken.as_slice());
-    let wanted = wanted_since(config);
-    let found = find_told(rt, alloc, config, wanted, index, asked, before, gate)?;
-    let verdicts = found.verdicts.as_slice();
-    let later = found.later.as_slice();
-    Ok(report_since(alloc, index, asked, verdicts, later, before, config)?)
+    report_news(rt, alloc, config, index, asked, before, gate)
 }
 
 // Reads the index, what stands behind it, and the earlier index, and makes the report. The earlier index is given back before the index is

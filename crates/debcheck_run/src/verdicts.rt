@@ -49,9 +49,9 @@ fn merged(
     let mut rest = found.into_iter();
     for place in asked {
         if marks[*place as usize] {
-            told.push(Verdict::Ok(Vec::new(alloc)))?;
+            told.push_reserved(Verdict::Ok(Vec::new(alloc)));
         } else if let Some(verdict) = rest.next() {
-            told.push(verdict)?;
+            told.push_reserved(verdict);
         }
     }
     Ok(told)
@@ -91,8 +91,7 @@ fn find_on<G: Gate + Sync, R: Threads + Sync>(
     let all = asked.len() as u32;
     if wanted.sets {
         gate.start(0, all);
-        let verdicts = check_told(rt, alloc, groundwork, wanted, asked, workers, chunk, gate)?;
-        return Ok(verdicts);
+        return check_told(rt, alloc, groundwork, wanted, asked, workers, chunk, gate);
     }
     let installable = find_installable(alloc, groundwork, asked)?;
     let marks = installable.as_slice();
@@ -100,8 +99,7 @@ fn find_on<G: Gate + Sync, R: Threads + Sync>(
     let left = left.as_slice();
     gate.start(all - left.len() as u32, all);
     let found = check_told(rt, alloc, groundwork, wanted, left, workers, chunk, gate)?;
-    let told = merged(alloc, asked, marks, found)?;
-    Ok(told)
+    merged(alloc, asked, marks, found)
 }
 
 // As much of the verdicts of the asked places as is wanted, in their order, on one groundwork for all of them.

@@ -13,6 +13,11 @@ returns-in_err-index-clause-refused g c =
     let background = input (g.B.Source.remaining c.args.background.now) (g.B.Source.failed c.read_index.new.background) in
     rw (p.1, p.2) (indexing-fails (settings_of c.args.config.now) text background c.in_err-index.field-0.0 c.in_err-index.ensures.refused)
 
+pub returns-in_err-index-clause-unbegun : goal.returns-in_err-index-clause-unbegun
+returns-in_err-index-clause-unbegun g c =
+    let p = err_from_is_err_and c.from_residual.result c.from_residual.ensures.1 in
+    rw (p.1, p.2) c.in_err-index.ensures.unbegun
+
 pub returns-clause-report : goal.returns-clause-report
 returns-clause-report g c =
     let settings = settings_of c.args.config.now in

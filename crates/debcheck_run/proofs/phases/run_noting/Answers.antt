@@ -22,6 +22,11 @@ returns-in_err-output-clause-left g c =
     let background = input (g.B.Source.remaining c.args.background.now) (g.B.Source.failed c.read_and_report.new.background) in
     rw (p.1, p.2) (leaves-unwritten (settings_of c.args.config.now) text background (g.K.Sink.contents c.args.writer.now) c.in_err-output.field-0.0 c.in_err-output.ensures.refused)
 
+pub returns-in_err-output-clause-unbegun : goal.returns-in_err-output-clause-unbegun
+returns-in_err-output-clause-unbegun g c =
+    let p = err_from_is_err_and c.from_residual.result c.from_residual.ensures.1 in
+    rw (p.1, p.2) c.in_err-output.ensures.unbegun
+
 pub returns-in-Ok-clause-report : goal.returns-in-Ok-clause-report
 returns-in-Ok-clause-report g c =
     let text = input (g.S.Source.remaining c.args.reader.now) (g.S.Source.failed c.read_and_report.new.reader) in

@@ -1,4 +1,4 @@
-use Rattle.std.proofs.Common.{◌∙◌, map, sym}
+use Rattle.std.proofs.Common.{◌∙◌, map, refl, sym}
 use Rattle.std.proofs.lemmas.Bool.{true≢false}
 use Rattle.std.proofs.lemmas.Result.{IfErr-weaker, IfOk-weaker, err_from_is_err_and}
 use Rattle.run_settings.specs.Settings.{settings_of}
@@ -7,7 +7,7 @@ use Rattle.deb_input.specs.Inputs.{IsReadAs, input}
 use Rattle.debcheck_run.specs.Run.{IfIndexed, behind}
 use Rattle.debcheck_run.specs.Since.{FailsEarlier, WereBroken}
 use Rattle.debcheck_run.proofs.PhaseLemmas.{accept-fails, accepted-as, indexing-fails}
-use Rattle.debcheck_run.proofs.SinceLemmas.{fails-as-alone, known-fails, told-known, unread-before}
+use Rattle.debcheck_run.proofs.SinceLemmas.{accepting-behind, fails-as-alone, known-fails, told-known, unread-before}
 use Rattle.debcheck_run.proofs.since.read_since.Goals as goal
 
 pub returns-in_err-text-clause-refused : goal.returns-in_err-text-clause-refused
@@ -20,6 +20,16 @@ returns-in_err-text-clause-refused g c =
     let fault = c.in_err-text.field-0.0 in
     rw (p.1, p.2) (fails-as-alone settings text background earlier fault (indexing-fails settings text background fault c.in_err-text.ensures.refused))
 
+pub returns-in_err-text-clause-unbegun : goal.returns-in_err-text-clause-unbegun
+returns-in_err-text-clause-unbegun g c =
+    let p = err_from_is_err_and c.from_residual.result c.from_residual.ensures.1 in
+    rw (p.1, p.2) c.in_err-text.ensures.unbegun
+
+pub returns-in_err-text-clause-earlier_unbegun : goal.returns-in_err-text-clause-earlier_unbegun
+returns-in_err-text-clause-earlier_unbegun g c =
+    let p = err_from_is_err_and c.from_residual.result c.from_residual.ensures.1 in
+    rw (p.1, p.2) (λ unread. refl)
+
 pub returns-in_err-index-clause-refused : goal.returns-in_err-index-clause-refused
 returns-in_err-index-clause-refused g c =
     let p = err_from_is_err_and c.from_residual-in_err-index.result c.from_residual-in_err-index.ensures.1 in
@@ -30,6 +40,19 @@ returns-in_err-index-clause-refused g c =
     let fault = c.in_err-index.field-0.0 in
     rw (p.1, p.2) (fails-as-alone settings text background earlier fault (indexing-fails settings text background fault
     (accept-fails settings text background c.in_ok-text.text.items c.in_ok-text.behind.items fault c.in_ok-text.ensures.text c.in_ok-text.ensures.behind c.in_err-index.ensures.refused)))
+
+pub returns-in_err-index-clause-unbegun : goal.returns-in_err-index-clause-unbegun
+returns-in_err-index-clause-unbegun g c =
+    let p = err_from_is_err_and c.from_residual-in_err-index.result c.from_residual-in_err-index.ensures.1 in
+    let fault = c.in_err-index.field-0.0 in
+    let known = accepting-behind (settings_of c.args.config.now) c.in_ok-text.text.items c.in_ok-text.behind.items fault c.in_err-index.ensures.refused in
+    rw (p.1, p.2) (λ unread. absurd (true≢false (sym unread ∙ unread-before fault known.0)))
+
+pub returns-in_err-index-clause-earlier_unbegun : goal.returns-in_err-index-clause-earlier_unbegun
+returns-in_err-index-clause-earlier_unbegun g c =
+    let p = err_from_is_err_and c.from_residual-in_err-index.result c.from_residual-in_err-index.ensures.1 in
+    let known = accepting-behind (settings_of c.args.config.now) c.in_ok-text.text.items c.in_ok-text.behind.items c.in_err-index.field-0.0 c.in_err-index.ensures.refused in
+    rw (p.1, p.2) (λ unread. absurd (true≢false (sym unread ∙ known.0)))
 
 pub returns-clause-report : goal.returns-clause-report
 returns-clause-report g c =

@@ -1,4 +1,4 @@
-use Rattle.std.proofs.Common.{ℕ, List, subst}
+use Rattle.std.proofs.Common.{ℕ, List, refl, subst}
 use Rattle.std.proofs.lemmas.Result.{err_from_is_err_and}
 use Rattle.std.specs.Io.KnownBytes.{Appends}
 use Rattle.devices.specs.Devices.{AppendsPart}
@@ -22,6 +22,21 @@ returns-in_err-output-clause-left g c =
     let background = input (g.B.Source.remaining c.args.background.now) (g.B.Source.failed c.read_since.new.background) in
     let earlier = input (g.E.Source.remaining c.args.earlier.now) (g.E.Source.failed c.read_since.new.earlier) in
     rw (p.1, p.2) (since-leaves (settings_of c.args.config.now) text background earlier (g.K.Sink.contents c.args.writer.now) c.in_err-output.field-0.0 c.in_err-output.ensures.refused)
+
+pub returns-in_err-output-clause-unbegun : goal.returns-in_err-output-clause-unbegun
+returns-in_err-output-clause-unbegun g c =
+    let p = err_from_is_err_and c.from_residual.result c.from_residual.ensures.1 in
+    rw (p.1, p.2) c.in_err-output.ensures.unbegun
+
+pub returns-in_err-output-clause-earlier_unbegun : goal.returns-in_err-output-clause-earlier_unbegun
+returns-in_err-output-clause-earlier_unbegun g c =
+    let p = err_from_is_err_and c.from_residual.result c.from_residual.ensures.1 in
+    rw (p.1, p.2) c.in_err-output.ensures.earlier_unbegun
+
+pub returns-in_err-output-clause-untouched : goal.returns-in_err-output-clause-untouched
+returns-in_err-output-clause-untouched g c =
+    let p = err_from_is_err_and c.from_residual.result c.from_residual.ensures.1 in
+    rw (p.1, p.2) (λ other. refl)
 
 pub returns-in-Ok-clause-report : goal.returns-in-Ok-clause-report
 returns-in-Ok-clause-report g c =

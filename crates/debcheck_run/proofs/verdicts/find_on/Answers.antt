@@ -1,6 +1,8 @@
-use Rattle.std.proofs.Common.{◌∙◌, ◌≤◌, arith, length, map, sym}
+use Rattle.std.proofs.Common.{◌∙◌, ◌≤◌, Global, IfOk, Vec, arith, length, map, sym}
 use Rattle.std.proofs.lemmas.List.{length-map}
+use Rattle.std.proofs.lemmas.Result.{IfOk-weaker}
 use Rattle.deb_health.specs.Verdicts.{verdict_view}
+use Rattle.deb_health.specs.declared.answer.Verdict.{Verdict}
 use Rattle.debcheck_run.proofs.StandingLemmas.{Told, left-few, left-within, told_by_marks}
 use Rattle.debcheck_run.proofs.verdicts.find_on.Goals as goal
 
@@ -28,15 +30,17 @@ overflow_cast-left g c =
 
 pub returns : goal.returns
 returns g c =
-    let told = map verdict_view c.in_ok-told.told.items in
-    let tells : Told c.args.wanted c.args.groundwork.now.index.now c.args.asked.now told =
-    told_by_marks c.args.wanted c.if-wanted.false c.args.groundwork.now.index.now c.in_ok-installable.installable.items c.as_slice-marks.result.now c.args.asked.now c.in_ok-left.left.items c.as_slice-left.result.now
-    (map verdict_view c.in_ok-found.found.items) told
+    let Tells : Vec Verdict Global → Type 0 = λ told. Told c.args.wanted c.args.groundwork.now.index.now c.args.asked.now (map verdict_view told.items) in
+    let tells : IfOk c.merged.result Tells =
+    IfOk-weaker c.merged.result _ Tells
+    (λ told merges. told_by_marks c.args.wanted c.if-wanted.false c.args.groundwork.now.index.now c.in_ok-installable.installable.items c.as_slice-marks.result.now c.args.asked.now c.in_ok-left.left.items c.as_slice-left.result.now
+    (map verdict_view c.in_ok-found.found.items) (map verdict_view told.items)
     c.as_slice-marks.ensures.value c.in_ok-installable.ensures.count c.in_ok-installable.ensures.marks c.requires.places c.as_slice-left.ensures.value c.in_ok-left.ensures
-    c.in_ok-found.ensures.each c.in_ok-found.ensures.within c.in_ok-told.ensures
+    c.in_ok-found.ensures.each c.in_ok-found.ensures.within merges)
+    c.merged.ensures
     in
     record {
-      same = sym (length-map c.in_ok-told.told.items verdict_view) ∙ tells.count;
-      within = tells.within;
-      each = tells.each;
+      same = IfOk-weaker c.merged.result Tells _ (λ told is. sym (length-map told.items verdict_view) ∙ is.count) tells;
+      within = IfOk-weaker c.merged.result Tells _ (λ told is. is.within) tells;
+      each = IfOk-weaker c.merged.result Tells _ (λ told is. is.each) tells;
     }
