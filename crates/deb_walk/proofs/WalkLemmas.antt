@@ -2,7 +2,7 @@
 use Rattle.std.proofs.Common.{◌≡◌, ◌==◌, ℕ, ◌+◌, ◌<◌, ◌||◌, Bool, List, [], ◌∷◌, ◌++◌, All, filter, length, get_or, take, map, reverse, append-nil, refl, sym, ap, ◌∙◌, inl, inr, not}
 use Rattle.std.proofs.lemmas.Bool.{cases_Bool}
 use Rattle.std.proofs.lemmas.Grind.{flat_map-append}
-use Rattle.std.proofs.lemmas.List.{append_assoc, reverse-append, take_more}
+use Rattle.std.proofs.lemmas.List.{append_assoc, flat_map_more, reverse-append, take_more}
 use Rattle.std.proofs.lemmas.List.Elements.{All-append, All-cons, All-head, All-nil, All-tail}
 use Rattle.std.proofs.lemmas.List.Folds.{list_any-append}
 use Rattle.std.specs.List.{flat_map, list_any}
@@ -42,6 +42,13 @@ pub coming_row : (index : IndexView) (core : List Constraint) (i place : ℕ) (d
 coming_row index core i place d c old new row q inside is row_is before grown =
     grown ∙ ap (λ b. b || members_of row q) before ∙ ap (λ ps. members_of (comers index (take i core) place) q || members_of ps q) row_is
     ∙ sym (comers_more index core i place d c q inside is)
+
+-- behind the steps stand those of one constraint more
+pub steps_more : (f : Constraint → List Step) (core : List Constraint) (i : ℕ) (d : Constraint) (start old new : List Step) → i < length core
+    → old ≡ start ++ flat_map f (take i core) → new ≡ old ++ f (get_or core i d) → new ≡ start ++ flat_map f (take (i + 1) core)
+steps_more f core i d start old new inside before grown =
+    grown ∙ ap (λ front. front ++ f (get_or core i d)) before ∙ flat_map_more f start (take i core) (get_or core i d)
+    ∙ ap (λ gone. start ++ flat_map f gone) (sym (take_more core i d inside))
 
 -- what holds of each element holds of those that are kept
 pub filter_all : {A : Type 0} (P : A → Type 0) (test : A → Bool) (xs : List A) → All P xs → All P (filter test xs)

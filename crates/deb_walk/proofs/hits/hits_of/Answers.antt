@@ -1,10 +1,18 @@
-use Rattle.std.proofs.Common.{◌≡◌, ◌<◌, ◌∙◌, ap, arith, length, take}
+use Rattle.std.proofs.Common.{◌≡◌, ◌<◌, ◌||◌, ◌∙◌, ap, arith, get_or, length, sym, take}
 use Rattle.std.proofs.lemmas.List.{take_all}
 use Rattle.std.proofs.lemmas.List.Elements.{All-same}
+use Rattle.std.proofs.lemmas.List.Folds.{list_any_more}
 use Rattle.std.specs.List.{list_any}
+use Rattle.deb_index.specs.declared.constraint.Constraint.TheVariants.{Essential}
 use Rattle.deb_walk.specs.Hits.{hits_of, is_hit_by}
 use Rattle.deb_walk.proofs.HitLemmas.{hits-are, hits-within}
 use Rattle.deb_walk.proofs.hits.hits_of.Goals as goal
+
+pub loop-constraint-preserved : goal.loop-constraint-preserved
+loop-constraint-preserved c = λ q.
+    let hit = is_hit_by c.args.index.now q in
+    c.in_ok-push_hits.ensures q ∙ ap (λ b. b || hit (get_or c.args.constraints.now c.loop-constraint.constraint-index (Essential 0))) (c.loop-constraint.invariant q)
+    ∙ sym (list_any_more hit c.args.constraints.now c.loop-constraint.constraint-index (Essential 0) c.loop-constraint-test.true)
 
 pub returns-clause-value : goal.returns-clause-value
 returns-clause-value c =
