@@ -1,5 +1,5 @@
 -- From what the parse of the words says to what the command line asks for.
-use Rattle.std.proofs.Common.{◌≡◌, ◌∙◌, ◌<◌, ◌≤◌, ◌==◌, ◌&&◌, ◌||◌, ◌⊎◌, ℕ, Bool, List, [], ◌∷◌, Result, Ok, Err, Option, Some, None, IfErr, IfOk, IfSome, OnOk, All, ap, ap₂, arith, codes, false, true, if◌then◌else◌, inl, inr, is_some, length, not, refl, string_bytes, sym, true≢false}
+use Rattle.std.proofs.Common.{◌≡◌, ◌∙◌, ◌<◌, ◌≤◌, ◌==◌, ◌&&◌, ◌||◌, ◌⊎◌, ℕ, Bool, List, [], ◌∷◌, Result, Ok, Err, Option, Some, None, IfErr, IfOk, IfSome, IsErrAnd, OnOk, All, ap, ap₂, arith, codes, false, true, if◌then◌else◌, inl, inr, is_some, length, not, option_map, refl, string_bytes, sym, true≢false}
 use Rattle.std.specs.List.{list_all, list_any}
 use Rattle.std.specs.Str.Parse.{digits_value}
 use Rattle.std.specs.Option.{option_map_or}
@@ -13,8 +13,8 @@ use Rattle.deb_relation.specs.Relationship.{is_name}
 use Rattle.run_settings.specs.declared.config.Config.{Config}
 use Rattle.command_line.specs.declared.line.LineFault.{LineFault}
 use Rattle.command_line.specs.declared.line.LineFault.TheVariants.{Refused, Help, Memory}
-use Rattle.run_settings.specs.Settings.{is_architecture, settings_of}
-use Rattle.command_line.specs.Line.{Accepts, IsFaultOf, RefusesLine, RefusesUnless, Request, asked_by, file_in, format_of, has_good_file, has_good_names, has_good_reasons, has_good_since, has_good_values, is_count, is_good_list, is_help, is_version, line_app, line_faults, line_rows, listed_in, names_in, request_of, value_of}
+use Rattle.run_settings.specs.Settings.{Settings, is_architecture, settings_of, usual_settings}
+use Rattle.command_line.specs.Line.{Accepts, IsFaultOf, RefusesLine, RefusesUnless, Request, asked_by, file_in, format_of, has_good_file, has_good_names, has_good_reasons, has_good_since, has_good_values, is_count, is_good_list, is_help, is_version, line_app, line_faults, line_rows, listed_in, names_in, request_of, usual_request, value_of}
 use Rattle.command_line.proofs.LineLemmas.{count-least}
 
 -- ---- the program's command
@@ -57,7 +57,29 @@ pub accepts : (words : List Text) (rows : List Row) (r : Result Config LineFault
 accepts words rows (Ok config) some none are good request = accepts-one words config some none (rw are at good) (rw are at request)
 accepts words rows (Err fault) some none are good request = tt
 
+usual-parts : (settings : Settings) (only_file bg since : Option Text) (workers chunk : ℕ) (quiet : Bool) → settings ≡ usual_settings → only_file ≡ None → bg ≡ None
+    → since ≡ None → workers ≡ 4 → chunk ≡ 64 → quiet ≡ false
+    → record { settings = settings; only_file = only_file; bg = bg; since = since; workers = workers; chunk = chunk; quiet = quiet } ≡ usual_request
+usual-parts settings only_file bg since workers chunk quiet is names behind before fours chunks loud = rw (is, names, behind, before, fours, chunks, loud) refl
+
+-- no words, and the usual configuration
+pub accepts-none : (words : List Text) (config : Config) → length words ≡ 0 → settings_of config ≡ usual_settings → config.only_file ≡ None → config.bg ≡ None
+    → config.since ≡ None → config.workers ≡ 4 → config.chunk ≡ 64 → config.quiet ≡ false → Accepts words config
+accepts-none [] config none settings only_file bg since workers chunk quiet =
+    usual-parts (settings_of config) _ _ _ _ _ _ settings (ap (option_map string_bytes) only_file) (ap (option_map string_bytes) bg)
+    (ap (option_map string_bytes) since) workers chunk quiet
+accepts-none (word ∷ words) config none settings only_file bg since workers chunk quiet = absurd (omega (arith, none))
+
 -- ---- what is refused
+
+-- want of memory is told as it is
+memory-told : (words : List Text) → RefusesLine words Memory
+memory-told [] = refl
+memory-told (word ∷ words) = tt
+
+pub refuses-memory : (words : List Text) (r : Result Config LineFault) → IsErrAnd r (λ fault. fault ≡ Memory) → IfErr r (RefusesLine words)
+refuses-memory words (Ok config) is = tt
+refuses-memory words (Err fault) is = rw is (memory-told words)
 
 bad-values : (faults : List ErrorKind) (good : Bool) → faults ≡ [] → good ≡ false → (list_any (λ k. not (is_help k || is_version k)) faults || (length faults == 0 && not good)) ≡ true
 bad-values faults good none bad = rw (none, bad) refl
