@@ -1,7 +1,8 @@
 -- Stems that are sought for lists of constraints are sought for each of them.
-use Rattle.std.proofs.Common.{◌≡◌, ℕ, Bool, true, All, List, [], ◌∷◌, filter, get_or, sym, ◌∙◌, inl, inr}
+use Rattle.std.proofs.Common.{◌≡◌, ℕ, ◌+◌, ◌<◌, Bool, true, false, All, List, [], ◌∷◌, ◌++◌, ap, append_assoc, filter, get_or, length, sym, take, ◌∙◌, inl, inr}
 use Rattle.std.specs.List.{flat_map}
 use Rattle.std.proofs.lemmas.Bool.{cases_Bool, false≢true}
+use Rattle.std.proofs.lemmas.List.{flat_map_more, take_more}
 use Rattle.std.proofs.lemmas.List.Elements.{All-cons, All-head, All-nil, All-tail}
 use Rattle.deb_relation.specs.Relationship.{AtomText}
 use Rattle.deb_index.specs.declared.constraint.Constraint.{Constraint}
@@ -20,6 +21,26 @@ use Rattle.deb_reasons.specs.Similar.{FitsWalk}
 use Rattle.deb_report.specs.Sought.{core_in}
 use Rattle.deb_health.specs.Shown.{IsAskedOf, shown_view}
 use Rattle.deb_causes.proofs.FirstOnes.{all-each}
+use Rattle.list_steps.proofs.ListLemmas.{filter_fails, filter_passes}
+
+-- those of one element more
+pub gathered_more : {A B : Type 0} (f : A → List B) (xs : List A) (i : ℕ) (d : A) (old new : List B) → i < length xs
+    → old ≡ flat_map f (take i xs) → new ≡ old ++ f (get_or xs i d) → new ≡ flat_map f (take (i + 1) xs)
+gathered_more f xs i d old new inside before grown =
+    grown ∙ ap (λ front. front ++ f (get_or xs i d)) before ∙ flat_map_more f [] (take i xs) (get_or xs i d) ∙ ap (flat_map f) (sym (take_more xs i d inside))
+
+-- those that pass, behind others, of one element more that passes, and of one that fails
+pub kept_more : {A : Type 0} (test : A → Bool) (xs : List A) (i : ℕ) (d : A) (start old new : List A) → i < length xs → old ≡ start ++ filter test (take i xs)
+    → test (get_or xs i d) ≡ true → new ≡ old ++ get_or xs i d ∷ [] → new ≡ start ++ filter test (take (i + 1) xs)
+kept_more test xs i d start old new inside before passes grown =
+    let one = get_or xs i d in
+    grown ∙ ap (λ front. front ++ one ∷ []) before ∙ append_assoc start (filter test (take i xs)) (one ∷ [])
+    ∙ ap (λ kept. start ++ kept) (sym (filter_passes test (take i xs) (take (i + 1) xs) one (take_more xs i d inside) passes))
+
+pub left_more : {A : Type 0} (test : A → Bool) (xs : List A) (i : ℕ) (d : A) (start old : List A) → i < length xs → old ≡ start ++ filter test (take i xs)
+    → test (get_or xs i d) ≡ false → old ≡ start ++ filter test (take (i + 1) xs)
+left_more test xs i d start old inside before fails =
+    before ∙ ap (λ kept. start ++ kept) (sym (filter_fails test (take i xs) (take (i + 1) xs) (get_or xs i d) (take_more xs i d inside) fails))
 
 -- what holds of those that are kept holds of each that passes
 all-kept : {A : Type 0} (test : A → Bool) (P : A → Type 0) (xs : List A) → All P (filter test xs) → All (λ x. test x ≡ true → P x) xs
@@ -63,7 +84,7 @@ module _ (index : IndexView) where
   core-within (place, Found places) within = All-nil (IsOfIndex index)
   core-within (place, Blocked core) within = within.1
 
-  abbrev final : Shown → List Constraint
+  abbrev pub final : Shown → List Constraint
   final one = cause_in index (core_in (shown_view one))
 
   pub final-within : (blocks : List Shown) → All (λ one. IsAskedOf index (shown_view one)) blocks → All (IsOfIndex index) (flat_map final blocks)
