@@ -79,7 +79,7 @@ wrong-known index cause more wrongs x texts new is firsts are grown shorter = by
 
 -- ---- needs by their positions
 
-both-needs : (index : IndexView) (xs ys : List Constraint) (k : ℕ) → is_need_at index (xs ++ ys) k ≡ (is_need_at index xs k || is_need_at index ys k)
+pub both-needs : (index : IndexView) (xs ys : List Constraint) (k : ℕ) → is_need_at index (xs ++ ys) k ≡ (is_need_at index xs k || is_need_at index ys k)
 both-needs index xs ys k = by (slice_get (constraints_of index) k)
   where
     parted : (a b c : Bool) → (a && (b || c)) ≡ ((a && b) || (a && c))
