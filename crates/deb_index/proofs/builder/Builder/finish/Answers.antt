@@ -1,8 +1,15 @@
-use Rattle.std.proofs.Common.{List, ℕ, [], ◌∙◌, ap, subst, sym, map}
+use Rattle.std.proofs.Common.{List, ℕ, [], ◌∙◌, ap, subst, sym, length, map, arith}
+use Rattle.std.proofs.lemmas.List.{length-map}
 use Rattle.deb_index.specs.declared.package.Package.{Package}
 use Rattle.deb_index.specs.Packages.{essential_names, package_view}
 use Rattle.deb_index.specs.Names.{IsNaming, provided_places}
 use Rattle.deb_index.proofs.builder.Builder.finish.Goals as goal
+
+pub add_provided-requires-clause-few : goal.add_provided-requires-clause-few
+add_provided-requires-clause-few c =
+    let packages = c.self.inside.draft.catalog.packages.items in
+    let counts = c.self.invariant.counts in
+    omega (arith, ap length c.deref-2.ensures.value, length-map packages package_view, counts.counted, counts.few)
 
 pub invariant_of-result : goal.invariant_of-result
 invariant_of-result c =

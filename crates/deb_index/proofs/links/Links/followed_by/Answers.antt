@@ -1,7 +1,8 @@
-use Rattle.std.proofs.Common.{◌≤◌, List, [], ◌∷◌, ◌+◌, ◌-◌, length, take, drop, subst, sym, arith}
+use Rattle.std.proofs.Common.{◌≡◌, ◌≤◌, List, [], ◌∷◌, ◌++◌, ◌+◌, ◌-◌, ◌∙◌, ap, length, map, refl, take, drop, subst, sym, arith}
 use Rattle.std.specs.List.{All}
 use Rattle.std.proofs.lemmas.List.{get_or-drop, take_all}
 use Rattle.deb_index.specs.declared.links.Start.{Start}
+use Rattle.deb_index.specs.Links.{start_behind}
 use Rattle.deb_index.proofs.links.Links.followed_by.Goals as goal
 
 -- what holds of all holds of those behind the first
@@ -22,3 +23,18 @@ push_behind-requires-clause-entries c =
     let P : Start → Type 0 = λ s. (s.group ≤ length more.groups) × (s.entry ≤ length more.entries) in
     let begun = all-behind P c.deref.result.now (subst (λ ss. All P ss) (sym c.deref.ensures.value) c.requires.begun) in
     λ k d less. omega (arith, (begun k d less).1, c.len-2.ensures, c.requires.entries)
+
+-- a list from its second element on
+behind-first : (xs : List Start) → take (length xs - 1) (drop 1 xs) ≡ drop 1 xs
+behind-first [] = refl
+behind-first (x ∷ xs) = take_all (length (x ∷ xs) - 1) xs (omega arith)
+
+pub returns : goal.returns
+returns c =
+    let old = c.args.self.starts.items in
+    let rest = behind-first c.deref.result.now ∙ ap (drop 1) c.deref.ensures.value in
+    record {
+      starts = c.in_default.ensures ∙ (λ i. old ++ map (start_behind (record { group = c.len.ensures i; entry = c.len-2.ensures i })) (rest i));
+      groups = c.in-Ok.ensures;
+      entries = c.in-Ok-followed_by.ensures;
+    }
