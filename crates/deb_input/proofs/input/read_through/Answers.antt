@@ -1,26 +1,31 @@
-use Rattle.std.proofs.Common.{arith, rules, refl, ◌≡◌}
+use Rattle.std.proofs.Common.{◌∙◌, ap, arith, length, refl, rules}
+use Rattle.std.proofs.lemmas.Result.{err_from_is_err_and}
 use Rattle.deb_input.proofs.DeviceLemmas.{consumes_nothing, consumes_more, consumes_last, consumes_over}
 use Rattle.deb_input.proofs.input.read_through.Goals as goal
 
 pub reads-init : goal.reads-init
-reads-init g c = (rw c.new-bytes.ensures.items (consumes_nothing _), refl, search rules)
+reads-init g c = (rw c.new-bytes.ensures.items (consumes_nothing _), refl, omega (arith, ap length c.new-bytes.ensures.items))
 
 pub returns-in-Ok-eq0-clause-bytes : goal.returns-in-Ok-eq0-clause-bytes
-returns-in-Ok-eq0-clause-bytes g c =
-    let none : c.in-Ok-eq0.field-0 ≡ 0 = search rules in
-    consumes_last _ _ _ _ _ _ c.reads.invariant.0 none c.in-Ok-eq0.ensures.bytes.0
+returns-in-Ok-eq0-clause-bytes g c = consumes_last _ _ _ _ _ _ c.reads.invariant.0 c.in-Ok-eq0.field-0-test c.in-Ok-eq0.ensures.bytes.0
 
 pub returns-in-Ok-eq0-clause-end : goal.returns-in-Ok-eq0-clause-end
-returns-in-Ok-eq0-clause-end g c =
-    let none : c.in-Ok-eq0.field-0 ≡ 0 = search rules in
-    c.in-Ok-eq0.ensures.bytes.1 none (search rules)
+returns-in-Ok-eq0-clause-end g c = c.in-Ok-eq0.ensures.bytes.1 c.in-Ok-eq0.field-0-test (search rules)
 
 pub reads-preserved : goal.reads-preserved
 reads-preserved g c =
-    (rw (c.in_ok-extend_from_slice-in-Ok.ensures.items) (consumes_more _ _ _ _ _ c.reads.invariant.0 c.in-Ok.ensures.bytes.0), search rules, search rules)
+    (rw (c.in_ok-extend_from_slice-in-Ok.ensures.items) (consumes_more _ _ _ _ _ c.reads.invariant.0 c.in-Ok.ensures.bytes.0), c.in-Ok.ensures.kept ∙ c.reads.invariant.1, search rules)
 
 pub returns-clause-refused : goal.returns-clause-refused
-returns-clause-refused g c = (search rules, consumes_over _ _ _ _ c.reads.invariant.0 (search rules))
+returns-clause-refused g c = (c.reads.invariant.1, consumes_over _ _ _ _ c.reads.invariant.0 (omega arith))
 
 pub returns-clause-over : goal.returns-clause-over
 returns-clause-over g c = (c.reads.bytes.items, omega arith, c.reads.invariant.0)
+
+pub returns-in-Err-clause-refused : goal.returns-in-Err-clause-refused
+returns-in-Err-clause-refused g c = c.in-Err.ensures.failed
+
+pub returns-in_err-extend_from_slice-in-Ok-clause-refused : goal.returns-in_err-extend_from_slice-in-Ok-clause-refused
+returns-in_err-extend_from_slice-in-Ok-clause-refused g c =
+    let p = err_from_is_err_and c.from_residual.result c.from_residual.ensures.1 in
+    rw (p.1, p.2) (c.in-Ok.ensures.kept ∙ c.reads.invariant.1)
