@@ -104,3 +104,13 @@ document-of head first second numbers lists others =
   where
     whole : (a b c d : List ℕ) → (((((codes "{" ++ a) ++ []) ++ b) ++ codes ",") ++ c) ++ d ≡ codes "{" ++ (a ++ (b ++ (codes "," ++ (c ++ d))))
     whole a b c d = simp append_assoc
+
+-- ---- steps
+
+-- what was added, told otherwise, behind what stood before it
+pub added : {now was start one told : List ℕ} → now ≡ was ++ one → was ≡ start → one ≡ told → now ≡ start ++ told
+added is before same = is ∙ ap₂ (λ front back. front ++ back) before same
+
+-- likewise behind a lead
+pub added_behind : (lead : List ℕ) {now was start one told : List ℕ} → now ≡ (was ++ lead) ++ one → was ≡ start → one ≡ told → now ≡ (start ++ lead) ++ told
+added_behind lead is before same = is ∙ ap₂ (λ front back. (front ++ lead) ++ back) before same
