@@ -94,3 +94,9 @@ join+arg3-crew_told-requires-sync-F g t c κs within = c.requires.1
 
 pub join+arg3-crew_told-requires-sync-G : goal.join+arg3-crew_told-requires-sync-G
 join+arg3-crew_told-requires-sync-G g t c κs within = c.requires.2
+
+pub fn::crew_told::join+arg2+FnOnce::call_once-returns : goal.fn::crew_told::join+arg2+FnOnce::call_once-returns
+fn::crew_told::join+arg2+FnOnce::call_once-returns g t c = c.join+arg2.ensures
+
+pub fn::crew_told::join+arg3+FnOnce::call_once-returns : goal.fn::crew_told::join+arg3+FnOnce::call_once-returns
+fn::crew_told::join+arg3+FnOnce::call_once-returns g t c = c.join+arg3.ensures
