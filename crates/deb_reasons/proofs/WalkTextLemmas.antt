@@ -1,13 +1,14 @@
 -- What a walk tells, step by step.
-use Rattle.std.proofs.Common.{◌≡◌, ℕ, zero, suc, ◌+◌, ◌-◌, ◌<◌, ◌≤◌, List, [], ◌∷◌, ◌++◌, length, reverse, append-nil, refl, sym, ap, ◌∙◌, arith}
+use Rattle.std.proofs.Common.{◌≡◌, ℕ, zero, suc, ◌+◌, ◌-◌, ◌<◌, ◌≤◌, List, [], ◌∷◌, ◌++◌, length, reverse, append-nil, refl, sym, ap, ◌∙◌, arith, codes}
 use Rattle.std.proofs.lemmas.List.{append_assoc}
-use Rattle.number_sets.specs.Sets.{NumberSet}
+use Rattle.number_sets.specs.Sets.{NumberSet, members_of}
 use Rattle.deb_index.specs.declared.constraint.Constraint.{Constraint}
 use Rattle.deb_index.specs.Packages.{IndexView}
 use Rattle.deb_walk.specs.declared.walk.Step.{Step}
-use Rattle.deb_walk.specs.Walk.{steps_behind, told_behind, walk}
+use Rattle.deb_walk.specs.Walk.{comers, first_steps, step_limit, steps_behind, told_behind, walk}
 use Rattle.deb_walk.proofs.WalkLemmas.{next_is}
-use Rattle.deb_reasons.specs.WalkLines.{step_text, walk_text}
+use Rattle.deb_reasons.specs.Reasons.{line}
+use Rattle.deb_reasons.specs.WalkLines.{step_text, walk_lines, walk_text}
 
 -- with no step left nothing is told
 pub walk_none : (count : ℕ) (index : IndexView) (core : List Constraint) (coming : NumberSet) (told : List ℕ) → walk_text count index core coming told [] ≡ []
@@ -45,3 +46,11 @@ unfolding walk
 run_out index core coming told limit counter out total steps over before =
     let none : limit - counter ≡ zero = omega arith in
     sym (append-nil out) ∙ (rw none at before)
+
+-- the steps of a core, as they are gone under the title, are its lines
+pub told_whole : (index : IndexView) (place : ℕ) (core held : List Constraint) (coming : NumberSet) (steps : List Step) (start under new : List ℕ)
+    → held ≡ core → coming ≡ members_of (comers index core place) → steps ≡ first_steps core place → under ≡ start ++ line (codes "  why:") []
+    → new ≡ under ++ walk_text step_limit index held coming [] steps → new ≡ start ++ walk_lines index place core
+unfolding walk_lines
+told_whole index place core held coming steps start under new same comes first title is =
+    rw (is, title, first, comes, same) (append_assoc start (line (codes "  why:") []) (walk_text step_limit index core (members_of (comers index core place)) [] (first_steps core place)))

@@ -1,5 +1,6 @@
 use Rattle.std.proofs.Common.{◌≡◌, ◌+◌, ◌++◌, ◌∙◌, suc, ap, append-nil, append_assoc, arith, codes, sym}
-use Rattle.deb_reasons.specs.WalkLines.{blanks}
+use Rattle.deb_reasons.specs.WalkLines.{blanks, lead}
+use Rattle.deb_reasons.proofs.TextLemmas.{last_pushed}
 use Rattle.deb_reasons.proofs.walk_lines.push_lead.Goals as goal
 
 pub loop-init : goal.loop-init
@@ -11,3 +12,11 @@ unfolding blanks
 loop-preserved c =
     let next : c.loop.counter + 1 ≡ suc c.loop.counter = omega arith in
     rw next (c.in_ok-extend_from_slice.ensures.items ∙ ap (λ front. front ++ codes "  ") c.loop.invariant ∙ append_assoc c.args.out.now.items (blanks c.loop.counter) (codes "  "))
+
+pub returns : goal.returns
+unfolding lead
+returns c =
+    let out = c.args.out.now.items in
+    let all : c.loop.counter ≡ c.args.depth = omega arith in
+    last_pushed c.extend_from_slice-2.result _ c.loop.out.items (codes "   - ") _ c.extend_from_slice-2.ensures.items
+    (ap (λ front. front ++ codes "   - ") (c.loop.invariant ∙ ap (λ count. out ++ blanks count) all) ∙ append_assoc out (blanks c.args.depth) (codes "   - "))

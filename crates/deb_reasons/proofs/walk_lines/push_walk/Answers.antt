@@ -4,6 +4,8 @@ use Rattle.deb_index.specs.Constraints.{IsOfIndex}
 use Rattle.deb_walk.specs.Walk.{IsStepOf, first_steps}
 use Rattle.deb_walk.proofs.WalkLemmas.{first-within}
 use Rattle.deb_reasons.specs.Similar.{FitsWalk}
+use Rattle.deb_reasons.proofs.TextLemmas.{last_call}
+use Rattle.deb_reasons.proofs.WalkTextLemmas.{told_whole}
 use Rattle.deb_reasons.proofs.walk_lines.push_walk.Goals as goal
 
 pub comers-requires : goal.comers-requires
@@ -18,3 +20,9 @@ go_from-requires-clause-steps c =
     let fits = FitsWalk index c.args.similar.now in
     All-same (IsStepOf index fits) c.in_ok-first.first.items (first_steps core c.args.place) c.in_ok-first.ensures
     (first-within index fits core c.args.place c.requires.place (λ (one : Constraint) it. it.of_index) c.requires.core)
+
+pub returns : goal.returns
+returns c =
+    last_call c.go_from.result c.go_from.ensures (λ is.
+    told_whole c.args.index.now c.args.place c.args.core.now _ _ c.in_ok-first.first.items c.args.out.now.items c.push_line.new.out.items c.go_from.new.out.items
+    c.in_ok-table.ensures c.in_ok-coming.ensures c.in_ok-first.ensures c.in_ok-push_line.ensures is)
