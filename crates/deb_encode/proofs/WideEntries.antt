@@ -112,7 +112,14 @@ wide_whole index places i before after past adds =
 -- ---- a run of entries of one atom
 
 module _ (index : IndexView) (entries : List Entry) (start : ℕ) where
-  pub run_more : (end : ℕ) (before after : List ℕ) → start < end → apart_at index (entry_at entries end).place (entry_at entries end).number ≡ apart_at index (entry_at entries start).place (entry_at entries start).number
+  pub run_none : IsRun index entries start start []
+  run_none = record {
+    one_atom = λ k from below. absurd (omega (arith, from, below));
+    owned = λ k from below. absurd (omega (arith, from, below));
+    only = λ q never. absurd (false≢true never);
+  }
+
+  pub run_more : (end : ℕ) (before after : List ℕ) → start ≤ end → apart_at index (entry_at entries end).place (entry_at entries end).number ≡ apart_at index (entry_at entries start).place (entry_at entries start).number
       → after ≡ before ++ (entry_at entries end).place ∷ [] → IsRun index entries start end before → IsRun index entries start (end + 1) after
   run_more end before after past same after_is run =
       let place : ℕ = (entry_at entries end).place in
