@@ -7,66 +7,61 @@ ghost use Rattle.deb_input.specs.declared.fault.RunFault.TheVariants.{Memory};
 use crate::strict::Slip;
 use deb_index::IndexError;
 use std::alloc::{AllocError, AllocFailed, Global};
-use std::error::Error;
-use std::fmt::{self, Display, Formatter, Write};
+use thiserror::Error;
 
 /// Why there is no report, or no whole one. The first cause in this order is told, but for those of the names that are asked, which go before all
 /// others, and for want of memory, which may come at any time before writing.
-#[derive(Debug, Drop)]
+#[derive(Debug, Drop, Error)]
 pub enum RunFault {
     /// The reader failed.
+    #[error("cannot read the index")]
     Read,
     /// The text has more than `deb_index::TEXT_LIMIT` bytes.
+    #[error("the index is too long")]
     TooLong,
     /// The reader of the background failed.
+    #[error("cannot read the background")]
     BackgroundRead,
     /// The background has more than `deb_index::TEXT_LIMIT` bytes.
+    #[error("the background is too long")]
     BackgroundTooLong,
     /// The reader of the earlier index failed.
+    #[error("cannot read the earlier index")]
     EarlierRead,
     /// The earlier index has more than `deb_index::TEXT_LIMIT` bytes.
+    #[error("the earlier index is too long")]
     EarlierTooLong,
     /// The file of the names that are asked can't be opened, or its reader failed.
+    #[error("cannot read the names")]
     NamesRead,
     /// It has more than `deb_index::TEXT_LIMIT` bytes.
+    #[error("the names are too many")]
     NamesTooLong,
     /// A line of it is no package name: the first such line, counted from 1.
+    #[error("names: line {line}: bad name")]
     BadNameLine { line: u64 },
     /// A stanza of the index has a fault: the first that has one. Never want of memory, which is `Memory`.
+    #[error("{0}")]
     Index(IndexError),
     /// A stanza of the background has a fault: the first that has one, counted from 1 in the background. Never want of memory.
+    #[error("background: {0}")]
     Background(IndexError),
     /// A stanza of the earlier index has a fault: the first that has one. Never want of memory.
+    #[error("earlier index: {0}")]
     Earlier(IndexError),
     /// No package of the index has this name, whatever the background has: the first such name of those that were asked.
+    #[error("unknown package")]
     UnknownAsked { name: Vec<u8> },
     /// Nothing is asked of the index, or nothing that is in it, and the run is strict.
+    #[error("nothing is asked of the index")]
     Slipped(Slip),
     /// Some growth was refused.
+    #[error("out of memory")]
     Memory,
     /// The writer failed, or took no byte: a front of the report was written.
+    #[error("cannot write the report")]
     Write,
 }
-
-impl Display for RunFault {
-    fn fmt<W: Write>(&self, f: &mut Formatter<W>) -> fmt::Result {
-        let front = match self {
-            RunFault::UnknownAsked { .. } => "unknown package",
-            RunFault::Slipped(_) => "nothing is asked of the index",
-            fault => front_of(fault),
-        };
-        f.write_str(front)?;
-        match self {
-            RunFault::BadNameLine { line } => write!(f, "{line}: bad name"),
-            RunFault::Index(fault) | RunFault::Background(fault) | RunFault::Earlier(fault) => {
-                fault.fmt(f)
-            }
-            _ => Ok(()),
-        }
-    }
-}
-
-impl Error for RunFault {}
 
 impl From<AllocError> for RunFault {
     ghost from_gives = { λ _ e. e ≡ Memory };
@@ -126,38 +121,38 @@ fn push_index_fault(alloc: Global, out: &mut Vec<u8>, fault: &IndexError) -> Res
 }
 
 #[tactic(auto, unfolding(crate::specs::Faults::slip_text))]
-fn slip_text(slip: Slip) -> &'static str
+fn slip_text(slip: Slip) -> &'static [u8]
     ensures { result.now ≡ slip_text slip }
 {
     match slip {
-        Slip::NoStanza => "the index is empty",
-        Slip::OtherArchitectures => "no stanza is of this architecture or of all",
-        Slip::NothingAsked => "nothing is asked",
+        Slip::NoStanza => b"the index is empty",
+        Slip::OtherArchitectures => b"no stanza is of this architecture or of all",
+        Slip::NothingAsked => b"nothing is asked",
     }
 }
 
 // The front of what is said of a fault: all of it but for numbers, names and faults of stanzas, and what stands behind them.
 #[tactic(auto, unfolding(crate::specs::Faults::fault_text))]
-fn front_of(fault: &RunFault) -> &'static str
+fn front_of(fault: &RunFault) -> &'static [u8]
     ensures { fault_text fault.now ≡ result.now ++ rest_text fault.now }
 {
     match fault {
-        RunFault::Read => "cannot read the index",
-        RunFault::TooLong => "the index is too long",
-        RunFault::BackgroundRead => "cannot read the background",
-        RunFault::BackgroundTooLong => "the background is too long",
-        RunFault::EarlierRead => "cannot read the earlier index",
-        RunFault::EarlierTooLong => "the earlier index is too long",
-        RunFault::NamesRead => "cannot read the names",
-        RunFault::NamesTooLong => "the names are too many",
-        RunFault::BadNameLine { .. } => "names: line ",
-        RunFault::Index(_) => "",
-        RunFault::Background(_) => "background: ",
-        RunFault::Earlier(_) => "earlier index: ",
-        RunFault::UnknownAsked { .. } => "unknown package ",
+        RunFault::Read => b"cannot read the index",
+        RunFault::TooLong => b"the index is too long",
+        RunFault::BackgroundRead => b"cannot read the background",
+        RunFault::BackgroundTooLong => b"the background is too long",
+        RunFault::EarlierRead => b"cannot read the earlier index",
+        RunFault::EarlierTooLong => b"the earlier index is too long",
+        RunFault::NamesRead => b"cannot read the names",
+        RunFault::NamesTooLong => b"the names are too many",
+        RunFault::BadNameLine { .. } => b"names: line ",
+        RunFault::Index(_) => b"",
+        RunFault::Background(_) => b"background: ",
+        RunFault::Earlier(_) => b"earlier index: ",
+        RunFault::UnknownAsked { .. } => b"unknown package ",
         RunFault::Slipped(slip) => slip_text(*slip),
-        RunFault::Memory => "out of memory",
-        RunFault::Write => "cannot write the report",
+        RunFault::Memory => b"out of memory",
+        RunFault::Write => b"cannot write the report",
     }
 }
 
@@ -182,7 +177,7 @@ fn push_rest(alloc: Global, out: &mut Vec<u8>, fault: &RunFault) -> Result<(), A
 fn push_fault(alloc: Global, out: &mut Vec<u8>, fault: &RunFault) -> Result<(), AllocError>
     ensures { OnOk result (out.new.items ≡ out.old.items ++ fault_text fault.now) }
 {
-    out.extend_from_slice(front_of(fault).as_bytes())?;
+    out.extend_from_slice(front_of(fault))?;
     push_rest(alloc, out, fault)
 }
 
