@@ -1,7 +1,9 @@
 -- Places that come to a list one by one.
-use Rattle.std.proofs.Common.{◌≡◌, ℕ, zero, suc, ◌+◌, ◌<◌, ◌≤◌, Bool, true, false, ◌||◌, eqb, List, All, [], ◌∷◌, ◌++◌, length, get_or, sym, ◌∙◌, ap, refl, inl, inr, ◌⊎◌, arith}
+use Rattle.std.proofs.Common.{◌≡◌, ℕ, zero, suc, ◌+◌, ◌<◌, ◌≤◌, Bool, true, false, ◌||◌, eqb, List, All, [], ◌∷◌, ◌++◌, length, get_or, Option, Some, None, sym, ◌∙◌, ap, refl, inl, inr, ◌⊎◌, arith}
+use Rattle.std.specs.Prelude.{IfNone}
+use Rattle.std.specs.Option.{IsSome}
 use Rattle.std.specs.List.Sorted.{IsStrictlyIncreasing}
-use Rattle.std.proofs.lemmas.Bool.{cases_lt, or_cases, or_left, or_right, eqb-true, eq-eqb}
+use Rattle.std.proofs.lemmas.Bool.{cases_lt, false≢true, or_cases, or_left, or_right, eqb-true, eq-eqb}
 use Rattle.std.proofs.lemmas.List.Folds.{list_any-append}
 use Rattle.number_sets.specs.Sets.{members_of, positions_of}
 use Rattle.deb_encode.specs.Play.{placed}
@@ -21,6 +23,12 @@ rising_length numbers bound rising below = count_le numbers bound rising below (
 pub same_below : (numbers same : List ℕ) (bound : ℕ) → ((q : ℕ) → members_of same q ≡ members_of numbers q) → All (λ number. number < bound) numbers → All (λ number. number < bound) same
 same_below numbers same bound are below =
     below_members same bound (λ q is_in. (let at = members_of_at numbers q (sym (are q) ∙ is_in) in omega (arith, below at.0 0 at.1, at.2)))
+
+-- a number that is there has a position
+pub position_found : (numbers : List ℕ) (number : ℕ) (position : Option ℕ) → IfNone position (members_of numbers number ≡ false)
+    → members_of numbers number ≡ true → IsSome position
+position_found numbers number (Some k) none is_in = refl
+position_found numbers number None none is_in = absurd (false≢true (sym none ∙ is_in))
 
 module _ (places : List ℕ) (place q : ℕ) where
   or_nothing : (b : Bool) → (b || false) ≡ b

@@ -1,5 +1,5 @@
 -- The constraints at positions of the list, and the first positions that admit none.
-use Rattle.std.proofs.Common.{◌≡◌, ℕ, ◌+◌, ◌-◌, ◌^◌, ◌<◌, ◌≤◌, true, ltb, List, [], ◌∷◌, ◌++◌, length, get_or, take, map, All, Some, slice_get, Result, Ok, Err, IfOk, refl, sym, ◌∙◌, ap, arith}
+use Rattle.std.proofs.Common.{◌≡◌, ℕ, ◌+◌, ◌-◌, ◌^◌, ◌<◌, ◌≤◌, true, ltb, List, [], ◌∷◌, ◌++◌, length, get_or, take, map, All, Some, slice_get, refl, sym, ◌∙◌, ap, arith}
 use Rattle.std.specs.Prelude.{sum_by}
 use Rattle.std.proofs.lemmas.Bool.{and_parts, and_from, ltb-true, lt-ltb}
 use Rattle.std.proofs.lemmas.List.{take_more, map-append, get_or-map, length-map}
@@ -65,11 +65,6 @@ module _ (index : IndexView) (p : ℕ) where
     within = λ k is_used. without_within out part k (refuted.within k is_used);
     fails = admits_none_upward index p used (without out used) (λ k is_used. without_has out used k is_used (without_left out part k (refuted.within k is_used))) refuted.fails;
   }
-
--- what holds of an answer that is there, and what follows from it
-pub if_ok_more : {T E : Type 0} (result : Result T E) (P Q : T → Type 0) → ((x : T) → P x → Q x) → IfOk result P → IfOk result Q
-if_ok_more (Ok x) P Q more holds = more x holds
-if_ok_more (Err e) P Q more holds = holds
 
 -- one constraint more of those at a list of numbers
 pub named_more : (constraints : List Constraint) (numbers : List ℕ) (core core_then : List Constraint) (i : ℕ) (constraint : Constraint) → i < length numbers

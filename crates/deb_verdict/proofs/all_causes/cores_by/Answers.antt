@@ -1,7 +1,7 @@
-use Rattle.std.proofs.Common.{◌≡◌, ℕ, List, [], ◌∷◌, Vec, Global, All, Some, slice_get, map, refl, sym, subst}
+use Rattle.std.proofs.Common.{◌≡◌, ℕ, List, [], ◌∷◌, Vec, Global, All, Some, slice_get, map, refl, sym, subst, arith}
 use Rattle.std.specs.List.Sorted.{IsStrictlyIncreasing}
 use Rattle.std.proofs.lemmas.List.{map-append}
-use Rattle.std.proofs.lemmas.List.Elements.{All-push}
+use Rattle.std.proofs.lemmas.List.Elements.{All-nil, All-push}
 use Rattle.deb_index.specs.declared.constraint.Constraint.{Constraint}
 use Rattle.deb_index.specs.Constraints.{IsOfIndex, constraints_of}
 use Rattle.deb_index.proofs.ConstraintLemmas.{constraints-within}
@@ -98,3 +98,13 @@ returns-clause-cores c =
 
 pub returns-clause-within : goal.returns-clause-within
 returns-clause-within c = c.loop-out.invariant.within
+
+pub loop-out-init : goal.loop-out-init
+loop-out-init c =
+    rw (c.new-out.ensures.items, c.new-cores.ensures.items)
+    (record {
+      rising = λ k never. absurd (omega (arith, never));
+      told = c.requires.formula;
+      found = record { positions = []; further = λ later are. are; stand_there = refl };
+      within = All-nil (λ (core : Vec Constraint Global). All (IsOfIndex c.args.groundwork.now.index.now) core.items);
+    })

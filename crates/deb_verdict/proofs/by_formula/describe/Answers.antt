@@ -1,6 +1,8 @@
-use Rattle.std.proofs.Common.{◌≡◌, ◌∙◌, ℕ, List, [], All, Some, length, map, slice_get, sym, ap, subst, refl, arith}
+use Rattle.std.proofs.Common.{◌≡◌, ◌∙◌, ℕ, ◌<◌, List, [], All, Some, length, map, slice_get, sym, ap, subst, true, refl, arith}
 use mathlib.Core.Path.{fun_ext}
-use Rattle.std.proofs.lemmas.Option.{slice_get_within}
+use Rattle.std.specs.List.Sorted.{IsStrictlyIncreasing}
+use Rattle.std.proofs.lemmas.List.Elements.{All-nil}
+use Rattle.std.proofs.lemmas.Option.{none-some, slice_get_within}
 use Rattle.deb_index.specs.declared.constraint.Constraint.{Constraint}
 use Rattle.deb_index.specs.Packages.{IndexView}
 use Rattle.deb_index.specs.Constraints.{IsOfIndex, constraints_of}
@@ -9,7 +11,7 @@ use Rattle.number_sets.specs.Sets.{NumberSet, members_of, IsWithin}
 use Rattle.sat_solve.specs.Clauses.{Clauses}
 use Rattle.deb_encode.proofs.AddSteps.{below_moved}
 use Rattle.deb_verdict.specs.Closure.{IsClosed, kept}
-use Rattle.deb_verdict.proofs.Inserted.{same_below}
+use Rattle.deb_verdict.proofs.Inserted.{position_found, same_below}
 use Rattle.deb_verdict.proofs.Settled.{tells_moved, IsOfClosure, told_refuted, told_admitted}
 use Rattle.deb_verdict.proofs.Encoded.{sizes}
 use Rattle.deb_verdict.proofs.Whole.{named_all}
@@ -31,6 +33,25 @@ count_of-requires-clause-within c =
 
 pub new-play-requires-clause-candidates_within : goal.new-play-requires-clause-candidates_within
 new-play-requires-clause-candidates_within c = same_below c.reach.new.members c.sort.new.self _ c.sort.ensures.same c.in_ok-reach.ensures.within
+
+pub count_of-requires-clause-rising : goal.count_of-requires-clause-rising
+count_of-requires-clause-rising c =
+    let Rising : List ℕ → Type 0 = λ list. IsStrictlyIncreasing list in
+    subst Rising (sym c.as_slice-members.ensures) c.sort.ensures.rising
+
+pub new-play-requires-clause-rising : goal.new-play-requires-clause-rising
+new-play-requires-clause-rising c = c.sort.ensures.rising
+
+pub new-play-requires-clause-forced_within : goal.new-play-requires-clause-forced_within
+new-play-requires-clause-forced_within c =
+    below_moved c.clear.new.self.members [] _ _ c.clear.ensures.members refl (All-nil (λ q. q < length c.args.index.now.packages))
+
+pub new-play-requires-clause-alone : goal.new-play-requires-clause-alone
+new-play-requires-clause-alone c = λ number never. absurd (none-some true never)
+
+pub unwrap-must-requires : goal.unwrap-must-requires
+unwrap-must-requires c =
+    position_found c.sort.new.self c.args.p c.position_of.result c.position_of.ensures.none (c.sort.ensures.same c.args.p ∙ c.in_ok-reach.ensures.least.0.start)
 
 pub encode_each-requires-clause-empty : goal.encode_each-requires-clause-empty
 encode_each-requires-clause-empty c =

@@ -25,3 +25,6 @@ loop-position-preserved c =
 
 pub returns : goal.returns
 returns c = c.loop-position.invariant.0 ∙ ap (map (positions_in c.args.part.now)) (take_whole c.args.positions.now c.loop-position.position-index c.loop-position-test.false)
+
+pub new-out-requires : goal.new-out-requires
+new-out-requires c = c.args.part.now.out_rising

@@ -1,6 +1,7 @@
-use Rattle.std.proofs.Common.{◌≡◌, ℕ, List, Bool, Option, Some, None, true, false, map, refl, sym, ◌∙◌, ap, subst}
+use Rattle.std.proofs.Common.{◌≡◌, ℕ, List, Bool, Option, Some, None, true, false, length, map, refl, sym, ◌∙◌, ap, subst}
 use Rattle.std.specs.Prelude.{is_some, IfSome, IfNone}
 use Rattle.std.proofs.lemmas.Bool.{false≢true, true≢false}
+use Rattle.std.proofs.lemmas.List.{length-map}
 use Rattle.number_sets.specs.Sets.{NumberSet, members_of}
 use Rattle.sat_solve.specs.Clauses.{IsTrueSet, AreWithin}
 use Rattle.deb_verdict.specs.Formulas.{IsChosen}
@@ -15,6 +16,21 @@ some_there None P never holds = absurd (false≢true never)
 none_there : {T : Type 0} (o : Option T) (Q : Type 0) → is_some o ≡ false → IfNone o Q → Q
 none_there (Some x) Q never holds = absurd (true≢false never)
 none_there None Q is holds = holds
+
+pub solve_marked-requires-clause-keep : goal.solve_marked-requires-clause-keep
+solve_marked-requires-clause-keep c =
+    let part : NumberSet = positions_in c.args.part.now in
+    ap length (c.deref-2.ensures.value ∙ (c.in_ok-mark_kept.ensures ∙ ap (map part) c.deref.ensures.value))
+    ∙ (length-map c.args.described.now.positions.items part ∙ sym c.args.described.now.groups)
+
+pub take_marked-requires : goal.take_marked-requires
+take_marked-requires c =
+    let part : NumberSet = positions_in c.args.part.now in
+    let sized = none_there c.in_ok-found.found _ (sym c.is_some-admits.ensures ∙ c.if-admits.false) c.in_ok-found.ensures.sized in
+    ap length c.deref-4.ensures.value
+    ∙ (sized
+    ∙ (ap length (c.deref-2.ensures.value ∙ (c.in_ok-mark_kept.ensures ∙ ap (map part) c.deref.ensures.value))
+    ∙ (length-map c.args.described.now.positions.items part ∙ ap length (sym c.deref-3.ensures.value))))
 
 pub returns-then-admits-clause-admitted : goal.returns-then-admits-clause-admitted
 returns-then-admits-clause-admitted c = λ is.

@@ -24,3 +24,12 @@ returns c =
     (subst Of (sym c.deref-2.ensures.value) (unmet_of c.args.groundwork.now.index.now c.args.forced.now c.args.candidates.now c.requires.gathered))
     c.in_ok-add_essentials.ensures.adds c.in_ok-add_needs.ensures.adds c.in_ok-add_narrow.ensures.adds c.in_ok-add_wide.ensures.adds adds
     _ (search rules)) c.add_versions.ensures.adds
+
+pub new-play-requires-clause-forced_within : goal.new-play-requires-clause-forced_within
+new-play-requires-clause-forced_within c = c.requires.forced_within
+
+pub new-play-requires-clause-candidates_within : goal.new-play-requires-clause-candidates_within
+new-play-requires-clause-candidates_within c = c.requires.gathered.within
+
+pub new-play-requires-clause-rising : goal.new-play-requires-clause-rising
+new-play-requires-clause-rising c = c.requires.gathered.rising

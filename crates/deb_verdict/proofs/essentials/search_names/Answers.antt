@@ -15,3 +15,6 @@ search_each-requires-clause-places c =
     let name : ℕ = get_or c.essential_names-name-items.result.now c.loop-name.name-index 0 in
     All-same (λ place. place < count) c.places_named-places.result.now (places_of c.args.groundwork.now.index.now (name_at c.args.groundwork.now.index.now name)) c.places_named-places.ensures
     (named_below c.args.groundwork.now.index.now (name_at c.args.groundwork.now.index.now name))
+
+pub search_each-requires-clause-hopeless : goal.search_each-requires-clause-hopeless
+search_each-requires-clause-hopeless c = c.loop-name.invariant

@@ -1,6 +1,11 @@
-use Rattle.std.proofs.Common.{ℕ, List}
-use Rattle.number_sets.specs.Sets.{members_of}
+use Rattle.std.proofs.Common.{ℕ, List, sym, subst, ◌∙◌, arith}
+use Rattle.std.specs.List.Sorted.{IsStrictlyIncreasing}
+use Rattle.deb_index.specs.Packages.{IndexView}
+use Rattle.number_sets.specs.Sets.{all_of, members_of}
+use Rattle.deb_health.specs.Causes.{without}
+use Rattle.deb_groundwork.specs.Needed.{AreNeeded}
 use Rattle.number_sets.proofs.ListMembers.{below_members}
+use Rattle.deb_verdict.specs.Formulas.{Tells}
 use Rattle.deb_verdict.proofs.Whole.{first_in_list}
 use Rattle.deb_verdict.proofs.first_core.first_positions.Goals as goal
 
@@ -11,3 +16,35 @@ pub returns-clause-within : goal.returns-clause-within
 returns-clause-within c =
     let positions : List ℕ = c.in_ok-positions.positions.items in
     below_members positions _ (first_in_list c.args.groundwork.now.index.now c.args.p (members_of c.args.out.now) (members_of positions) c.in_ok-positions.ensures.first)
+
+pub invariant_of-question : goal.invariant_of-question
+invariant_of-question c =
+    let Rising : List ℕ → Type 0 = λ list. IsStrictlyIncreasing list in
+    let Needed : List ℕ → Type 0 = λ list. AreNeeded c.args.groundwork.now.index.now c.args.p (without (members_of c.args.out.now) all_of) list in
+    record {
+      place = c.requires.place;
+      rising = c.requires.rising;
+      needed_rising = subst Rising (sym c.deref.ensures.value) c.in_ok-needed.ensures.rising;
+      all_needed = subst Needed (sym c.deref.ensures.value) c.in_ok-needed.ensures.needed;
+      used_rising = subst Rising (sym c.new.ensures.items) (λ k never. absurd (omega (arith, never)));
+      told = λ x is. c.requires.formula x (sym c.take.ensures.value ∙ is);
+    }
+
+pub invariant_of-question-in_err-positions : goal.invariant_of-question-in_err-positions
+invariant_of-question-in_err-positions c =
+    let before = c.first_failing.new.question in
+    record {
+      place = before.place;
+      rising = before.rising;
+      needed_rising = before.needed_rising;
+      all_needed = before.all_needed;
+      used_rising = before.used_rising;
+      told = before.told;
+    }
+
+pub returns-clause-formula : goal.returns-clause-formula
+returns-clause-formula c = λ x is.
+    let asked = c.first_failing.new.question in
+    let kept = c.in_ok-positions.ensures.kept in
+    subst (λ (index : IndexView). Tells index c.args.p x) kept.0
+    (subst (λ (p : ℕ). Tells asked.groundwork.now.index.now p x) kept.1 (asked.told x (sym c.swap.ensures.x_after ∙ is)))

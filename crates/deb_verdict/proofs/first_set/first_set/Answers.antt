@@ -1,15 +1,30 @@
-use Rattle.std.proofs.Common.{◌≡◌, ℕ, List, Some, length, slice_get, ◌∙◌, ap, refl, arith}
+use Rattle.std.proofs.Common.{◌≡◌, ℕ, List, Some, length, slice_get, ◌∙◌, ap, subst, sym, refl, arith}
+use Rattle.std.specs.List.Sorted.{IsStrictlyIncreasing}
 use Rattle.std.proofs.lemmas.Option.{slice_get_within}
 use Rattle.number_sets.specs.Sets.{members_of}
 use Rattle.deb_encode.specs.Play.{placed}
 use Rattle.deb_encode.proofs.AddSteps.{below_moved}
-use Rattle.deb_verdict.proofs.Inserted.{placed_below}
+use Rattle.deb_verdict.proofs.Inserted.{placed_below, position_found}
 use Rattle.deb_verdict.proofs.FirstSet.{first_answer, no_answer, vars_below}
 use Rattle.deb_verdict.proofs.GatherLemmas.{enough}
 use Rattle.deb_verdict.proofs.first_set.first_set.Goals as goal
 
 pub count_of-count-requires-clause-within : goal.count_of-count-requires-clause-within
 count_of-count-requires-clause-within c = below_moved c.as_slice.result.now c.gather.new.self.places _ _ c.as_slice.ensures refl c.in_ok-gather.ensures.gathered.within
+
+pub count_of-count-requires-clause-rising : goal.count_of-count-requires-clause-rising
+count_of-count-requires-clause-rising c =
+    let Rising : List ℕ → Type 0 = λ list. IsStrictlyIncreasing list in
+    subst Rising (sym c.as_slice.ensures) c.in_ok-gather.ensures.gathered.rising
+
+pub gather-requires-clause-forced : goal.gather-requires-clause-forced
+gather-requires-clause-forced c = c.in_ok-force.ensures.within
+
+pub unwrap-must-requires : goal.unwrap-must-requires
+unwrap-must-requires c = position_found c.gather.new.self.places c.args.p c.position_of.result c.position_of.ensures.none c.in_ok-gather.ensures.start
+
+pub solve_in-requires-clause-keep : goal.solve_in-requires-clause-keep
+solve_in-requires-clause-keep c = sym c.in_ok-describe.ensures.groups
 
 pub overflow_cast-must : goal.overflow_cast-must
 overflow_cast-must c =

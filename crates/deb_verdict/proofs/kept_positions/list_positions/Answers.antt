@@ -42,3 +42,12 @@ returns c =
         constraints-few index c.len-limit.ensures.few c.len-limit.ensures.few_asked,
       );
     }
+
+pub name_of-requires : goal.name_of-requires
+name_of-requires c = c.requires.members c.loop-place.place-index 0 c.loop-place-test.true
+
+pub add_aparts-requires : goal.add_aparts-requires
+add_aparts-requires c = c.requires.members c.loop-place.place-index 0 c.loop-place-test.true
+
+pub add_needs-requires : goal.add_needs-requires
+add_needs-requires c = c.requires.members c.loop-place.place-index 0 c.loop-place-test.true

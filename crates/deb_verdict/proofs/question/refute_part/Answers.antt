@@ -1,7 +1,10 @@
-use Rattle.std.proofs.Common.{◌∙◌}
+use Rattle.std.proofs.Common.{◌≡◌, ◌∙◌, ℕ, List, Vec, Global, ap}
 use Rattle.std.proofs.lemmas.Bool.{false≢true, true≢false}
+use Rattle.std.proofs.lemmas.Result.{IfOk-weaker}
 use Rattle.deb_groundwork.proofs.BaseLemmas.{empty_is_base}
+use Rattle.deb_verdict.specs.declared.workspace.Workspace.{Workspace}
 use Rattle.deb_verdict.proofs.question.refute_part.Goals as goal
+use Rattle.deb_verdict.proofs.question.refute_part.Goals.{else-lacks_room-via-then-lacks_room+else-refute_by_forcing-2, else-lacks_room-via-else-lacks_room}
 
 pub is_seen_to_admit-requires-then-may_admit-2-clause-base : goal.is_seen_to_admit-requires-then-may_admit-2-clause-base
 is_seen_to_admit-requires-then-may_admit-2-clause-base c = empty_is_base c.args.part.now.index.now c.clear.new.self c.clear.ensures.members
@@ -74,3 +77,19 @@ returns-clause-admitted c = c.refute_by_formula.ensures.admitted
 
 pub returns-clause-formula : goal.returns-clause-formula
 returns-clause-formula c = c.refute_by_formula.ensures.formula
+
+pub returns-clause-still : goal.returns-clause-still
+returns-clause-still c =
+    let before = c.refute_by_forcing.ensures.still c.if-refute_by_forcing.false ∙ c.refute_by_last_steps.ensures.still c.if-refute_by_last_steps.false in
+    let items : Workspace → List ℕ = λ workspace. workspace.used.items in
+    let so_far : c.else-lacks_room.workspace.used.items ≡ c.args.workspace.now.used.items =
+    elim c.else-lacks_room.branch [
+      | else-lacks_room-via-then-lacks_room+else-refute_by_forcing-2 w ↦
+          ap items w.workspace-is ∙ (w.refute_by_forcing-then-lacks_room.ensures.still w.if-refute_by_forcing-2.false ∙ before)
+      | else-lacks_room-via-else-lacks_room w ↦ ap items w.workspace-is ∙ before
+    ] in
+    IfOk-weaker c.refute_by_formula.result _ _
+    (λ refuted still is. ap (λ (used : Vec ℕ Global). used.items) (still is) ∙ so_far) c.refute_by_formula.ensures.still
+
+pub refute_by_formula-requires-clause-formula : goal.refute_by_formula-requires-clause-formula
+refute_by_formula-requires-clause-formula c = c.requires.formula

@@ -18,3 +18,6 @@ returns-clause-gathered c =
     gathered c.args.groundwork.now.index.now c.args.forced.now start c.bring_essentials.new.self c.visit_forced.new.self c.visit_candidates.new.self _
     c.clear-2.ensures.items c.in_ok-bring_essentials.ensures.unmet (c.in_ok-bring_essentials.ensures.grows.places (numbers_first count c.args.p c.insert.new.self c.requires.p first))
     c.in_ok-bring_essentials.ensures.names c.in_ok-visit_forced.ensures c.in_ok-visit_candidates.ensures c.sort.ensures.rising c.sort.ensures.same refl
+
+pub visit_forced-requires-clause-places : goal.visit_forced-requires-clause-places
+visit_forced-requires-clause-places c = c.requires.forced

@@ -44,3 +44,51 @@ returns-clause-admitted c = λ is. absurd (true≢false is)
 
 pub returns-clause-still : goal.returns-clause-still
 returns-clause-still c = λ is. absurd (true≢false is)
+
+pub invariant_of-self : goal.invariant_of-self
+invariant_of-self c =
+    let before = c.args.self.now in
+    record {
+      place = before.place;
+      rising = before.rising;
+      needed_rising = before.needed_rising;
+      all_needed = before.all_needed;
+      used_rising = before.used_rising;
+      told = c.refute_part.ensures.formula;
+    }
+
+pub invariant_of-self-2 : goal.invariant_of-self-2
+invariant_of-self-2 c =
+    let before = c.args.self.now in
+    record {
+      place = before.place;
+      rising = before.rising;
+      needed_rising = before.needed_rising;
+      all_needed = before.all_needed;
+      used_rising = c.take_rising.ensures.rising;
+      told = c.refute_part.ensures.formula;
+    }
+
+pub invariant_of-self-then-not-refuted : goal.invariant_of-self-then-not-refuted
+invariant_of-self-then-not-refuted c =
+    let before = c.args.self.now in
+    record {
+      place = before.place;
+      rising = before.rising;
+      needed_rising = before.needed_rising;
+      all_needed = before.all_needed;
+      used_rising = before.used_rising;
+      told = c.refute_part.ensures.formula;
+    }
+
+pub lacks_needed-requires : goal.lacks_needed-requires
+lacks_needed-requires c = c.args.self.now.needed_rising
+
+pub returns-clause-same : goal.returns-clause-same
+returns-clause-same c = λ set. (λ none. none, λ none. none)
+
+pub returns-then-not-refuted-clause-same : goal.returns-then-not-refuted-clause-same
+returns-then-not-refuted-clause-same c = λ set. (λ none. none, λ none. none)
+
+pub returns-then-lacks_needed-clause-same : goal.returns-then-lacks_needed-clause-same
+returns-then-lacks_needed-clause-same c = λ set. (λ none. none, λ none. none)
