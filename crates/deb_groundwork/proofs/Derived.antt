@@ -5,10 +5,10 @@ use Rattle.std.specs.Option.{option_map_or}
 use Rattle.std.specs.Str.{bytes_eq}
 use Rattle.std.proofs.lemmas.Bool.{false≢true, or_cases, or_left, or_right, eqb-true, eq-eqb}
 use Rattle.std.proofs.lemmas.Option.{slice_get-get_or, slice_get_within, get_or_from_slice_get}
-use Rattle.deb_index.specs.declared.constraint.Constraint.TheVariants.{Essential, Need, Only}
+use Rattle.deb_index.specs.declared.constraint.Constraint.TheVariants.{Essential, Need, Apart, Only}
 use Rattle.deb_index.specs.Packages.{IndexView, no_package, package_at, is_named, names, name_at, places_of, essential_names, need_at}
 use Rattle.deb_index.specs.Meets.{group_satisfiers}
-use Rattle.deb_index.specs.Constraints.{constraints_of, has_name}
+use Rattle.deb_index.specs.Constraints.{constraints_of, has_name, hits}
 use Rattle.deb_index.proofs.FirstLemmas.{name-itself}
 use Rattle.deb_index.proofs.PositionLemmas.{essential_position}
 use Rattle.number_sets.specs.Sets.{NumberSet, members_of, IsWithin}
@@ -64,6 +64,14 @@ module _ (index : IndexView) where
       gives = λ set has holds.
           (let found = holds (has place is_in) in
           member_any set (row_of outcome) found.0 found.1 (sym (ap (λ list. members_of list found.0) row_is) ∙ (member_answers index place j found.0 ∙ found.2)));
+    }
+
+    pub apart_gives : (place j other position : ℕ) → slice_get (constraints_of index) position ≡ Some (Apart place j)
+        → forced place ≡ true → forced other ≡ true → other ≢ place → hits index place j other ≡ true → Gives index forced position Contradiction
+    apart_gives place j other position stands is_in is_too apart hit = record {
+      constraint = Apart place j;
+      stands = stands;
+      gives = λ set has holds. absurd (apart (holds (has place is_in) other (has other is_too) hit));
     }
 
     pub only_gives : (first second number position : ℕ) → slice_get (constraints_of index) position ≡ Some (Only number) → first < length index.packages → second < length index.packages

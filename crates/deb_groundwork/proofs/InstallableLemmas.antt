@@ -1,7 +1,7 @@
 -- Sets that are healthy, and marks of their members.
-use Rattle.std.proofs.Common.{◌≡◌, ◌≢◌, ℕ, ◌<◌, Bool, true, eqb, leb, List, [], length, get_or, set, All, Some, refl, sym, subst, ◌∙◌, ap, inl, inr, arith}
-use Rattle.std.proofs.lemmas.Bool.{cases_Bool, and_from, or_right, le-leb, eqb-true, eq-eqb, both_ways}
-use Rattle.std.proofs.lemmas.List.{get_or-set_other, length-set}
+use Rattle.std.proofs.Common.{◌≡◌, ◌≢◌, ℕ, ◌<◌, Bool, true, false, eqb, leb, List, [], length, get_or, replicate, set, All, Some, refl, sym, subst, ◌∙◌, ap, inl, inr, arith}
+use Rattle.std.proofs.lemmas.Bool.{cases_Bool, false≢true, and_from, or_right, le-leb, eqb-true, eq-eqb, both_ways}
+use Rattle.std.proofs.lemmas.List.{get_or-replicate, get_or-set_other, length-replicate, length-set}
 use Rattle.std.proofs.lemmas.List.Folds.{list_any_at}
 use Rattle.std.proofs.lemmas.Option.{slice_get_within, get_or_from_slice_get, slice_get-get_or}
 use Rattle.deb_index.specs.Packages.{IndexView}
@@ -21,6 +21,12 @@ healthy_from_all index set meets =
 pub members_installable : (index : IndexView) (set : List ℕ) → IsHealthy index (members_of set) → All (IsInstallable index) set
 members_installable index set healthy k d inside =
     (members_of set, (healthy, list_any_at (λ member. eqb member (get_or set k d)) set k d inside (eq-eqb (get_or set k d) (get_or set k d) refl)))
+
+-- without a mark no place is marked
+pub none_marked : (Property : ℕ → Type 0) (count : ℕ) → MarksOnly Property (replicate count false)
+none_marked Property count q there =
+    let inside : q < count = omega (arith, slice_get_within (replicate count false) q true there, length-replicate count false) in
+    absurd (false≢true (sym (get_or-replicate count q false false inside) ∙ get_or_from_slice_get (replicate count false) q true false there))
 
 -- one mark more
 pub marks_set : (Property : ℕ → Type 0) (marks : List Bool) (place : ℕ) → Property place → MarksOnly Property marks → MarksOnly Property (set marks place true)

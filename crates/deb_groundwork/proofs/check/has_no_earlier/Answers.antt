@@ -1,4 +1,4 @@
-use Rattle.std.proofs.Common.{◌≡◌, ◌∙◌, ◌<◌, ℕ, true, ap}
+use Rattle.std.proofs.Common.{◌≡◌, ◌∙◌, ◌<◌, true, ap}
 use Rattle.number_sets.specs.Sets.{members_of}
 use Rattle.deb_groundwork.proofs.WitnessLemmas.{of_members}
 use Rattle.deb_groundwork.proofs.check.has_no_earlier.Goals as goal

@@ -24,3 +24,27 @@ loop-preserved c =
             once = c.stands_once.ensures c.if-not-stands_once.false;
           } c.need_position.ensures);
     }
+
+pub only_open-requires : goal.only_open-requires
+only_open-requires c = c.loop.invariant.way.within c.loop.place c.loop.invariant.way.has_last
+
+pub meets_aparts-requires : goal.meets_aparts-requires
+meets_aparts-requires c = c.loop.invariant.way.within c.loop.place c.loop.invariant.way.has_last
+
+pub stands_once-requires : goal.stands_once-requires
+stands_once-requires c = c.loop.invariant.way.within c.loop.place c.loop.invariant.way.has_last
+
+pub returns-then-not-meets_aparts : goal.returns-then-not-meets_aparts
+returns-then-not-meets_aparts c = c.loop.invariant.needed
+
+pub need_position-requires-clause-place : goal.need_position-requires-clause-place
+need_position-requires-clause-place c = c.loop.invariant.way.within c.loop.place c.loop.invariant.way.has_last
+
+pub need_position-requires-clause-number : goal.need_position-requires-clause-number
+need_position-requires-clause-number c = c.in-Some.ensures.0
+
+pub follow-requires-clause-place : goal.follow-requires-clause-place
+follow-requires-clause-place c = c.loop.invariant.way.within c.loop.place c.loop.invariant.way.has_last
+
+pub follow-requires-clause-number : goal.follow-requires-clause-number
+follow-requires-clause-number c = c.in-Some.ensures.0

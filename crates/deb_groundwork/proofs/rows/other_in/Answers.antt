@@ -1,4 +1,4 @@
-use Rattle.std.proofs.Common.{◌≡◌, ℕ, true}
+use Rattle.std.proofs.Common.{◌≡◌, true}
 use Rattle.deb_groundwork.proofs.WitnessLemmas.{of_members}
 use Rattle.deb_groundwork.proofs.rows.other_in.Goals as goal
 
