@@ -1,2 +1,7 @@
+pub mod HitLemmas
+mod OwnLemmas
+pub mod PlaceSetLemmas
 pub mod TextLemmas
+mod WalkLaws
+pub mod WalkLemmas
 mod WalkTextLemmas

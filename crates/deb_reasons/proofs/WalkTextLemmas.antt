@@ -4,9 +4,9 @@ use Rattle.std.proofs.lemmas.List.{append_assoc}
 use Rattle.number_sets.specs.Sets.{NumberSet, members_of}
 use Rattle.deb_index.specs.declared.constraint.Constraint.{Constraint}
 use Rattle.deb_index.specs.Packages.{IndexView}
-use Rattle.deb_walk.specs.declared.walk.Step.{Step}
-use Rattle.deb_walk.specs.Walk.{comers, first_steps, step_limit, steps_behind, told_behind, walk}
-use Rattle.deb_walk.proofs.WalkLemmas.{next_is}
+use Rattle.deb_reasons.specs.declared.walk.Step.{Step}
+use Rattle.deb_reasons.specs.Walk.{comers, first_steps, step_limit, steps_behind, told_behind, walk}
+use Rattle.deb_reasons.proofs.WalkLemmas.{next_is}
 use Rattle.deb_reasons.specs.Reasons.{line}
 use Rattle.deb_reasons.specs.WalkLines.{step_text, walk_lines, walk_text}
 

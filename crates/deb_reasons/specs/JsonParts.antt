@@ -7,8 +7,8 @@ use Rattle.deb_index.specs.declared.constraint.Constraint.{Constraint}
 use Rattle.deb_index.specs.declared.constraint.Constraint.TheVariants.{Essential, Need, Apart, Only}
 use Rattle.deb_index.specs.Packages.{IndexView, PackageView, name_at, need_at, package_at, places_of}
 use Rattle.deb_near.specs.Near.{NearMissView, alternatives, near_miss_at}
-use Rattle.deb_walk.specs.Hits.{hits_of}
-use Rattle.deb_walk.specs.Walk.{brought}
+use Rattle.deb_reasons.specs.Hits.{hits_of}
+use Rattle.deb_reasons.specs.Walk.{brought}
 use Rattle.deb_reasons.specs.Reasons.{OfName, OfRelation, ReasonView, reason_of}
 use Rattle.deb_texts.specs.Texts.{group_text}
 use Rattle.deb_near.specs.Missing.{is_missing}

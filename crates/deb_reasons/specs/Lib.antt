@@ -1,5 +1,8 @@
-pub mod Reasons
+pub mod Hits
 pub mod JsonParts
-pub mod WalkLines
+pub mod Own
+pub mod Reasons
 pub mod Similar
 pub mod Told
+pub mod Walk
+pub mod WalkLines

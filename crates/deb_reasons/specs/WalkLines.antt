@@ -8,9 +8,9 @@ use Rattle.deb_index.specs.declared.constraint.Constraint.{Constraint}
 use Rattle.deb_index.specs.declared.constraint.Constraint.TheVariants.{Essential, Need, Apart, Only}
 use Rattle.deb_index.specs.Packages.{IndexView, apart_at, name_at, need_at, package_at}
 use Rattle.deb_near.specs.Near.{NearMissView, alternatives, near_miss_at, near_misses, similar_names}
-use Rattle.deb_walk.specs.declared.walk.Step.{Step}
-use Rattle.deb_walk.specs.declared.walk.Step.TheVariants.{Begin, Meet, Tell}
-use Rattle.deb_walk.specs.Walk.{are_told, brought, comers, first_steps, hits_in, own_steps, step_limit, versions_coming, walk}
+use Rattle.deb_reasons.specs.declared.walk.Step.{Step}
+use Rattle.deb_reasons.specs.declared.walk.Step.TheVariants.{Begin, Meet, Tell}
+use Rattle.deb_reasons.specs.Walk.{are_told, brought, comers, first_steps, hits_in, own_steps, step_limit, versions_coming, walk}
 use Rattle.deb_reasons.specs.Reasons.{provides_text, asked_text, entry_field, group_field, label_of, titled}
 use Rattle.deb_texts.specs.Texts.{told_if}
 use Rattle.deb_near.specs.Missing.{is_missing}

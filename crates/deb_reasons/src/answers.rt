@@ -4,12 +4,12 @@ ghost use Rattle.std.specs.Prelude.{◌≡◌, ◌<◌, All, IfOk, OnOk, length,
 ghost use Rattle.deb_relation.specs.AtomView.{atom_view};
 ghost use Rattle.deb_index.specs.Constraints.{IsOfIndex};
 ghost use Rattle.deb_near.specs.Near.{near_view};
-ghost use Rattle.deb_walk.specs.Walk.{brought};
+ghost use Rattle.deb_reasons.specs.Walk.{brought};
 ghost use Rattle.deb_reasons.specs.JsonParts.{answers_to};
 
+use crate::walk::brought;
 use deb_index::{Constraint, Index};
 use deb_near::{NearMiss, misses_at, push_alternatives};
-use deb_walk::brought;
 use std::alloc::{AllocError, Global};
 
 /// The places of the packages that a constraint brings.

@@ -9,21 +9,23 @@ ghost use Rattle.number_sets.specs.Sets.{members_of};
 ghost use Rattle.deb_near.specs.Near.{near_misses, near_view, similar_names};
 ghost use Rattle.deb_near.specs.Similar.{IsSimilarOf, stems_in};
 ghost use Rattle.deb_near.specs.Stems.{AreSought};
-ghost use Rattle.deb_walk.specs.declared.walk.Step.{Step};
-ghost use Rattle.deb_walk.specs.Walk.{IsStepOf, are_told, brought, own_steps, step_limit, steps_behind, told_behind};
+ghost use Rattle.deb_reasons.specs.declared.walk.Step.{Step};
+ghost use Rattle.deb_reasons.specs.Walk.{IsStepOf, are_told, brought, own_steps, step_limit, steps_behind, told_behind};
 ghost use Rattle.deb_reasons.specs.Similar.{FitsWalk};
 ghost use Rattle.deb_reasons.specs.WalkLines.{above_text, constraint_text, lead, missing_text, near_text, need_ending, present_text, package_line, package_text, seen_text, similar_text, step_text, walk_lines, walk_text};
 
 use crate::line_parts::{push_asked, push_line, push_package, push_provides};
+use crate::own::OwnTable;
+use crate::place_set::PlaceSet;
 use crate::reasons::{entry_field, group_field};
+use crate::walk::{
+    Step, are_told, brought, comers, first_steps, hits_in, met_steps, own_steps, put_before,
+    those_coming,
+};
 use deb_index::{Constraint, Index, Package};
 use deb_near::{NearMiss, Similar, answer_at, is_missing, near_misses};
 use deb_relation::Atom;
 use deb_texts::{Print, push_group, push_joined, push_some, push_texts};
-use deb_walk::{
-    OwnTable, PlaceSet, Step, are_told, brought, comers, first_steps, hits_in, met_steps,
-    own_steps, put_before, those_coming,
-};
 use std::alloc::{AllocError, Global};
 use std::slice;
 
@@ -323,7 +325,7 @@ impl<'i> Walk<'i> {
     }
 
     /// Begins with a package, where it isn't told yet.
-    #[tactic(auto, unfolding(crate::specs::WalkLines::step_text, deb_walk::specs::Walk::steps_behind))]
+    #[tactic(auto, unfolding(crate::specs::WalkLines::step_text, crate::specs::Walk::steps_behind))]
     fn begin(
         &self,
         out: &mut Vec<u8>,
@@ -345,7 +347,7 @@ impl<'i> Walk<'i> {
     }
 
     /// Meets a package.
-    #[tactic(auto, unfolding(crate::specs::WalkLines::step_text, deb_walk::specs::Walk::steps_behind))]
+    #[tactic(auto, unfolding(crate::specs::WalkLines::step_text, crate::specs::Walk::steps_behind))]
     fn meet(
         &self,
         out: &mut Vec<u8>,
@@ -373,7 +375,7 @@ impl<'i> Walk<'i> {
     }
 
     /// Tells a constraint.
-    #[tactic(auto, unfolding(crate::specs::WalkLines::step_text, deb_walk::specs::Walk::steps_behind))]
+    #[tactic(auto, unfolding(crate::specs::WalkLines::step_text, crate::specs::Walk::steps_behind))]
     fn tell(
         &self,
         out: &mut Vec<u8>,

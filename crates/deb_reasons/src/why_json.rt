@@ -6,15 +6,15 @@ ghost use Rattle.deb_relation.specs.Relationship.{printed};
 ghost use Rattle.deb_index.specs.declared.constraint.Constraint.{Constraint};
 ghost use Rattle.deb_index.specs.Constraints.{IsOfIndex};
 ghost use Rattle.deb_index.specs.Packages.{name_at, need_at, places_of};
-ghost use Rattle.deb_walk.specs.Hits.{hits_of};
+ghost use Rattle.deb_reasons.specs.Hits.{hits_of};
 ghost use Rattle.deb_reasons.specs.JsonParts.{answers_to, array, member, near_json, place_json, quoted, why_json};
 
 use crate::answers::answers_to;
+use crate::hits::hits_of;
 use crate::json_parts::IndexJson;
 use crate::json_text::push_array;
 use deb_index::Constraint;
 use deb_near::is_missing;
-use deb_walk::hits_of;
 use std::alloc::AllocError;
 use std::slice;
 

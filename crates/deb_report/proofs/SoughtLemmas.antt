@@ -15,7 +15,7 @@ use Rattle.deb_near.specs.Near.{alternatives, stem}
 use Rattle.deb_near.specs.Similar.{IsSimilarOf, stems_in}
 use Rattle.deb_near.specs.Stems.{AreSought, has_text}
 use Rattle.deb_near.proofs.SimilarLemmas.{all-grow}
-use Rattle.deb_walk.proofs.WalkLemmas.{filter_all, flat_all}
+use Rattle.deb_reasons.proofs.WalkLemmas.{filter_all, flat_all}
 use Rattle.deb_health.specs.declared.shown.Shown.{Shown}
 use Rattle.deb_reasons.specs.Similar.{FitsWalk}
 use Rattle.deb_report.specs.Sought.{core_in}

@@ -5,7 +5,7 @@ use Rattle.deb_index.specs.declared.constraint.Constraint.{Constraint}
 use Rattle.deb_index.specs.declared.constraint.Constraint.TheVariants.{Essential, Need, Apart, Only}
 use Rattle.deb_index.specs.Packages.{IndexView, need_at, package_at}
 use Rattle.deb_near.specs.Near.{NearMissView, near_misses, similar_names}
-use Rattle.deb_walk.specs.Hits.{hits_of}
+use Rattle.deb_reasons.specs.Hits.{hits_of}
 use Rattle.deb_causes.specs.Causes.{CauseView}
 use Rattle.deb_reasons.specs.Reasons.{asked_text, constraint_line, group_field, label_of, line, place_line, titled, provides_text}
 use Rattle.deb_texts.specs.Texts.{group_text}

@@ -5,7 +5,7 @@ use Rattle.deb_index.specs.declared.constraint.Constraint.TheVariants.{Essential
 use Rattle.deb_index.specs.Packages.{IndexView, PackageView, need_at, package_at}
 use Rattle.deb_health.specs.Verdicts.{VerdictView, Found, Blocked}
 use Rattle.deb_near.specs.Near.{near_misses, similar_names}
-use Rattle.deb_walk.specs.Hits.{hits_of}
+use Rattle.deb_reasons.specs.Hits.{hits_of}
 use Rattle.deb_causes.specs.Causes.{CauseView}
 use Rattle.deb_report.specs.Content.{ContentView}
 use Rattle.deb_report.specs.Report.{TellingView}

@@ -5,7 +5,7 @@ ghost use Rattle.deb_relation.specs.AtomView.{atom_view};
 ghost use Rattle.deb_relation.specs.Relationship.{printed};
 ghost use Rattle.deb_index.specs.Constraints.{IsOfIndex};
 ghost use Rattle.deb_near.specs.Near.{near_misses, near_view, similar_names};
-ghost use Rattle.deb_walk.specs.Hits.{hits_of};
+ghost use Rattle.deb_reasons.specs.Hits.{hits_of};
 ghost use Rattle.deb_causes.specs.Causes.{IsCauseOf, cause_view};
 ghost use Rattle.deb_reasons.specs.JsonParts.{array, member, near_json, place_json, quoted};
 ghost use Rattle.deb_report.specs.Json.{cause_json, needed_json, tall_array, wrong_json};
@@ -15,12 +15,12 @@ use crate::sought::similar_to_causes;
 use deb_causes::Cause;
 use deb_index::Constraint;
 use deb_near::{NearMiss, Similar, near_misses};
+use deb_reasons::hits::hits_of;
 use deb_reasons::json_parts::{IndexJson, push_package, push_relation};
 use deb_reasons::json_text::{push_array, push_number, push_text};
 use deb_reasons::reasons::group_field;
 use deb_relation::Atom;
 use deb_texts::Print;
-use deb_walk::hits_of;
 use std::alloc::AllocError;
 
 /// What is wrong, in JSON.

@@ -4,7 +4,7 @@ ghost use Rattle.std.specs.Prelude.{◌≡◌, ◌++◌, ◌<◌, All, OnOk, Som
 ghost use Rattle.std.specs.List.{flat_map};
 ghost use Rattle.deb_index.specs.Constraints.{IsOfIndex};
 ghost use Rattle.deb_near.specs.Near.{near_misses, near_view, similar_names};
-ghost use Rattle.deb_walk.specs.Hits.{hits_of};
+ghost use Rattle.deb_reasons.specs.Hits.{hits_of};
 ghost use Rattle.deb_report.specs.CauseLines.{cause_text, causes_text, name_line, near_line, needed_line, titled_if, wrong_line};
 ghost use Rattle.deb_causes.specs.Causes.{IsCauseOf, cause_view};
 ghost use Rattle.deb_reasons.specs.Reasons.{line, place_line, titled};
@@ -14,12 +14,12 @@ use crate::sought::similar_to_causes;
 use deb_causes::Cause;
 use deb_index::Constraint;
 use deb_near::{NearMiss, Similar, near_misses};
+use deb_reasons::hits::hits_of;
 use deb_reasons::line_parts::{
     IndexLines, push_asked, push_count, push_line, push_package, push_provides, push_titled,
 };
 use deb_reasons::reasons::group_field;
 use deb_texts::{Print, push_all, push_group};
-use deb_walk::hits_of;
 use std::alloc::AllocError;
 
 /// Adds the lines of elements under a title, where there are some.

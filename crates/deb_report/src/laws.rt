@@ -15,7 +15,7 @@ ghost use Rattle.deb_outcome.specs.Outcome.{broken_ones, is_broken};
 ghost use Rattle.run_settings.specs.Settings.{is_architecture};
 ghost use Rattle.deb_outcome.specs.Since.{amends_of, broken_of, news_of};
 
-pub use deb_walk::laws::walks_tell_each_once;
+pub use deb_reasons::laws::walks_tell_each_once;
 
 /// What a report in JSON takes of an index stands in its strings as it is: names, versions and relations have no byte that needs an escape,
 /// whatever texts were read. Architectures are escaped, and one that a command line may name is left as it is.

@@ -1,1 +1,10 @@
+mod BackgroundLemmas
+mod LaterLemmas
+mod MergeLemmas
+mod NewsLemmas
+mod OneReport
+mod PhaseLemmas
 mod ProgramLemmas
+mod RunLemmas
+mod SinceLemmas
+mod StandingLemmas

@@ -11,14 +11,14 @@ use Rattle.command_line.specs.declared.line.LineFault.{LineFault}
 use Rattle.command_line.specs.declared.line.LineFault.TheVariants.{Refused, Help, Memory}
 use Rattle.devices.specs.Devices.{AppendsPart, IsHeld, IsUnopened}
 use Rattle.deb_input.specs.Faults.{told_line}
-use Rattle.debcheck_run.specs.Statuses.{status_of}
+use Rattle.debcheck.specs.Statuses.{status_of}
 use Rattle.command_line.specs.Line.{Accepts, RefusesLine, line_status_of}
-use Rattle.debcheck_run.specs.LineFaults.{KeepsOther, TellsFront, TellsLine, mark_of}
+use Rattle.debcheck.specs.LineFaults.{KeepsOther, TellsFront, TellsLine, mark_of}
 use Rattle.deb_input.specs.Names.{FailsToName, ReadsNames}
 use Rattle.debcheck.specs.Program.{Asks, Ends, FailsToTake, IsEarlier, IsNamed, IsUnbegun, Named, Refuses, Runs, RunsBehind, RunsNamed, RunsTo, TakesNames, TellsFault, TellsOutcome, Text, Written, written}
 use Rattle.deb_input.specs.Inputs.{Input, input}
-use Rattle.debcheck_run.specs.Run.{Fails, Leaves, WritesReport}
-use Rattle.debcheck_run.specs.Since.{FailsSince, LeavesSince, WritesReportSince}
+use Rattle.debcheck.specs.Run.{Fails, Leaves, WritesReport}
+use Rattle.debcheck.specs.Since.{FailsSince, LeavesSince, WritesReportSince}
 
 -- ---- what is told
 

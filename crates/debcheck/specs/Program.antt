@@ -10,11 +10,11 @@ use Rattle.command_line.specs.declared.line.LineFault.{LineFault}
 use Rattle.command_line.specs.declared.line.LineFault.TheVariants.{Refused, Help, Memory}
 use Rattle.devices.specs.Devices.{AppendsPart, IsHeld, IsUnopened}
 use Rattle.deb_input.specs.Faults.{fault_line, told_line}
-use Rattle.debcheck_run.specs.Statuses.{status_of}
+use Rattle.debcheck.specs.Statuses.{status_of}
 use Rattle.command_line.specs.Line.{Accepts, RefusesLine}
 use Rattle.deb_input.specs.Names.{FailsToName, ReadsNames}
 use Rattle.deb_input.specs.Inputs.{Input}
-use Rattle.debcheck_run.specs.Since.{FailsAny, LeavesAny, WritesAny}
+use Rattle.debcheck.specs.Since.{FailsAny, LeavesAny, WritesAny}
 
 -- ---- files
 

@@ -6,11 +6,14 @@ ghost use Rattle.run_settings.specs.Settings.{settings_of};
 ghost use Rattle.deb_input.specs.Inputs.{input};
 ghost use Rattle.debcheck.specs.Program.{Asks, Ends, FailsToTake, Refuses, Runs, RunsBehind, RunsNamed, RunsTo, TakesNames, TellsOutcome, written};
 
+use crate::exit_status::status;
+use crate::output::{write_fault, write_line_fault};
+use crate::phases::{After, run_noting};
+use crate::since::run_since_noting;
 use crate::wiping::Wiping;
 use command_line::{LineFault, line_status, read_line, words_of};
 use deb_input::{RunFault, read_names};
 use deb_report::Summary;
-use debcheck_run::{After, run_noting, run_since_noting, status, write_fault, write_line_fault};
 use devices::{Disk, OpenFault, Opener, Recording, Sink, Source, Std};
 use input_hints::Input;
 use run_hints::{Clue, note, tell_hint};

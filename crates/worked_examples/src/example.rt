@@ -4,7 +4,7 @@ ghost use Rattle.std.specs.Prelude.{◌≡◌, ◌<◌, ◌≤◌, IfSome, false
 use command_line::read_line;
 use deb_input::{RunFault, fault_line};
 use deb_report::Summary;
-use debcheck_run::{run, status};
+use debcheck::{run, status};
 use devices::{Source, Std};
 use run_settings::Config;
 use std::alloc::{AllocError, Global};

@@ -1,4 +1,4 @@
-use Rattle.deb_walk.proofs.WalkLemmas.{brought-within}
+use Rattle.deb_reasons.proofs.WalkLemmas.{brought-within}
 use Rattle.deb_reasons.proofs.answers.answers_to.Goals as goal
 
 pub misses_at-requires : goal.misses_at-requires

@@ -1,8 +1,8 @@
 use Rattle.std.proofs.lemmas.List.Elements.{All-same, All-weaker}
 use Rattle.deb_index.specs.declared.constraint.Constraint.{Constraint}
 use Rattle.deb_index.specs.Constraints.{IsOfIndex}
-use Rattle.deb_walk.specs.Walk.{IsStepOf, first_steps}
-use Rattle.deb_walk.proofs.WalkLemmas.{first-within}
+use Rattle.deb_reasons.specs.Walk.{IsStepOf, first_steps}
+use Rattle.deb_reasons.proofs.WalkLemmas.{first-within}
 use Rattle.deb_reasons.specs.Similar.{FitsWalk}
 use Rattle.deb_reasons.proofs.TextLemmas.{last_call}
 use Rattle.deb_reasons.proofs.WalkTextLemmas.{told_whole}

@@ -1,7 +1,7 @@
 use Rattle.std.proofs.Common.{◌≡◌, ◌++◌, None, arith, length, reverse, rules}
 use Rattle.number_sets.specs.Sets.{members_of}
-use Rattle.deb_walk.specs.Walk.{step_limit}
-use Rattle.deb_walk.proofs.WalkLemmas.{left-within, next-within}
+use Rattle.deb_reasons.specs.Walk.{step_limit}
+use Rattle.deb_reasons.proofs.WalkLemmas.{left-within, next-within}
 use Rattle.deb_reasons.specs.Similar.{FitsWalk}
 use Rattle.deb_reasons.specs.WalkLines.{walk_text}
 use Rattle.deb_reasons.proofs.WalkTextLemmas.{ended, gone, run_out}

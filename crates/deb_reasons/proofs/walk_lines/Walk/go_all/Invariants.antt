@@ -1,6 +1,6 @@
 use Rattle.std.proofs.Common.{◌≡◌, ◌++◌, ◌-◌, All, reverse}
 use Rattle.number_sets.specs.Sets.{members_of}
-use Rattle.deb_walk.specs.Walk.{IsStepOf, step_limit}
+use Rattle.deb_reasons.specs.Walk.{IsStepOf, step_limit}
 use Rattle.deb_reasons.specs.Similar.{FitsWalk}
 use Rattle.deb_reasons.specs.WalkLines.{walk_text}
 use Rattle.deb_reasons.proofs.walk_lines.Walk.go_all.Given as goal

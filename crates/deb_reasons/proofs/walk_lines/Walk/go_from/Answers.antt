@@ -1,6 +1,6 @@
 use Rattle.std.proofs.Common.{◌≡◌, ◌∙◌, ◌++◌, append-nil, ap, reverse}
 use Rattle.std.proofs.lemmas.List.Elements.{All-same}
-use Rattle.deb_walk.specs.Walk.{IsStepOf}
+use Rattle.deb_reasons.specs.Walk.{IsStepOf}
 use Rattle.deb_reasons.specs.Similar.{FitsWalk}
 use Rattle.deb_reasons.proofs.walk_lines.Walk.go_from.Goals as goal
 

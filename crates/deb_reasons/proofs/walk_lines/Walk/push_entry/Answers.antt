@@ -1,5 +1,5 @@
 use Rattle.number_sets.specs.Sets.{members_of}
-use Rattle.deb_walk.proofs.WalkLemmas.{hits-within}
+use Rattle.deb_reasons.proofs.WalkLemmas.{hits-within}
 use Rattle.deb_reasons.proofs.walk_lines.Walk.push_entry.Goals as goal
 
 pub push_some-requires : goal.push_some-requires

@@ -1,5 +1,5 @@
 use Rattle.number_sets.specs.Sets.{members_of}
-use Rattle.deb_walk.proofs.WalkLemmas.{versions-within}
+use Rattle.deb_reasons.proofs.WalkLemmas.{versions-within}
 use Rattle.deb_reasons.proofs.walk_lines.Walk.push_versions.Goals as goal
 
 pub push_joined-requires : goal.push_joined-requires

@@ -1,6 +1,6 @@
 use Rattle.std.proofs.Common.{arith, ◌≡◌, ◌∙◌, [], ◌∷◌, ◌++◌, ℕ, Bor, List, ap, codes, decimal, length, refl, sym}
 use Rattle.deb_near.specs.Near.{near_misses, near_view, similar_names}
-use Rattle.deb_walk.specs.Hits.{hits_of}
+use Rattle.deb_reasons.specs.Hits.{hits_of}
 use Rattle.deb_reasons.specs.JsonParts.{array, listed, member, near_json, place_json, quoted}
 use Rattle.deb_report.specs.Json.{cause_json, needed_json, wrong_json}
 use Rattle.deb_report.proofs.JoinLemmas.{added_behind, object-of}

@@ -1,7 +1,7 @@
 use Rattle.std.proofs.Common.{arith, ◌≡◌, ◌∙◌, [], ◌∷◌, ℕ, Bor, List, ap, codes, decimal, length, refl, sym}
 use Rattle.std.specs.List.{flat_map}
 use Rattle.deb_near.specs.Near.{near_misses, near_view, similar_names}
-use Rattle.deb_walk.specs.Hits.{hits_of}
+use Rattle.deb_reasons.specs.Hits.{hits_of}
 use Rattle.deb_report.specs.CauseLines.{cause_text, name_line, near_line, needed_line, titled_if, wrong_line}
 use Rattle.deb_reasons.specs.Reasons.{line, place_line, titled}
 use Rattle.deb_report.proofs.JoinLemmas.{added, in-order, titled_map}

@@ -1,5 +1,0 @@
-pub mod HitLemmas
-mod OwnLemmas
-pub mod PlaceSetLemmas
-mod WalkLaws
-pub mod WalkLemmas

@@ -1,6 +1,0 @@
-use Rattle.std.proofs.Common.{map, take}
-use Rattle.deb_walk.specs.Own.{IsTableOf}
-use Rattle.deb_walk.proofs.own.OwnTable.new.Given as goal
-
-abbrev pub invariant-loop-constraint : goal.invariant-loop-constraint
-invariant-loop-constraint l = IsTableOf (take l.constraint-index l.core) l.places.keys (map (λ list. list.items) l.lists.items)

@@ -1,0 +1,48 @@
+use Rattle.std.proofs.Common.{◌∙◌, sym}
+use Rattle.std.proofs.lemmas.Bool.{false≢true}
+use Rattle.std.proofs.lemmas.Result.{IfErr-weaker, IfOk-weaker}
+use Rattle.run_settings.specs.Settings.{settings_of}
+use Rattle.deb_input.specs.Inputs.{input}
+use Rattle.debcheck.proofs.PhaseLemmas.{accept-fails, accepted-as, behind-fails, read-as, read_whole}
+use Rattle.debcheck.proofs.phases.read_index.Goals as goal
+
+pub returns-clause-index : goal.returns-clause-index
+returns-clause-index g c =
+    let text = input (g.S.Source.remaining c.args.reader.now) (g.S.Source.failed c.read_text.new.reader) in
+    let background = input (g.B.Source.remaining c.args.background.now) (g.B.Source.failed c.read_behind.new.background) in
+    let read = c.in_ok-outcome.ensures.text in
+    let first = read_whole (g.S.Source.remaining c.args.reader.now) (g.S.Source.remaining c.read_text.new.reader) (g.S.Source.failed c.read_text.new.reader) read.0
+    read.1.consumes read.1.ends (read.1.unfailed ∙ c.requires.reader) read.1.within in
+    IfOk-weaker c.finish-index.result _ _
+    (λ index makes. accepted-as (settings_of c.args.config.now) text background read.0 c.as_slice.result.now index first (rw c.as_slice.ensures.value c.in-Ok.ensures.bytes) (makes read.0 read.2)) c.finish-index.ensures.index
+
+pub returns-clause-refused : goal.returns-clause-refused
+returns-clause-refused g c =
+    let text = input (g.S.Source.remaining c.args.reader.now) (g.S.Source.failed c.read_text.new.reader) in
+    let background = input (g.B.Source.remaining c.args.background.now) (g.B.Source.failed c.read_behind.new.background) in
+    let read = c.in_ok-outcome.ensures.text in
+    let first = read_whole (g.S.Source.remaining c.args.reader.now) (g.S.Source.remaining c.read_text.new.reader) (g.S.Source.failed c.read_text.new.reader) read.0
+    read.1.consumes read.1.ends (read.1.unfailed ∙ c.requires.reader) read.1.within in
+    IfErr-weaker c.finish-index.result _ _
+    (λ fault fails. accept-fails (settings_of c.args.config.now) text background read.0 c.as_slice.result.now fault first (rw c.as_slice.ensures.value c.in-Ok.ensures.bytes) (fails read.0 read.2)) c.finish-index.ensures.refused
+
+pub returns-clause-unbegun : goal.returns-clause-unbegun
+returns-clause-unbegun g c = IfErr-weaker c.finish-index.result _ _ (λ fault read unread. absurd (false≢true (sym read ∙ unread))) c.finish-index.ensures.read
+
+pub returns-in-Err-clause-refused : goal.returns-in-Err-clause-refused
+returns-in-Err-clause-refused g c =
+    let text = input (g.S.Source.remaining c.args.reader.now) (g.S.Source.failed c.read_text.new.reader) in
+    let background = input (g.B.Source.remaining c.args.background.now) (g.B.Source.failed c.read_behind.new.background) in
+    let read = c.in_ok-outcome.ensures.text in
+    let first = read_whole (g.S.Source.remaining c.args.reader.now) (g.S.Source.remaining c.read_text.new.reader) (g.S.Source.failed c.read_text.new.reader) read.0
+    read.1.consumes read.1.ends (read.1.unfailed ∙ c.requires.reader) read.1.within in
+    (behind-fails (settings_of c.args.config.now) text background c.in-Err.fault (read-as text read.0 first) c.in-Err.ensures.refused).0
+
+pub returns-in-Err-clause-unbegun : goal.returns-in-Err-clause-unbegun
+returns-in-Err-clause-unbegun g c unread =
+    let text = input (g.S.Source.remaining c.args.reader.now) (g.S.Source.failed c.read_text.new.reader) in
+    let background = input (g.B.Source.remaining c.args.background.now) (g.B.Source.failed c.read_behind.new.background) in
+    let read = c.in_ok-outcome.ensures.text in
+    let first = read_whole (g.S.Source.remaining c.args.reader.now) (g.S.Source.remaining c.read_text.new.reader) (g.S.Source.failed c.read_text.new.reader) read.0
+    read.1.consumes read.1.ends (read.1.unfailed ∙ c.requires.reader) read.1.within in
+    absurd (false≢true (sym (behind-fails (settings_of c.args.config.now) text background c.in-Err.fault (read-as text read.0 first) c.in-Err.ensures.refused).1 ∙ unread))

@@ -1,9 +1,0 @@
-mod BackgroundLemmas
-mod LaterLemmas
-mod MergeLemmas
-mod NewsLemmas
-mod OneReport
-mod PhaseLemmas
-mod RunLemmas
-mod SinceLemmas
-mod StandingLemmas

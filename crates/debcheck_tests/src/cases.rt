@@ -1,0 +1,304 @@
+//! Runs as cases: what is set and read, and what is written of it.
+
+ghost use Rattle.std.specs.Prelude.{◌≡◌, ◌<◌, ◌≤◌, IfOk, false};
+
+use crate::tally::Tally;
+use deb_index::IndexError;
+use deb_input::RunFault;
+use deb_report::Summary;
+use debcheck::{run, run_since, status};
+use run_settings::{Config, Format, Show};
+use std::alloc::{AllocError, Global};
+use std::process::Abort;
+use std::thread::Threads;
+use test_devices::{Feed, Held, sink_with_room, source_of};
+use work_draw::OpenGate;
+
+/// Which run it is.
+#[derive(Clone, Copy)]
+pub enum Way {
+    /// On an index, and on a background where there is one.
+    Plain,
+    /// The same, with a gate that counts three chunks.
+    Counted,
+    /// Since an earlier index.
+    Since,
+}
+
+/// Which reader fails behind its text.
+#[derive(Clone, Copy)]
+pub enum Torn {
+    None,
+    Index,
+    Background,
+    Earlier,
+}
+
+/// The settings that are not the usual ones in each run.
+#[derive(Clone, Copy)]
+pub struct Settings {
+    pub workers: u32,
+    pub chunk: u32,
+    pub show: Show,
+    pub explain: bool,
+    pub all_reasons: bool,
+    pub causes: bool,
+    pub why: bool,
+    pub format: Format,
+}
+
+/// Two workers with chunks of one, else as usual.
+pub const BY_TWO: Settings = Settings {
+    workers: 2,
+    chunk: 1,
+    show: Show::All,
+    explain: true,
+    all_reasons: false,
+    causes: false,
+    why: false,
+    format: Format::Text,
+};
+
+/// A run, and what it comes to.
+#[derive(Clone, Copy)]
+pub struct Case<'a> {
+    pub name: &'static str,
+    pub way: Way,
+    pub settings: Settings,
+    /// The names that are asked; all packages where there is none.
+    pub only: &'static [&'static [u8]],
+    pub index: &'a [u8],
+    pub background: Option<&'a [u8]>,
+    pub earlier: &'a [u8],
+    /// How many bytes come at each read.
+    pub step: usize,
+    pub torn: Torn,
+    /// How many of the three texts are read: the first ones.
+    pub begun: u32,
+    /// How many bytes are taken at each write, and at which the writer fails.
+    pub room: usize,
+    pub fails_at: u32,
+    pub written: &'a [u8],
+    pub status: u8,
+    /// The name that no package has, or words for a fault of the index.
+    pub told: &'static str,
+    /// The numbers of a report that was written to its end.
+    pub summary: Option<Summary>,
+}
+
+/// Nothing is broken in no text.
+pub const EMPTY: Case<'static> = Case {
+    name: "no text",
+    way: Way::Plain,
+    settings: BY_TWO,
+    only: &[],
+    index: b"",
+    background: None,
+    earlier: b"",
+    step: 1,
+    torn: Torn::None,
+    begun: 1,
+    room: 1,
+    fails_at: 0,
+    written: b"architecture: amd64
+report:
+stanzas: 0
+skipped: 0
+duplicates: 0
+asked: 0
+broken: 0
+",
+    status: 0,
+    told: "",
+    summary: Some(NOTHING),
+};
+
+/// The numbers of a report on no text.
+pub const NOTHING: Summary = Summary {
+    stanzas: 0,
+    skipped: 0,
+    duplicates: 0,
+    background: 0,
+    asked: 0,
+    broken: 0,
+    newly_broken: None,
+};
+
+/// The names as a list, where there are some.
+fn named(alloc: Global, names: &[&[u8]]) -> Result<Option<Vec<Vec<u8>>>, AllocError> {
+    if names.is_empty() {
+        return Ok(None);
+    }
+    let mut list = Vec::new(alloc);
+    for name in names {
+        list.push(Vec::from_slice(alloc, name)?)?;
+    }
+    Ok(Some(list))
+}
+
+/// A name for the background, where there is one.
+fn background_name(alloc: Global, case: &Case<'_>) -> Result<Option<String>, AllocError> {
+    match case.background {
+        Some(_) => Ok(Some(String::from_str(alloc, "others")?)),
+        None => Ok(None),
+    }
+}
+
+fn config_of(alloc: Global, case: &Case<'_>) -> Result<Config, AllocError>
+    ensures workers { IfOk result (λ config. (0 < config.workers) × (config.workers ≤ 64)) }
+    ensures chunk { IfOk result (λ config. 0 < config.chunk) }
+{
+    let only = named(alloc, case.only)?;
+    let bg = background_name(alloc, case)?;
+    let mut config = Config::usual(alloc)?;
+    config.only = only;
+    config.bg = bg;
+    set(&mut config, case.settings);
+    Ok(config)
+}
+
+fn set(config: &mut Config, settings: Settings)
+    ensures workers { (0 < config.new.workers) × (config.new.workers ≤ 64) }
+    ensures chunk { 0 < config.new.chunk }
+{
+    config.workers = settings.workers.clamp(1, 64);
+    config.chunk = settings.chunk.max(1);
+    config.show = settings.show;
+    config.explain = settings.explain;
+    config.all_reasons = settings.all_reasons;
+    config.causes = settings.causes;
+    config.why = settings.why;
+    config.format = settings.format;
+}
+
+/// A reader that was not read yet.
+fn feed(text: &[u8], step: usize, torn: bool) -> Feed<'_>
+    ensures { result.failed ≡ false }
+{
+    let mut source = source_of(text, step);
+    source.fails = torn;
+    source
+}
+
+/// A run behind a gate that counts: no chunk begins twice or ends without a beginning, and all three end where there is a report.
+fn run_counted(
+    rt: &(impl Abort + Threads + Sync + AllocGlobal),
+    config: &Config,
+    index: &mut Feed<'_>,
+    background: &mut Feed<'_>,
+    output: &mut Held,
+) -> Result<Summary, RunFault>
+    requires workers { (0 < config.now.workers) × (config.now.workers ≤ 64) }
+    requires chunk { 0 < config.now.chunk }
+    requires index { index.old.failed ≡ false }
+    requires background { background.old.failed ≡ false }
+    requires output { output.old.failed ≡ false }
+{
+    let tally = Tally::new();
+    let outcome = run(rt, rt.alloc(), config, index, background, output, &tally);
+    assert!(rt; tally.has_at_least(u32::from(outcome.is_ok())));
+    outcome
+}
+
+/// What the run comes to, and how many of its readers were read. Nothing is read in the place of a background where there is none.
+fn outcome_of(
+    rt: &(impl Abort + Threads + Sync + AllocGlobal),
+    config: &Config,
+    case: &Case<'_>,
+    output: &mut Held,
+) -> (Result<Summary, RunFault>, u32)
+    requires workers { (0 < config.now.workers) × (config.now.workers ≤ 64) }
+    requires chunk { 0 < config.now.chunk }
+    requires output { output.old.failed ≡ false }
+{
+    let alloc = rt.alloc();
+    let mut index = feed(case.index, case.step, matches!(case.torn, Torn::Index));
+    let behind = case.background.unwrap_or(b"");
+    let fails = case.background.is_none() || matches!(case.torn, Torn::Background);
+    let mut background = feed(behind, case.step, fails);
+    let mut earlier = feed(case.earlier, case.step, matches!(case.torn, Torn::Earlier));
+    let outcome = match case.way {
+        Way::Plain => run(
+            rt,
+            alloc,
+            config,
+            &mut index,
+            &mut background,
+            output,
+            &OpenGate,
+        ),
+        Way::Counted => run_counted(rt, config, &mut index, &mut background, output),
+        Way::Since => run_since(
+            rt,
+            alloc,
+            config,
+            &mut index,
+            &mut background,
+            &mut earlier,
+            output,
+            &OpenGate,
+        ),
+    };
+    let begun = index.reads.min(1) + background.reads.min(1) + earlier.reads.min(1);
+    (outcome, begun)
+}
+
+/// The name that no package has, or words for a fault of the index; nothing of any other outcome.
+fn told_by(outcome: &Result<Summary, RunFault>) -> &[u8] {
+    match outcome {
+        Err(RunFault::UnknownAsked { name }) => name.as_slice(),
+        Err(RunFault::Index(IndexError::BadLine { stanza: 1 })) => b"bad line in stanza 1",
+        Err(RunFault::Index(_)) => b"another fault of the index",
+        Err(RunFault::Read) => b"index",
+        Err(RunFault::BackgroundRead) => b"background",
+        Err(RunFault::EarlierRead) => b"earlier",
+        _ => b"",
+    }
+}
+
+/// Whether the run came to what the case says.
+fn fits(case: &Case<'_>, outcome: &Result<Summary, RunFault>, output: &Held) -> bool {
+    let numbers = match outcome {
+        Ok(summary) => output.flushed && case.summary == Some(*summary),
+        Err(_) => case.summary.is_none(),
+    };
+    numbers
+        && output.bytes.as_slice() == case.written
+        && status(outcome) == case.status
+        && told_by(outcome) == case.told.as_bytes()
+}
+
+fn expect_under(
+    rt: &(impl Abort + Threads + Sync + AllocGlobal),
+    config: &Config,
+    case: &Case<'_>,
+) -> Result<(), AllocError>
+    requires workers { (0 < config.now.workers) × (config.now.workers ≤ 64) }
+    requires chunk { 0 < config.now.chunk }
+{
+    let mut output = sink_with_room(rt.alloc(), case.room, case.fails_at)?;
+    let (outcome, begun) = outcome_of(rt, config, case, &mut output);
+    if matches!(outcome, Err(RunFault::Memory)) {
+        assert!(rt; output.calls == 0 && output.bytes.is_empty() && status(&outcome) == 69);
+        return Err(AllocError);
+    }
+    assert!(rt; fits(case, &outcome, &output), "{}", case.name);
+    assert!(rt; begun == case.begun, "the readers of {}", case.name);
+    Ok(())
+}
+
+/// The run comes to what the case says, or wants memory with nothing written.
+pub fn expect(
+    rt: &(impl Abort + Threads + Sync + AllocGlobal),
+    case: &Case<'_>,
+) -> Result<(), AllocError> {
+    let config = config_of(rt.alloc(), case)?;
+    let outcome = expect_under(rt, &config, case);
+    drop(config);
+    outcome
+}
+
+/// The run comes to what the case says.
+pub fn expect_answer(rt: &(impl Abort + Threads + Sync + AllocGlobal), case: &Case<'_>) {
+    assert!(rt; expect(rt, case).is_ok(), "no memory for {}", case.name);
+}

@@ -1,0 +1,23 @@
+//! Tests of the public calls of `debcheck`; those of whole programs stand in `program_tests`, and what both run on in `test_devices`.
+//!
+//! `counted` has a writer of std's kind that counts, `tally` a gate that counts, `cases` what a run is set to and comes to. `written_lines` writes the
+//! lines of faults, `statuses` has their statuses, `runs` small runs, `since_runs` those since an earlier index, `growths` a test for each call that
+//! can want memory.
+#![tactic(auto)]
+
+#[cfg(test)]
+mod cases;
+#[cfg(test)]
+mod counted;
+#[cfg(test)]
+mod growths;
+#[cfg(test)]
+mod runs;
+#[cfg(test)]
+mod since_runs;
+#[cfg(test)]
+mod statuses;
+#[cfg(test)]
+mod tally;
+#[cfg(test)]
+mod written_lines;
