@@ -6,10 +6,11 @@ ghost use Rattle.run_settings.specs.Settings.{settings_of};
 ghost use Rattle.debcheck.specs.Run.{FailsToReport};
 ghost use Rattle.deb_input.specs.Strict.{slip_of};
 
+use crate::clues::note_unknown;
+use crate::hints::Clue;
 use deb_index::Index;
 use deb_input::{RunFault, slip_of};
 use deb_report::AskedFault;
-use run_hints::{Clue, note_unknown};
 use run_settings::Config;
 use std::alloc::Global;
 

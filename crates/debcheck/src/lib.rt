@@ -1,11 +1,14 @@
 //! Checks which packages of a Debian package index can be installed, and reports it: a run, and a program around it.
 //!
 //! What is asked of a run is in `run_settings`, and how words ask for it in `command_line`; how its texts are read, and why it fails, is in
-//! `deb_input`; the report that it writes is `deb_report`'s; what it reads from and writes to are `devices`; what looks like a slip, and the line that
-//! tells it, is in `run_hints`; how far a run has come, in `run_progress`. The modules, in reading order:
+//! `deb_input`; the report that it writes is `deb_report`'s; what it reads from and writes to are `devices`; how far it has come, in `run_progress`.
+//! The modules, in reading order:
 //!
 //! - `phases`: a run, from bytes to bytes; `since`: one that tells what became of an earlier index; `asked`: the places that are asked in it;
 //!   `verdicts`: what is found of them for the report, with all cores by `later`.
+//! - `hints`: what was seen of an input, or of a name that is asked in vain, that looks like a slip, and the line that tells it on a screen; what such
+//!   a line says is in `input_hints`. `clues`: the lines that are seen while a run has its texts: on the stanza of a fault, on a name, on the
+//!   architecture of most stanzas.
 //! - `exit_status`: the status of a run; `output`: the lines of faults, written.
 //! - `laws`: what holds of runs and of reports.
 //! - `program`: a program, from its words to its exit status, on the files that are opened by their names, one of which may have the names that are
@@ -14,7 +17,9 @@
 #![tactic(auto)]
 
 mod asked;
+mod clues;
 mod exit_status;
+mod hints;
 mod later;
 pub mod laws;
 mod output;

@@ -8,12 +8,13 @@ ghost use Rattle.deb_input.specs.Inputs.{FailsToAccept, IsReadAs, input, is_unre
 ghost use Rattle.debcheck.specs.Run.{Fails, FailsToIndex, FailsToReadBehind, FailsToReport, IsReportOn, Leaves, ReadsAs, TellsReport, WritesReport, behind};
 
 use crate::asked::ask_noting;
+use crate::clues::{note_read, stanzas_before};
+use crate::hints::Clue;
 use crate::verdicts::{find_told, wanted_of};
 use deb_index::{BothError, Index, PART_SIZE, TEXT_LIMIT};
 use deb_input::{PIECE, RunFault, TextRead, finish, read_all, read_text};
 use deb_report::{Summary, report_told, summary_of};
 use devices::{Sink, Source, write_all};
-use run_hints::{Clue, note_read, stanzas_before};
 use run_settings::Config;
 use std::alloc::Global;
 use std::mem::forget;

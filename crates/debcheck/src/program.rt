@@ -7,6 +7,7 @@ ghost use Rattle.deb_input.specs.Inputs.{input};
 ghost use Rattle.debcheck.specs.Program.{Asks, Ends, FailsToTake, Refuses, Runs, RunsBehind, RunsNamed, RunsTo, TakesNames, TellsOutcome, written};
 
 use crate::exit_status::status;
+use crate::hints::{Clue, note, tell_hint};
 use crate::output::{write_fault, write_line_fault};
 use crate::phases::{After, run_noting};
 use crate::since::run_since_noting;
@@ -16,7 +17,6 @@ use deb_input::{RunFault, read_names};
 use deb_report::Summary;
 use devices::{Disk, OpenFault, Opener, Recording, Sink, Source, Std};
 use input_hints::Input;
-use run_hints::{Clue, note, tell_hint};
 use run_progress::Progress;
 use run_settings::Config;
 use std::alloc::Global;

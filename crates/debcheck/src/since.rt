@@ -10,6 +10,8 @@ ghost use Rattle.debcheck.specs.Run.{FailsToIndex, FailsToReport, HasAsked, IfIn
 ghost use Rattle.debcheck.specs.Since.{FailsEarlier, FailsSince, IsReportAfter, LeavesSince, TellsReportSince, WereBroken, WritesReportSince, earlier_fault, is_unread_behind, wanted_since};
 
 use crate::asked::ask_noting;
+use crate::clues::{note_earlier, note_seen, stanzas_before};
+use crate::hints::Clue;
 use crate::phases::{After, index_from, let_go, read_texts};
 use crate::verdicts::{find_told, find_verdicts};
 use deb_index::Index;
@@ -17,7 +19,6 @@ use deb_input::{PIECE, RunFault, TextRead, finish, read_text};
 use deb_report::{BrokenPackage, Summary, broken_packages, earlier_places, report_since};
 use deb_verdict::Wanted;
 use devices::{Sink, Source, write_all};
-use run_hints::{Clue, note_earlier, note_seen, stanzas_before};
 use run_settings::Config;
 use std::alloc::{AllocError, Global};
 use std::thread::Threads;

@@ -4,7 +4,7 @@ ghost use Rattle.std.specs.Prelude.{◌≡◌, ◌≤◌, IfOk, IfSome, length, 
 ghost use Rattle.std.specs.Option.{option_copied};
 ghost use Rattle.deb_index.specs.Reading.{byte_limit};
 ghost use Rattle.input_hints.specs.Architectures.{TellsMost};
-ghost use Rattle.run_hints.specs.Clues.{IsElsewhere, clue_of, name_text, provider_of, refused_text, stanza_of, stanza_text};
+ghost use Rattle.debcheck.specs.Clues.{IsElsewhere, clue_of, name_text, provider_of, refused_text, stanza_of, stanza_text};
 
 use crate::hints::Clue;
 use deb_index::{Index, IndexError};
@@ -116,7 +116,7 @@ fn note_line(clue: &mut Option<Clue>, line: Result<Option<Vec<u8>>, AllocError>)
 
 /// How many stanzas stand before a piece of a text that is refused for a fault of this piece: read by itself, it has that fault at a number of its
 /// own. Where there are too many stanzas that number is another one, and none is told.
-pub fn stanzas_before(
+pub(crate) fn stanzas_before(
     alloc: Global,
     config: &Config,
     outcome: &Result<Index, RunFault>,
@@ -139,7 +139,7 @@ pub fn stanzas_before(
 
 /// Notes of which package the stanza is for whose fault an index or its background is refused, where one is; and where all stanzas are of other
 /// architectures, the one that most are of. The text is that of the index, or the piece of it that was looked at last, behind so many stanzas.
-pub fn note_read(
+pub(crate) fn note_read(
     alloc: Global,
     clue: &mut Option<Clue>,
     outcome: &Result<Index, RunFault>,
@@ -154,7 +154,7 @@ pub fn note_read(
 }
 
 /// Notes of which package the stanza is for whose fault an earlier index is refused, where one is, by the piece that has it.
-pub fn note_earlier(
+pub(crate) fn note_earlier(
     alloc: Global,
     clue: &mut Option<Clue>,
     outcome: &Result<Index, RunFault>,
@@ -173,14 +173,14 @@ pub fn note_earlier(
 }
 
 /// Notes what was seen before, where something was.
-pub fn note_seen(clue: &mut Option<Clue>, seen: Option<Clue>) {
+pub(crate) fn note_seen(clue: &mut Option<Clue>, seen: Option<Clue>) {
     if seen.is_some() {
         *clue = seen;
     }
 }
 
 /// Notes what a name is that is asked in vain, where one is.
-pub fn note_unknown(
+pub(crate) fn note_unknown(
     alloc: Global,
     clue: &mut Option<Clue>,
     index: &Index,

@@ -1,7 +1,7 @@
 //! What looks like a slip after a run, told on a terminal.
 
 ghost use Rattle.std.specs.Prelude.{◌≡◌, IfOk, option_map, string_bytes};
-ghost use Rattle.run_hints.specs.Hints.{clue_after, fault_hint_text, files_of, hint_text, is_in_question, run_hint_text, unread_text};
+ghost use Rattle.debcheck.specs.Hints.{clue_after, fault_hint_text, files_of, hint_text, is_in_question, run_hint_text, unread_text};
 
 use deb_input::RunFault;
 use deb_outcome::Summary;
@@ -12,7 +12,7 @@ use std::io::{IsTerminal, Write};
 
 /// What was seen of an input that a run couldn't use.
 #[derive(Drop)]
-pub enum Clue {
+pub(crate) enum Clue {
     /// By its first bytes this is likely wrong with it.
     Likely(Input, Hint),
     /// This line tells it.
@@ -36,7 +36,7 @@ fn is_in_question(outcome: &Result<Summary, RunFault>, input: Input) -> bool
 /// Notes what the first bytes of an input tell, where a run ended with a report, as of a Sources file, or with a fault of it; where they tell
 /// nothing, what was seen before stays.
 #[tactic(auto, unfolding(crate::specs::Hints::clue_after))]
-pub fn note(
+pub(crate) fn note(
     clue: &mut Option<Clue>,
     outcome: &Result<Summary, RunFault>,
     input: Input,
@@ -119,7 +119,7 @@ fn hint_text(
 
 /// Tells on a screen what looks like a slip, where that is a terminal and quiet isn't asked for. Where there is no memory for the line, or the
 /// screen doesn't take it, nothing is told.
-pub fn tell_hint<T: IsTerminal + Write + Copy>(
+pub(crate) fn tell_hint<T: IsTerminal + Write + Copy>(
     alloc: Global,
     screen: T,
     config: &Config,

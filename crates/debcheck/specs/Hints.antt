@@ -11,8 +11,8 @@ use Rattle.deb_outcome.specs.declared.summary.Summary.{Summary}
 use Rattle.deb_input.specs.Strict.{hint_of}
 use Rattle.deb_input.specs.declared.fault.RunFault.{RunFault}
 use Rattle.deb_input.specs.declared.fault.RunFault.TheVariants as run_fault
-use Rattle.run_hints.specs.declared.hints.Clue.{Clue}
-use Rattle.run_hints.specs.declared.hints.Clue.TheVariants.{Likely, Line}
+use Rattle.debcheck.specs.declared.hints.Clue.{Clue}
+use Rattle.debcheck.specs.declared.hints.Clue.TheVariants.{Likely, Line}
 
 -- a run ended with a report, or with a fault of this input
 unfoldable pub is_in_question : Result Summary RunFault → Input → Bool

@@ -15,8 +15,8 @@ use Rattle.input_hints.specs.declared.line.Input.{Input}
 use Rattle.input_hints.specs.declared.line.Input.TheVariants as input
 use Rattle.deb_input.specs.declared.fault.RunFault.{RunFault}
 use Rattle.deb_input.specs.declared.fault.RunFault.TheVariants.{Index, Background}
-use Rattle.run_hints.specs.declared.hints.Clue.{Clue}
-use Rattle.run_hints.specs.declared.hints.Clue.TheVariants.{Line}
+use Rattle.debcheck.specs.declared.hints.Clue.{Clue}
+use Rattle.debcheck.specs.declared.hints.Clue.TheVariants.{Line}
 
 -- the stanza that a fault is of
 unfoldable pub stanza_of : IndexError → Option ℕ
