@@ -1,7 +1,9 @@
 -- What a stanza adds to an index while it is read.
-use Rattle.std.proofs.Common.{◌≡◌, ◌≤◌, ◌<◌, ◌+◌, ℕ, false, cond, List, [], ◌∷◌, ◌++◌, map, Some, refl, sym, ap, ◌∙◌, subst, subst₂, arith}
+use Rattle.std.proofs.Common.{◌≡◌, ◌≤◌, ◌<◌, ◌+◌, ℕ, false, cond, ◌||◌, List, [], ◌∷◌, ◌++◌, map, Some, refl, sym, ap, ◌∙◌, subst, subst₂, arith}
 use Rattle.std.specs.List.{list_any, AllByRecursion}
-use Rattle.std.proofs.lemmas.List.{length-append, map-append}
+use Rattle.std.specs.List.Sorted.{IsPermutation}
+use Rattle.std.proofs.lemmas.List.{length-append}
+use Rattle.std.proofs.lemmas.List.Sorted.{list_any-IsPermutation}
 use Rattle.std.proofs.lemmas.List.Sums.{sum_by_push}
 use Rattle.deb_index.specs.declared.draft.PackageKey.{PackageKey}
 use Rattle.deb_index.specs.declared.draft.Draft.{Draft}
@@ -9,21 +11,20 @@ use Rattle.deb_index.specs.Packages.{IndexView, PackageView, is_named}
 use Rattle.deb_index.specs.Reading.{same_package, stanza_limit, with_reading}
 use Rattle.deb_index.specs.Tables.{HasRoom, IsSmall, asked_count, asked_limit, number_in}
 use Rattle.deb_index.specs.Names.{AreNumbers, IsNaming, name_texts}
-use Rattle.deb_index.specs.Built.{IsBuilt, IsCounted, IsKnown, draft_view, key_view, package_key, same_key}
+use Rattle.deb_index.specs.Built.{HasKeysOf, IsBuilt, IsCounted, IsKnown, draft_view, key_view, package_key, same_key}
 use Rattle.deb_index.proofs.FirstLemmas.{any-map}
-use Rattle.deb_index.proofs.KeyLemmas.{known-push}
+use Rattle.deb_index.proofs.KeyLemmas.{any-push, known-push, known-same, or-turned}
 use Rattle.deb_index.proofs.NameLemmas.{numbers-push, only-packages}
 
 pub all-push : {A : Type 0} (P : A → Type 0) (xs : List A) (x : A) → AllByRecursion P xs → P x → AllByRecursion P (xs ++ x ∷ [])
 all-push P [] x a p = (p, tt)
 all-push P (y ∷ ys) x a p = (a.0, all-push P ys x a.1 p)
 
--- a key that no other is the same as goes last
-pub keys-grow : (key : PackageKey) (ks : List PackageKey) (k : List ℕ × List ℕ) → key_view key ≡ k → list_any (same_key k) (map key_view ks) ≡ false
-    → map key_view (cond (list_any (λ k. same_key (key_view key) (key_view k)) ks) ks (ks ++ key ∷ [])) ≡ map key_view ks ++ k ∷ []
-keys-grow key ks k same apart =
-    let none : list_any (λ k. same_key (key_view key) (key_view k)) ks ≡ false = sym (any-map (same_key (key_view key)) key_view ks) ∙ ap (λ k. list_any (same_key k) (map key_view ks)) same ∙ apart in
-    ap (λ b. map key_view (cond b ks (ks ++ key ∷ []))) none ∙ map-append key_view ks (key ∷ []) ∙ ap (λ w. map key_view ks ++ w ∷ []) same
+-- a key more is all that a set has more
+pub keys-grow : (key : PackageKey) (old new : List PackageKey) (k : List ℕ × List ℕ) → key_view key ≡ k → IsPermutation (key ∷ old) new → HasKeysOf new (map key_view old ++ k ∷ [])
+keys-grow key old new k same grown l =
+    any-map (same_key l) key_view new ∙ sym (list_any-IsPermutation (λ n. same_key l (key_view n)) (key ∷ old) new grown)
+    ∙ (λ i. same_key l (same i) || sym (any-map (same_key l) key_view old) i) ∙ or-turned (same_key l k) (list_any (same_key l) (map key_view old)) ∙ sym (any-push (same_key l) (map key_view old) k)
 
 -- a package that is new goes last
 pub adds-package : (index : IndexView) (p : PackageView) → list_any (λ q. same_package q p) index.packages ≡ false
@@ -35,7 +36,7 @@ module _ (old : Draft) (b : IsBuilt old) (p : PackageView) where
   pub built-push : (new : Draft) (n : ℕ) → draft_view new ≡ record (draft_view old) { packages = (draft_view old).packages ++ p ∷ []; stanzas = old.catalog.stanzas + 1 }
       → old.catalog.stanzas < stanza_limit → HasRoom (draft_view old) (Some p) → IsNaming ((draft_view old).packages ++ p ∷ []) [] new.catalog.names
       → new.catalog.numbers.items ≡ old.catalog.numbers.items ++ n ∷ [] → number_in p.name (name_texts new.catalog.names) ≡ Some n
-      → map key_view new.later.keys ≡ map key_view old.later.keys ++ cond (list_any (is_named p.name) (draft_view old).packages) (package_key p ∷ []) [] → IsBuilt new
+      → HasKeysOf new.later.keys (map key_view old.later.keys ++ cond (list_any (is_named p.name) (draft_view old).packages) (package_key p ∷ []) []) → IsBuilt new
   built-push new n same few room named numbers number kept =
       let packages = (draft_view old).packages in
       let longer = ap (λ (v : IndexView). v.packages) same in
@@ -50,5 +51,5 @@ module _ (old : Draft) (b : IsBuilt old) (p : PackageView) where
         });
         numbered = subst₂ AreNumbers (sym longer) (sym numbers) (numbers-push packages old.catalog.numbers.items p n b.numbered (ap (number_in p.name) (sym (only-packages named)) ∙ number));
         named = subst (λ ps. IsNaming ps [] new.catalog.names) (sym longer) named;
-        known = subst₂ IsKnown (sym longer) (sym kept) (known-push packages (map key_view old.later.keys) p b.known);
+        known = subst (λ ps. IsKnown ps (map key_view new.later.keys)) (sym longer) (known-same (packages ++ p ∷ []) _ _ kept (known-push packages (map key_view old.later.keys) p b.known));
       }

@@ -8,10 +8,11 @@ use Rattle.std.specs.Str.{bytes_eq}
 use Rattle.std.proofs.lemmas.Bool.{false≢true, or_parts}
 use Rattle.std.proofs.lemmas.List.{append-nil, get_or-map, length-map}
 use Rattle.std.proofs.lemmas.List.Folds.{list_any-append}
+use Rattle.deb_index.specs.declared.draft.PackageKey.{PackageKey}
 use Rattle.deb_index.specs.declared.package.Package.{Package}
 use Rattle.deb_index.specs.Packages.{PackageView, is_named, package_view, places_where}
 use Rattle.deb_index.specs.Reading.{same_package}
-use Rattle.deb_index.specs.Built.{IsKnown, is_known, package_key, same_key}
+use Rattle.deb_index.specs.Built.{HasKeysOf, IsKnown, is_known, key_view, package_key, same_key}
 use Rattle.deb_index.proofs.FirstLemmas.{names-turned, same-name}
 
 or-false : (b : Bool) → (b || false) ≡ b
@@ -22,14 +23,14 @@ or-joined : (a b c : Bool) → ((a || b) || c) ≡ (a || (b || c))
 or-joined true b c = refl
 or-joined false b c = refl
 
-or-turned : (a b : Bool) → (a || b) ≡ (b || a)
+pub or-turned : (a b : Bool) → (a || b) ≡ (b || a)
 or-turned true true = refl
 or-turned true false = refl
 or-turned false true = refl
 or-turned false false = refl
 
 module _ {A : Type 0} (test : A → Bool) where
-  any-push : (xs : List A) (x : A) → list_any test (xs ++ x ∷ []) ≡ (list_any test xs || test x)
+  pub any-push : (xs : List A) (x : A) → list_any test (xs ++ x ∷ []) ≡ (list_any test xs || test x)
   any-push xs x = list_any-append test xs (x ∷ []) ∙ ap (λ r. list_any test xs || r) (or-false (test x))
 
   find-none : (xs : List A) → list_any test xs ≡ false → find test xs ≡ None
@@ -174,3 +175,8 @@ known-push packages later q known p =
         passed : (a : Bool) → list_any (is_named p.name) packages ≡ a → cond (list_any (is_named p.name) packages) (find (is_named p.name) packages) (cond (bytes_eq p.name q.name) (Some q) None) ≡ find (is_named p.name) packages
         passed true h = rw h refl
         passed false h = rw (h, e) (sym (find-none (is_named p.name) packages h))
+
+-- by other keys that tell the same
+pub known-same : (packages : List PackageView) (kept : List PackageKey) (later : List (List ℕ × List ℕ)) → HasKeysOf kept later → IsKnown packages later → IsKnown packages (map key_view kept)
+known-same packages kept later same known p =
+    known p ∙ ap (λ b. option_map_or (λ (q : PackageView). bytes_eq q.version p.version) (find (is_named p.name) packages) false || b) (sym (same (package_key p)))

@@ -26,6 +26,7 @@ pub mod PieceLemmas
 pub mod ReadyLemmas
 pub mod EnumerateLemmas
 pub mod NameLemmas
+pub mod NumberedLemmas
 pub mod ProvidedLemmas
 pub mod BuiltLemmas
 pub mod SeenLemmas

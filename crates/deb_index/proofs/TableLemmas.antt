@@ -1,5 +1,5 @@
 -- Tables from names to items.
-use Rattle.std.proofs.Common.{◌≡◌, ◌<◌, ◌+◌, ℕ, Bool, true, false, not, cond, ltb, ◌||◌, List, [], ◌∷◌, ◌++◌, map, filter, length, get_or, set, Option, Some, None, refl, sym, ap, ◌∙◌, subst, arith}
+use Rattle.std.proofs.Common.{◌≡◌, ◌<◌, ◌+◌, ℕ, Bool, true, false, not, cond, ltb, ◌||◌, List, [], ◌∷◌, ◌++◌, map, filter, length, get_or, set, Option, Some, None, IfSome, refl, sym, ap, ◌∙◌, subst, arith}
 use Prim.Native.Nat.{suc}
 use Rattle.std.specs.List.{list_any, position, position_or_len}
 use Rattle.std.specs.Option.{option_map}
@@ -53,6 +53,10 @@ number-within name (k ∷ ks) i e = by (bytes_eq name k) (number_in name ks) ref
     by true n t h ih = let z : 0 ≡ i = some-same 0 i (rw t at e) in omega arith
     by false None t h ih = absurd (none-some i (rw (t, h) at e))
     by false (Some j) t h ih = let z : suc j ≡ i = some-same (suc j) i (rw (t, h) at e) in let w = ih j h in omega arith
+
+pub known-within : (name : List ℕ) (ks : List (List ℕ)) (known : Option ℕ) → known ≡ number_in name ks → IfSome known (λ i. i < length ks)
+known-within name ks None e = tt
+known-within name ks (Some i) e = number-within name ks i (sym e)
 
 module _ {T : Type 0} (name : List ℕ) (f g : List ℕ → T) (other : (k : List ℕ) → bytes_eq name k ≡ false → g k ≡ f k) where
   pub map-others : (ks : List (List ℕ)) → list_any (bytes_eq name) ks ≡ false → map g ks ≡ map f ks

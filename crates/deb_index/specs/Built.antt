@@ -39,6 +39,10 @@ key_view k = (k.name.items, k.version.items)
 abbrev pub same_key : List ℕ × List ℕ → List ℕ × List ℕ → Bool
 same_key k l = bytes_eq k.0 l.0 && bytes_eq k.1 l.1
 
+-- a set has just these keys
+abbrev pub HasKeysOf : List PackageKey → List (List ℕ × List ℕ) → Type 0
+HasKeysOf kept keys = (key : List ℕ × List ℕ) → list_any (same_key key) (map key_view kept) ≡ list_any (same_key key) keys
+
 -- a package is known by the version of the first package of its name, or by the key of a later one
 abbrev pub is_known : List PackageView → List (List ℕ × List ℕ) → PackageView → Bool
 is_known packages later p = option_map_or (λ q. bytes_eq q.version p.version) (find (is_named p.name) packages) false

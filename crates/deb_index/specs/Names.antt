@@ -4,7 +4,6 @@ use Rattle.std.specs.List.{enumerate_from, flat_map}
 use Rattle.std.specs.Str.{bytes_eq}
 use Rattle.deb_relation.specs.Relationship.{AtomText}
 use Rattle.deb_relation.specs.Usable.{is_usable}
-use Rattle.deb_index.specs.declared.name.Name.{Name}
 use Rattle.deb_index.specs.declared.names.Lists.{Lists}
 use Rattle.deb_index.specs.declared.names.Names.{Names}
 use Rattle.deb_index.specs.Packages.{PackageView, first_of_each, is_named, places_where}
@@ -27,11 +26,8 @@ package_names packages = first_of_each bytes_eq (map (λ p. p.name) packages)
 abbrev pub all_names : List PackageView → List (List ℕ × (ℕ × ℕ)) → List (List ℕ)
 all_names packages entries = first_of_each bytes_eq (map (λ p. p.name) packages ++ map (λ e. e.0) entries)
 
-abbrev pub name_text : Name → List ℕ
-name_text name = name.text
-
 abbrev pub name_texts : Names → List (List ℕ)
-name_texts names = map name_text names.texts.keys
+name_texts names = names.texts
 
 -- the names of some packages and entries, with the places of the packages that have each and the entries that provide it
 pub record IsNaming (packages : List PackageView) (entries : List (List ℕ × (ℕ × ℕ))) (names : Names) : Type 0 where

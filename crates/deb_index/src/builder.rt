@@ -16,8 +16,8 @@ use crate::package::Reading;
 use crate::parts::Parted;
 use crate::unlinked::Unlinked;
 use deb_control::Reader;
-use indexmap::IndexSet;
 use std::alloc::{AllocError, Global};
+use std::collections::HashSet;
 use std::marker::Model;
 
 /// A draft that is filled whole: each call that may want memory takes the builder and gives back one that has more.
@@ -56,7 +56,7 @@ impl Builder {
             names: Names::new(alloc),
             packages: Vec::new(alloc),
         };
-        let later = IndexSet::new(alloc);
+        let later = HashSet::new(alloc);
         Ok(Builder {
             draft: Draft { catalog, later },
         })

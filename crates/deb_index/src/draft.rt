@@ -5,7 +5,7 @@ ghost use Rattle.std.specs.List.{fold, list_any};
 ghost use Rattle.std.specs.Str.{bytes_eq};
 ghost use Rattle.deb_control.specs.Stanzas.{stanzas_of};
 ghost use Rattle.deb_index.specs.Packages.{names, package_view};
-ghost use Rattle.deb_index.specs.Built.{key_view, package_key, same_key};
+ghost use Rattle.deb_index.specs.Built.{HasKeysOf, key_view, package_key, same_key};
 ghost use Rattle.deb_index.specs.Parts.{ArePartsOf, HasRoomFor, HaveRoom, IsForeseen, in_lists, part_stanzas};
 ghost use Rattle.deb_index.specs.Reading.{byte_limit, read_behind, reading_view, same_package, stanza_limit, with_reading};
 ghost use Rattle.deb_index.specs.Tables.{HasRoom, asked_count};
@@ -16,8 +16,8 @@ use crate::limits::STANZA_LIMIT;
 use crate::package::{Package, Reading, next_reading};
 use crate::parts::{Part, Parted};
 use deb_control::Reader;
-use indexmap::IndexSet;
 use std::alloc::{AllocError, Global};
+use std::collections::HashSet;
 
 /// What tells packages apart: the name and the text of the version.
 #[derive(PartialEq, Eq, Hash, Drop)]
@@ -42,10 +42,10 @@ fn keep_key(
     alloc: Global,
     is_later: bool,
     candidate: &Package,
-    later: &mut IndexSet<PackageKey>,
+    later: &mut HashSet<PackageKey>,
 ) -> Result<(), AllocError>
     requires { list_any (same_key (package_key (package_view candidate.now))) (map key_view later.old.keys) ≡ false }
-    ensures { OnOk result (map key_view later.new.keys ≡ map key_view later.old.keys ++ cond is_later (package_key (package_view candidate.now) ∷ []) []) }
+    ensures { OnOk result (HasKeysOf later.new.keys (map key_view later.old.keys ++ cond is_later (package_key (package_view candidate.now) ∷ []) [])) }
 {
     if is_later {
         later.insert(PackageKey::of(alloc, candidate)?)?;
@@ -58,7 +58,7 @@ fn keep_key(
 pub(crate) struct Draft {
     pub(crate) catalog: Catalog,
     // The keys of the packages that are not the first of their name.
-    pub(crate) later: IndexSet<PackageKey>,
+    pub(crate) later: HashSet<PackageKey>,
 }
 
 impl Draft {

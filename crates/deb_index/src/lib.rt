@@ -4,7 +4,7 @@
 //!
 //! - `limits`: how large an index may be; `error`: why one is refused.
 //! - `package`: one stanza, read as a package; `meets`: what it asks for, and which atoms it meets.
-//! - `names`: the names that packages have or provide, with where each is found; `name`: how one lies in the table.
+//! - `name_table`: names with their numbers; `names`: those that packages have or provide, with where each is found.
 //! - `lookup`: all places that meet an atom, found by the names.
 //! - `memo`: which row an atom got; `role_rows`: the rows of one role while they are made, which `number_sets` keeps; `links`: the row of each group
 //!   and of each entry, made once.
@@ -29,7 +29,7 @@ mod links;
 mod lookup;
 mod meets;
 mod memo;
-mod name;
+mod name_table;
 mod names;
 mod package;
 mod parts;

@@ -6,10 +6,9 @@ ghost use Rattle.deb_index.specs.Packages.{PackageView, is_named, package_view, 
 ghost use Rattle.deb_index.specs.Reading.{stanza_limit};
 ghost use Rattle.deb_index.specs.Tables.{IsSmall, items_of, number_in};
 
-use crate::name::{Key, Name};
+use crate::name_table::NameTable;
 use crate::package::Package;
 use deb_relation::Atom;
-use indexmap::IndexSet;
 use smallvec::SmallVec;
 use std::alloc::{AllocError, Global};
 
@@ -31,12 +30,12 @@ pub(crate) struct Candidates<'a> {
 /// The names, each once: those of packages in the order in which they first occur, and behind them those that are only provided.
 #[derive(Drop)]
 pub(crate) struct Names {
-    pub(crate) texts: IndexSet<Name>,
+    pub(crate) texts: NameTable,
     // By the number of the name.
     pub(crate) lists: Vec<Lists>,
     // How many names packages have.
     pub(crate) front: usize,
-    ghost listed: { length texts.keys ≤ vec_len lists },
+    ghost listed: { length texts ≤ vec_len lists },
 }
 
 impl Names {
@@ -46,7 +45,7 @@ impl Names {
         ensures { IsNaming [] [] result }
     {
         Names {
-            texts: IndexSet::new(alloc),
+            texts: NameTable::new(alloc),
             lists: Vec::new(alloc),
             front: 0,
         }
@@ -57,7 +56,7 @@ impl Names {
         ensures number { result ≡ number_in name.now (name_texts self.now) }
         ensures within { IfSome result (λ i. i < length (name_texts self.now)) }
     {
-        self.texts.get_index_of(Key(name))
+        self.texts.number(name)
     }
 
     /// The name with a number.
@@ -65,7 +64,7 @@ impl Names {
         requires { number < length (name_texts self.now) }
         ensures { result.now ≡ slice_index_or (name_texts self.now) number [] }
     {
-        self.texts.as_slice()[number].as_slice()
+        self.texts.text(number)
     }
 
     /// The places of the packages that have the name with a number.
@@ -119,8 +118,7 @@ impl Names {
         ensures front { self.new.front ≡ self.old.front }
     {
         self.lists.push(lists)?;
-        self.texts.insert(Name::from_slice(alloc, name)?)?;
-        Ok(())
+        self.texts.push(alloc, name)
     }
 
     /// Puts the next package down under its name, whose number it gives back. The number is known where the name is there.

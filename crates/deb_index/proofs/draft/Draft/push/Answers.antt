@@ -6,7 +6,7 @@ use Rattle.deb_index.specs.declared.package.Package.{Package}
 use Rattle.deb_index.specs.Packages.{package_view}
 use Rattle.deb_index.specs.Tables.{number_in}
 use Rattle.deb_index.specs.Names.{name_texts}
-use Rattle.deb_index.specs.Built.{draft_view, key_view, package_key, same_key}
+use Rattle.deb_index.specs.Built.{HasKeysOf, draft_view, key_view, package_key, same_key}
 use Rattle.deb_index.proofs.BuiltLemmas.{adds-package, built-push}
 use Rattle.deb_index.proofs.KeyLemmas.{key-apart}
 use Rattle.deb_index.proofs.NameLemmas.{named-some, number-few, position-known}
@@ -60,8 +60,8 @@ returns-clause-built c =
     let number = ap (λ k. number_in k (name_texts c.add.new.self)) name ∙ c.in_ok-number.ensures.number in
     let longer = ap (map package_view) c.in_ok-push.ensures.items ∙ map-append package_view i.packages.items (c.args.candidate ∷ []) in
     let some = c.is_some.ensures ∙ named-some packages p.name c.args.known c.requires.known in
-    let keys = subst (λ (k : Package). map key_view c.keep_key.new.later.keys ≡ map key_view old.later.keys ++ cond c.is_some.result (package_key (package_view k) ∷ []) []) kept c.in_ok-keep_key.ensures
-    ∙ ap (λ b. map key_view old.later.keys ++ cond b (package_key p ∷ []) []) some in
+    let keys = subst (λ b. HasKeysOf c.keep_key.new.later.keys (map key_view old.later.keys ++ cond b (package_key p ∷ []) [])) some
+    (subst (λ (k : Package). HasKeysOf c.keep_key.new.later.keys (map key_view old.later.keys ++ cond c.is_some.result (package_key (package_view k) ∷ []) [])) kept c.in_ok-keep_key.ensures) in
     let new : Draft = record old { catalog = record i { packages = c.push.new.self; numbers = c.push-2.new.self; names = c.add.new.self; stanzas = i.stanzas + 1 }; later = c.keep_key.new.later } in
     built-push old c.requires.built p new c.in_ok-number.number (ap (λ ps. record (draft_view old) { packages = ps; stanzas = i.stanzas + 1 }) longer)
     c.requires.few c.requires.room named c.in_ok-push-2.ensures.items number keys

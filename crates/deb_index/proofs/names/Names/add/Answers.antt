@@ -1,7 +1,6 @@
 use Rattle.std.proofs.Common.{◌≡◌, ◌++◌, ◌∷◌, [], Some, None, ap, sym, refl, ◌∙◌, arith}
-use Rattle.std.proofs.lemmas.List.{length-map}
 use Rattle.deb_index.specs.Tables.{number_in}
-use Rattle.deb_index.specs.Names.{name_text, name_texts}
+use Rattle.deb_index.specs.Names.{name_texts}
 use Rattle.deb_index.proofs.NameLemmas.{add-new, add-there, number-last}
 use Rattle.deb_index.proofs.TableLemmas.{number-within}
 use Rattle.deb_index.proofs.names.Names.add.Goals as goal
@@ -10,7 +9,7 @@ pub index_mut-requires : goal.index_mut-requires
 index_mut-requires c =
     let texts = name_texts c.args.self.now in
     let e : number_in c.args.name.now texts ≡ Some c.in-Some.number = sym (rw c.in-Some.is at c.requires) in
-    omega (arith, number-within c.args.name.now texts c.in-Some.number e, length-map c.args.self.now.texts.keys name_text, c.args.self.now.listed)
+    omega (arith, number-within c.args.name.now texts c.in-Some.number e, c.args.self.now.listed)
 
 pub returns-in_ok-push-in-Some-clause-named : goal.returns-in_ok-push-in-Some-clause-named
 returns-in_ok-push-in-Some-clause-named c = λ packages p n named placed.
@@ -33,4 +32,4 @@ returns-in_ok-insert-in-None-clause-number c =
     let texts = name_texts c.args.self.now in
     let e : number_in c.args.name.now texts ≡ None = sym (rw c.in-None.is at c.requires) in
     ap (number_in c.args.name.now) c.in_ok-insert-in-None.ensures.texts ∙ number-last c.args.name.now texts e
-    ∙ ap (λ m. Some m) (length-map c.args.self.now.texts.keys name_text ∙ sym c.len-number.ensures.len)
+    ∙ ap (λ m. Some m) (sym c.len-number.ensures)

@@ -1,4 +1,5 @@
 use Rattle.std.proofs.Common.{◌≡◌, ◌≢◌, ◌∙◌, ◌+◌, ◌*◌, ◌≤◌, ℕ, List, Ok, Err, ap, sym, subst, subst₂, sum_by, refl, arith}
+use Rattle.std.proofs.lemmas.Result.{err_from_is_err_and}
 use Rattle.deb_control.specs.Stanzas.{stanzas_of}
 use Rattle.deb_index.specs.declared.error.IndexError.TheVariants.{Memory}
 use Rattle.deb_index.specs.Packages.{IndexView}
@@ -52,3 +53,8 @@ returns-clause-accepted g c =
     let finishes : Finishes old c.args.background.now c.in_ok-index.index = λ arch essential text is.
     front-index arch essential text old is mid c.end_foreground-fore.ensures c.args.background.now whole read ∙ ap (λ (i : IndexView). Ok i) (sym (c.in_ok-index.ensures ∙ c.in_ok-unlinked.ensures)) in
     subst (λ (f : FrontView). Finishes f c.args.background.now c.in_ok-index.index) whole_is finishes
+
+pub returns-in_err-unlinked-clause-refused : goal.returns-in_err-unlinked-clause-refused
+returns-in_err-unlinked-clause-refused g c =
+    let p = err_from_is_err_and c.from_residual-in_err-unlinked.result c.from_residual-in_err-unlinked.ensures.1 in
+    rw p.1 (λ other. absurd (other p.2))

@@ -1,4 +1,4 @@
-use Rattle.std.proofs.Common.{◌≡◌, ◌<◌, ◌++◌, ◌∷◌, ◌∙◌, [], length, arith}
+use Rattle.std.proofs.Common.{◌<◌, ◌++◌, ◌∷◌, ◌∙◌, [], length, arith}
 use Rattle.deb_index.specs.Packages.{needs, package_view}
 use Rattle.deb_index.specs.Rows.{answer_row}
 use Rattle.deb_index.proofs.LinkLemmas.{rows-more}
