@@ -4,6 +4,7 @@ pub mod FirstOnes
 pub mod GatheringLemmas
 pub mod GatheredCauses
 pub mod NumberingLemmas
+pub mod ListingLemmas
 pub mod SaidLemmas
 pub mod PartLemmas
 pub mod WrongsLemmas

@@ -1,13 +1,14 @@
 -- Texts with numbers, in the order of their coming.
-use Rattle.std.specs.Prelude.{◌≡◌, ℕ, List, [], ◌∷◌, ◌++◌, map, if◌then◌else◌}
+use Rattle.std.specs.Prelude.{◌≡◌, ℕ, List, [], ◌∷◌, ◌++◌, if◌then◌else◌}
 use Rattle.std.specs.List.{list_any}
 use Rattle.std.specs.Str.{bytes_eq}
 use Rattle.deb_index.specs.Packages.{first_of_each}
+use Rattle.deb_causes.specs.Listing.{texts_in}
 use Rattle.deb_causes.specs.declared.numbering.Numbering.{Numbering}
 
 -- the texts, by their numbers
 abbrev pub texts_of : Numbering → List (List ℕ)
-texts_of numbering = map (λ text. text.items) numbering.texts.keys
+texts_of numbering = texts_in numbering.numbers
 
 -- the texts with one more, where it is not among them
 abbrev pub with_text : List (List ℕ) → List ℕ → List (List ℕ)

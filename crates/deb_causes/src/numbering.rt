@@ -2,14 +2,16 @@
 
 ghost use Rattle.std.specs.Prelude.{◌≡◌, Some, IfOk, OnOk, length};
 ghost use Rattle.deb_index.specs.Tables.{number_in};
+ghost use Rattle.deb_causes.specs.Listing.{IsListing, texts_in};
 
-use indexmap::IndexSet;
 use std::alloc::{AllocError, Global};
+use std::collections::HashMap;
 
-/// Texts, each once, in the order of their coming: the number of a text is its place.
+/// Texts, each with its number: its place in the order of their coming.
 #[derive(Drop)]
 pub(crate) struct Numbering {
-    texts: IndexSet<Vec<u32>>,
+    numbers: HashMap<Vec<u32>, u32>,
+    ghost listing: { IsListing numbers (texts_in numbers) },
 }
 
 impl Numbering {
@@ -21,7 +23,7 @@ impl Numbering {
         ensures { texts_of result ≡ [] }
     {
         Numbering {
-            texts: IndexSet::new(alloc),
+            numbers: HashMap::new(alloc),
         }
     }
 
@@ -29,7 +31,7 @@ impl Numbering {
     pub(crate) fn len(&self) -> usize
         ensures { result ≡ length (texts_of self.now) }
     {
-        self.texts.len()
+        self.numbers.len()
     }
 
     /// The number of a text, which goes last where it is new.
@@ -37,11 +39,14 @@ impl Numbering {
         ensures texts { OnOk result (texts_of self.new ≡ with_text (texts_of self.old) text.items) }
         ensures number { IfOk result (λ number. number_in text.items (texts_of self.new) ≡ Some number) }
     {
-        let (place, _) = self.texts.insert_full(text)?;
-        // There is no memory for so many texts that the place of one doesn't fit.
-        if place > u32::MAX as usize {
-            return Err(AllocError);
+        if let Some(number) = self.numbers.get(&text) {
+            return Ok(*number);
         }
-        Ok(place as u32)
+        // There is no memory for so many texts that the number of one doesn't fit.
+        let Ok(number) = u32::try_from(self.numbers.len()) else {
+            return Err(AllocError);
+        };
+        self.numbers.insert(text, number)?;
+        Ok(number)
     }
 }
