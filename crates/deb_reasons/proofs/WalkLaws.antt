@@ -1,4 +1,5 @@
 -- The walk of a core tells each of its constraints, and that of constraints at rising positions each once.
+use mathlib.Core.Path.{fun_ext}
 use Rattle.std.proofs.Common.{◌≡◌, ◌≢◌, ◌==◌, ℕ, zero, suc, ◌+◌, ◌*◌, ◌<◌, ◌≤◌, ◌^◌, ◌||◌, Bool, true, false, not, List, [], ◌∷◌, ◌++◌, None, Some, IsPermutation, filter, get_or, length, map, slice_get, append-nil, append_assoc, refl, sym, ap, ap₂, subst, ◌∙◌, inl, inr, arith}
 use Rattle.std.specs.Prelude.{if◌then◌else◌, sum_by}
 use Rattle.std.specs.Cmp.{nat_eq_equiv}
@@ -14,7 +15,6 @@ use Rattle.std.proofs.lemmas.List.Sums.{sum_by-cons, sum_by-le}
 use Rattle.std.proofs.lemmas.Map.Keys.{IsDistinct-IsPermutation, IsDistinct-from_apart, apart_from_distinct}
 use Rattle.std.proofs.lemmas.Option.{slice_get_within}
 use Rattle.number_sets.specs.Sets.{NumberSet, members_of}
-use Rattle.number_sets.specs.SparseSets.{with_number}
 use Rattle.number_sets.proofs.RisingLists.{rising_lt}
 use Rattle.number_sets.proofs.SparseSetLemmas.{position_at_most}
 use Rattle.deb_index.specs.declared.constraint.Constraint.{Constraint}
@@ -27,11 +27,10 @@ use Rattle.deb_index.specs.Tables.{asked_count, asked_limit}
 use Rattle.deb_index.proofs.ConstraintLemmas.{constraints-few, where-short}
 use Rattle.deb_index.proofs.FirstLemmas.{name-itself, names-turned, same-name}
 use Rattle.deb_index.proofs.PositionLemmas.{one_position}
-use Rattle.list_steps.proofs.ListLemmas.{or_assoc}
+use Rattle.list_steps.proofs.ListLemmas.{or_false}
 use Rattle.deb_reasons.specs.declared.walk.Step.{Step}
 use Rattle.deb_reasons.specs.declared.walk.Step.TheVariants.{Begin, Meet, Tell}
-use Rattle.deb_reasons.specs.Walk.{are_told, begin_step, brought, depth_of, essential_step, first_steps, is_own, met_steps, only_step, own_step, own_steps, step_limit, steps_behind, told_by, told_in, walk, walk_of}
-use Rattle.deb_reasons.proofs.PlaceSetLemmas.{with_number-members}
+use Rattle.deb_reasons.specs.Walk.{are_told, begin_step, brought, depth_of, essential_step, first_steps, is_own, met_steps, only_step, own_step, own_steps, step_limit, steps_behind, told_by, told_in, walk, walk_of, with_place}
 
 -- ---- lists in another order
 
@@ -85,7 +84,7 @@ met-each : (depth : ℕ) (c : Constraint) (places : List ℕ)
 met-each depth c [] = (refl, refl)
 met-each depth c (place ∷ places) = let rest = met-each depth c places in (rest.0, ap (λ others. place ∷ others) rest.1)
 
-met-lines : (index : IndexView) (told : List ℕ) (depth : ℕ) (c : Constraint)
+met-lines : (index : IndexView) (told : NumberSet) (depth : ℕ) (c : Constraint)
     → (flat_map told_by (met_steps index told depth c) ≡ []) × (length (flat_map goes_to (met_steps index told depth c)) ≤ length (brought index c))
 unfolding met_steps
 met-lines index told depth c =
@@ -147,29 +146,38 @@ none-waits told (Apart place number ∷ core) all =
     (none-waits told core (λ q of. all q (or_right (place == q) (list_any (is_own q) core) of)))
 none-waits told (Only name ∷ core) all = none-waits told core all
 
+-- a place that the set has adds nothing
+told-already : (told : NumberSet) (place : ℕ) → told place ≡ true → with_place told place ≡ told
+told-already told place has =
+    fun_ext (λ q.
+    elim (cases_Bool (place == q)) [
+      | inl same ↦ rw same (sym has ∙ ap told (eqb-true place q same))
+      | inr other ↦ rw other refl
+    ])
+
 -- what waits is the package's own, or waits behind it, too
-module _ (told after : NumberSet) (place : ℕ) (more : (q : ℕ) → after q ≡ (told q || (place == q))) (new : told place ≡ false) where
-  test-parts : (a b : Bool) → (b ≡ true → a ≡ false) → not a ≡ (not (a || b) || b)
+module _ (told : NumberSet) (place : ℕ) (new : told place ≡ false) where
+  test-parts : (a b : Bool) → (b ≡ true → a ≡ false) → not a ≡ (not (if b then true else a) || b)
   test-parts true true lacks = absurd (false≢true (sym (lacks refl)))
   test-parts true false lacks = refl
   test-parts false true lacks = refl
   test-parts false false lacks = refl
 
-  at-place : (q : ℕ) → not (told q) ≡ (not (after q) || (q == place))
+  at-place : (q : ℕ) → not (told q) ≡ (not (with_place told place q) || (q == place))
   at-place q =
       test-parts (told q) (q == place) (λ same. ap told (eqb-true q place same) ∙ new)
-      ∙ ap (λ b. not b || (q == place)) (ap (λ b. told q || b) (nat_eq_equiv.symm q place) ∙ sym (more q))
+      ∙ ap (λ b. not (if b then true else told q) || (q == place)) (nat_eq_equiv.symm q place)
 
-  waits-or-own : (c : Constraint) → waits told c ≡ (waits after c || is_own place c)
+  waits-or-own : (c : Constraint) → waits told c ≡ (waits (with_place told place) c || is_own place c)
   waits-or-own (Essential name) = refl
   waits-or-own (Need q number) = at-place q
   waits-or-own (Apart q number) = at-place q
   waits-or-own (Only name) = refl
 
-  then-told : (q : ℕ) → (q == place) ≡ true → not (after q) ≡ false
-  then-told q same = ap not (more q ∙ or_right (told q) (place == q) (nat_eq_equiv.symm place q ∙ same))
+  then-told : (q : ℕ) → (q == place) ≡ true → not (with_place told place q) ≡ false
+  then-told q same = ap (λ b. not (if b then true else told q)) (nat_eq_equiv.symm place q ∙ same)
 
-  own-waits-no-more : (c : Constraint) → is_own place c ≡ true → waits after c ≡ false
+  own-waits-no-more : (c : Constraint) → is_own place c ≡ true → waits (with_place told place) c ≡ false
   own-waits-no-more (Essential name) own = refl
   own-waits-no-more (Need q number) own = then-told q own
   own-waits-no-more (Apart q number) own = then-told q own
@@ -183,45 +191,44 @@ weight index constraint = suc (length (brought index constraint))
 
 module _ (index : IndexView) (core : List Constraint) where
   -- what is still to be told: what waits, and what steps tell
-  abbrev pending : List ℕ → List Step → List Constraint
-  pending told steps = filter (waits (members_of told)) core ++ flat_map told_by steps
+  abbrev pending : NumberSet → List Step → List Constraint
+  pending told steps = filter (waits told) core ++ flat_map told_by steps
 
   -- how many steps there are still, at most
-  abbrev left : List ℕ → List Step → ℕ
+  abbrev left : NumberSet → List Step → ℕ
   left told steps = length (flat_map goes_to steps) + sum_by (weight index) (pending told steps)
 
   -- steps tell what is still to be told, and are no more than there are
-  abbrev Tells : List ℕ → List Step → List (List ℕ × Step) → Type 0
+  abbrev Tells : NumberSet → List Step → List (NumberSet × Step) → Type 0
   Tells told steps gone = IsPermutation (pending told steps) (flat_map (λ one. told_by one.1) gone) × (length gone ≤ left told steps)
 
   -- each package that the core has something of is told, or some step goes to it
-  abbrev Reaches : List ℕ → List Step → Type 0
-  Reaches told steps = (q : ℕ) → list_any (is_own q) core ≡ true → members_of (told ++ flat_map goes_to steps) q ≡ true
+  abbrev Reaches : NumberSet → List Step → Type 0
+  Reaches told steps = (q : ℕ) → list_any (is_own q) core ≡ true → (told q || members_of (flat_map goes_to steps) q) ≡ true
 
   -- what follows from a step to a package
-  abbrev entered : List ℕ → ℕ → ℕ → List Step
-  entered told depth place = if members_of told place then [] else own_steps core depth place
+  abbrev entered : NumberSet → ℕ → ℕ → List Step
+  entered told depth place = if told place then [] else own_steps core depth place
 
-  module _ (told : List ℕ) (depth place : ℕ) (steps : List Step) where
-    moved : IsPermutation (pending told steps) (pending (with_number told place) (entered told depth place ++ steps))
+  module _ (told : NumberSet) (depth place : ℕ) (steps : List Step) where
+    moved : IsPermutation (pending told steps) (pending (with_place told place) (entered told depth place ++ steps))
     unfolding own_steps
     moved =
-        elim (cases_Bool (members_of told place)) [
-          | inl has ↦ rw has (IsPermutation-refl (pending told steps))
+        elim (cases_Bool (told place)) [
+          | inl has ↦ rw (has, told-already told place has) (IsPermutation-refl (pending told steps))
           | inr lacks ↦ new lacks
         ]
       where
-        new : members_of told place ≡ false → IsPermutation (pending told steps) (pending (with_number told place) (entered told depth place ++ steps))
+        new : told place ≡ false → IsPermutation (pending told steps) (pending (with_place told place) (entered told depth place ++ steps))
         new lacks =
-            let waiting = filter (waits (members_of told)) core in
-            let later = filter (waits (members_of (with_number told place))) core in
+            let waiting = filter (waits told) core in
+            let later = filter (waits (with_place told place)) core in
             let own = filter (is_own place) core in
             let lines = flat_map told_by steps in
             let tells : flat_map told_by (entered told depth place) ≡ own = rw lacks (own-lines core depth place).0 in
             let apart : IsPermutation waiting (later ++ own) =
-            parted (waits (members_of told)) (waits (members_of (with_number told place))) (is_own place) core
-            (waits-or-own (members_of told) (members_of (with_number told place)) place (with_number-members told place) lacks)
-            (own-waits-no-more (members_of told) (members_of (with_number told place)) place (with_number-members told place) lacks) in
+            parted (waits told) (waits (with_place told place)) (is_own place) core
+            (waits-or-own told place lacks) (own-waits-no-more told place lacks) in
             subst (IsPermutation (waiting ++ lines))
             (append_assoc later own lines ∙ ap (λ back. later ++ back) (sym (flat_map-append told_by (entered told depth place) steps ∙ ap (λ front. front ++ lines) tells)))
             (IsPermutation-append_left lines waiting (later ++ own) apart)
@@ -231,41 +238,43 @@ module _ (index : IndexView) (core : List Constraint) where
     goes-on = flat_map-append goes_to (entered told depth place) steps ∙ ap (λ front. front ++ flat_map goes_to steps) none
       where
         none : flat_map goes_to (entered told depth place) ≡ []
-        none = elim (cases_Bool (members_of told place)) [
+        none = elim (cases_Bool (told place)) [
           | inl has ↦ rw has refl
           | inr lacks ↦ rw lacks (own-lines core depth place).1
         ]
 
-    reaches-on : ((q : ℕ) → list_any (is_own q) core ≡ true → members_of (told ++ place ∷ flat_map goes_to steps) q ≡ true) → Reaches (with_number told place) (entered told depth place ++ steps)
+    reaches-on : ((q : ℕ) → list_any (is_own q) core ≡ true → (told q || ((place == q) || members_of (flat_map goes_to steps) q)) ≡ true) → Reaches (with_place told place) (entered told depth place ++ steps)
     reaches-on before q of =
-        let later = members_of (flat_map goes_to steps) q in
-        ap (λ places. members_of (with_number told place ++ places) q) goes-on
-        ∙ list_any-append (λ member. member == q) (with_number told place) (flat_map goes_to steps)
-        ∙ ap (λ b. b || later) (with_number-members told place q) ∙ or_assoc (members_of told q) (place == q) later
-        ∙ sym (list_any-append (λ member. member == q) told (place ∷ flat_map goes_to steps)) ∙ before q of
+        ap (λ places. with_place told place q || members_of places q) goes-on
+        ∙ between (told q) (place == q) (members_of (flat_map goes_to steps) q) (before q of)
+      where
+        between : (x y z : Bool) → (x || (y || z)) ≡ true → ((if y then true else x) || z) ≡ true
+        between x true z holds = refl
+        between true false z holds = refl
+        between false false z holds = holds
 
-    fewer-left : suc (left (with_number told place) (entered told depth place ++ steps)) ≤ suc (length (flat_map goes_to steps)) + sum_by (weight index) (pending told steps)
+    fewer-left : suc (left (with_place told place) (entered told depth place ++ steps)) ≤ suc (length (flat_map goes_to steps)) + sum_by (weight index) (pending told steps)
     fewer-left =
         let same : length (flat_map goes_to (entered told depth place ++ steps)) ≡ length (flat_map goes_to steps) = ap (λ places. length places) goes-on in
-        omega (arith, same, sum_by-IsPermutation (weight index) (pending told steps) (pending (with_number told place) (entered told depth place ++ steps)) moved)
+        omega (arith, same, sum_by-IsPermutation (weight index) (pending told steps) (pending (with_place told place) (entered told depth place ++ steps)) moved)
 
-    entered-told : (gone : List (List ℕ × Step)) → Tells (with_number told place) (entered told depth place ++ steps) gone
+    entered-told : (gone : List (NumberSet × Step)) → Tells (with_place told place) (entered told depth place ++ steps) gone
         → IsPermutation (pending told steps) (flat_map (λ one. told_by one.1) gone) × (suc (length gone) ≤ suc (length (flat_map goes_to steps)) + sum_by (weight index) (pending told steps))
     entered-told gone tells = (
-      IsPermutation-trans (pending told steps) (pending (with_number told place) (entered told depth place ++ steps)) (flat_map (λ one. told_by one.1) gone) moved tells.0,
+      IsPermutation-trans (pending told steps) (pending (with_place told place) (entered told depth place ++ steps)) (flat_map (λ one. told_by one.1) gone) moved tells.0,
       omega (arith, tells.1, fewer-left),
     )
 
-  module _ (told : List ℕ) (depth : ℕ) (c : Constraint) (steps : List Step) where
+  module _ (told : NumberSet) (depth : ℕ) (c : Constraint) (steps : List Step) where
     weighed : sum_by (weight index) (pending told (Tell depth c ∷ steps)) ≡ weight index c + sum_by (weight index) (pending told steps)
     weighed =
-        let waiting = filter (waits (members_of told)) core in
+        let waiting = filter (waits told) core in
         sym (sum_by-IsPermutation (weight index) (waiting ++ c ∷ flat_map told_by steps) (c ∷ pending told steps) (IsPermutation-middle waiting c (flat_map told_by steps)))
         ∙ sum_by-cons (weight index) c (pending told steps)
 
     tells-on : pending told (met_steps index told depth c ++ steps) ≡ pending told steps
     tells-on =
-        ap (λ back. filter (waits (members_of told)) core ++ back)
+        ap (λ back. filter (waits told) core ++ back)
         (flat_map-append told_by (met_steps index told depth c) steps ∙ ap (λ front. front ++ flat_map told_by steps) (met-lines index told depth c).0)
 
     fewer-behind : suc (left told (met_steps index told depth c ++ steps)) ≤ left told (Tell depth c ∷ steps)
@@ -279,18 +288,17 @@ module _ (index : IndexView) (core : List Constraint) where
     reaches-behind before q of =
         let met = met_steps index told depth c in
         let later = members_of (flat_map goes_to steps) q in
-        list_any-append (λ member. member == q) told (flat_map goes_to (met ++ steps))
-        ∙ ap (λ b. members_of told q || b) (ap (λ places. members_of places q) (flat_map-append goes_to met steps) ∙ list_any-append (λ member. member == q) (flat_map goes_to met) (flat_map goes_to steps))
-        ∙ between (members_of told q) (members_of (flat_map goes_to met) q) later (sym (list_any-append (λ member. member == q) told (flat_map goes_to steps)) ∙ before q of)
+        ap (λ b. told q || b) (ap (λ places. members_of places q) (flat_map-append goes_to met steps) ∙ list_any-append (λ member. member == q) (flat_map goes_to met) (flat_map goes_to steps))
+        ∙ between (told q) (members_of (flat_map goes_to met) q) later (before q of)
       where
         between : (x y z : Bool) → (x || z) ≡ true → (x || (y || z)) ≡ true
         between true y z holds = refl
         between false true z holds = refl
         between false false z holds = holds
 
-    line-told : (gone : List (List ℕ × Step)) → Tells told (met_steps index told depth c ++ steps) gone → Tells told (Tell depth c ∷ steps) ((told, Tell depth c) ∷ gone)
+    line-told : (gone : List (NumberSet × Step)) → Tells told (met_steps index told depth c ++ steps) gone → Tells told (Tell depth c ∷ steps) ((told, Tell depth c) ∷ gone)
     line-told gone tells =
-        let waiting = filter (waits (members_of told)) core in
+        let waiting = filter (waits told) core in
         let rest : List Constraint = flat_map (λ one. told_by one.1) gone in (
           IsPermutation-trans (waiting ++ c ∷ flat_map told_by steps) (c ∷ pending told steps) (c ∷ rest) (IsPermutation-middle waiting c (flat_map told_by steps))
               (IsPermutation-cons c (pending told steps) rest (subst (λ front. IsPermutation front rest) tells-on tells.0)),
@@ -298,12 +306,12 @@ module _ (index : IndexView) (core : List Constraint) where
         )
 
   -- where no step is left nothing waits
-  over : (told : List ℕ) → Reaches told [] → IsPermutation (pending told []) []
+  over : (told : NumberSet) → Reaches told [] → IsPermutation (pending told []) []
   over told reaches =
-      let none : filter (waits (members_of told)) core ≡ [] = none-waits (members_of told) core (λ q of. ap (λ places. members_of places q) (sym (append-nil told)) ∙ reaches q of) in
+      let none : filter (waits told) core ≡ [] = none-waits told core (λ q of. sym (or_false (told q)) ∙ reaches q of) in
       subst (λ front. IsPermutation (front ++ []) []) (sym none) (IsPermutation-refl [])
 
-  all-told : (count : ℕ) (told : List ℕ) (steps : List Step) → left told steps ≤ count → Reaches told steps → Tells told steps (walk count index core told steps)
+  all-told : (count : ℕ) (told : NumberSet) (steps : List Step) → left told steps ≤ count → Reaches told steps → Tells told steps (walk count index core told steps)
   unfolding walk steps_behind
   all-told zero told [] few reaches = (over told reaches, omega arith)
   all-told zero told (Begin place ∷ steps) few reaches = absurd (omega (arith, few))
@@ -311,11 +319,11 @@ module _ (index : IndexView) (core : List Constraint) where
   all-told zero told (Tell depth c ∷ steps) few reaches = absurd (omega (arith, few, weighed told depth c steps))
   all-told (suc count) told [] few reaches = (over told reaches, omega arith)
   all-told (suc count) told (Begin place ∷ steps) few reaches =
-      entered-told told 0 place steps (walk count index core (with_number told place) (entered told 0 place ++ steps))
-      (all-told count (with_number told place) (entered told 0 place ++ steps) (omega (arith, few, fewer-left told 0 place steps)) (reaches-on told 0 place steps reaches))
+      entered-told told 0 place steps (walk count index core (with_place told place) (entered told 0 place ++ steps))
+      (all-told count (with_place told place) (entered told 0 place ++ steps) (omega (arith, few, fewer-left told 0 place steps)) (reaches-on told 0 place steps reaches))
   all-told (suc count) told (Meet depth place c ∷ steps) few reaches =
-      entered-told told depth place steps (walk count index core (with_number told place) (entered told depth place ++ steps))
-      (all-told count (with_number told place) (entered told depth place ++ steps) (omega (arith, few, fewer-left told depth place steps)) (reaches-on told depth place steps reaches))
+      entered-told told depth place steps (walk count index core (with_place told place) (entered told depth place ++ steps))
+      (all-told count (with_place told place) (entered told depth place ++ steps) (omega (arith, few, fewer-left told depth place steps)) (reaches-on told depth place steps reaches))
   all-told (suc count) told (Tell depth c ∷ steps) few reaches =
       line-told told depth c steps (walk count index core told (met_steps index told depth c ++ steps))
       (all-told count told (met_steps index told depth c ++ steps) (omega (arith, few, fewer-behind told depth c steps)) (reaches-behind told depth c steps reaches))
@@ -342,25 +350,25 @@ module _ (index : IndexView) (core : List Constraint) where
       (flat_map-append goes_to (flat_map essential_step core) (flat_map only_step core) ∙ ap₂ (λ front back. front ++ back) (nothing-else core).0 (nothing-else core).1))
 
   module _ (place : ℕ) (few : length index.packages ≤ stanza_limit) (short : length core < 2 ^ 32) where
-    start : IsPermutation core (pending [] (first_steps core place))
+    start : IsPermutation core (pending (members_of []) (first_steps core place))
     start = subst (IsPermutation core) (ap (λ back. filter (waits (members_of [])) core ++ back) (sym (first-told place))) (begun core)
 
-    enough : left [] (first_steps core place) < step_limit
+    enough : left (members_of []) (first_steps core place) < step_limit
     enough =
         let long : length (flat_map goes_to (first_steps core place)) ≡ suc (length (flat_map goes_to (flat_map begin_step core))) = ap (λ places. length places) (first-goes place) in
         let light : sum_by (weight index) core ≤ length core * 4194305 = sum_by-le (weight index) 4194305 core (λ i d inside. omega (arith, few, brought-few (get_or core i d))) in
-        omega (arith, long, light, short, begun-few core, sum_by-IsPermutation (weight index) core (pending [] (first_steps core place)) start)
+        omega (arith, long, light, short, begun-few core, sum_by-IsPermutation (weight index) core (pending (members_of []) (first_steps core place)) start)
 
-    tells : Tells [] (first_steps core place) (walk_of index place core)
+    tells : Tells (members_of []) (first_steps core place) (walk_of index place core)
     tells =
-        all-told step_limit [] (first_steps core place) (omega (arith, enough)) (λ q of.
+        all-told step_limit (members_of []) (first_steps core place) (omega (arith, enough)) (λ q of.
         ap (λ places. members_of places q) (first-goes place)
         ∙ or_right (place == q) (members_of (flat_map goes_to (flat_map begin_step core)) q) (sym (owners-begun core q) ∙ of))
 
     -- the walk tells the core, and ends
     pub tells-all : IsPermutation core (told_in index place core)
     unfolding told_in
-    tells-all = IsPermutation-trans core (pending [] (first_steps core place)) (flat_map (λ one. told_by one.1) (walk_of index place core)) start tells.0
+    tells-all = IsPermutation-trans core (pending (members_of []) (first_steps core place)) (flat_map (λ one. told_by one.1) (walk_of index place core)) start tells.0
 
     pub ends : length (walk_of index place core) < step_limit
     ends = omega (arith, enough, tells.1)

@@ -1,11 +1,13 @@
 -- Lemmas on the walk through a core.
-use Rattle.std.proofs.Common.{◌≡◌, ◌==◌, ℕ, ◌+◌, ◌<◌, ◌||◌, Bool, List, [], ◌∷◌, ◌++◌, All, filter, length, get_or, take, map, reverse, append-nil, refl, sym, ap, ◌∙◌, inl, inr, not}
+use Rattle.std.proofs.Common.{◌≡◌, ◌==◌, ℕ, ◌+◌, ◌<◌, ◌||◌, Bool, List, [], ◌∷◌, ◌++◌, All, filter, length, get_or, take, map, reverse, append-nil, refl, sym, ap, ap₂, nat_eq, ◌∙◌, inl, inr, not}
 use Rattle.std.proofs.lemmas.Bool.{cases_Bool}
 use Rattle.std.proofs.lemmas.Grind.{flat_map-append}
 use Rattle.std.proofs.lemmas.List.{append_assoc, flat_map_more, reverse-append, take_more}
 use Rattle.std.proofs.lemmas.List.Elements.{All-append, All-cons, All-head, All-nil, All-tail}
 use Rattle.std.proofs.lemmas.List.Folds.{list_any-append}
+use Rattle.std.specs.Cmp.{nat_eq_equiv}
 use Rattle.std.specs.List.{flat_map, list_any}
+use Rattle.std.specs.Set.{is_member}
 use Rattle.number_sets.specs.Sets.{NumberSet, members_of}
 use Rattle.deb_relation.specs.Relationship.{AtomText}
 use Rattle.deb_index.specs.declared.constraint.Constraint.{Constraint}
@@ -35,12 +37,18 @@ comers_more index core i place d c q inside is =
     ap (flat_map (brought index)) more ∙ flat_map-append (brought index) (take i core) (c ∷ []) ∙ ap (λ last. flat_map (brought index) (take i core) ++ last) (append-nil (brought index c)) in
     ap (λ places. members_of (place ∷ places) q) all ∙ list_any-append (λ member. member == q) (place ∷ flat_map (brought index) (take i core)) (brought index c)
 
--- the set of the packages that come, where the row of what is brought is known by an equation
-pub coming_row : (index : IndexView) (core : List Constraint) (i place : ℕ) (d c : Constraint) (old new row : List ℕ) (q : ℕ) → i < length core → c ≡ get_or core i d → row ≡ brought index c
-    → members_of old q ≡ members_of (comers index (take i core) place) q → members_of new q ≡ (members_of old q || members_of row q)
-    → members_of new q ≡ members_of (comers index (take (i + 1) core) place) q
+-- the members of a list, asked the other way round
+turned : (xs : List ℕ) (q : ℕ) → is_member nat_eq xs q ≡ members_of xs q
+turned [] q = refl
+turned (x ∷ xs) q = ap₂ (λ a b. a || b) (nat_eq_equiv.symm q x) (turned xs q)
+
+-- whether a package comes, where the row of what is brought is known by an equation
+pub coming_row : (index : IndexView) (core : List Constraint) (i place : ℕ) (d c : Constraint) (old new : Bool) (row : List ℕ) (q : ℕ) → i < length core → c ≡ get_or core i d
+    → row ≡ brought index c → old ≡ members_of (comers index (take i core) place) q → new ≡ (old || is_member nat_eq row q)
+    → new ≡ members_of (comers index (take (i + 1) core) place) q
 coming_row index core i place d c old new row q inside is row_is before grown =
-    grown ∙ ap (λ b. b || members_of row q) before ∙ ap (λ ps. members_of (comers index (take i core) place) q || members_of ps q) row_is
+    grown ∙ ap (λ b. b || is_member nat_eq row q) before
+    ∙ ap (λ b. members_of (comers index (take i core) place) q || b) (turned row q ∙ ap (λ ps. members_of ps q) row_is)
     ∙ sym (comers_more index core i place d c q inside is)
 
 -- behind the steps stand those of one constraint more
@@ -120,7 +128,7 @@ module _ (index : IndexView) (P : Constraint → Type 0) where
         | inr fails ↦ rw fails (All-nil Fits)
       ]
 
-  met-within : (told : List ℕ) (depth : ℕ) (c : Constraint) → P c → All Fits (met_steps index told depth c)
+  met-within : (told : NumberSet) (depth : ℕ) (c : Constraint) → P c → All Fits (met_steps index told depth c)
   unfolding met_steps
   met-within told depth c fits = elim (cases_Bool (are_told told (brought index c))) [
     | inl passes ↦ rw passes (All-nil Fits)
@@ -129,13 +137,13 @@ module _ (index : IndexView) (P : Constraint → Type 0) where
   ]
 
   -- what follows from a step of the index is of the index
-  pub behind-within : (core : List Constraint) (told : List ℕ) (step : Step) → All P core → Fits step → All Fits (steps_behind index core told step)
+  pub behind-within : (core : List Constraint) (told : NumberSet) (step : Step) → All P core → Fits step → All Fits (steps_behind index core told step)
   unfolding steps_behind
-  behind-within core told (Begin place) all fits = elim (cases_Bool (members_of told place)) [
+  behind-within core told (Begin place) all fits = elim (cases_Bool (told place)) [
     | inl passes ↦ rw passes (All-nil Fits)
     | inr fails ↦ rw fails (own-within core 0 place all)
   ]
-  behind-within core told (Meet depth place c) all fits = elim (cases_Bool (members_of told place)) [
+  behind-within core told (Meet depth place c) all fits = elim (cases_Bool (told place)) [
     | inl passes ↦ rw passes (All-nil Fits)
     | inr fails ↦ rw fails (own-within core depth place all)
   ]
@@ -146,7 +154,7 @@ module _ (index : IndexView) (P : Constraint → Type 0) where
   next-within stack popped step top all =
       All-head Fits step (reverse popped) (rw (next_is stack popped step top) at all)
 
-  pub left-within : (core : List Constraint) (told : List ℕ) (stack popped next steps : List Step) (step : Step) → stack ≡ popped ++ step ∷ [] → reverse next ≡ steps ++ reverse popped
+  pub left-within : (core : List Constraint) (told : NumberSet) (stack popped next steps : List Step) (step : Step) → stack ≡ popped ++ step ∷ [] → reverse next ≡ steps ++ reverse popped
       → steps ≡ steps_behind index core told step → All P core → All Fits (reverse stack) → All Fits (reverse next)
   left-within core told stack popped next steps step top put follow all these =
       let those : All Fits (step ∷ reverse popped) = rw (next_is stack popped step top) at these in

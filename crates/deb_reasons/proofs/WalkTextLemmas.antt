@@ -11,18 +11,18 @@ use Rattle.deb_reasons.specs.Reasons.{line}
 use Rattle.deb_reasons.specs.WalkLines.{step_text, walk_lines, walk_text}
 
 -- with no step left nothing is told
-pub walk_none : (count : ℕ) (index : IndexView) (core : List Constraint) (coming : NumberSet) (told : List ℕ) → walk_text count index core coming told [] ≡ []
+pub walk_none : (count : ℕ) (index : IndexView) (core : List Constraint) (coming told : NumberSet) → walk_text count index core coming told [] ≡ []
 unfolding walk
 walk_none zero index core coming told = refl
 walk_none (suc count) index core coming told = refl
 
-walk_one : (count : ℕ) (index : IndexView) (core : List Constraint) (coming : NumberSet) (told : List ℕ) (step : Step) (steps : List Step)
+walk_one : (count : ℕ) (index : IndexView) (core : List Constraint) (coming told : NumberSet) (step : Step) (steps : List Step)
     → walk_text (suc count) index core coming told (step ∷ steps) ≡ step_text index core coming told step ++ walk_text count index core coming (told_behind told step) (steps_behind index core told step ++ steps)
 unfolding walk
 walk_one count index core coming told step steps = refl
 
 -- the text goes on with that of the step, and what is left with what follows from it
-pub gone : (index : IndexView) (core : List Constraint) (coming : NumberSet) (told later : List ℕ) (limit counter : ℕ) (out longer total : List ℕ) (stack popped next steps : List Step) (step : Step)
+pub gone : (index : IndexView) (core : List Constraint) (coming told later : NumberSet) (limit counter : ℕ) (out longer total : List ℕ) (stack popped next steps : List Step) (step : Step)
     → counter < limit → stack ≡ popped ++ step ∷ [] → longer ≡ out ++ step_text index core coming told step → later ≡ told_behind told step
     → reverse next ≡ steps ++ reverse popped → steps ≡ steps_behind index core told step
     → out ++ walk_text (limit - counter) index core coming told (reverse stack) ≡ total
@@ -35,12 +35,12 @@ gone index core coming told later limit counter out longer total stack popped ne
     rw (text, marked, put, follow) (append_assoc out (step_text index core coming told step) rest ∙ ap (λ back. out ++ back) (sym one) ∙ before)
 
 -- the walk ends where no step is left, and where no more are counted
-pub ended : (index : IndexView) (core : List Constraint) (coming : NumberSet) (told : List ℕ) (count : ℕ) (out total : List ℕ) (stack : List Step) → length stack ≡ 0
+pub ended : (index : IndexView) (core : List Constraint) (coming told : NumberSet) (count : ℕ) (out total : List ℕ) (stack : List Step) → length stack ≡ 0
     → out ++ walk_text count index core coming told (reverse stack) ≡ total → out ≡ total
 ended index core coming told count out total [] none before = sym (ap (λ rest. out ++ rest) (walk_none count index core coming told) ∙ append-nil out) ∙ before
 ended index core coming told count out total (step ∷ steps) none before = absurd (omega arith)
 
-pub run_out : (index : IndexView) (core : List Constraint) (coming : NumberSet) (told : List ℕ) (limit counter : ℕ) (out total : List ℕ) (steps : List Step) → limit ≤ counter
+pub run_out : (index : IndexView) (core : List Constraint) (coming told : NumberSet) (limit counter : ℕ) (out total : List ℕ) (steps : List Step) → limit ≤ counter
     → out ++ walk_text (limit - counter) index core coming told steps ≡ total → out ≡ total
 unfolding walk
 run_out index core coming told limit counter out total steps over before =
@@ -50,7 +50,7 @@ run_out index core coming told limit counter out total steps over before =
 -- the steps of a core, as they are gone under the title, are its lines
 pub told_whole : (index : IndexView) (place : ℕ) (core held : List Constraint) (coming : NumberSet) (steps : List Step) (start under new : List ℕ)
     → held ≡ core → coming ≡ members_of (comers index core place) → steps ≡ first_steps core place → under ≡ start ++ line (codes "  why:") []
-    → new ≡ under ++ walk_text step_limit index held coming [] steps → new ≡ start ++ walk_lines index place core
+    → new ≡ under ++ walk_text step_limit index held coming (members_of []) steps → new ≡ start ++ walk_lines index place core
 unfolding walk_lines
 told_whole index place core held coming steps start under new same comes first title is =
-    rw (is, title, first, comes, same) (append_assoc start (line (codes "  why:") []) (walk_text step_limit index core (members_of (comers index core place)) [] (first_steps core place)))
+    rw (is, title, first, comes, same) (append_assoc start (line (codes "  why:") []) (walk_text step_limit index core (members_of (comers index core place)) (members_of []) (first_steps core place)))

@@ -1,15 +1,16 @@
 -- What a core says of each of its packages, in a table.
-use Rattle.std.specs.Prelude.{◌≡◌, ℕ, ◌==◌, List, [], ◌∷◌, filter, if◌then◌else◌, length}
+use Rattle.std.specs.Prelude.{◌≡◌, ℕ, List, [], filter, nat_eq}
+use Rattle.std.specs.HashMap.{HashMap, get}
+use Rattle.std.specs.Option.{option_map, unwrap_or}
+use Rattle.std.specs.Global.{Vec}
 use Rattle.deb_index.specs.declared.constraint.Constraint.{Constraint}
 use Rattle.deb_reasons.specs.Walk.{is_own}
 
--- the list that stands beside a place
-abbrev pub list_of : List ℕ → List (List Constraint) → ℕ → List Constraint
-list_of [] lists place = []
-list_of (k ∷ ks) [] place = []
-list_of (k ∷ ks) (list ∷ lists) place = if place == k then list else list_of ks lists place
+module _ {S : Type 0} where
+  -- the list that a table has at a place
+  abbrev pub said_at : HashMap ℕ (Vec Constraint) S → ℕ → List Constraint
+  said_at table place = unwrap_or (option_map (λ list. list.items) (get nat_eq table place)) []
 
--- beside each place stands what the core says of the package there
-pub record IsTableOf (core : List Constraint) (places : List ℕ) (lists : List (List Constraint)) : Type 0 where
-  pub size : length lists ≡ length places
-  pub says : (place : ℕ) → list_of places lists place ≡ filter (is_own place) core
+  -- a table has at each place what the core says of the package there
+  abbrev pub IsTableOf : List Constraint → HashMap ℕ (Vec Constraint) S → Type 0
+  IsTableOf core table = (place : ℕ) → said_at table place ≡ filter (is_own place) core

@@ -1,9 +1,9 @@
 -- A core as it is walked from the package: depth first, what each package of it asks for, and under a need the packages that answer it.
-use Rattle.std.specs.Prelude.{ℕ, ◌==◌, ◌+◌, ◌<◌, nat_lt, Bool, false, not, ◌&&◌, List, [], ◌∷◌, ◌++◌, filter, if◌then◌else◌, length, map}
+use Rattle.std.specs.Prelude.{ℕ, ◌==◌, ◌+◌, ◌<◌, nat_eq, nat_lt, Bool, true, false, not, ◌&&◌, List, [], ◌∷◌, ◌++◌, filter, if◌then◌else◌, length, map}
 use Prim.Native.Nat.{zero, suc}
+use Rattle.std.specs.HashSet.{HashSet, contains}
 use Rattle.std.specs.List.{flat_map, list_all}
 use Rattle.number_sets.specs.Sets.{NumberSet, members_of}
-use Rattle.number_sets.specs.SparseSets.{with_number}
 use Rattle.deb_relation.specs.Relationship.{AtomText}
 use Rattle.deb_index.specs.declared.constraint.Constraint.{Constraint}
 use Rattle.deb_index.specs.declared.constraint.Constraint.TheVariants.{Essential, Need, Apart, Only}
@@ -13,6 +13,14 @@ use Rattle.deb_reasons.specs.declared.walk.Step.{Step}
 use Rattle.deb_reasons.specs.declared.walk.Step.TheVariants.{Begin, Meet, Tell}
 
 -- ---- packages of a walk
+
+-- the places that a set has
+abbrev pub places_in : {S : Type 0} → HashSet ℕ S → NumberSet
+places_in set = contains nat_eq set
+
+-- the set with one place more
+abbrev pub with_place : NumberSet → ℕ → NumberSet
+with_place set place number = if place == number then true else set number
 
 -- the packages that a constraint brings: those that answer a need, or have an essential name
 unfoldable pub brought : IndexView → Constraint → List ℕ
@@ -26,8 +34,8 @@ abbrev pub comers : IndexView → List Constraint → ℕ → List ℕ
 comers index core place = place ∷ flat_map (brought index) core
 
 -- the packages are told already
-abbrev pub are_told : List ℕ → List ℕ → Bool
-are_told told places = list_all (members_of told) places
+abbrev pub are_told : NumberSet → List ℕ → Bool
+are_told told places = list_all told places
 
 -- the package comes, and is not the one at the place, which asks for an entry
 abbrev pub is_hit : NumberSet → ℕ → ℕ → Bool
@@ -65,20 +73,20 @@ unfoldable pub own_steps : List Constraint → ℕ → ℕ → List Step
 own_steps core depth place = flat_map (own_step depth place) core
 
 -- the packages that a constraint brings, where one of them isn't told yet
-unfoldable pub met_steps : IndexView → List ℕ → ℕ → Constraint → List Step
+unfoldable pub met_steps : IndexView → NumberSet → ℕ → Constraint → List Step
 met_steps index told depth constraint = let places = brought index constraint in
     if are_told told places then [] else map (λ place. Meet (depth_of depth places) place constraint) places
 
 -- what follows from a step
-unfoldable pub steps_behind : IndexView → List Constraint → List ℕ → Step → List Step
-steps_behind index core told (Begin place) = if members_of told place then [] else own_steps core 0 place
-steps_behind index core told (Meet depth place constraint) = if members_of told place then [] else own_steps core depth place
+unfoldable pub steps_behind : IndexView → List Constraint → NumberSet → Step → List Step
+steps_behind index core told (Begin place) = if told place then [] else own_steps core 0 place
+steps_behind index core told (Meet depth place constraint) = if told place then [] else own_steps core depth place
 steps_behind index core told (Tell depth constraint) = met_steps index told depth constraint
 
 -- the packages that are told behind it
-abbrev pub told_behind : List ℕ → Step → List ℕ
-told_behind told (Begin place) = with_number told place
-told_behind told (Meet depth place constraint) = with_number told place
+abbrev pub told_behind : NumberSet → Step → NumberSet
+told_behind told (Begin place) = with_place told place
+told_behind told (Meet depth place constraint) = with_place told place
 told_behind told (Tell depth constraint) = told
 
 -- what a constraint begins a walk with: an essential name; a name that may stand once; a package that asks for something
@@ -107,7 +115,7 @@ first_steps core place = Begin place ∷ flat_map essential_step core ++ flat_ma
 -- ---- the walk
 
 -- the steps as they are gone, each behind what is told before it: on with the first; what follows from that comes before the others
-unfoldable pub walk : ℕ → IndexView → List Constraint → List ℕ → List Step → List (List ℕ × Step)
+unfoldable pub walk : ℕ → IndexView → List Constraint → NumberSet → List Step → List (NumberSet × Step)
 walk zero index core told steps = []
 walk (suc count) index core told [] = []
 walk (suc count) index core told (step ∷ steps) = (told, step) ∷ walk count index core (told_behind told step) (steps_behind index core told step ++ steps)
@@ -117,8 +125,8 @@ abbrev pub step_limit : ℕ
 step_limit = 18446744073709551615
 
 -- the steps of that walk
-abbrev pub walk_of : IndexView → ℕ → List Constraint → List (List ℕ × Step)
-walk_of index place core = walk step_limit index core [] (first_steps core place)
+abbrev pub walk_of : IndexView → ℕ → List Constraint → List (NumberSet × Step)
+walk_of index place core = walk step_limit index core (members_of []) (first_steps core place)
 
 -- what the core says in a step
 abbrev pub told_by : Step → List Constraint

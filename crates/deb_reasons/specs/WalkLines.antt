@@ -31,11 +31,11 @@ unfoldable pub above_text : Bool → List ℕ
 above_text told = if told then codes " (above)" else []
 
 -- a package that may be told already
-unfoldable pub seen_text : IndexView → List ℕ → ℕ → List ℕ
-seen_text index told place = label_of (package_at index place) ++ above_text (members_of told place)
+unfoldable pub seen_text : IndexView → NumberSet → ℕ → List ℕ
+seen_text index told place = label_of (package_at index place) ++ above_text (told place)
 
 -- some of them, one after the other
-abbrev pub seen_texts : IndexView → List ℕ → List ℕ → List ℕ
+abbrev pub seen_texts : IndexView → NumberSet → List ℕ → List ℕ
 seen_texts index told places = join_by (seen_text index told) (codes ", ") places
 
 -- a near miss
@@ -55,17 +55,17 @@ unfoldable pub missing_text : List NearMissView → List (List ℕ) → List ℕ
 missing_text misses names = codes " missing" ++ present_text misses ++ similar_text names
 
 -- what an entry hits
-unfoldable pub hits_text : IndexView → List ℕ → List ℕ → List ℕ
+unfoldable pub hits_text : IndexView → NumberSet → List ℕ → List ℕ
 hits_text index told places = told_if (codes " hits ") (seen_text index told) places
 
 -- how a need ends
-unfoldable pub need_ending : IndexView → List ℕ → Constraint → List AtomText → List ℕ
+unfoldable pub need_ending : IndexView → NumberSet → Constraint → List AtomText → List ℕ
 need_ending index told constraint group = if is_missing index group
     then missing_text (near_misses index (constraint ∷ [])) (similar_names index (constraint ∷ []))
     else above_text (are_told told (brought index constraint))
 
 -- what the core says
-unfoldable pub constraint_text : IndexView → NumberSet → List ℕ → Constraint → List ℕ
+unfoldable pub constraint_text : IndexView → NumberSet → NumberSet → Constraint → List ℕ
 constraint_text index coming told (Essential name) = codes "essential: " ++ name_at index name ++ above_text (are_told told (brought index (Essential name)))
 constraint_text index coming told (Need place number) = let deb = package_at index place in let group = need_at index place number in
     asked_text deb (group_field deb number) group ++ need_ending index told (Need place number) group
@@ -87,20 +87,20 @@ abbrev pub met_by : IndexView → Constraint → ℕ → List AtomText
 met_by index constraint place = (near_miss_at index (alternatives index constraint) place).provides
 
 -- what a step tells
-unfoldable pub step_text : IndexView → List Constraint → NumberSet → List ℕ → Step → List ℕ
-step_text index core coming told (Begin place) = if members_of told place then [] else package_text index core 0 place []
+unfoldable pub step_text : IndexView → List Constraint → NumberSet → NumberSet → Step → List ℕ
+step_text index core coming told (Begin place) = if told place then [] else package_text index core 0 place []
 step_text index core coming told (Meet depth place constraint) =
-    if members_of told place then package_line index depth place (met_by index constraint place) true
+    if told place then package_line index depth place (met_by index constraint place) true
     else package_text index core depth place (met_by index constraint place)
 step_text index core coming told (Tell depth constraint) = lead depth ++ constraint_text index coming told constraint ++ codes "\n"
 
 -- ---- the walk
 
 -- what the steps of a walk tell, as they are gone
-abbrev pub walk_text : ℕ → IndexView → List Constraint → NumberSet → List ℕ → List Step → List ℕ
+abbrev pub walk_text : ℕ → IndexView → List Constraint → NumberSet → NumberSet → List Step → List ℕ
 walk_text count index core coming told steps = flat_map (λ gone. step_text index core coming gone.0 gone.1) (walk count index core told steps)
 
 -- the lines of a core as it is walked from the package at a place
 unfoldable pub walk_lines : IndexView → ℕ → List Constraint → List ℕ
 walk_lines index place core =
-    titled (codes "  why:") (walk_text step_limit index core (members_of (comers index core place)) [] (first_steps core place))
+    titled (codes "  why:") (walk_text step_limit index core (members_of (comers index core place)) (members_of []) (first_steps core place))

@@ -2,8 +2,8 @@
 //!
 //! The modules, in reading order:
 //!
-//! - `walk`: the steps of a core as it is walked from its package, over a table of what the core says of each package (`own`) and sets of places
-//!   (`place_set`); `hits`: the packages that entries hit.
+//! - `walk`: the steps of a core as it is walked from its package, over a table of what the core says of each package (`own`); `hits`: the packages
+//!   that entries hit.
 //! - `reasons`: what is told of a constraint; `answers`: what answers it.
 //! - `line_parts`: what lines are made of; `walk_lines` tells the steps of a core in them.
 //! - `json_text`: the texts, members and arrays of JSON; `json_parts`: what tells packages and constraints in it; `why_json`: where a walk goes on.
@@ -17,7 +17,6 @@ pub mod json_text;
 pub mod laws;
 pub mod line_parts;
 mod own;
-mod place_set;
 pub mod reasons;
 mod walk;
 pub mod walk_lines;

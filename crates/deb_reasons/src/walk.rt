@@ -6,13 +6,13 @@ ghost use Rattle.deb_index.specs.Packages.{apart_at};
 ghost use Rattle.deb_index.specs.declared.constraint.Constraint.{Constraint};
 ghost use Rattle.number_sets.specs.Sets.{members_of};
 ghost use Rattle.deb_reasons.specs.declared.walk.Step.{Step};
-ghost use Rattle.deb_reasons.specs.Walk.{are_told, begin_step, brought, comers, depth_of, essential_step, first_steps, hits_in, met_steps, only_step, own_steps};
+ghost use Rattle.deb_reasons.specs.Walk.{are_told, begin_step, brought, comers, depth_of, essential_step, first_steps, hits_in, met_steps, only_step, own_steps, places_in};
 
 use crate::hits::push_hit;
 use crate::own::OwnTable;
-use crate::place_set::PlaceSet;
 use deb_index::{Constraint, Index};
 use std::alloc::{AllocError, Global};
+use std::collections::HashSet;
 
 /// A step that is still to go.
 #[derive(Clone, Copy)]
@@ -53,11 +53,11 @@ pub(crate) fn comers(
     index: &Index,
     place: u32,
     core: &[Constraint],
-) -> Result<PlaceSet, AllocError>
+) -> Result<HashSet<u32>, AllocError>
     requires { All (IsOfIndex index.now) core.now }
-    ensures { IfOk result (λ coming. members_of coming ≡ members_of (comers index.now core.now place)) }
+    ensures { IfOk result (λ coming. places_in coming ≡ members_of (comers index.now core.now place)) }
 {
-    let mut coming = PlaceSet::new(alloc);
+    let mut coming = HashSet::new(alloc);
     let mut found = Vec::new(alloc);
     coming.insert(place)?;
     for constraint in core {
@@ -67,11 +67,11 @@ pub(crate) fn comers(
 }
 
 /// Whether all these packages are told.
-pub(crate) fn are_told(told: &PlaceSet, places: &[u32]) -> bool
-    ensures { result ≡ are_told told.now places.now }
+pub(crate) fn are_told(told: &HashSet<u32>, places: &[u32]) -> bool
+    ensures { result ≡ are_told (places_in told.now) places.now }
 {
     for place in places {
-        if !told.contains(*place) {
+        if !told.contains(place) {
             return false;
         }
     }
@@ -129,12 +129,12 @@ fn meet_each(
 pub(crate) fn met_steps(
     alloc: Global,
     index: &Index,
-    told: &PlaceSet,
+    told: &HashSet<u32>,
     depth: u32,
     constraint: Constraint,
 ) -> Result<Vec<Step>, AllocError>
     requires { IsOfIndex index.now constraint }
-    ensures { IfOk result (λ steps. steps.items ≡ met_steps index.now told.now depth constraint) }
+    ensures { IfOk result (λ steps. steps.items ≡ met_steps index.now (places_in told.now) depth constraint) }
 {
     let mut found = Vec::new(alloc);
     let places = brought(index, constraint, &mut found)?;
@@ -221,14 +221,14 @@ pub(crate) fn first_steps(
 /// Those of some packages that come in the walk. `AllocError` where there is no memory for it.
 pub(crate) fn those_coming(
     alloc: Global,
-    coming: &PlaceSet,
+    coming: &HashSet<u32>,
     places: &[u32],
 ) -> Result<Vec<u32>, AllocError>
-    ensures { IfOk result (λ those. those.items ≡ filter (members_of coming.now) places.now) }
+    ensures { IfOk result (λ those. those.items ≡ filter (places_in coming.now) places.now) }
 {
     let mut those = Vec::new(alloc);
     for place in places {
-        if coming.contains(*place) {
+        if coming.contains(place) {
             those.push(*place)?;
         }
     }
@@ -241,12 +241,12 @@ pub(crate) fn those_coming(
 pub(crate) fn hits_in(
     alloc: Global,
     index: &Index,
-    coming: &PlaceSet,
+    coming: &HashSet<u32>,
     place: u32,
     number: u32,
 ) -> Result<Vec<u32>, AllocError>
     requires { IsOfIndex index.now (Constraint.Apart place number) }
-    ensures { IfOk result (λ hits. hits.items ≡ hits_in index.now (members_of coming.now) place (apart_at index.now place number)) }
+    ensures { IfOk result (λ hits. hits.items ≡ hits_in index.now (places_in coming.now) place (apart_at index.now place number)) }
 {
     let mut hits = Vec::new(alloc);
     push_hit(alloc, index, place, number, &mut hits)?;

@@ -10,13 +10,12 @@ ghost use Rattle.deb_near.specs.Near.{near_misses, near_view, similar_names};
 ghost use Rattle.deb_near.specs.Similar.{IsSimilarOf, stems_in};
 ghost use Rattle.deb_near.specs.Stems.{AreSought};
 ghost use Rattle.deb_reasons.specs.declared.walk.Step.{Step};
-ghost use Rattle.deb_reasons.specs.Walk.{IsStepOf, are_told, brought, own_steps, step_limit, steps_behind, told_behind};
+ghost use Rattle.deb_reasons.specs.Walk.{IsStepOf, are_told, brought, own_steps, places_in, step_limit, steps_behind, told_behind};
 ghost use Rattle.deb_reasons.specs.Similar.{FitsWalk};
 ghost use Rattle.deb_reasons.specs.WalkLines.{above_text, constraint_text, lead, missing_text, near_text, need_ending, present_text, package_line, package_text, seen_text, similar_text, step_text, walk_lines, walk_text};
 
 use crate::line_parts::{push_asked, push_line, push_package, push_provides};
 use crate::own::OwnTable;
-use crate::place_set::PlaceSet;
 use crate::reasons::{entry_field, group_field};
 use crate::walk::{
     Step, are_told, brought, comers, first_steps, hits_in, met_steps, own_steps, put_before,
@@ -27,6 +26,7 @@ use deb_near::{NearMiss, Similar, answer_at, is_missing, near_misses};
 use deb_relation::Atom;
 use deb_texts::{Print, push_group, push_joined, push_some, push_texts};
 use std::alloc::{AllocError, Global};
+use std::collections::HashSet;
 use std::slice;
 
 /// Adds what stands before a line.
@@ -55,18 +55,18 @@ fn push_above(out: &mut Vec<u8>, told: bool) -> Result<(), AllocError>
 #[derive(Drop)]
 struct Seen<'t> {
     index: &'t Index,
-    told: &'t PlaceSet,
+    told: &'t HashSet<u32>,
 }
 
 impl<'t> Print<u32> for Seen<'t> {
     ghost fits = { λ seen place. place < length seen.index.now.packages };
 
-    ghost text = { λ seen place. seen_text seen.index.now seen.told.now place };
+    ghost text = { λ seen place. seen_text seen.index.now (places_in seen.told.now) place };
 
     #[tactic(auto, unfolding(crate::specs::WalkLines::seen_text))]
     fn print(&self, out: &mut Vec<u8>, place: &u32) -> Result<(), AllocError> {
         push_package(out, self.index.package(*place))?;
-        push_above(out, self.told.contains(*place))
+        push_above(out, self.told.contains(place))
     }
 }
 
@@ -122,7 +122,7 @@ struct Walk<'i> {
     alloc: Global,
     index: &'i Index,
     core: &'i OwnTable<'i>,
-    coming: &'i PlaceSet,
+    coming: &'i HashSet<u32>,
     similar: &'i Similar,
 }
 
@@ -131,11 +131,11 @@ impl<'i> Walk<'i> {
     fn push_told(
         &self,
         out: &mut Vec<u8>,
-        told: &PlaceSet,
+        told: &HashSet<u32>,
         constraint: Constraint,
     ) -> Result<(), AllocError>
         requires { IsOfIndex self.now.index.now constraint }
-        ensures { OnOk result (out.new.items ≡ out.old.items ++ above_text (are_told told.now (brought self.now.index.now constraint))) }
+        ensures { OnOk result (out.new.items ≡ out.old.items ++ above_text (are_told (places_in told.now) (brought self.now.index.now constraint))) }
     {
         let mut found = Vec::new(self.alloc);
         let places = brought(self.index, constraint, &mut found)?;
@@ -185,12 +185,12 @@ impl<'i> Walk<'i> {
     fn push_need_ending(
         &self,
         out: &mut Vec<u8>,
-        told: &PlaceSet,
+        told: &HashSet<u32>,
         place: u32,
         number: u32,
     ) -> Result<(), AllocError>
         requires { FitsWalk self.now.index.now self.now.similar.now (Constraint.Need place number) }
-        ensures { OnOk result (out.new.items ≡ out.old.items ++ need_ending self.now.index.now told.now (Constraint.Need place number)
+        ensures { OnOk result (out.new.items ≡ out.old.items ++ need_ending self.now.index.now (places_in told.now) (Constraint.Need place number)
             (need_at self.now.index.now place number)) }
     {
         let need = Constraint::Need(place, number);
@@ -206,12 +206,12 @@ impl<'i> Walk<'i> {
     fn push_essential(
         &self,
         out: &mut Vec<u8>,
-        told: &PlaceSet,
+        told: &HashSet<u32>,
         name: u32,
     ) -> Result<(), AllocError>
         requires { IsOfIndex self.now.index.now (Constraint.Essential name) }
         ensures { OnOk result (out.new.items ≡
-            out.old.items ++ constraint_text self.now.index.now (members_of self.now.coming.now) told.now (Constraint.Essential name)) }
+            out.old.items ++ constraint_text self.now.index.now (places_in self.now.coming.now) (places_in told.now) (Constraint.Essential name)) }
     {
         push_texts(out, &[b"essential: ", self.index.name_text(name)])?;
         self.push_told(out, told, Constraint::Essential(name))
@@ -222,13 +222,13 @@ impl<'i> Walk<'i> {
     fn push_need(
         &self,
         out: &mut Vec<u8>,
-        told: &PlaceSet,
+        told: &HashSet<u32>,
         place: u32,
         number: u32,
     ) -> Result<(), AllocError>
         requires { FitsWalk self.now.index.now self.now.similar.now (Constraint.Need place number) }
         ensures { OnOk result (out.new.items ≡
-            out.old.items ++ constraint_text self.now.index.now (members_of self.now.coming.now) told.now (Constraint.Need place number)) }
+            out.old.items ++ constraint_text self.now.index.now (places_in self.now.coming.now) (places_in told.now) (Constraint.Need place number)) }
     {
         let deb = self.index.package(place);
         push_asked(
@@ -245,13 +245,13 @@ impl<'i> Walk<'i> {
     fn push_entry(
         &self,
         out: &mut Vec<u8>,
-        told: &PlaceSet,
+        told: &HashSet<u32>,
         place: u32,
         number: u32,
     ) -> Result<(), AllocError>
         requires { IsOfIndex self.now.index.now (Constraint.Apart place number) }
         ensures { OnOk result (out.new.items ≡
-            out.old.items ++ constraint_text self.now.index.now (members_of self.now.coming.now) told.now (Constraint.Apart place number)) }
+            out.old.items ++ constraint_text self.now.index.now (places_in self.now.coming.now) (places_in told.now) (Constraint.Apart place number)) }
     {
         let deb = self.index.package(place);
         let entry = self.index.apart(place, number);
@@ -271,10 +271,15 @@ impl<'i> Walk<'i> {
 
     /// Adds the versions of a name.
     #[tactic(auto, unfolding(crate::specs::WalkLines::constraint_text))]
-    fn push_versions(&self, out: &mut Vec<u8>, told: &PlaceSet, name: u32) -> Result<(), AllocError>
+    fn push_versions(
+        &self,
+        out: &mut Vec<u8>,
+        told: &HashSet<u32>,
+        name: u32,
+    ) -> Result<(), AllocError>
         requires { IsOfIndex self.now.index.now (Constraint.Only name) }
         ensures { OnOk result (out.new.items ≡
-            out.old.items ++ constraint_text self.now.index.now (members_of self.now.coming.now) told.now (Constraint.Only name)) }
+            out.old.items ++ constraint_text self.now.index.now (places_in self.now.coming.now) (places_in told.now) (Constraint.Only name)) }
     {
         let versions = those_coming(self.alloc, self.coming, self.index.places_named(name))?;
         out.extend_from_slice(b"versions: ")?;
@@ -289,11 +294,12 @@ impl<'i> Walk<'i> {
     fn push_constraint(
         &self,
         out: &mut Vec<u8>,
-        told: &PlaceSet,
+        told: &HashSet<u32>,
         constraint: Constraint,
     ) -> Result<(), AllocError>
         requires { FitsWalk self.now.index.now self.now.similar.now constraint }
-        ensures { OnOk result (out.new.items ≡ out.old.items ++ constraint_text self.now.index.now (members_of self.now.coming.now) told.now constraint) }
+        ensures { OnOk result (out.new.items ≡
+            out.old.items ++ constraint_text self.now.index.now (places_in self.now.coming.now) (places_in told.now) constraint) }
     {
         match constraint {
             Constraint::Essential(name) => self.push_essential(out, told, name),
@@ -329,18 +335,16 @@ impl<'i> Walk<'i> {
     fn begin(
         &self,
         out: &mut Vec<u8>,
-        told: &mut PlaceSet,
+        told: &mut HashSet<u32>,
         place: u32,
     ) -> Result<Vec<Step>, AllocError>
         requires { place < length self.now.index.now.packages }
         ensures text { OnOk result (out.new.items ≡
-            out.old.items ++ step_text self.now.index.now self.now.core.now (members_of self.now.coming.now) told.old (Step.Begin place)) }
-        ensures told { OnOk result (told.new ≡ told_behind told.old (Step.Begin place)) }
-        ensures steps { IfOk result (λ steps. steps.items ≡ steps_behind self.now.index.now self.now.core.now told.old (Step.Begin place)) }
+            out.old.items ++ step_text self.now.index.now self.now.core.now (places_in self.now.coming.now) (places_in told.old) (Step.Begin place)) }
+        ensures told { OnOk result (places_in told.new ≡ told_behind (places_in told.old) (Step.Begin place)) }
+        ensures steps { IfOk result (λ steps. steps.items ≡ steps_behind self.now.index.now self.now.core.now (places_in told.old) (Step.Begin place)) }
     {
-        let again = told.contains(place);
-        told.insert(place)?;
-        if again {
+        if !told.insert(place)? {
             return Ok(Vec::new(self.alloc));
         }
         self.enter(out, 0, place, &[])
@@ -351,7 +355,7 @@ impl<'i> Walk<'i> {
     fn meet(
         &self,
         out: &mut Vec<u8>,
-        told: &mut PlaceSet,
+        told: &mut HashSet<u32>,
         depth: u32,
         place: u32,
         constraint: Constraint,
@@ -359,15 +363,15 @@ impl<'i> Walk<'i> {
         requires place { place < length self.now.index.now.packages }
         requires constraint { FitsWalk self.now.index.now self.now.similar.now constraint }
         ensures text { OnOk result (out.new.items ≡
-            out.old.items ++ step_text self.now.index.now self.now.core.now (members_of self.now.coming.now) told.old (Step.Meet depth place constraint)) }
-        ensures told { OnOk result (told.new ≡ told_behind told.old (Step.Meet depth place constraint)) }
-        ensures steps { IfOk result (λ steps. steps.items ≡ steps_behind self.now.index.now self.now.core.now told.old (Step.Meet depth place constraint)) }
+            out.old.items ++ step_text self.now.index.now self.now.core.now (places_in self.now.coming.now) (places_in told.old)
+            (Step.Meet depth place constraint)) }
+        ensures told { OnOk result (places_in told.new ≡ told_behind (places_in told.old) (Step.Meet depth place constraint)) }
+        ensures steps { IfOk result (λ steps. steps.items ≡
+            steps_behind self.now.index.now self.now.core.now (places_in told.old) (Step.Meet depth place constraint)) }
     {
         let answer = answer_at(self.alloc, self.index, constraint, place)?;
         let entries = answer.provides.as_slice();
-        let again = told.contains(place);
-        told.insert(place)?;
-        if again {
+        if !told.insert(place)? {
             push_package_line(out, self.index, depth, place, entries, true)?;
             return Ok(Vec::new(self.alloc));
         }
@@ -379,14 +383,15 @@ impl<'i> Walk<'i> {
     fn tell(
         &self,
         out: &mut Vec<u8>,
-        told: &PlaceSet,
+        told: &HashSet<u32>,
         depth: u32,
         constraint: Constraint,
     ) -> Result<Vec<Step>, AllocError>
         requires { FitsWalk self.now.index.now self.now.similar.now constraint }
         ensures text { OnOk result (out.new.items ≡
-            out.old.items ++ step_text self.now.index.now self.now.core.now (members_of self.now.coming.now) told.now (Step.Tell depth constraint)) }
-        ensures steps { IfOk result (λ steps. steps.items ≡ steps_behind self.now.index.now self.now.core.now told.now (Step.Tell depth constraint)) }
+            out.old.items ++ step_text self.now.index.now self.now.core.now (places_in self.now.coming.now) (places_in told.now) (Step.Tell depth constraint)) }
+        ensures steps { IfOk result (λ steps. steps.items ≡
+            steps_behind self.now.index.now self.now.core.now (places_in told.now) (Step.Tell depth constraint)) }
     {
         push_lead(out, depth)?;
         self.push_constraint(out, told, constraint)?;
@@ -398,14 +403,14 @@ impl<'i> Walk<'i> {
     fn go(
         &self,
         out: &mut Vec<u8>,
-        told: &mut PlaceSet,
+        told: &mut HashSet<u32>,
         step: Step,
     ) -> Result<Vec<Step>, AllocError>
         requires { IsStepOf self.now.index.now (FitsWalk self.now.index.now self.now.similar.now) step }
         ensures text { OnOk result (out.new.items ≡
-            out.old.items ++ step_text self.now.index.now self.now.core.now (members_of self.now.coming.now) told.old step) }
-        ensures told { OnOk result (told.new ≡ told_behind told.old step) }
-        ensures steps { IfOk result (λ steps. steps.items ≡ steps_behind self.now.index.now self.now.core.now told.old step) }
+            out.old.items ++ step_text self.now.index.now self.now.core.now (places_in self.now.coming.now) (places_in told.old) step) }
+        ensures told { OnOk result (places_in told.new ≡ told_behind (places_in told.old) step) }
+        ensures steps { IfOk result (λ steps. steps.items ≡ steps_behind self.now.index.now self.now.core.now (places_in told.old) step) }
     {
         match step {
             Step::Begin(place) => self.begin(out, told, place),
@@ -418,13 +423,14 @@ impl<'i> Walk<'i> {
     fn go_all(
         &self,
         out: &mut Vec<u8>,
-        told: &mut PlaceSet,
+        told: &mut HashSet<u32>,
         stack: &mut Vec<Step>,
     ) -> Result<(), AllocError>
         requires core { All (FitsWalk self.now.index.now self.now.similar.now) self.now.core.now }
         requires steps { All (IsStepOf self.now.index.now (FitsWalk self.now.index.now self.now.similar.now)) (reverse stack.old.items) }
         ensures { OnOk result (out.new.items ≡
-            out.old.items ++ walk_text step_limit self.now.index.now self.now.core.now (members_of self.now.coming.now) told.old (reverse stack.old.items)) }
+            out.old.items ++ walk_text step_limit self.now.index.now self.now.core.now (places_in self.now.coming.now) (places_in told.old)
+            (reverse stack.old.items)) }
     {
         for _ in 0..u64::MAX {
             let Some(step) = stack.pop() else {
@@ -441,11 +447,11 @@ impl<'i> Walk<'i> {
         requires core { All (FitsWalk self.now.index.now self.now.similar.now) self.now.core.now }
         requires steps { All (IsStepOf self.now.index.now (FitsWalk self.now.index.now self.now.similar.now)) steps.items }
         ensures { OnOk result (out.new.items ≡
-            out.old.items ++ walk_text step_limit self.now.index.now self.now.core.now (members_of self.now.coming.now) [] steps.items) }
+            out.old.items ++ walk_text step_limit self.now.index.now self.now.core.now (places_in self.now.coming.now) (members_of []) steps.items) }
     {
         let mut stack = Vec::new(self.alloc);
         put_before(&mut stack, steps)?;
-        self.go_all(out, &mut PlaceSet::new(self.alloc), &mut stack)
+        self.go_all(out, &mut HashSet::new(self.alloc), &mut stack)
     }
 }
 

@@ -1,11 +1,11 @@
 use Rattle.std.proofs.Common.{◌∙◌}
 use Rattle.std.proofs.lemmas.Result.{IfOk-weaker}
-use Rattle.number_sets.specs.Sets.{members_of}
+use Rattle.deb_reasons.specs.Walk.{places_in}
 use Rattle.deb_reasons.proofs.WalkLemmas.{hits-coming}
 use Rattle.deb_reasons.proofs.walk.hits_in.Goals as goal
 
 pub returns : goal.returns
 returns c =
     IfOk-weaker c.those_coming.result _ _
-    (λ those is. is ∙ rw (c.as_slice.ensures.value, c.in_ok-push_hit.ensures, c.new-hits.ensures.items) (hits-coming (members_of c.args.coming.now) c.args.place _))
+    (λ those is. is ∙ rw (c.as_slice.ensures.value, c.in_ok-push_hit.ensures, c.new-hits.ensures.items) (hits-coming (places_in c.args.coming.now) c.args.place _))
     c.those_coming.ensures

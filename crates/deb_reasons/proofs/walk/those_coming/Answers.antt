@@ -1,14 +1,14 @@
 use Rattle.std.proofs.Common.{◌≡◌, ◌<◌, ◌++◌, ◌∷◌, [], ◌∙◌, ap, arith, false, get_or, length, sym, take, true}
 use Rattle.std.proofs.lemmas.List.{take_more}
-use Rattle.number_sets.specs.Sets.{members_of}
 use Rattle.list_steps.proofs.ListLemmas.{filter_fails, filter_passes}
+use Rattle.deb_reasons.specs.Walk.{places_in}
 use Rattle.deb_reasons.proofs.walk.those_coming.Goals as goal
 use Rattle.deb_reasons.proofs.walk.those_coming.Goals.{then-contains+in_ok-push, else-contains}
 
 pub loop-place-preserved : goal.loop-place-preserved
 loop-place-preserved c =
     let places = c.args.places.now in
-    let test = members_of c.args.coming.now in
+    let test = places_in c.args.coming.now in
     let i = c.loop-place.place-index in
     let before = take i places in
     let place = get_or places i 0 in

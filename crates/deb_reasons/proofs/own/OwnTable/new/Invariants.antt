@@ -1,6 +1,6 @@
-use Rattle.std.proofs.Common.{map, take}
+use Rattle.std.proofs.Common.{take}
 use Rattle.deb_reasons.specs.Own.{IsTableOf}
 use Rattle.deb_reasons.proofs.own.OwnTable.new.Given as goal
 
 abbrev pub invariant-loop-constraint : goal.invariant-loop-constraint
-invariant-loop-constraint l = IsTableOf (take l.constraint-index l.core) l.places.keys (map (λ list. list.items) l.lists.items)
+invariant-loop-constraint l = IsTableOf (take l.constraint-index l.core) l.lists
