@@ -1,20 +1,23 @@
 -- The first of some names, each once, and the lists of names by stem.
-use Rattle.std.proofs.Common.{◌≡◌, ◌==◌, ℕ, zero, suc, ◌+◌, ◌<◌, ◌≤◌, Bool, true, false, not, cond, ◌&&◌, ◌||◌, ◌⊎◌, All, List, [], ◌∷◌, ◌++◌, Some, None, drop, filter, get_or, length, map, set, take, refl, sym, ap, subst, ◌∙◌, append-nil, inl, inr, arith}
+use Rattle.std.proofs.Common.{◌≡◌, ◌==◌, ℕ, ◌+◌, ◌<◌, ◌≤◌, Bool, true, false, not, cond, ◌&&◌, ◌||◌, ◌⊎◌, All, Global, HashMap, Vec, List, [], ◌∷◌, ◌++◌, Some, None, Option, drop, filter, get_or, length, map, take, refl, sym, ap, subst, ◌∙◌, append-nil, inl, inr, arith}
+use Rattle.std.specs.HashMap.{UpdatesBy, get_by, keys, values}
 use Rattle.std.specs.List.{flat_map}
+use Rattle.std.specs.Map.{KeepsOthers, lookup}
+use Rattle.std.specs.Option.{IfSome, is_some}
 use Rattle.std.specs.Str.{bytes_eq}
-use Rattle.std.proofs.lemmas.Bool.{cases_Bool, cases_eq, cases_lt, false≢true}
+use Rattle.std.proofs.lemmas.Bool.{cases_Bool, cases_lt, false≢true}
 use Rattle.std.proofs.lemmas.Grind.{flat_map-append}
-use Rattle.std.proofs.lemmas.List.{get_or-set_other, get_or-set_same, length-append, length-take-le, take-append-drop, take-append-le, map-append, take_all, take_more}
-use Rattle.std.proofs.lemmas.List.Elements.{All-cons, All-head, All-map, All-more, All-nil, All-tail}
+use Rattle.std.proofs.lemmas.List.{length-append, length-take-le, take-append-drop, take-append-le, map-append, take_all, take_more}
+use Rattle.std.proofs.lemmas.List.Elements.{All-cons, All-head, All-map, All-more, All-nil, All-tail, All-weaker}
 use Rattle.std.proofs.lemmas.List.Folds.{list_any-append}
+use Rattle.std.proofs.lemmas.Map.Made.{is_some-lookup}
+use Rattle.std.proofs.lemmas.Map.Views.{IfSome-lookup_from_All}
 use Rattle.deb_relation.specs.declared.atom.Atom.{Atom}
 use Rattle.deb_relation.specs.AtomView.{atom_view}
 use Rattle.deb_relation.specs.Relationship.{AtomText}
 use Rattle.deb_relation.specs.Usable.{is_usable}
 use Rattle.deb_index.specs.Packages.{first_of_each}
-use Rattle.deb_index.specs.Tables.{number_in}
-use Rattle.deb_index.proofs.FirstLemmas.{first-push, name-itself, names-turned, same-name}
-use Rattle.deb_index.proofs.NameLemmas.{text-at}
+use Rattle.deb_index.proofs.FirstLemmas.{any-map, first-push, name-itself, names-turned, same-name}
 use Rattle.deb_index.proofs.TableLemmas.{any-turned, names-chain}
 use Rattle.deb_near.specs.Near.{first_with_stem, has_stem, similar_limit, stem}
 use Rattle.deb_near.specs.Stems.{first_told, has_text}
@@ -152,27 +155,32 @@ or-turned a b rest = ap (λ same. same || rest) (names-turned a b) ∙ swap (byt
 
 -- ---- the lists of names by stem
 
-module _ (seen : List (List ℕ)) (stems : List (List ℕ)) where
-  abbrev pub AreListed : List (List (List ℕ)) → Type 0
-  AreListed lists = (one : List ℕ) (number : ℕ) → number_in one stems ≡ Some number → get_or lists number [] ≡ first_with_stem seen one
+-- what a map has by the bytes of a key
+abbrev pub at_key : {X S : Type 0} → HashMap (Vec ℕ Global) X S → List ℕ → Option X
+at_key lists one = get_by (λ key. bytes_eq one key.items) lists
 
--- where no stem is sought
-pub none-found : (seen stems : List (List ℕ)) (lists : List (List (List ℕ))) → length stems ≡ 0 → AreListed seen stems lists
-none-found seen [] lists none one number at = absurd (clash number at)
-  where
-    clash : (number : ℕ) → None ≡ Some number → ⊥
-    clash number e = cc
-none-found seen (stem ∷ stems) lists none one number at = absurd (omega arith)
+-- once it has a value at one text more
+module _ {X S : Type 0} (olds news : HashMap (Vec ℕ Global) X S) (text : List ℕ) (value : X)
+    (updates : UpdatesBy (λ a b. bytes_eq a.items b.items) (λ key. bytes_eq text key.items) olds news (Some value)) where
+  pub key-at : (one : List ℕ) → bytes_eq one text ≡ true → at_key news one ≡ Some value
+  key-at one same = ap (at_key news) (same-name one text same) ∙ updates.1
 
--- none so far
-pub none-listed : {V N : Type 0} (names : V → List N) (text : N → List ℕ) (stems : List (List ℕ)) (vs : List V) → All (λ v. names v ≡ []) vs → AreListed [] stems (map (λ v. map text (names v)) vs)
-unfolding first_of_each
-none-listed {V} {N} names text stems vs none one number at = empty vs none number
-  where
-    empty : (vs : List V) → All (λ v. names v ≡ []) vs → (number : ℕ) → get_or (map (λ v. map text (names v)) vs) number [] ≡ []
-    empty [] all number = refl
-    empty (v ∷ rest) all zero = ap (map text) (All-head (λ w. names w ≡ []) v rest all)
-    empty (v ∷ rest) all (suc number) = empty rest (All-tail (λ w. names w ≡ []) v rest all) number
+  pub key-apart : (one : List ℕ) → bytes_eq one text ≡ false → at_key news one ≡ at_key olds one
+  unfolding KeepsOthers
+  key-apart one other =
+      updates.3 (λ key. bytes_eq one key.items) (λ a b same. ap (λ t. bytes_eq t b.items) (same-name one a.items same))
+      (λ key same. ap (bytes_eq one) (sym (same-name text key.items same)) ∙ other)
+
+  pub has-more : (one : List ℕ) → is_some (at_key news one) ≡ (bytes_eq one text || is_some (at_key olds one))
+  has-more one =
+      elim (cases_Bool (bytes_eq one text)) [
+        | inl same ↦ ap is_some (key-at one same) ∙ sym (ap (λ b. b || is_some (at_key olds one)) same)
+        | inr other ↦ ap is_some (key-apart one other) ∙ sym (ap (λ b. b || is_some (at_key olds one)) other)
+      ]
+
+-- which texts are among its keys
+pub has-key : {X S : Type 0} (lists : HashMap (Vec ℕ Global) X S) (one : List ℕ) → has_text (map (λ key. key.items) (keys lists)) one ≡ is_some (at_key lists one)
+has-key lists one = any-map (bytes_eq one) (λ key. key.items) (keys lists) ∙ sym (is_some-lookup (λ key. bytes_eq one key.items) lists.entries)
 
 other-stem : (one name : List ℕ) → bytes_eq one (stem name) ≡ false → has_stem one name ≡ false
 other-stem one name other = ap (λ b. not (length one == 0) && b) other ∙ none (not (length one == 0))
@@ -188,51 +196,64 @@ empty-stem one name empty =
       | inr other ↦ other-stem one name other
     ]
 
-module _ (seen : List (List ℕ)) (stems : List (List ℕ)) (name : List ℕ) where
-  -- one name more, with a stem that none has
-  pub listed-empty : (lists : List (List (List ℕ))) → AreListed seen stems lists → length (stem name) ≡ 0 → AreListed (seen ++ name ∷ []) stems lists
-  listed-empty lists are empty = λ one number at. kept-same (has_stem one) seen name (get_or lists number []) (are one number at) (empty-stem one name empty)
+abbrev Lists : Type 0 → Type 0
+Lists S = HashMap (Vec ℕ Global) (Vec (Vec ℕ Global) Global) S
+
+abbrev texts : Vec (Vec ℕ Global) Global → List (List ℕ)
+texts names = map (λ name. name.items) names.items
+
+abbrev pub IsListed : List (List ℕ) → List ℕ → Option (Vec (Vec ℕ Global) Global) → Type 0
+IsListed seen one found = IfSome found (λ names. texts names ≡ first_with_stem seen one)
+
+abbrev pub AreListed : {S : Type 0} → List (List ℕ) → Lists S → Type 0
+AreListed seen lists = (one : List ℕ) → IsListed seen one (at_key lists one)
+
+-- none so far
+pub none-listed : {S : Type 0} (lists : Lists S) → All (λ list. list.items ≡ []) (values lists) → AreListed [] lists
+unfolding first_of_each
+none-listed lists none = λ one.
+    IfSome-lookup_from_All (λ names. texts names ≡ first_with_stem [] one) (λ key. bytes_eq one key.items) lists.entries
+    (All-weaker (λ list. list.items ≡ []) (λ names. texts names ≡ first_with_stem [] one) (λ names none. ap (map (λ name. name.items)) none) (values lists) none)
+
+-- where no stem is sought
+pub none-sought : {S : Type 0} (seen : List (List ℕ)) (lists : Lists S) → lists.entries ≡ [] → AreListed seen lists
+none-sought seen lists none = λ one. subst (λ entries. IsListed seen one (lookup (λ key. bytes_eq one key.items) entries)) (sym none) tt
+
+-- one name more, with another stem
+listed-same : (seen : List (List ℕ)) (name one : List ℕ) → has_stem one name ≡ false → (found : Option (Vec (Vec ℕ Global) Global)) → IsListed seen one found → IsListed (seen ++ name ∷ []) one found
+listed-same seen name one fails None is = tt
+listed-same seen name one fails (Some names) is = kept-same (has_stem one) seen name (texts names) is fails
+
+module _ {S : Type 0} (seen : List (List ℕ)) (name : List ℕ) where
+  -- with a stem that none has
+  pub listed-empty : (lists : Lists S) → AreListed seen lists → length (stem name) ≡ 0 → AreListed (seen ++ name ∷ []) lists
+  listed-empty lists are empty = λ one. listed-same seen name one (empty-stem one name empty) (at_key lists one) (are one)
 
   -- with one that isn't sought
-  pub listed-other : (lists : List (List (List ℕ))) → AreListed seen stems lists → number_in (stem name) stems ≡ None → AreListed (seen ++ name ∷ []) stems lists
-  listed-other lists are none = λ one number at. kept-same (has_stem one) seen name (get_or lists number []) (are one number at) (other-stem one name (apart one number at))
-    where
-      clash : (number : ℕ) → None ≡ Some number → ⊥
-      clash number e = cc
-
-      apart : (one : List ℕ) (number : ℕ) → number_in one stems ≡ Some number → bytes_eq one (stem name) ≡ false
-      apart one number at =
-          elim (cases_Bool (bytes_eq one (stem name))) [
-            | inl same ↦ absurd (clash number (sym none ∙ ap (λ text. number_in text stems) (sym (same-name one (stem name) same)) ∙ at))
-            | inr other ↦ other
-          ]
+  pub listed-other : (lists : Lists S) → AreListed seen lists → at_key lists (stem name) ≡ None → AreListed (seen ++ name ∷ []) lists
+  listed-other lists are none = λ one.
+      elim (cases_Bool (bytes_eq one (stem name))) [
+        | inl same ↦ subst (IsListed (seen ++ name ∷ []) one) (sym (ap (at_key lists) (same-name one (stem name) same) ∙ none)) tt
+        | inr other ↦ listed-same seen name one (other-stem one name other) (at_key lists one) (are one)
+      ]
 
   -- with one that is
-  pub listed-more : (lists : List (List (List ℕ))) (place : ℕ) (list : List (List ℕ)) → AreListed seen stems lists → number_in (stem name) stems ≡ Some place → (length (stem name) == 0) ≡ false
-      → place < length lists → (get_or lists place [] ≡ first_told (filter (has_stem (stem name)) seen) → list ≡ first_told (filter (has_stem (stem name)) seen ++ name ∷ []))
-      → AreListed (seen ++ name ∷ []) stems (set lists place list)
-  listed-more lists place list are here some within more = λ one number at. by one number at (cases_eq number place)
+  pub listed-more : (olds news : Lists S) (names : Vec (Vec ℕ Global) Global) → AreListed seen olds → (length (stem name) == 0) ≡ false
+      → UpdatesBy (λ a b. bytes_eq a.items b.items) (λ key. bytes_eq (stem name) key.items) olds news (Some names) → texts names ≡ first_told (filter (has_stem (stem name)) seen ++ name ∷ [])
+      → AreListed (seen ++ name ∷ []) news
+  listed-more olds news names are some updates more = λ one.
+      elim (cases_Bool (bytes_eq one (stem name))) [
+        | inl same ↦ subst (IsListed (seen ++ name ∷ []) one) (sym (key-at olds news (stem name) names updates one same))
+            (mine ∙ ap (first_with_stem (seen ++ name ∷ [])) (sym (same-name one (stem name) same)))
+        | inr other ↦ subst (IsListed (seen ++ name ∷ []) one) (sym (key-apart olds news (stem name) names updates one other))
+            (listed-same seen name one (other-stem one name other) (at_key olds one) (are one))
+      ]
     where
       passes : has_stem (stem name) name ≡ true
       passes = ap (λ b. not b && bytes_eq (stem name) (stem name)) some ∙ name-itself (stem name)
 
-      mine : list ≡ first_with_stem (seen ++ name ∷ []) (stem name)
-      mine = more (are (stem name) place here) ∙ ap first_told (sym (filter_passes (has_stem (stem name)) seen (seen ++ name ∷ []) name refl passes))
-
-      some-same : (a b : ℕ) → Some a ≡ Some b → a ≡ b
-      some-same a b e = cc
-
-      by : (one : List ℕ) (number : ℕ) → number_in one stems ≡ Some number → (number ≡ place) ⊎ (number ≡ place → ⊥) → get_or (set lists place list) number [] ≡ first_with_stem (seen ++ name ∷ []) one
-      by one number at (inl same) =
-          let text : one ≡ stem name = sym (text-at one stems number at) ∙ ap (λ n. get_or stems n []) same ∙ text-at (stem name) stems place here in
-          ap (λ n. get_or (set lists place list) n []) same ∙ get_or-set_same lists place list [] within ∙ mine ∙ ap (first_with_stem (seen ++ name ∷ [])) (sym text)
-      by one number at (inr apart) =
-          get_or-set_other lists place number list [] apart
-          ∙ kept-same (has_stem one) seen name (get_or lists number []) (are one number at) (other-stem one name (differs (cases_Bool (bytes_eq one (stem name)))))
-        where
-          differs : (bytes_eq one (stem name) ≡ true) ⊎ (bytes_eq one (stem name) ≡ false) → bytes_eq one (stem name) ≡ false
-          differs (inl same) = absurd (apart (some-same number place (sym at ∙ ap (λ text. number_in text stems) (same-name one (stem name) same) ∙ here)))
-          differs (inr other) = other
+      mine : texts names ≡ first_with_stem (seen ++ name ∷ []) (stem name)
+      mine = more ∙ ap first_told (sym (filter_passes (has_stem (stem name)) seen (seen ++ name ∷ []) name refl passes))
 
 -- ---- the names of one element more
 pub names-more : {A C : Type 0} (f : C → List (List ℕ)) (view : A → C) (xs : List A) (i : ℕ) (d : A) (x : C) → i < length xs → x ≡ view (get_or xs i d)

@@ -1,24 +1,21 @@
 -- The names of an index that are found for the stems of missing names.
-use Rattle.std.specs.Prelude.{◌≡◌, ℕ, ◌||◌, List, [], Some, filter, map, not, slice_index_or}
+use Rattle.std.specs.Prelude.{◌≡◌, ℕ, ◌||◌, List, IfSome, filter, map, not}
+use Rattle.std.specs.HashMap.{get_by, keys}
 use Rattle.std.specs.List.{flat_map}
+use Rattle.std.specs.Str.{bytes_eq}
 use Rattle.deb_relation.specs.Relationship.{AtomText}
 use Rattle.deb_index.specs.Packages.{IndexView}
-use Rattle.deb_index.specs.Tables.{number_in}
 use Rattle.deb_near.specs.declared.similar.Similar.{Similar}
 use Rattle.deb_near.specs.declared.similar.Told.{Told}
 use Rattle.deb_near.specs.Near.{first_with_stem, is_one_of, names_of}
 use Rattle.deb_near.specs.Stems.{first_told, has_text}
 
 abbrev pub stems_in : Similar → List (List ℕ)
-stems_in similar = map (λ one. one.items) similar.stems.keys
+stems_in similar = map (λ key. key.items) (keys similar.lists)
 
-abbrev pub lists_in : Similar → List (List (List ℕ))
-lists_in similar = map (λ list. map (λ name. name.items) list.items) similar.lists.items
-
--- by the number of each stem, the first of these names that have it
+-- by each stem, the first of these names that have it
 abbrev pub IsFoundIn : List (List ℕ) → Similar → Type 0
-IsFoundIn seen similar = (one : List ℕ) (number : ℕ) → number_in one (stems_in similar) ≡ Some number
-    → slice_index_or (lists_in similar) number [] ≡ first_with_stem seen one
+IsFoundIn seen similar = (one : List ℕ) → IfSome (get_by (λ key. bytes_eq one key.items) similar.lists) (λ names. map (λ name. name.items) names.items ≡ first_with_stem seen one)
 
 -- of all names of the index
 abbrev pub IsSimilarOf : IndexView → Similar → Type 0

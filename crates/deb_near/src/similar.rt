@@ -1,6 +1,6 @@
 //! Which names of an index differ in numbers alone from missing ones.
 
-ghost use Rattle.std.specs.Prelude.{◌≡◌, ◌≤◌, ◌++◌, ◌∷◌, [], true, ℕ, List, All, IfOk, OnOk, length, map, vec_len};
+ghost use Rattle.std.specs.Prelude.{◌≡◌, ◌++◌, ◌∷◌, [], true, ℕ, List, All, IfOk, OnOk, map};
 ghost use Rattle.std.specs.List.{flat_map};
 ghost use Rattle.deb_relation.specs.AtomView.{atom_view};
 ghost use Rattle.deb_relation.specs.Relationship.{AtomText};
@@ -13,8 +13,8 @@ use crate::near::alternatives_of;
 use crate::stems::{insert_once, put_stem, stems_of};
 use deb_index::{Constraint, Index, Package};
 use deb_relation::Atom;
-use indexmap::IndexSet;
 use std::alloc::{AllocError, Global};
+use std::collections::{HashMap, HashSet};
 
 /// How many similar names are told.
 const SIMILAR_LIMIT: usize = 10;
@@ -46,7 +46,7 @@ fn push_first(alloc: Global, name: &[u8], names: &mut Vec<Vec<u8>>) -> Result<()
 }
 
 /// Puts the names of some atoms into a set that has none.
-fn add_names(alloc: Global, atoms: &[&Atom], own: &mut IndexSet<Vec<u8>>) -> Result<(), AllocError>
+fn add_names(alloc: Global, atoms: &[&Atom], own: &mut HashSet<Vec<u8>>) -> Result<(), AllocError>
     requires { own.old.keys ≡ [] }
     ensures { OnOk result ((name : List ℕ) → has_text (map (λ one. one.items) own.new.keys) name
         ≡ is_one_of (map (λ atom. atom_view atom.now) atoms.now) name) }
@@ -60,7 +60,7 @@ fn add_names(alloc: Global, atoms: &[&Atom], own: &mut IndexSet<Vec<u8>>) -> Res
 /// Names that are told, and with them those that aren't to be told.
 #[derive(Drop)]
 struct Told<'s> {
-    known: IndexSet<Vec<u8>>,
+    known: HashSet<Vec<u8>>,
     names: Vec<&'s [u8]>,
 }
 
@@ -99,51 +99,28 @@ impl<'s> Told<'s> {
     }
 }
 
-/// As many lists, with no name in them.
-fn no_names(alloc: Global, count: usize) -> Result<Vec<Vec<Vec<u8>>>, AllocError>
-    ensures size { IfOk result (λ lists. length lists.items ≡ count) }
-    ensures none { IfOk result (λ lists. All (λ list. list.items ≡ []) lists.items) }
-{
-    let mut lists = Vec::new(alloc);
-    for _ in 0..count {
-        lists.push(Vec::new(alloc))?;
-    }
-    Ok(lists)
-}
-
 /// The names of an index with certain stems.
 #[derive(Drop)]
 pub struct Similar {
-    stems: IndexSet<Vec<u8>>,
-    /// By the number of a stem: the first names that have it, each once, in the order of the index.
-    lists: Vec<Vec<Vec<u8>>>,
-    ghost listed: { length stems.keys ≤ vec_len lists },
+    /// By the stem: the first names that have it, each once, in the order of the index.
+    lists: HashMap<Vec<u8>, Vec<Vec<u8>>>,
 }
 
 impl Similar {
     ghost use Rattle.deb_near.specs.Similar.{IsFoundIn, IsSimilarOf, IsTold, stems_in};
     ghost use Rattle.deb_near.specs.Stems.{AreSought};
 
-    /// No names so far.
-    fn new(alloc: Global, stems: IndexSet<Vec<u8>>) -> Result<Similar, AllocError>
-        ensures found { IfOk result (IsFoundIn []) }
-        ensures stems { IfOk result (λ similar. similar.stems ≡ stems) }
-    {
-        let lists = no_names(alloc, stems.len())?;
-        Ok(Similar { stems, lists })
-    }
-
     /// Adds a name, where it has one of the stems.
     fn add(&mut self, alloc: Global, name: &[u8], buffer: &mut Vec<u8>) -> Result<(), AllocError>
         ensures found { OnOk result ((seen : List (List ℕ)) → IsFoundIn seen self.old → IsFoundIn (seen ++ name.now ∷ []) self.new) }
-        ensures stems { OnOk result (self.new.stems ≡ self.old.stems) }
+        ensures stems { OnOk result (stems_in self.new ≡ stems_in self.old) }
     {
         put_stem(buffer, name)?;
         if buffer.is_empty() {
             return Ok(());
         }
-        if let Some(number) = self.stems.get_index_of(buffer.as_slice()) {
-            push_first(alloc, name, &mut self.lists[number])?;
+        if let Some(names) = self.lists.get_mut(buffer.as_slice()) {
+            push_first(alloc, name, names)?;
         }
         Ok(())
     }
@@ -158,7 +135,7 @@ impl Similar {
     ) -> Result<(), AllocError>
         ensures found { OnOk result ((seen : List (List ℕ)) → IsFoundIn seen self.old
             → IsFoundIn (seen ++ names_of arch.now (package_view deb.now)) self.new) }
-        ensures stems { OnOk result (self.new.stems ≡ self.old.stems) }
+        ensures stems { OnOk result (stems_in self.new ≡ stems_in self.old) }
     {
         self.add(alloc, deb.name.as_slice(), buffer)?;
         for entry in deb.provides.as_slice() {
@@ -173,7 +150,7 @@ impl Similar {
     fn add_all(&mut self, alloc: Global, index: &Index) -> Result<(), AllocError>
         requires { IsFoundIn [] self.old }
         ensures found { OnOk result (IsSimilarOf index.now self.new) }
-        ensures stems { OnOk result (self.new.stems ≡ self.old.stems) }
+        ensures stems { OnOk result (stems_in self.new ≡ stems_in self.old) }
     {
         let mut buffer = Vec::new(alloc);
         for place in 0..index.len() {
@@ -195,9 +172,9 @@ impl Similar {
         ensures found { IfOk result (IsSimilarOf index.now) }
         ensures sought { IfOk result (λ similar. AreSought index.now (stems_in similar) constraints.now) }
     {
-        let stems = stems_of(alloc, index, constraints)?;
-        let mut similar = Similar::new(alloc, stems)?;
-        if similar.stems.is_empty() {
+        let lists = stems_of(alloc, index, constraints)?;
+        let mut similar = Similar { lists };
+        if similar.lists.is_empty() {
             return Ok(similar);
         }
         similar.add_all(alloc, index)?;
@@ -209,8 +186,8 @@ impl Similar {
         requires { has_text (stems_in self.now) stem.now ≡ true }
         ensures { (seen : List (List ℕ)) → IsFoundIn seen self.now → map (λ one. one.items) result.now ≡ first_with_stem seen stem.now }
     {
-        match self.stems.get_index_of(stem) {
-            Some(number) => self.lists[number].as_slice(),
+        match self.lists.get(stem) {
+            Some(names) => names.as_slice(),
             None => &[],
         }
     }
@@ -253,7 +230,7 @@ impl Similar {
     {
         let atoms = alternatives_of(alloc, index, constraints)?;
         let mut told = Told {
-            known: IndexSet::new(alloc),
+            known: HashSet::new(alloc),
             names: Vec::new(alloc),
         };
         let done = self.tell(alloc, atoms.as_slice(), &mut told);

@@ -1,7 +1,8 @@
 //! What is left of names without their numbers.
 
-ghost use Rattle.std.specs.Prelude.{◌≡◌, ◌==◌, ◌<◌, ◌++◌, ◌∷◌, ◌||◌, ℕ, List, All, IfNone, IfOk, IfSome, OnOk, length, map, not, true};
+ghost use Rattle.std.specs.Prelude.{◌≡◌, ◌==◌, ◌<◌, ◌++◌, ◌∷◌, ◌||◌, [], ℕ, List, All, IfNone, IfOk, IfSome, OnOk, length, map, not, true};
 ghost use Rattle.std.specs.Char.{is_ascii_digit};
+ghost use Rattle.std.specs.HashMap.{keys, values};
 ghost use Rattle.std.specs.List.{list_any, position};
 ghost use Rattle.std.specs.Str.{bytes_eq};
 ghost use Rattle.deb_relation.specs.AtomView.{atom_view};
@@ -12,8 +13,8 @@ ghost use Rattle.deb_near.specs.Stems.{AreSought, has_text};
 use crate::near::alternatives_of;
 use deb_index::{Constraint, Index};
 use deb_relation::Atom;
-use indexmap::IndexSet;
 use std::alloc::{AllocError, Global};
+use std::collections::{HashMap, HashSet};
 
 /// Whether a byte is one of a version number.
 fn is_numeric(byte: u8) -> bool
@@ -94,49 +95,68 @@ pub(crate) fn put_stem(out: &mut Vec<u8>, name: &[u8]) -> Result<(), AllocError>
 pub(crate) fn insert_once(
     alloc: Global,
     text: &[u8],
-    texts: &mut IndexSet<Vec<u8>>,
+    texts: &mut HashSet<Vec<u8>>,
 ) -> Result<bool, AllocError>
     ensures new { IfOk result (λ new. new ≡ not (has_text (map (λ one. one.items) texts.old.keys) text.now)) }
     ensures has { OnOk result ((name : List ℕ) → has_text (map (λ one. one.items) texts.new.keys) name
         ≡ (bytes_eq name text.now || has_text (map (λ one. one.items) texts.old.keys) name)) }
 {
-    if texts.get_index_of(text).is_some() {
+    if texts.contains(text) {
         return Ok(false);
     }
     texts.insert(Vec::from_slice(alloc, text)?)?;
     Ok(true)
 }
 
+/// Adds a stem with an empty list, unless it is there.
+fn add_stem(
+    alloc: Global,
+    stem: &[u8],
+    lists: &mut HashMap<Vec<u8>, Vec<Vec<u8>>>,
+) -> Result<(), AllocError>
+    ensures has { OnOk result ((one : List ℕ) → has_text (map (λ key. key.items) (keys lists.new)) one
+        ≡ (bytes_eq one stem.now || has_text (map (λ key. key.items) (keys lists.old)) one)) }
+    ensures none { OnOk result (All (λ list. list.items ≡ []) (values lists.old) → All (λ list. list.items ≡ []) (values lists.new)) }
+{
+    if lists.contains_key(stem) {
+        return Ok(());
+    }
+    lists.insert(Vec::from_slice(alloc, stem)?, Vec::new(alloc))?;
+    Ok(())
+}
+
 /// Adds the stems of the names that some atoms have.
 fn add_stems(
     alloc: Global,
     atoms: &[&Atom],
-    stems: &mut IndexSet<Vec<u8>>,
+    lists: &mut HashMap<Vec<u8>, Vec<Vec<u8>>>,
 ) -> Result<(), AllocError>
-    ensures { OnOk result (All (λ atom. has_text (map (λ one. one.items) stems.new.keys) (stem atom.name) ≡ true)
+    ensures sought { OnOk result (All (λ atom. has_text (map (λ key. key.items) (keys lists.new)) (stem atom.name) ≡ true)
         (map (λ atom. atom_view atom.now) atoms.now)) }
+    ensures none { OnOk result (All (λ list. list.items ≡ []) (values lists.old) → All (λ list. list.items ≡ []) (values lists.new)) }
 {
     let mut buffer = Vec::new(alloc);
     for atom in atoms {
         put_stem(&mut buffer, atom.name.as_slice())?;
-        insert_once(alloc, buffer.as_slice(), stems)?;
+        add_stem(alloc, buffer.as_slice(), lists)?;
     }
     Ok(())
 }
 
-/// The stems of the alternatives of all needs among the constraints.
+/// The stems of the alternatives of all needs among the constraints, with an empty list for each.
 pub(crate) fn stems_of(
     alloc: Global,
     index: &Index,
     constraints: &[Constraint],
-) -> Result<IndexSet<Vec<u8>>, AllocError>
+) -> Result<HashMap<Vec<u8>, Vec<Vec<u8>>>, AllocError>
     requires { All (IsOfIndex index.now) constraints.now }
-    ensures { IfOk result (λ stems. AreSought index.now (map (λ one. one.items) stems.keys) constraints.now) }
+    ensures sought { IfOk result (λ lists. AreSought index.now (map (λ key. key.items) (keys lists)) constraints.now) }
+    ensures none { IfOk result (λ lists. All (λ list. list.items ≡ []) (values lists)) }
 {
     let atoms = alternatives_of(alloc, index, constraints)?;
-    let mut stems = IndexSet::new(alloc);
-    let added = add_stems(alloc, atoms.as_slice(), &mut stems);
+    let mut lists = HashMap::new(alloc);
+    let added = add_stems(alloc, atoms.as_slice(), &mut lists);
     drop(atoms);
     added?;
-    Ok(stems)
+    Ok(lists)
 }

@@ -1,4 +1,4 @@
-use Rattle.std.proofs.Common.{◌≡◌, ◌<◌, ◌++◌, ◌∷◌, [], ◌∙◌, ℕ, append_assoc, ap, arith, get_or, length, map, sym, take}
+use Rattle.std.proofs.Common.{◌<◌, ◌++◌, ◌∷◌, [], ◌∙◌, ℕ, append_assoc, ap, arith, get_or, length, map, sym, take}
 use Rattle.std.proofs.lemmas.List.{take_all}
 use Rattle.deb_index.specs.Meets.{provided_at}
 use Rattle.deb_index.specs.Packages.{places_of}

@@ -4,7 +4,7 @@ use Rattle.deb_relation.specs.AtomView.{atom_view}
 use Rattle.deb_relation.specs.Usable.{is_usable}
 use Rattle.deb_index.specs.Packages.{package_view}
 use Rattle.deb_near.specs.declared.similar.Similar.{Similar}
-use Rattle.deb_near.specs.Similar.{IsFoundIn}
+use Rattle.deb_near.specs.Similar.{IsFoundIn, stems_in}
 use Rattle.deb_near.proofs.SimilarLemmas.{provided, provided-more, provided-same}
 use Rattle.deb_near.proofs.similar.Similar.add_package.Goals as goal
 use Rattle.deb_near.proofs.similar.Similar.add_package.Goals.{then-usable+in_ok-add-2, else-usable}
@@ -26,14 +26,14 @@ loop-entry-preserved c =
                 (ap (λ text. (seen ++ before) ++ text ∷ []) w.as_slice-then-usable.ensures.value ∙ append_assoc seen before ((atom_view entry).name ∷ [])
                 ∙ ap (λ texts. seen ++ texts) (sym (provided-more arch entries i entry inside c.entry-item.is passes)))
                 (w.in_ok-add-2.ensures.found (seen ++ before) (c.loop-entry.invariant.0 seen is))),
-            ap (λ (similar : Similar). similar.stems) w.self-is ∙ w.in_ok-add-2.ensures.stems ∙ c.loop-entry.invariant.1,
+            ap stems_in w.self-is ∙ w.in_ok-add-2.ensures.stems ∙ c.loop-entry.invariant.1,
           )
       | else-usable w ↦
           let fails : is_usable arch (atom_view entry).qualifier ≡ false = sym c.usable.ensures ∙ w.if-usable.false in (
             λ seen is. subst (λ (similar : Similar). IsFoundIn (seen ++ next) similar) (sym w.self-is)
                 (subst (λ texts. IsFoundIn texts c.loop-entry.self) (ap (λ texts. seen ++ texts) (sym (provided-same arch entries i entry inside c.entry-item.is fails)))
                 (c.loop-entry.invariant.0 seen is)),
-            ap (λ (similar : Similar). similar.stems) w.self-is ∙ c.loop-entry.invariant.1,
+            ap stems_in w.self-is ∙ c.loop-entry.invariant.1,
           )
     ]
 
