@@ -4,12 +4,12 @@ use Prim.Native.Nat.{suc}
 use Rattle.std.specs.List.{list_any, position, position_or_len}
 use Rattle.std.specs.Option.{option_map}
 use Rattle.std.specs.Str.{bytes_eq}
-use Rattle.std.proofs.lemmas.List.{map-append, append-nil, get_or-map, length-map, map-set}
+use Rattle.std.proofs.lemmas.List.{map-append, append-nil}
 use Rattle.std.proofs.lemmas.List.Elements.{filter-append}
 use Rattle.std.proofs.lemmas.Bool.{false≢true, lt-ltb, ltb-true}
 use Rattle.deb_index.specs.Packages.{first_of_each}
-use Rattle.deb_index.specs.Tables.{IsTable, items_of, number_in}
-use Rattle.deb_index.proofs.FirstLemmas.{first-push, same-name, names-turned, name-itself, other-name, any-filter, any-filter-false, any-left-out}
+use Rattle.deb_index.specs.Tables.{items_of, number_in}
+use Rattle.deb_index.proofs.FirstLemmas.{same-name, names-turned, name-itself, other-name, any-filter, any-filter-false, any-left-out}
 
 -- no name stands twice
 abbrev pub IsApart : List (List ℕ) → Type 0
@@ -141,17 +141,6 @@ any-turned name (k ∷ ks) = (λ i. names-turned k name i || any-turned name ks 
 pub names-chain : (a b c : List ℕ) → bytes_eq a b ≡ true → bytes_eq b c ≡ true → bytes_eq a c ≡ true
 names-chain a b c e h = subst (λ w. bytes_eq a w ≡ true) (same-name b c h) e
 
-any-seen : {K : Type 0} (bytes : K → List ℕ) (name : List ℕ) (keys : List K) → list_any (bytes_eq name) (map bytes keys) ≡ list_any (λ k. bytes_eq name (bytes k)) keys
-any-seen bytes name [] = refl
-any-seen bytes name (k ∷ ks) = ap (λ r. bytes_eq name (bytes k) || r) (any-seen bytes name ks)
-
--- the key of a name that is not there goes last
-pub texts-grow : {K : Type 0} (bytes : K → List ℕ) (keys : List K) (key : K) (name : List ℕ) → bytes key ≡ name → number_in name (map bytes keys) ≡ None
-    → map bytes (cond (list_any (λ k. bytes_eq (bytes key) (bytes k)) keys) keys (keys ++ key ∷ [])) ≡ map bytes keys ++ name ∷ []
-texts-grow bytes keys key name same e =
-    let none : list_any (λ k. bytes_eq (bytes key) (bytes k)) keys ≡ false = subst (λ w. list_any (λ k. bytes_eq w (bytes k)) keys ≡ false) (sym same) (sym (any-seen bytes name keys) ∙ none-any name (map bytes keys) e) in
-    ap (λ c. map bytes (cond c keys (keys ++ key ∷ []))) none ∙ map-append bytes keys (key ∷ []) ∙ ap (λ w. map bytes keys ++ w ∷ []) same
-
 module _ {T : Type 0} where
   pub items-push : (k name : List ℕ) (x : T) (pairs : List (List ℕ × T)) → items_of k (pairs ++ (name, x) ∷ []) ≡ items_of k pairs ++ cond (bytes_eq k name) (x ∷ []) []
   unfolding items_of
@@ -183,36 +172,3 @@ module _ {T : Type 0} where
       by : (t : Bool) → bytes_eq name p.0 ≡ t → (list_any (bytes_eq name) (map (λ (p : List ℕ × T). p.0) ps) ≡ false → items_of name ps ≡ []) → items_of name (p ∷ ps) ≡ []
       by true e ih = absurd (false≢true (sym h ∙ rw e refl))
       by false e ih = rw e (ih (rw e at h))
-
-  keys-push : (name : List ℕ) (x : T) (pairs : List (List ℕ × T)) → first_of_each bytes_eq (map (λ (p : List ℕ × T). p.0) (pairs ++ (name, x) ∷ []))
-      ≡ cond (list_any (λ k. bytes_eq k name) (first_of_each bytes_eq (map (λ (p : List ℕ × T). p.0) pairs))) (first_of_each bytes_eq (map (λ (p : List ℕ × T). p.0) pairs)) (first_of_each bytes_eq (map (λ (p : List ℕ × T). p.0) pairs) ++ name ∷ [])
-  keys-push name x pairs = ap (first_of_each bytes_eq) (map-append (λ (p : List ℕ × T). p.0) pairs ((name, x) ∷ [])) ∙ first-push bytes_eq names-chain (map (λ (p : List ℕ × T). p.0) pairs) name
-
-  -- one more item under a name that is there
-  pub put-there : {pairs : List (List ℕ × T)} {ks : List (List ℕ)} {lists : List (List T)} (name : List ℕ) (x : T) (i : ℕ) → IsTable pairs ks lists → number_in name ks ≡ Some i
-      → IsTable (pairs ++ (name, x) ∷ []) ks (set lists i (get_or lists i [] ++ x ∷ []))
-  put-there {pairs} {ks} {lists} name x i t e = record {
-    names_are = t.names_are ∙ sym (keys-push name x pairs ∙ ap (λ c. cond c keys (keys ++ name ∷ [])) found);
-    lists_are = subst (λ (l : List (List T)). set l i (get_or l i [] ++ x ∷ []) ≡ map (λ k. items_of k (pairs ++ (name, x) ∷ [])) ks) (sym t.lists_are)
-        (ap (λ (v : List T). set (map (λ k. items_of k pairs) ks) i (v ++ x ∷ [])) (get-there name (λ k. items_of k pairs) ks i [] e) ∙ ap (λ (v : List T). set (map (λ k. items_of k pairs) ks) i v) (sym (items-same name x pairs))
-        ∙ sym (set-there name (λ k. items_of k pairs) (λ k. items_of k (pairs ++ (name, x) ∷ [])) (items-other name x pairs) ks i apart e));
-  }
-    where
-      keys : List (List ℕ)
-      keys = first_of_each bytes_eq (map (λ (p : List ℕ × T). p.0) pairs)
-
-      apart : IsApart ks
-      apart = subst IsApart (sym t.names_are) (first-apart (map (λ (p : List ℕ × T). p.0) pairs))
-
-      found : list_any (λ k. bytes_eq k name) keys ≡ true
-      found = any-turned name keys ∙ subst (λ l. list_any (bytes_eq name) l ≡ true) t.names_are (some-any name ks i e)
-
-  -- the same over lists that are seen through a view
-  module _ {V : Type 0} (items : V → List T) where
-    listed-at : {pairs : List (List ℕ × T)} {ks : List (List ℕ)} (vs : List V) (name : List ℕ) (i : ℕ) → IsTable pairs ks (map items vs) → number_in name ks ≡ Some i → i < length vs
-    listed-at {pairs} {ks} vs name i t e = let a : length (map items vs) ≡ length vs = length-map vs items in let b : length (map (λ k. items_of k pairs) ks) ≡ length ks = length-map ks (λ k. items_of k pairs) in let e' = number-within name ks i e in let s : length (map items vs) ≡ length (map (λ k. items_of k pairs) ks) = ap length t.lists_are in omega arith
-
-    pub put-at : {pairs : List (List ℕ × T)} {ks : List (List ℕ)} (vs : List V) (name : List ℕ) (x : T) (i : ℕ) (old new : V) → IsTable pairs ks (map items vs) → number_in name ks ≡ Some i → old ≡ get_or vs i old → items new ≡ items old ++ x ∷ []
-        → IsTable (pairs ++ (name, x) ∷ []) ks (map items (set vs i new))
-    put-at {pairs} {ks} vs name x i old new t e at put = subst (λ l. IsTable (pairs ++ (name, x) ∷ []) ks l)
-        (ap (λ v. set (map items vs) i (v ++ x ∷ [])) (get_or-map items vs i old [] (listed-at vs name i t e) ∙ ap items (sym at)) ∙ ap (λ v. set (map items vs) i v) (sym put) ∙ sym (map-set items vs i new)) (put-there name x i t e)

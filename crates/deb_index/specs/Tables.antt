@@ -6,7 +6,7 @@ use Rattle.std.specs.HashMap.{HashMap, get, get_by}
 use Rattle.std.specs.Option.{option_map}
 use Rattle.std.specs.Str.{bytes_eq}
 use Rattle.std.specs.declared.alloc.Global.{Global}
-use Rattle.deb_index.specs.Packages.{PackageView, IndexView, first_of_each, needs, aparts}
+use Rattle.deb_index.specs.Packages.{PackageView, IndexView, needs, aparts}
 
 -- the place of a name
 abbrev pub number_in : List ℕ → List (List ℕ) → Option ℕ
@@ -27,11 +27,6 @@ pub record AreNumbered {S T : Type 0} (names : List (List ℕ)) (firsts : HashMa
 -- the items under a name
 unfoldable pub items_of : {T : Type 0} → List ℕ → List (List ℕ × T) → List T
 items_of name pairs = map (λ p. p.1) (filter (λ p. bytes_eq name p.0) pairs)
-
--- a table has the names of what was put down, and the items under each
-pub record IsTable {T : Type 0} (pairs : List (List ℕ × T)) (names : List (List ℕ)) (lists : List (List T)) : Type 0 where
-  pub names_are : names ≡ first_of_each bytes_eq (map (λ p. p.0) pairs)
-  pub lists_are : lists ≡ map (λ name. items_of name pairs) names
 
 -- how many groups and entries a package has
 abbrev pub asked_count : PackageView → ℕ
