@@ -46,25 +46,25 @@ static OPTIONS: [LineOption; 18] = [
         name: "arch",
         value: &["A"],
         required: true,
-        help: "The architecture: letters, digits and -, neither all nor any",
+        help: "The architecture, neither all nor any",
         ..VALUED
     },
     LineOption {
         name: "bg",
         value: &["FILE"],
-        help: "A second index, whose packages may be used and are not checked",
+        help: "A second index, which is used and not checked",
         ..VALUED
     },
     LineOption {
         name: "since",
         value: &["FILE"],
-        help: "An earlier index; tells what is newly broken since it, and nothing else",
+        help: "An earlier index: tells what is newly broken",
         ..VALUED
     },
     LineOption {
         name: "checkonly",
-        value: &["N1,N2,.."],
-        help: "Checks the packages of these names alone",
+        value: &["NAMES"],
+        help: "Checks these alone: N1,N2,.. or @FILE",
         ..VALUED
     },
     LineOption {
@@ -85,12 +85,12 @@ static OPTIONS: [LineOption; 18] = [
         name: "chunk",
         value: &["K"],
         usual: &["64"],
-        help: "How many packages a worker takes at once, 1 to 1000000",
+        help: "Packages that a worker takes at once",
         ..VALUED
     },
     LineOption {
         name: "explain",
-        help: "Tells the set that was found, or the reasons why there is none",
+        help: "Tells the set that was found, or why there is none",
         ..FLAG
     },
     LineOption {
@@ -105,12 +105,12 @@ static OPTIONS: [LineOption; 18] = [
     },
     LineOption {
         name: "causes",
-        help: "Tells what is wrong in the end, each cause with the packages that it breaks",
+        help: "Tells what is wrong in the end, and what it breaks",
         ..FLAG
     },
     LineOption {
         name: "all-reasons",
-        help: "Tells the reasons of all causes of a package, and not of the first alone",
+        help: "Tells the reasons of all causes, not of the first",
         ..FLAG
     },
     LineOption {
@@ -125,7 +125,7 @@ static OPTIONS: [LineOption; 18] = [
     },
     LineOption {
         name: "strict",
-        help: "Ends with a fault where nothing is asked, and so does --since by itself",
+        help: "Ends with a fault where nothing is asked",
         ..FLAG
     },
     LineOption {
@@ -148,6 +148,11 @@ static OPTIONS: [LineOption; 18] = [
         ..FLAG
     },
 ];
+
+// What stands behind the options.
+const AFTER_HELP: &str = "Example: xzcat Packages.xz | debcheck --arch amd64 --failures --explain
+Exit: 0 ok, 1 broken, 64 words, 65 index, 66 name, 67 read, 68 write, 69 memory
+No words at all mean --arch amd64 --explain. The manual has more: man debcheck";
 
 // An option as `clap` takes it.
 fn argument<'a>(alloc: Global, option: &'static LineOption) -> Arg<'a>
@@ -172,9 +177,9 @@ fn bare<'a>(alloc: Global) -> Command<'a>
     ensures { app_of result ≡ app_with [] }
 {
     Command::new(alloc, "debcheck")
-        .about(
-            "Checks which packages of the Debian package index on standard input can be installed",
-        )
+        .about("Checks which packages of the Debian index on standard input can be installed")
+        .override_usage("debcheck [OPTIONS] --arch <A> < Packages")
+        .after_help(AFTER_HELP)
         .no_binary_name(true)
         .disable_help_flag(true)
 }

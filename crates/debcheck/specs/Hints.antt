@@ -1,6 +1,7 @@
 -- What is told after a run, where something looks like a slip.
 use Rattle.std.specs.Prelude.{ℕ, Bool, true, false, List, Option, Some, None, Result, Ok, Err, option_map, string_bytes, if◌then◌else◌}
 use Rattle.std.specs.Option.{option_map_or}
+use Rattle.input_hints.specs.declared.file.Obstacle.{Obstacle}
 use Rattle.input_hints.specs.declared.line.Input.{Input}
 use Rattle.input_hints.specs.declared.line.Input.TheVariants as input
 use Rattle.input_hints.specs.Beginnings.{hint_of as hint_by}
@@ -43,22 +44,22 @@ files_of config = record {
 unfoldable pub run_hint_text : Summary → Option (List ℕ)
 run_hint_text summary = option_map run_hint_line (run_hint summary.stanzas summary.skipped summary.asked)
 
--- the line on an input's file that can't be opened or read, where it has a name
-unfoldable pub unread_text : Input → Option (List ℕ) → Option (List ℕ)
-unread_text input None = None
-unread_text input (Some name) = file_hint_line input name
+-- the line on an input's file that can't be opened or read for an obstacle, where it has a name
+unfoldable pub unread_text : Obstacle → Input → Option (List ℕ) → Option (List ℕ)
+unread_text obstacle input None = None
+unread_text obstacle input (Some name) = file_hint_line input name obstacle
 
 -- the line on a run without a report, where nothing was seen of its inputs: by its fault
-unfoldable pub fault_hint_text : Files → RunFault → Option (List ℕ)
-fault_hint_text files run_fault.BackgroundRead = unread_text input.Background files.bg
-fault_hint_text files run_fault.EarlierRead = unread_text input.Earlier files.since
-fault_hint_text files run_fault.NamesRead = unread_text input.Names files.names
-fault_hint_text files (run_fault.Slipped slip) = Some (run_hint_line (hint_of slip))
-fault_hint_text files fault = None
+unfoldable pub fault_hint_text : Obstacle → Files → RunFault → Option (List ℕ)
+fault_hint_text obstacle files run_fault.BackgroundRead = unread_text obstacle input.Background files.bg
+fault_hint_text obstacle files run_fault.EarlierRead = unread_text obstacle input.Earlier files.since
+fault_hint_text obstacle files run_fault.NamesRead = unread_text obstacle input.Names files.names
+fault_hint_text obstacle files (run_fault.Slipped slip) = Some (run_hint_line (hint_of slip))
+fault_hint_text obstacle files fault = None
 
 -- the line that is told after a run, where something looks like a slip, by the files that it names
-unfoldable pub hint_text : Files → Result Summary RunFault → Option Clue → Option (List ℕ)
-hint_text files outcome (Some (Line line)) = Some line.items
-hint_text files outcome (Some (Likely input hint)) = Some (hint_line input hint)
-hint_text files (Ok summary) None = run_hint_text summary
-hint_text files (Err fault) None = fault_hint_text files fault
+unfoldable pub hint_text : Obstacle → Files → Result Summary RunFault → Option Clue → Option (List ℕ)
+hint_text obstacle files outcome (Some (Line line)) = Some line.items
+hint_text obstacle files outcome (Some (Likely input hint)) = Some (hint_line input hint)
+hint_text obstacle files (Ok summary) None = run_hint_text summary
+hint_text obstacle files (Err fault) None = fault_hint_text obstacle files fault

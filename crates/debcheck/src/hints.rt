@@ -5,10 +5,13 @@ ghost use Rattle.debcheck.specs.Hints.{clue_after, fault_hint_text, files_of, hi
 
 use deb_input::RunFault;
 use deb_outcome::Summary;
-use input_hints::{Hint, Input, file_hint_line, hint_line, hint_of, run_hint, run_hint_line};
+use devices::Opener;
+use input_hints::{
+    Hint, Input, Obstacle, file_hint_line, hint_line, hint_of, run_hint, run_hint_line,
+};
 use run_settings::Config;
 use std::alloc::{AllocError, Global};
-use std::io::{IsTerminal, Write};
+use std::io::{ErrorKind, IsTerminal, Write};
 
 /// What was seen of an input that a run couldn't use.
 #[derive(Drop)]
@@ -69,11 +72,12 @@ fn unread_text(
     alloc: Global,
     input: Input,
     name: &Option<String>,
+    obstacle: Obstacle,
 ) -> Result<Option<Vec<u8>>, AllocError>
-    ensures { IfOk result (λ line. option_map (λ text. text.items) line ≡ unread_text input (option_map string_bytes name.now)) }
+    ensures { IfOk result (λ line. option_map (λ text. text.items) line ≡ unread_text obstacle input (option_map string_bytes name.now)) }
 {
     match name {
-        Some(name) => file_hint_line(alloc, input, name.as_str().as_bytes()),
+        Some(name) => file_hint_line(alloc, input, name.as_str().as_bytes(), obstacle),
         None => Ok(None),
     }
 }
@@ -84,13 +88,14 @@ fn fault_hint_text(
     alloc: Global,
     config: &Config,
     fault: &RunFault,
+    obstacle: Obstacle,
 ) -> Result<Option<Vec<u8>>, AllocError>
-    ensures { IfOk result (λ line. option_map (λ text. text.items) line ≡ fault_hint_text (files_of config.now) fault.now) }
+    ensures { IfOk result (λ line. option_map (λ text. text.items) line ≡ fault_hint_text obstacle (files_of config.now) fault.now) }
 {
     match fault {
-        RunFault::BackgroundRead => unread_text(alloc, Input::Background, &config.bg),
-        RunFault::EarlierRead => unread_text(alloc, Input::Earlier, &config.since),
-        RunFault::NamesRead => unread_text(alloc, Input::Names, &config.only_file),
+        RunFault::BackgroundRead => unread_text(alloc, Input::Background, &config.bg, obstacle),
+        RunFault::EarlierRead => unread_text(alloc, Input::Earlier, &config.since, obstacle),
+        RunFault::NamesRead => unread_text(alloc, Input::Names, &config.only_file, obstacle),
         RunFault::Slipped(slip) => {
             let line = run_hint_line(deb_input::hint_of(*slip));
             Ok(Some(Vec::from_slice(alloc, line)?))
@@ -106,30 +111,56 @@ fn hint_text(
     config: &Config,
     outcome: &Result<Summary, RunFault>,
     clue: Option<Clue>,
+    obstacle: Obstacle,
 ) -> Result<Option<Vec<u8>>, AllocError>
-    ensures { IfOk result (λ line. option_map (λ text. text.items) line ≡ hint_text (files_of config.now) outcome.now clue) }
+    ensures { IfOk result (λ line. option_map (λ text. text.items) line ≡ hint_text obstacle (files_of config.now) outcome.now clue) }
 {
     match (outcome, clue) {
         (_, Some(Clue::Line(line))) => Ok(Some(line)),
         (_, Some(Clue::Likely(input, hint))) => Ok(Some(hint_line(alloc, input, hint)?)),
         (Ok(summary), None) => run_hint_text(alloc, summary),
-        (Err(fault), None) => fault_hint_text(alloc, config, fault),
+        (Err(fault), None) => fault_hint_text(alloc, config, fault, obstacle),
+    }
+}
+
+// The name of the file that a run couldn't open or read, where that ended it.
+fn unread_file<'c>(config: &'c Config, outcome: &Result<Summary, RunFault>) -> Option<&'c String> {
+    match outcome {
+        Err(RunFault::BackgroundRead) => config.bg.as_ref(),
+        Err(RunFault::EarlierRead) => config.since.as_ref(),
+        Err(RunFault::NamesRead) => config.only_file.as_ref(),
+        _ => None,
+    }
+}
+
+// What kept it from that, looked up once more.
+fn obstacle_of<O: Opener>(files: &O, name: &str) -> Obstacle {
+    match files.obstacle(name) {
+        ErrorKind::NotFound => Obstacle::Missing,
+        ErrorKind::IsADirectory => Obstacle::Folder,
+        ErrorKind::PermissionDenied => Obstacle::Forbidden,
+        _ => Obstacle::Unknown,
     }
 }
 
 /// Tells on a screen what looks like a slip, where that is a terminal and quiet isn't asked for. Where there is no memory for the line, or the
 /// screen doesn't take it, nothing is told.
-pub(crate) fn tell_hint<T: IsTerminal + Write + Copy>(
+pub(crate) fn tell_hint<O: Opener, T: IsTerminal + Write + Copy>(
     alloc: Global,
     screen: T,
     config: &Config,
+    files: &O,
     outcome: &Result<Summary, RunFault>,
     clue: Option<Clue>,
 ) {
     if config.quiet || !screen.is_terminal() {
         return;
     }
-    if let Ok(Some(line)) = hint_text(alloc, config, outcome, clue) {
+    let obstacle = match unread_file(config, outcome) {
+        Some(name) => obstacle_of(files, name.as_str()),
+        None => Obstacle::Unknown,
+    };
+    if let Ok(Some(line)) = hint_text(alloc, config, outcome, clue, obstacle) {
         let mut screen = screen;
         let _ = screen.write(line.as_slice());
     }

@@ -262,7 +262,7 @@ fn run_asked<
     progress.wipe();
     tell_outcome(rt.alloc(), errors, &outcome);
     note(&mut clue, &outcome, Input::Index, reader.front());
-    tell_hint(rt.alloc(), screen, &config, &outcome, clue);
+    tell_hint(rt.alloc(), screen, &config, files, &outcome, clue);
     Ended {
         status: status(&outcome),
         output: output.into_inner(),

@@ -7,7 +7,7 @@ ghost use Rattle.devices.specs.declared.opener.OpenFault.TheVariants.{Unopened};
 use crate::device::Source;
 use crate::recording::Recording;
 use crate::std_device::Std;
-use std::fs::{File, Files, OpenFile};
+use std::fs::{File, Files, OpenFile, metadata};
 use std::io;
 use std::io::ErrorKind;
 use thiserror::Error;
@@ -45,6 +45,9 @@ pub trait Opener {
         ensures unfailed { IfOk result (λ file. Self.File.failed file ≡ false) }
         ensures opened { IfOk result (λ file. IsHeld (named self.now name.now) (Self.File.remaining file)) }
         ensures refused { IfErr result (λ fault. fault ≡ Unopened → IsUnopened (named self.now name.now)) };
+
+    /// What keeps the file of a name from being opened or read, as far as that can be told: `Other` where it can't.
+    fn obstacle(&self, name: &str) -> ErrorKind;
 }
 
 /// The files of a runtime.
@@ -60,5 +63,18 @@ impl<R: Files> Opener for Disk<'_, R> {
         // An opened file gets the number of a standard stream that is closed; a copy of it gets none of these three numbers.
         let file = File::open(self.0, name)?.try_clone()?;
         Ok(Recording::new(Std::new(file)))
+    }
+
+    fn obstacle(&self, name: &str) -> ErrorKind {
+        match metadata(self.0, name) {
+            Ok(found) if found.is_dir() => ErrorKind::IsADirectory,
+            // (to open a pipe would wait for who writes to it)
+            Ok(found) if !found.is_file() => ErrorKind::Other,
+            Ok(_) => match File::open(self.0, name) {
+                Ok(_) => ErrorKind::Other,
+                Err(error) => error.kind(),
+            },
+            Err(error) => error.kind(),
+        }
     }
 }

@@ -3,6 +3,8 @@ use Rattle.std.specs.Prelude.{ℕ, Bool, ◌==◌, ◌||◌, ◌-◌, nat_lt, Li
 use Rattle.std.specs.List.{list_any}
 use Rattle.std.specs.Option.{option_map_or}
 use Rattle.input_hints.specs.declared.hint.Compression.TheVariants.{Gzip, Xz, Bzip2, Zstd, Lz4}
+use Rattle.input_hints.specs.declared.file.Obstacle.{Obstacle}
+use Rattle.input_hints.specs.declared.file.Obstacle.TheVariants.{Missing, Folder, Forbidden, Unknown}
 use Rattle.input_hints.specs.declared.hint.Hint.{Hint}
 use Rattle.input_hints.specs.declared.hint.Hint.TheVariants.{Compressed, ByteOrderMark, Markup, Signed, CarriageReturns, ReleaseFile, SourcesFile}
 use Rattle.input_hints.specs.declared.line.Input.{Input}
@@ -114,10 +116,17 @@ option_name Names = Some (codes "--checkonly @")
 abbrev pub is_control : ℕ → Bool
 is_control b = nat_lt b 32 || b == 127 || b == 194
 
--- the line that tells of a file that can't be opened or read, by its name and by the option that names it
-unfoldable pub unread_line : List ℕ → List ℕ → List ℕ
-unread_line name option = codes "hint: " ++ option ++ name ++ codes ": no file that can be read stands there\n"
+-- why a file can't be opened or read
+unfoldable pub obstacle_text : Obstacle → List ℕ
+obstacle_text Missing = codes ": there is no such file\n"
+obstacle_text Folder = codes ": this is a folder\n"
+obstacle_text Forbidden = codes ": this file may not be read\n"
+obstacle_text Unknown = codes ": no file that can be read stands there\n"
+
+-- the line that tells of such a file, by its name, by what is told of the obstacle, and by the option that names it
+unfoldable pub unread_line : List ℕ → List ℕ → List ℕ → List ℕ
+unread_line name behind option = codes "hint: " ++ option ++ name ++ behind
 
 -- the same of an input's file, where it has one; nothing is told of a name that may have control characters
-unfoldable pub file_hint_line : Input → List ℕ → Option (List ℕ)
-file_hint_line input name = if list_any is_control name then None else option_map (unread_line name) (option_name input)
+unfoldable pub file_hint_line : Input → List ℕ → Obstacle → Option (List ℕ)
+file_hint_line input name obstacle = if list_any is_control name then None else option_map (unread_line name (obstacle_text obstacle)) (option_name input)

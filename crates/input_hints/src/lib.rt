@@ -25,7 +25,7 @@ mod stanza;
 
 pub use architecture::elsewhere_hint_line;
 pub use beginning::hint_of;
-pub use file::file_hint_line;
+pub use file::{Obstacle, file_hint_line};
 pub use hint::{Compression, Hint};
 pub use line::{Input, hint_line};
 pub use name::{background_name_line, provided_name_line};

@@ -2,7 +2,7 @@
 
 use crate::line::{expect_line, expect_line_of};
 use input_hints::{
-    Hint, Input, background_name_line, elsewhere_hint_line, file_hint_line, hint_line,
+    Hint, Input, Obstacle, background_name_line, elsewhere_hint_line, file_hint_line, hint_line,
     provided_name_line, stanza_hint_line,
 };
 use std::test::Fail;
@@ -16,8 +16,8 @@ fn of_hint_line(rt: HostRuntime) -> Result<(), Fail> {
 
 #[test]
 fn of_file_hint_line(rt: HostRuntime) -> Result<(), Fail> {
-    let line = file_hint_line(rt.alloc(), Input::Background, b"others");
-    let wanted = "hint: --bg others: no file that can be read stands there\n";
+    let line = file_hint_line(rt.alloc(), Input::Background, b"others", Obstacle::Folder);
+    let wanted = "hint: --bg others: this is a folder\n";
     expect_line_of(&rt, "others", line, Some(wanted))
 }
 

@@ -2,7 +2,7 @@
 
 use crate::line::{expect_line, expect_line_of};
 use input_hints::{
-    Compression, Hint, Input, RunHint, file_hint_line, hint_line, run_hint, run_hint_line,
+    Compression, Hint, Input, Obstacle, RunHint, file_hint_line, hint_line, run_hint, run_hint_line,
 };
 use std::test::Fail;
 
@@ -145,34 +145,43 @@ fn of_runs(rt: HostRuntime) {
     }
 }
 
-const FILES_THAT_ARE_NOT_OPENED: &[(Input, &str, Option<&str>)] = &[
+const FILES_THAT_ARE_NOT_OPENED: &[(Input, &str, Obstacle, Option<&str>)] = &[
     (
         Input::Background,
         "main/Packages",
-        Some("hint: --bg main/Packages: no file that can be read stands there\n"),
+        Obstacle::Missing,
+        Some("hint: --bg main/Packages: there is no such file\n"),
     ),
     (
         Input::Earlier,
         "Änderung ~ 1",
-        Some("hint: --since Änderung ~ 1: no file that can be read stands there\n"),
+        Obstacle::Folder,
+        Some("hint: --since Änderung ~ 1: this is a folder\n"),
     ),
     (
         Input::Names,
         "names of today",
-        Some("hint: --checkonly @names of today: no file that can be read stands there\n"),
+        Obstacle::Forbidden,
+        Some("hint: --checkonly @names of today: this file may not be read\n"),
     ),
-    (Input::Index, "Packages", None),
-    (Input::Names, "a\tb", None),
-    (Input::Background, "a\nb", None),
-    (Input::Background, "\x1b[2J", None),
-    (Input::Earlier, "a\x7f", None),
-    (Input::Earlier, "a\u{9b}2J", None),
+    (
+        Input::Names,
+        "a",
+        Obstacle::Unknown,
+        Some("hint: --checkonly @a: no file that can be read stands there\n"),
+    ),
+    (Input::Index, "Packages", Obstacle::Missing, None),
+    (Input::Names, "a\tb", Obstacle::Folder, None),
+    (Input::Background, "a\nb", Obstacle::Forbidden, None),
+    (Input::Background, "\x1b[2J", Obstacle::Unknown, None),
+    (Input::Earlier, "a\x7f", Obstacle::Missing, None),
+    (Input::Earlier, "a\u{9b}2J", Obstacle::Missing, None),
 ];
 
 #[test]
 fn of_files_that_are_not_opened(rt: HostRuntime) -> Result<(), Fail> {
-    for (input, name, wanted) in FILES_THAT_ARE_NOT_OPENED {
-        let line = file_hint_line(rt.alloc(), *input, name.as_bytes());
+    for (input, name, obstacle, wanted) in FILES_THAT_ARE_NOT_OPENED {
+        let line = file_hint_line(rt.alloc(), *input, name.as_bytes(), *obstacle);
         expect_line_of(&rt, name, line, *wanted)?;
     }
     Ok(())

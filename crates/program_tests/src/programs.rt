@@ -216,18 +216,22 @@ fn each_program_tells_what_is_written(rt: HostRuntime) {
     }
 }
 
-/// Each option stands in the help.
-static OPTIONS: [&str; 8] = [
-    "--arch <A>",
+/// What stands in the help.
+static HELP_PARTS: [&str; 11] = [
+    "Usage: debcheck [OPTIONS] --arch <A> < Packages\n",
     "--bg <FILE>",
-    "--checkonly",
+    "--checkonly <NAMES>",
+    "N1,N2,.. or @FILE",
     "--causes",
     "--all-reasons",
     "--why",
     "--quiet",
-    "--help",
+    "-h, --help",
+    "\nExample: xzcat Packages.xz | debcheck --arch amd64 --failures --explain\n",
+    "\nExit: 0 ok, 1 broken, 64 words, ",
 ];
 
+/// Help goes to the output, in lines that a terminal of 80 columns has room for.
 #[test]
 fn help_goes_to_the_output(rt: HostRuntime) {
     let files = Cabinet::new(&[], OpenFault::Unopened);
@@ -235,8 +239,11 @@ fn help_goes_to_the_output(rt: HostRuntime) {
     let left = run_on(&rt, "|--help", &files, &mut reader);
     let text = from_utf8(&left.output.bytes).unwrap_or("");
     let mut fine = left.status == 0 && left.errors.bytes.is_empty() && reader.reads == 0;
-    for option in &OPTIONS {
-        fine &= text.contains(*option);
+    for part in &HELP_PARTS {
+        fine &= text.contains(*part);
+    }
+    for line in text.lines() {
+        fine &= line.len() <= 80;
     }
     assert!(rt; fine, "{text}");
 }

@@ -50,13 +50,13 @@ static FAULTS: &[Case] = &[
         words: "|--arch|amd64|--bg|main/Packages",
         index: INDEX,
         file: b"",
-        hint: b"hint: --bg main/Packages: no file that can be read stands there\n",
+        hint: b"hint: --bg main/Packages: there is no such file\n",
     },
     Case {
         words: "|--arch|amd64|--bg|others|--since|old Packages",
         index: INDEX,
         file: BACKGROUND,
-        hint: b"hint: --since old Packages: no file that can be read stands there\n",
+        hint: b"hint: --since old Packages: there is no such file\n",
     },
     Case {
         words: "|--arch|amd64|--bg|\x1b[2J",
@@ -68,7 +68,7 @@ static FAULTS: &[Case] = &[
         words: "|--arch|amd64|--checkonly|@names/of today",
         index: INDEX,
         file: b"",
-        hint: b"hint: --checkonly @names/of today: no file that can be read stands there\n",
+        hint: b"hint: --checkonly @names/of today: there is no such file\n",
     },
 ];
 
@@ -78,25 +78,25 @@ static UNREAD: &[Case] = &[
         words: "|--arch|amd64|--bg|others",
         index: INDEX,
         file: b"",
-        hint: b"hint: --bg others: no file that can be read stands there\n",
+        hint: b"hint: --bg others: this is a folder\n",
     },
     Case {
         words: "|--arch|amd64|--since|others",
         index: INDEX,
         file: b"",
-        hint: b"hint: --since others: no file that can be read stands there\n",
+        hint: b"hint: --since others: this is a folder\n",
     },
     Case {
         words: "|--arch|amd64|--checkonly|@others",
         index: INDEX,
         file: b"",
-        hint: b"hint: --checkonly @others: no file that can be read stands there\n",
+        hint: b"hint: --checkonly @others: this is a folder\n",
     },
     Case {
         words: "|--arch|amd64|--since|others|--bg|others",
         index: INDEX,
         file: b"\x1f\x8b",
-        hint: b"hint: --bg others: no file that can be read stands there\n",
+        hint: b"hint: --bg others: this is a folder\n",
     },
 ];
 

@@ -2,6 +2,7 @@
 
 use crate::memory::{Feed, source_of};
 use devices::{OpenFault, Opener, Recording};
+use std::io::ErrorKind;
 use std::sync::atomic::{AtomicU32, Ordering};
 
 /// The names under which bytes stand; nothing that can be opened stands under another. It counts what was asked of it.
@@ -47,5 +48,14 @@ impl<'a> Opener for Cabinet<'a> {
             }
         }
         Err(self.fault)
+    }
+
+    // What is torn is read as a folder is.
+    fn obstacle(&self, _name: &str) -> ErrorKind {
+        if self.torn {
+            ErrorKind::IsADirectory
+        } else {
+            ErrorKind::NotFound
+        }
     }
 }
