@@ -45,7 +45,39 @@ Architecture: all
 Conflicts: base
 ";
 
-static CASES: [Case; 8] = [
+/// Two names that std's hasher makes one number of, which took a search through seven billion names; and one that only some package provides.
+const ONE_HASH: &[u8] = b"Package: 78aeb984bf2f7359
+Version: 1
+Architecture: all
+Provides: v
+
+Package: 6e32b12eb57e2885
+Version: 1
+Architecture: all
+Provides: 78aeb984bf2f7359
+
+Package: 6e32b12eb57e2885
+Version: 2
+Architecture: all
+";
+
+static CASES: [Case; 9] = [
+    Case {
+        name: "names of one hash",
+        texts: Texts::One(ONE_HASH, true),
+        parts: &[
+            Part::Names,
+            Part::Name("78aeb984bf2f7359"),
+            Part::Name("6e32b12eb57e2885"),
+            Part::Name("v"),
+        ],
+        wanted: "name 0: 78aeb984bf2f7359, places [0]
+name 1: 6e32b12eb57e2885, places [1, 2]
+78aeb984bf2f7359: number Some(0), places [0], provided [(1, 0)]
+6e32b12eb57e2885: number Some(1), places [1, 2], provided []
+v: number None, places [], provided [(0, 0)]
+",
+    },
     Case {
         name: "duplicates and skipped stanzas",
         texts: Texts::One(SPELLED, true),
