@@ -1,0 +1,207 @@
+"""One index of several files: its stanzas with the file that each came from, and its one text."""
+
+import os
+from collections import Counter
+from collections.abc import Iterable, Iterator, Sequence
+from typing import BinaryIO, NamedTuple, Optional
+
+import apt_pkg
+
+from debcheck_tools.errors import DATA, USAGE, Fault
+from debcheck_tools.index_files import IndexFile, in_memory
+from debcheck_tools.tag_file import native, tags_of, values
+
+
+class Stanza(NamedTuple):
+    """A package, or a source, as its index has it; `begin` and `end` are its bytes in the file's text."""
+
+    package: str
+    version: str
+    architecture: str
+    source: str
+    maintainer: str
+    provides: str
+    file: IndexFile
+    begin: int
+    end: int
+
+    @property
+    def source_name(self) -> str:
+        """The source package that it is built from."""
+        return self.source.split(None, 1)[0] if self.source else self.package
+
+    @property
+    def source_version(self) -> str:
+        """The version of that source."""
+        return self.source.partition("(")[2].rstrip(") ") or self.version
+
+
+FIELDS = ("Package", "Version", "Architecture", "Source", "Maintainer", "Provides")
+
+
+def stanzas_of(file: IndexFile) -> Iterator[Stanza]:
+    """The stanzas of a file as apt reads them; it raises apt_pkg.Error where apt can't read on."""
+    tags, begin = tags_of(file.text), 0
+    while tags.step():
+        end = tags.offset()
+        package, version, architecture, source, maintainer, provides = values(tags.section, FIELDS)
+        yield Stanza(package, version, architecture, source, maintainer, provides, file, begin, end)
+        begin = end
+
+
+class Index:
+    """Files that are read as one index, and those of their stanzas that count.
+
+    `unread` is a file that apt can't read to its end: the program is asked about the whole text, and tells why.
+    """
+
+    def __init__(self, files: Sequence[IndexFile], stanzas: Optional[Sequence[Stanza]] = None) -> None:
+        self.files = list(files)
+        self.is_whole = stanzas is None
+        self.unread: Optional[IndexFile] = None
+        self.stanzas = list(stanzas or ())
+        for file in self.files if stanzas is None else ():
+            try:
+                self.stanzas.extend(stanzas_of(file))
+            except apt_pkg.Error:
+                self.unread = self.unread or file
+
+    def pieces(self) -> Iterator[tuple[IndexFile, int, int]]:
+        """What its text is made of: longest runs of bytes of its files."""
+        if self.is_whole:
+            yield from ((file, 0, file.size) for file in self.files)
+            return
+        last: Optional[tuple[IndexFile, int, int]] = None
+        for stanza in self.stanzas:
+            if last and last[0] is stanza.file and last[2] == stanza.begin:
+                last = (last[0], last[1], stanza.end)
+                continue
+            if last:
+                yield last
+            last = (stanza.file, stanza.begin, stanza.end)
+        if last:
+            yield last
+
+    def text(self) -> BinaryIO:
+        """Its one plain text, with an empty line between two pieces."""
+        pieces = list(self.pieces())
+        if len(pieces) == 1 and pieces[0][1:] == (0, pieces[0][0].size):
+            pieces[0][0].text.seek(0)
+            return pieces[0][0].text
+        whole = in_memory()
+        for file, begin, end in pieces:
+            append(whole, file, begin, end)
+        whole.seek(0)
+        return whole
+
+    def known(self, arch: str) -> dict[tuple[str, str], Stanza]:
+        """The stanza of each package of the architecture, by name and version."""
+        found: dict[tuple[str, str], Stanza] = {}
+        for stanza in self.stanzas:
+            if stanza.architecture in (arch, "all"):
+                found.setdefault((stanza.package, stanza.version), stanza)
+        return found
+
+    def place_of(self, number: int) -> tuple[IndexFile, list[bytes]]:
+        """The file and the lines of the stanza that the program counts so, from 1, in the text."""
+        count = 0
+        for file, begin, end in self.pieces():
+            for lines in paragraphs(file, begin, end):
+                count += 1
+                if count == number:
+                    return file, lines
+        raise IndexError(number)
+
+
+def append(whole: BinaryIO, file: IndexFile, begin: int, end: int) -> None:
+    while begin < end:
+        begin += os.sendfile(whole.fileno(), file.text.fileno(), begin, end - begin)
+    whole.write(b"\n\n")
+
+
+def paragraphs(file: IndexFile, begin: int, end: int) -> Iterator[list[bytes]]:
+    """The runs of lines between blank ones, comments left out: the stanzas as the program counts them."""
+    file.text.seek(begin)
+    lines: list[bytes] = []
+    for line in file.text.read(end - begin).split(b"\n"):
+        if line.startswith(b"#"):
+            continue
+        if line.strip(b" \t"):
+            lines.append(line)
+        elif lines:
+            yield lines
+            lines = []
+    if lines:
+        yield lines
+
+
+def architecture_of(indexes: Sequence[Index], named: Optional[str]) -> str:
+    """The architecture to check: the one that is named, else the one that all files have besides `all`.
+
+    A file that has others, and not this one, is refused by its name.
+    """
+    owners: dict[str, str] = {}
+    for file, counts in counted(indexes):
+        own = [arch for arch, _ in counts.most_common() if arch != "all"]
+        if named and own and named not in counts:
+            raise Fault(DATA, f"{file.name}: has packages of {' and '.join(own[:3])}, none of {named}{spelled(named)}")
+        for arch in own:
+            owners.setdefault(arch, file.name)
+    if named is not None:
+        return named
+    if any(index.unread for index in indexes):
+        return next(iter(owners), native())
+    if len(owners) == 1:
+        return next(iter(owners))
+    if not owners:
+        raise Fault(USAGE, "the files have packages of the architecture all alone: name one by --arch")
+    raise Fault(USAGE, "name one by --arch: " + ", ".join(f"{name} has {arch}" for arch, name in owners.items()))
+
+
+# What other systems call Debian's architectures.
+SPELLINGS = {
+    "x86_64": "amd64",
+    "x64": "amd64",
+    "aarch64": "arm64",
+    "i686": "i386",
+    "x86": "i386",
+    "armv7l": "armhf",
+    "ppc64le": "ppc64el",
+}
+
+
+def spelled(arch: str) -> str:
+    real = SPELLINGS.get(arch.lower(), arch.lower())
+    return f"; Debian calls it {real}" if real != arch else ""
+
+
+def counted(indexes: Iterable[Index]) -> Iterator[tuple[IndexFile, Counter[str]]]:
+    """Each file with how many stanzas it has of each architecture."""
+    for index in indexes:
+        counts: dict[int, Counter[str]] = {id(file): Counter() for file in index.files}
+        for stanza in index.stanzas:
+            counts[id(stanza.file)][stanza.architecture] += 1
+        for file in index.files:
+            yield file, counts[id(file)]
+
+
+def latest(indexes: Sequence[Index], arch: Optional[str] = None) -> list[Index]:
+    """The indexes without each stanza whose version a stanza of its name exceeds, in whichever of them it is.
+
+    With an architecture only what is of it, or of `all`, is compared; other stanzas stay.
+    """
+    newest: dict[str, str] = {}
+    compare = apt_pkg.version_compare
+
+    def counts(stanza: Stanza) -> bool:
+        return bool(stanza.package and stanza.version) and (arch is None or stanza.architecture in (arch, "all"))
+
+    for stanza in (stanza for index in indexes for stanza in index.stanzas if counts(stanza)):
+        known = newest.setdefault(stanza.package, stanza.version)
+        if known != stanza.version and compare(stanza.version, known) > 0:
+            newest[stanza.package] = stanza.version
+
+    def stays(stanza: Stanza) -> bool:
+        return not counts(stanza) or compare(stanza.version, newest[stanza.package]) >= 0
+
+    return [index if index.unread else Index(index.files, list(filter(stays, index.stanzas))) for index in indexes]

@@ -1,0 +1,160 @@
+"""Opens the files that an archive has, whatever they are compressed with, and tells what each is."""
+
+import bz2
+import gzip
+import io
+import lzma
+import os
+import shutil
+import subprocess
+import sys
+import zlib
+from collections.abc import Callable
+from dataclasses import dataclass
+from typing import BinaryIO, NoReturn, cast
+
+import apt_pkg
+
+from debcheck_tools.errors import DATA, READ, Fault
+from debcheck_tools.tag_file import tags_of
+
+PACKAGES, SOURCES = "Packages", "Sources"
+
+
+@dataclass(frozen=True)
+class IndexFile:
+    """A file by the name that messages give it, its plain text in memory, and what it is: PACKAGES or SOURCES."""
+
+    name: str
+    text: BinaryIO
+    size: int
+    kind: str
+
+
+def in_memory(text: bytes = b"") -> BinaryIO:
+    """A file without a name, which other programs can be handed; it has no buffer, so that its place is theirs."""
+    file = cast(BinaryIO, os.fdopen(os.memfd_create("debcheck"), "w+b", buffering=0))
+    file.write(text)
+    file.seek(0)
+    return file
+
+
+EMPTY = "is empty; see whether what wrote it failed"
+
+
+def open_index(name: str, kind: str = PACKAGES, may_be_empty: bool = False) -> IndexFile:
+    """Opens a file, or standard input by the name "-", that has to be an index of this kind."""
+    shown = "standard input" if name == "-" else name
+    text = unpacked(shown, raw(name, shown))
+    size = text.seek(0, os.SEEK_END)
+    file = IndexFile(shown, text, size, kind)
+    found = what_it_is(file)
+    if found != kind and not (found == EMPTY and may_be_empty):
+        refuse(shown, found, kind)
+    return file
+
+
+def raw(name: str, shown: str) -> BinaryIO:
+    try:
+        if name == "-":
+            source = in_memory()
+            shutil.copyfileobj(sys.stdin.buffer, source)
+            source.seek(0)
+            return source
+        return open(name, "rb")
+    except OSError as fault:
+        tells = "is a folder; name the files in it" if isinstance(fault, IsADirectoryError) else fault.strerror
+        raise Fault(READ, f"{shown}: {tells}") from None
+
+
+def with_program(words: list[str]) -> Callable[[BinaryIO], BinaryIO]:
+    """Unpacks by another program, for what Python doesn't read."""
+
+    def unpack(source: BinaryIO) -> BinaryIO:
+        os.lseek(source.fileno(), 0, os.SEEK_SET)
+        try:
+            done = subprocess.run(words, stdin=source, stdout=subprocess.PIPE, stderr=subprocess.DEVNULL, check=True)
+        except FileNotFoundError:
+            raise Fault(
+                READ, f"it is compressed by {words[0]}, which isn't installed: apt-get install {words[0]}"
+            ) from None
+        return io.BytesIO(done.stdout)
+
+    return unpack
+
+
+def with_library(unpack: Callable[..., object]) -> Callable[[BinaryIO], BinaryIO]:
+    return lambda source: cast(BinaryIO, unpack(source))
+
+
+# What a compressed file begins with.
+FORMS: tuple[tuple[bytes, Callable[[BinaryIO], BinaryIO]], ...] = (
+    (b"\xfd7zXZ\0", with_library(lzma.LZMAFile)),
+    (b"]\0\0", with_library(lzma.LZMAFile)),
+    (b"\x1f\x8b", with_library(gzip.open)),
+    (b"BZh", with_library(bz2.BZ2File)),
+    (b"\x28\xb5\x2f\xfd", with_program(["zstd", "-dcq"])),
+    (b"\x04\x22\x4d\x18", with_program(["lz4", "-dcq"])),
+)
+
+
+def unpacked(shown: str, source: BinaryIO) -> BinaryIO:
+    """The plain text of a file."""
+    try:
+        with source:
+            begin = source.read(6)
+            source.seek(0)
+            unpack = next((unpack for magic, unpack in FORMS if begin.startswith(magic)), None)
+            text = in_memory()
+            shutil.copyfileobj(unpack(source) if unpack else source, text, 1 << 20)
+            return text
+    except EOFError:
+        raise Fault(
+            READ, f"{shown}: ends in the midst of its compressed text: it was cut off; fetch it again"
+        ) from None
+    except (lzma.LZMAError, zlib.error, subprocess.CalledProcessError) as fault:
+        raise Fault(READ, f"{shown}: can't be unpacked, it is damaged or cut off; fetch it again ({fault})") from None
+    except Fault as fault:
+        raise Fault(fault.status, f"{shown}: {fault.line}") from None
+    except OSError as fault:
+        raise Fault(READ, f"{shown}: {fault.strerror or fault}") from None
+
+
+# What files begin with that are no index, and what to do with each.
+STRANGERS = (
+    (b"<", "is a web page, such as a server's error page; fetch it again"),
+    (b"-----BEGIN PGP", "is a signed file, as InRelease or a .dsc; name the Packages file"),
+    (b"!<arch>\n", "is a binary package; ask about it by debcheck-archive debfile"),
+    (b"\xef\xbb\xbf", "begins with a byte order mark; take it out by dos2unix"),
+)
+
+
+def what_it_is(file: IndexFile) -> str:
+    """PACKAGES, SOURCES, or what makes it none of both."""
+    file.text.seek(0)
+    begin = file.text.read(4096)
+    if not begin.strip():
+        return EMPTY
+    for magic, tells in STRANGERS:
+        if begin.startswith(magic):
+            return tells
+    if b"\r\n" in begin:
+        return "has line ends of DOS (CR and LF); change them by dos2unix"
+    tags = tags_of(file.text)
+    try:
+        keys = {key.lower() for key in tags.section.keys()} if tags.step() else set()
+    except apt_pkg.Error:
+        return PACKAGES
+    if "package" not in keys and keys & {"codename", "suite", "sha256", "md5sum"}:
+        return "is a Release file; name the Packages file"
+    if "package" in keys and "filename" not in keys and ("format" in keys or {"binary", "directory"} <= keys):
+        return SOURCES
+    return PACKAGES
+
+
+def refuse(shown: str, found: str, wanted: str) -> NoReturn:
+    if found == SOURCES:
+        found = "is an index of sources; name it by --sources"
+    elif found == PACKAGES:
+        found = "is an index of binary packages, not of sources"
+    raise Fault(DATA, f"{shown}: {found}")

@@ -1,0 +1,48 @@
+"""apt's reading of control files, with the calls that its types don't name."""
+
+from collections.abc import Iterator
+from typing import BinaryIO, Optional, Protocol, cast
+
+import apt_pkg
+
+apt_pkg.init()
+
+
+class Section(Protocol):
+    """One stanza."""
+
+    def get(self, key: str, default: Optional[object] = None) -> Optional[bytes]:
+        ...
+
+    def keys(self) -> list[str]:
+        ...
+
+
+class Tags(Protocol):
+    """The stanzas of a file: `section` is the one that the last step went to, which ends at `offset`."""
+
+    section: Section
+
+    def step(self) -> bool:
+        ...
+
+    def offset(self) -> int:
+        ...
+
+
+def tags_of(text: BinaryIO) -> Tags:
+    """The stanzas of a text from its first byte on; a step raises apt_pkg.Error where apt can't read on."""
+    text.seek(0)
+    return cast(Tags, apt_pkg.TagFile(text, bytes=True))
+
+
+def native() -> str:
+    """The architecture of this machine."""
+    return str(apt_pkg.config.find("APT::Architecture"))
+
+
+def values(section: Section, fields: tuple[str, ...]) -> Iterator[str]:
+    """The values of these fields, empty where there is none; bytes that are no UTF-8 are replaced."""
+    for field in fields:
+        value = section.get(field)
+        yield value.decode("utf-8", "replace") if value else ""
