@@ -14,7 +14,12 @@ units = debcheck-news.service debcheck-news.timer
 all:
 	./debcheck --version > /dev/null
 
-install: all
+# Each has a Debian package of its own.
+parts = debcheck debcheck-tools
+
+install: $(parts:%=install-%)
+
+install-debcheck: all
 	install -D -m 755 $(program) $(bin)/debcheck
 	strip --strip-all --remove-section=.comment --remove-section=.note $(bin)/debcheck
 	install -D -m 644 docs/debcheck.1 $(share)/man/man1/debcheck.1
@@ -25,7 +30,19 @@ install: all
 	install -m 755 $(scripts:%=examples/%) $(share)/doc/debcheck/examples
 	install -m 644 $(units:%=examples/%) $(share)/doc/debcheck/examples
 
-uninstall:
+# The tools are Python and stand beside each other in a folder of their own.
+install-debcheck-tools:
+	install -D -m 755 tools/debcheck-archive $(bin)/debcheck-archive
+	install -d -m 755 $(share)/debcheck-tools/debcheck_tools
+	install -m 644 tools/debcheck_tools/*.py $(share)/debcheck-tools/debcheck_tools
+
+uninstall: $(parts:%=uninstall-%)
+
+uninstall-debcheck-tools:
+	rm -f $(bin)/debcheck-archive
+	rm -rf $(share)/debcheck-tools
+
+uninstall-debcheck:
 	rm -f $(bin)/debcheck $(share)/man/man1/debcheck.1 $(share)/bash-completion/completions/debcheck $(zsh)/_debcheck
 	rm -f $(share)/debcheck/report.schema.json $(addprefix $(share)/doc/debcheck/examples/,$(scripts) $(units))
 	for folder in $(share)/debcheck $(share)/doc/debcheck/examples $(share)/doc/debcheck; do \
@@ -35,4 +52,4 @@ uninstall:
 deb: all
 	packaging/make_deb
 
-.PHONY: all install uninstall deb
+.PHONY: all install uninstall deb $(parts:%=install-%) $(parts:%=uninstall-%)
