@@ -1,7 +1,10 @@
 # Completion of debcheck's command line for bash.
 
+# Prints the architectures that begin so: Debian's ports, or where none of them does, all that dpkg knows.
 _debcheck_architectures() {
-    { dpkg --print-architecture; dpkg-architecture -L; } 2>/dev/null
+    local ports='alpha amd64 arc arm64 armel armhf hppa hurd-amd64 hurd-i386 i386 ia64 loong64 m68k mips64el mipsel powerpc ppc64 ppc64el
+        riscv64 s390x sh4 sparc64 x32'
+    compgen -W "$ports" -- "$1" || compgen -W "$({ dpkg --print-architecture; dpkg-architecture -L; } 2>/dev/null | sort -u)" -- "$1"
 }
 
 _debcheck() {
@@ -19,7 +22,7 @@ _debcheck() {
     fi
     case $option in
     --arch)
-        mapfile -t COMPREPLY < <(compgen -P "$behind" -W "$(_debcheck_architectures)" -- "$word")
+        mapfile -t COMPREPLY < <(compgen -P "$behind" -W "$(_debcheck_architectures "$word")" -- "$word")
         return
         ;;
     --bg | --since)

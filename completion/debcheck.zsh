@@ -1,10 +1,13 @@
 #compdef debcheck
 # Completion of debcheck's command line for zsh.
 
+# Offers Debian's ports, or where none of them begins so, all architectures that dpkg knows.
 _debcheck_architectures() {
-    local -a known
+    local -aU ports known
+    ports=(alpha amd64 arc arm64 armel armhf hppa hurd-amd64 hurd-i386 i386 ia64 loong64 m68k mips64el mipsel powerpc ppc64 ppc64el
+        riscv64 s390x sh4 sparc64 x32)
     known=(${(f)"$({ dpkg --print-architecture; dpkg-architecture -L } 2>/dev/null)"})
-    compadd -a known
+    compadd -a ports || compadd -a known
 }
 
 _arguments \
