@@ -1,9 +1,11 @@
-//! Drawn formulas: each solve of one gives the same, whatever its buffers were used for, and marked groups admit no set.
+//! Drawn formulas: each solve of one gives the first set that the plain search finds, or none, and marked groups admit no set.
 
-ghost use Rattle.std.specs.Prelude.{◌≡◌, ◌<◌, length};
+ghost use Rattle.std.specs.Prelude.{◌≡◌, ◌<◌, ◌≤◌, length};
 
+use crate::plain::{Bits, first_set, members_of};
 use sat_solve::{Formula, Lit, Owner, Workspace};
 use std::alloc::AllocGlobal;
+use std::env::Env;
 use std::process::Abort;
 
 /// Numbers that look random, and are the same in each run.
@@ -21,42 +23,132 @@ impl Numbers {
         (self.state >> 16) % bound
     }
 
-    fn literal(&mut self) -> Lit
-        ensures { result.var < 5 }
+    fn literal(&mut self, vars: u32) -> Lit
+        requires { 0 < vars }
+        ensures { result.var < vars }
     {
         Lit {
-            var: self.below(5),
+            var: self.below(vars),
             positive: self.below(2) == 0,
+        }
+    }
+
+    fn owner(&mut self, vars: u32) -> Owner
+        requires { 0 < vars }
+        ensures group { result.group < 3 }
+        ensures var { result.var < vars }
+    {
+        Owner {
+            group: self.below(3),
+            var: self.below(vars),
         }
     }
 }
 
-/// Adds a drawn list with an owner, and a drawn clause, to a formula of five variables and three groups.
-fn draw(rt: &impl Abort, numbers: &mut Numbers, formula: &mut Formula)
-    requires vars { formula.old.vars ≡ 5 }
+/// Adds a drawn clause, of three literals where it is wide, to a formula of three groups and to what the plain search reads.
+fn draw_clause(
+    rt: &impl Abort,
+    numbers: &mut Numbers,
+    formula: &mut Formula,
+    plain: &mut Vec<Bits>,
+    wide: bool,
+)
+    requires vars { 0 < formula.old.vars }
     requires groups { formula.old.groups ≡ 3 }
-    ensures vars { formula.new.vars ≡ 5 }
+    ensures vars { formula.new.vars ≡ formula.old.vars }
     ensures groups { formula.new.groups ≡ 3 }
 {
-    let owner = Owner {
-        group: numbers.below(3),
-        var: numbers.below(5),
+    let vars = formula.vars();
+    let group = numbers.below(3);
+    let (first, second) = (numbers.literal(vars), numbers.literal(vars));
+    let added = match numbers.below(30) {
+        0 if !wide => {
+            plain.push(Bits::new(group, &[])).expect(rt, "no memory");
+            formula.add(group, &[])
+        }
+        1..=4 if !wide => {
+            plain
+                .push(Bits::new(group, &[first]))
+                .expect(rt, "no memory");
+            formula.add(group, &[first])
+        }
+        5..=14 if !wide => {
+            let clause = [first, second];
+            plain
+                .push(Bits::new(group, &clause))
+                .expect(rt, "no memory");
+            formula.add(group, &clause)
+        }
+        _ => {
+            let clause = [first, second, numbers.literal(vars)];
+            plain
+                .push(Bits::new(group, &clause))
+                .expect(rt, "no memory");
+            formula.add(group, &clause)
+        }
     };
-    let list = [numbers.below(5), numbers.below(5)];
-    formula.exclude(&[owner], &list).expect(rt, "no memory");
-    let clause = [numbers.literal(), numbers.literal(), numbers.literal()];
-    let added = formula.add(numbers.below(3), &clause);
     added.expect(rt, "no memory");
 }
 
-/// Sees that a formula of three groups has the same set, or none, by each of the solves, and none with the marked groups where it has none.
-fn expect_same(
+/// Adds a drawn list of two owners.
+fn draw_list(rt: &impl Abort, numbers: &mut Numbers, formula: &mut Formula, plain: &mut Vec<Bits>)
+    requires vars { 0 < formula.old.vars }
+    requires groups { formula.old.groups ≡ 3 }
+    ensures vars { formula.new.vars ≡ formula.old.vars }
+    ensures groups { formula.new.groups ≡ 3 }
+{
+    let vars = formula.vars();
+    let owners = [numbers.owner(vars), numbers.owner(vars)];
+    let list = [
+        numbers.below(vars),
+        numbers.below(vars),
+        numbers.below(vars),
+    ];
+    for owner in &owners {
+        for other in &list {
+            if *other != owner.var {
+                plain
+                    .push(Bits::apart(*owner, *other))
+                    .expect(rt, "no memory");
+            }
+        }
+    }
+    formula.exclude(&owners, &list).expect(rt, "no memory");
+}
+
+/// Fills a formula: the half that is hard has four to five clauses of three literals to a variable, and no lists.
+fn fill(rt: &impl Abort, numbers: &mut Numbers, formula: &mut Formula, plain: &mut Vec<Bits>)
+    requires vars { 0 < formula.old.vars }
+    requires few { formula.old.vars ≤ 16 }
+    requires groups { formula.old.groups ≡ 3 }
+    ensures vars { formula.new.vars ≡ formula.old.vars }
+    ensures groups { formula.new.groups ≡ 3 }
+{
+    let vars = formula.vars();
+    let hard = numbers.below(2) == 0;
+    let (clauses, lists) = if hard {
+        (4 * vars + numbers.below(vars), 0)
+    } else {
+        (numbers.below(3 * vars), numbers.below(3))
+    };
+    'clauses: for _ in 0..clauses {
+        draw_clause(rt, numbers, formula, plain, hard);
+    }
+    'lists: for _ in 0..lists {
+        draw_list(rt, numbers, formula, plain);
+    }
+}
+
+/// Sees that a formula has the first set that the plain search finds, or none, and none by the marked groups, and the same with new buffers.
+fn expect_first(
     rt: &(impl Abort + AllocGlobal),
     workspace: &mut Workspace,
     formula: &Formula,
+    plain: &[Bits],
     keep: &[bool],
     must: u32,
 )
+    requires few { formula.now.vars ≤ 16 }
     requires keep { length keep.now ≡ formula.now.groups }
     requires must { must < formula.now.vars }
 {
@@ -64,33 +156,56 @@ fn expect_same(
     let found = formula
         .solve_marked(rt.alloc(), workspace, keep, must, &mut marks)
         .expect(rt, "no memory");
-    let keep = if found.is_some() {
-        keep
-    } else {
-        marks.as_slice()
-    };
-    let again = formula
-        .solve(rt.alloc(), keep, must)
-        .expect(rt, "no memory");
-    assert!(rt; found == again);
+    let first = first_set(plain, formula.vars(), keep, must);
+    match first {
+        Some(first) => {
+            let members = members_of(rt.alloc(), first).expect(rt, "no memory");
+            assert!(rt; found == Some(members));
+        }
+        None => {
+            assert!(rt; found.is_none());
+            assert!(rt; first_set(plain, formula.vars(), &marks, must).is_none());
+        }
+    }
 }
 
-/// Sees that all solves give the same on the formula of this number, with drawn groups and a drawn variable.
+/// Asks the formula of this number, of at most sixteen variables, for some drawn groups and variables.
 fn expect_number(rt: &(impl Abort + AllocGlobal), workspace: &mut Workspace, number: u32) {
     let mut numbers = Numbers { state: number };
-    let mut formula = Formula::new(rt.alloc(), 5, 3).expect(rt, "no memory");
-    'rounds: for _ in 0..1 + numbers.below(5) {
-        draw(rt, &mut numbers, &mut formula);
+    // There are two to the power of the variables of sets: so few formulas have more than eight.
+    let most = if number % 64 == 0 { 16 } else { 8 };
+    let vars = 1 + numbers.below(most);
+    let mut formula = Formula::new(rt.alloc(), vars, 3).expect(rt, "no memory");
+    let mut plain = Vec::new(rt.alloc());
+    fill(rt, &mut numbers, &mut formula, &mut plain);
+    'questions: for _ in 0..4 {
+        let keep = [
+            numbers.below(4) > 0,
+            numbers.below(4) > 0,
+            numbers.below(4) > 0,
+        ];
+        let must = numbers.below(vars);
+        expect_first(rt, workspace, &formula, &plain, &keep, must);
     }
-    let keep = [numbers.below(4) > 0, numbers.below(4) > 0, true];
-    let must = numbers.below(5);
-    expect_same(rt, workspace, &formula, &keep, must);
+}
+
+/// How many formulas are drawn: 2,000, or as many as the environment's FORMULAS says.
+fn count(rt: &impl Env) -> u32 {
+    let mut word = [0; 16];
+    let length = match rt.var("FORMULAS", &mut word) {
+        Ok(length) => length.min(16),
+        Err(_) => 0,
+    };
+    match std::str::from_utf8(&word[..length]) {
+        Ok(word) => word.parse::<u32>().unwrap_or(2_000),
+        Err(_) => 2_000,
+    }
 }
 
 #[test]
-fn small_formulas(rt: HostRuntime) {
+fn drawn_formulas(rt: HostRuntime) {
     let mut workspace = Workspace::new(rt.alloc());
-    for number in 0..500 {
+    for number in 0..count(&rt) {
         expect_number(&rt, &mut workspace, number);
     }
     drop(workspace);
