@@ -1,32 +1,50 @@
--- Conflict analysis: the walk back over the trail from a conflict to the decisions that it rests on.
-use Rattle.std.proofs.Common.{◌≡◌, ℕ, suc, ◌+◌, ◌<◌, ◌≤◌, Bool, true, false, ◌||◌, eqb, Some, List, [], ◌∷◌, ◌++◌, reverse, length, get_or, set, take, drop, refl, sym, ◌∙◌, ap, subst, inl, inr, arith, add-one, drop-cons, get_or-set_same, get_or-set_other}
-use Rattle.std.proofs.lemmas.Bool.{false≢true, cases_lt, cases_eq, eq-eqb, ne_eqb, or_cases, or_left, or_right}
+-- Conflict analysis: the walk back over the trail from a conflict to the clause that it teaches.
+use Rattle.std.proofs.Common.{◌≡◌, ◌≢◌, ℕ, zero, suc, ◌+◌, ◌-◌, ◌<◌, ◌≤◌, Bool, true, false, ◌||◌, not, eqb, if◌then◌else◌, All, Option, Some, None, List, [], ◌∷◌, ◌⊎◌, ◌++◌, reverse, length, get_or, set, take, drop, refl, sym, ◌∙◌, ap, subst, inl, inr, arith, length-take, get_or-set_same, get_or-set_other}
+use Rattle.std.proofs.Math.Bool.{or-false}
+use Rattle.std.proofs.lemmas.Bool.{false≢true, cases_lt, cases_eq, cases_Bool, eq-eqb, ne_eqb, or_cases, or_left, or_right, or_from}
 use Rattle.std.proofs.lemmas.Bool.Decides.{eqb_tells}
-use Rattle.std.proofs.lemmas.List.{take_more, take_all, reverse-append, get_or_past, length-set}
-use Rattle.number_sets.specs.Sets.{NumberSet, members_of}
-use Rattle.sat_solve.specs.Trail.{is_decided, IsSound}
+use Rattle.std.proofs.lemmas.List.{take_more, take_all, take-take, take-append-drop, drop_more, reverse-append, get_or_default, get_or-take, length-set, get_or_past}
 use Rattle.std.specs.List.{list_any}
-use Rattle.std.proofs.lemmas.List.Folds.{list_any_more}
-use Rattle.sat_solve.specs.Reasons.{AgreesOn, LacksAll, FailsOn, RestsOn, AreReasoned, Picks, SeesAll, is_seen}
+use Rattle.std.proofs.lemmas.List.Folds.{list_any_more, list_any-append}
+use Rattle.number_sets.specs.Sets.{NumberSet}
+use Rattle.sat_solve.specs.Clauses.{clause_holds, literal_holds}
+use Rattle.sat_solve.specs.Trail.{value_in, is_decided, AllFresh, IsSound, IsLinked}
+use Rattle.sat_solve.specs.ClauseStatus.{Agrees, ComesDownTo}
+use Rattle.sat_solve.specs.Reasons.{AgreesOn, FailsOn, RestsOn, AreReasoned, SeesAll, is_seen}
+use Rattle.sat_solve.specs.Jumps.{denied, IsAt, AreDenied, IsCut, IsJump, IsLevelStart, IsTaken}
+use Rattle.sat_solve.specs.declared.clause.Lit.{Lit}
 use Rattle.sat_solve.specs.declared.trail.Step.{Step}
 use Rattle.sat_solve.specs.declared.trail.Reason.{Reason}
-use Rattle.sat_solve.proofs.TrailLemmas.{value_in_newest, value_in_older}
-use Rattle.number_sets.proofs.MembersLemmas.{pushed_has, pushed_keeps}
+use Rattle.sat_solve.specs.declared.trail.Reason.TheVariants.{Decision}
+use Rattle.sat_solve.proofs.TrailLemmas.{value_in_newest, value_in_older, value_in_kept}
+use Rattle.sat_solve.proofs.ValueLemmas.{set_in_range}
 
--- no set with P agrees with these steps on what is seen and lacks the decisions found
-abbrev pub WalkRefutes : (NumberSet → Type 0) → List Step → NumberSet → NumberSet → Type 0
-WalkRefutes P steps marked found = (set : NumberSet) → P set → AgreesOn steps marked set → LacksAll found set → ⊥
+-- each set with P that agrees with these steps on what is seen makes the clause true
+abbrev pub Leaves : (NumberSet → Type 0) → List Step → NumberSet → List Lit → Type 0
+Leaves P steps marked clause = (set : NumberSet) → P set → AgreesOn steps marked set → clause_holds set clause ≡ true
+
+-- a literal fails by its step, and holds in a set that disagrees with the step
+denied_by : (has value : Bool) → has ≡ value → (if not value then has else not has) ≡ false
+denied_by true true same = refl
+denied_by false false same = refl
+denied_by true false same = absurd (false≢true (sym same))
+denied_by false true same = absurd (false≢true same)
+
+denied_or : (has value : Bool) → (has ≡ value) ⊎ ((if not value then has else not has) ≡ true)
+denied_or true true = inl refl
+denied_or false false = inl refl
+denied_or true false = inr refl
+denied_or false true = inr refl
 
 module _ (P : NumberSet → Type 0) (step : Step) (older : List Step) where
   -- a step that is not seen is passed over
-  pub walk_unmarked : (marked found : NumberSet) → marked step.var ≡ false → WalkRefutes P (step ∷ older) marked found → WalkRefutes P older marked found
-  walk_unmarked marked found unmarked refutes set holds agrees lacks =
-      refutes set holds
+  pub walk_unmarked : (marked : NumberSet) (clause : List Lit) → marked step.var ≡ false → Leaves P (step ∷ older) marked clause → Leaves P older marked clause
+  walk_unmarked marked clause unmarked leaves set holds agrees =
+      leaves set holds
       (λ var value mark there. elim (eqb_tells step.var var) [
         | inl same ↦ let here : marked step.var ≡ true = ap marked same.1 ∙ mark in absurd (false≢true (sym unmarked ∙ here))
         | inr other ↦ agrees var value mark (sym (value_in_older step older var other.1) ∙ there)
       ])
-      lacks
 
   -- a seen step whose value follows from what the set has
   agrees_more : (marked set : NumberSet) → set step.var ≡ step.value → AgreesOn older marked set → AgreesOn (step ∷ older) marked set
@@ -39,40 +57,37 @@ module _ (P : NumberSet → Type 0) (step : Step) (older : List Step) where
         | inr other ↦ agrees var value mark (sym (value_in_older step older var other.1) ∙ there)
       ]
 
-  -- a seen decision is found
-  pub walk_decided : (marked : NumberSet) (found : List ℕ) → step.value ≡ false → WalkRefutes P (step ∷ older) marked (members_of found) → WalkRefutes P older marked (members_of (found ++ step.var ∷ []))
-  walk_decided marked found out refutes set holds agrees lacks =
-      let gone : set step.var ≡ false = lacks step.var (pushed_has found step.var) in
-      refutes set holds (agrees_more marked set (gone ∙ sym out) agrees) (λ var there. lacks var (pushed_keeps found step.var var there))
+  -- the literal of a step is taken into the clause
+  pub walk_taken : (marked : NumberSet) (clause : List Lit) → Leaves P (step ∷ older) marked clause → Leaves P older marked (clause ++ denied step ∷ [])
+  walk_taken marked clause leaves set holds agrees =
+      list_any-append (literal_holds set) clause (denied step ∷ [])
+      ∙ elim (denied_or (set step.var) step.value) [
+        | inl here ↦ or_left (clause_holds set clause) (clause_holds set (denied step ∷ [])) (leaves set holds (agrees_more marked set here agrees))
+        | inr against ↦ or_right (clause_holds set clause) (clause_holds set (denied step ∷ [])) (or_left (literal_holds set (denied step)) false against)
+      ]
 
   -- by a seen step that was forced, what it rests on is seen
-  pub walk_forced : (Q B : NumberSet → Type 0) (marked more found reasons : NumberSet) → ((set : NumberSet) → Q set → P set) → ((set : NumberSet) → Q set → B set) → RestsOn B older step reasons → ((var : ℕ) → marked var ≡ true → more var ≡ true) → ((var : ℕ) → reasons var ≡ true → more var ≡ true) → WalkRefutes P (step ∷ older) marked found → WalkRefutes Q older more found
-  walk_forced Q B marked more found reasons fewer backs rests kept named refutes set holds agrees lacks =
+  pub walk_forced : (Q B : NumberSet → Type 0) (marked more reasons : NumberSet) (clause : List Lit) → ((set : NumberSet) → Q set → P set) → ((set : NumberSet) → Q set → B set) → RestsOn B older step reasons → ((var : ℕ) → marked var ≡ true → more var ≡ true) → ((var : ℕ) → reasons var ≡ true → more var ≡ true) → Leaves P (step ∷ older) marked clause → Leaves Q older more clause
+  walk_forced Q B marked more reasons clause fewer backs rests kept named leaves set holds agrees =
       let here : set step.var ≡ step.value = rests set (backs set holds) (λ var value mark there. agrees var value (named var mark) there) in
-      refutes set (fewer set holds) (agrees_more marked set here (λ var value mark there. agrees var value (kept var mark) there)) lacks
+      leaves set (fewer set holds) (agrees_more marked set here (λ var value mark there. agrees var value (kept var mark) there))
 
--- steps are walked past, and a decision among them is picked
-pub picks_more : (found : List ℕ) (steps : List Step) (step : Step) → Picks found steps → Picks found (steps ++ step ∷ [])
-picks_more [] steps step picks = tt
-picks_more (var ∷ rest) [] step picks = absurd picks
-picks_more (var ∷ rest) (first ∷ older) step (inl here) = inl (here.0, here.1, picks_more rest older step here.2)
-picks_more (var ∷ rest) (first ∷ older) step (inr later) = inr (picks_more (var ∷ rest) older step later)
+abbrev no_step : Step
+no_step = record { var = 0; value = false; reason = Decision }
 
-pub picks_push : (found : List ℕ) (steps : List Step) (step : Step) → is_decided step ≡ true → Picks found steps → Picks (found ++ step.var ∷ []) (steps ++ step ∷ [])
-picks_push [] [] step decided picks = inl (refl, decided, tt)
-picks_push [] (first ∷ older) step decided picks = inr (picks_push [] older step decided tt)
-picks_push (var ∷ rest) [] step decided picks = absurd picks
-picks_push (var ∷ rest) (first ∷ older) step decided (inl here) = inl (here.0, here.1, picks_push rest older step decided here.2)
-picks_push (var ∷ rest) (first ∷ older) step decided (inr later) = inr (picks_push (var ∷ rest) older step decided later)
+abbrev some_at : List Step → ℕ → Step
+some_at trail i = get_or trail i no_step
+
+ahead : (trail : List Step) (i : ℕ) (step : Step) → IsAt trail i step → reverse (take (i + 1) trail) ≡ step ∷ reverse (take i trail)
+ahead trail i step at = ap reverse (take_more trail i step at.0) ∙ (reverse-append (take i trail) (get_or trail i step ∷ []) ∙ ap (λ s. s ∷ reverse (take i trail)) at.1)
 
 -- a walk over a trail, whose newest step stands last, has come down to this place
--- the trail is sound for the sets with P, its steps rest on what backs their reasons, and the walk refutes the sets with M
-pub record WalkedTo (P M : NumberSet → Type 0) (backs : Reason → NumberSet → Type 0) (named : Reason → NumberSet) (trail : List Step) (left : ℕ) (marks : List Bool) (found : List ℕ) : Type 0 where
+-- the trail is sound for the sets with P, its steps rest on what backs their reasons, and the walk leaves the clause to the sets with M
+pub record WalkedTo (P M : NumberSet → Type 0) (backs : Reason → NumberSet → Type 0) (named : Reason → NumberSet) (trail : List Step) (left : ℕ) (marks : List Bool) (clause : List Lit) : Type 0 where
   pub inside : left ≤ length trail
   pub sound : IsSound P (reverse (take left trail))
   pub reasoned : AreReasoned backs named (reverse (take left trail))
-  pub refutes : WalkRefutes M (reverse (take left trail)) (is_seen marks) (members_of found)
-  pub picks : Picks found (reverse (drop left trail))
+  pub leaves : Leaves M (reverse (take left trail)) (is_seen marks) clause
 
 module _ (P M : NumberSet → Type 0) (backs : Reason → NumberSet → Type 0) (named : Reason → NumberSet) (trail : List Step) where
   pub walk_begins : (F : NumberSet → Type 0) (marks : List Bool) (conflict : NumberSet) → ((set : NumberSet) → M set → F set) → IsSound P (reverse trail) → AreReasoned backs named (reverse trail) → FailsOn F (reverse trail) conflict → ((var : ℕ) → conflict var ≡ true → is_seen marks var ≡ true) → WalkedTo P M backs named trail (length trail) marks []
@@ -82,59 +97,221 @@ module _ (P M : NumberSet → Type 0) (backs : Reason → NumberSet → Type 0) 
         inside = omega arith;
         sound = subst (λ part. IsSound P (reverse part)) all sound;
         reasoned = subst (λ part. AreReasoned backs named (reverse part)) all reasoned;
-        refutes = subst (λ part. WalkRefutes M (reverse part) (is_seen marks) (members_of [])) all (λ set holds agrees _. fails set (fewer set holds) (λ var value mark there. agrees var value (marked var mark) there));
-        picks = tt;
+        leaves = subst (λ part. Leaves M (reverse part) (is_seen marks) []) all (λ set holds agrees. absurd (fails set (fewer set holds) (λ var value mark there. agrees var value (marked var mark) there)));
       }
 
-  pub walk_ends : (marks : List Bool) (found : List ℕ) → WalkedTo P M backs named trail 0 marks found → (set : NumberSet) → M set → LacksAll (members_of found) set → ⊥
-  walk_ends marks found walked set holds lacks = walked.refutes set holds (λ var value mark there. cc) lacks
+  pub walk_ends : (marks : List Bool) (clause : List Lit) → WalkedTo P M backs named trail 0 marks clause → (set : NumberSet) → M set → clause_holds set clause ≡ true
+  walk_ends marks clause walked set holds = walked.leaves set holds (λ var value mark there. cc)
 
   module _ (i : ℕ) (step : Step) (below : i < length trail) (at : get_or trail i step ≡ step) where
-    ahead : reverse (take (i + 1) trail) ≡ step ∷ reverse (take i trail)
-    ahead = ap reverse (take_more trail i step below) ∙ (reverse-append (take i trail) (get_or trail i step ∷ []) ∙ ap (λ s. s ∷ reverse (take i trail)) at)
-
-    behind : reverse (drop i trail) ≡ reverse (drop (i + 1) trail) ++ step ∷ []
-    behind = rw add-one (ap reverse (drop-cons trail i step below) ∙ (reverse-append (get_or trail i step ∷ []) (drop (suc i) trail) ∙ ap (λ s. reverse (drop (suc i) trail) ++ s ∷ []) at))
-
-    module _ (left : ℕ) (marks : List Bool) (found : List ℕ) (next : left ≡ i + 1) (walked : WalkedTo P M backs named trail left marks found) where
-      there : WalkedTo P M backs named trail (i + 1) marks found
-      there = subst (λ n. WalkedTo P M backs named trail n marks found) next walked
+    module _ (left : ℕ) (marks : List Bool) (clause : List Lit) (next : left ≡ i + 1) (walked : WalkedTo P M backs named trail left marks clause) where
+      there : WalkedTo P M backs named trail (i + 1) marks clause
+      there = subst (λ n. WalkedTo P M backs named trail n marks clause) next walked
 
       sound_at : IsSound P (step ∷ reverse (take i trail))
-      sound_at = subst (IsSound P) ahead there.sound
+      sound_at = subst (IsSound P) (ahead trail i step (below, at)) there.sound
 
       reasoned_at : AreReasoned backs named (step ∷ reverse (take i trail))
-      reasoned_at = subst (AreReasoned backs named) ahead there.reasoned
+      reasoned_at = subst (AreReasoned backs named) (ahead trail i step (below, at)) there.reasoned
 
-      refutes_at : WalkRefutes M (step ∷ reverse (take i trail)) (is_seen marks) (members_of found)
-      refutes_at = subst (λ steps. WalkRefutes M steps (is_seen marks) (members_of found)) ahead there.refutes
+      leaves_at : Leaves M (step ∷ reverse (take i trail)) (is_seen marks) clause
+      leaves_at = subst (λ steps. Leaves M steps (is_seen marks) clause) (ahead trail i step (below, at)) there.leaves
 
-      pub walked_by : is_seen marks step.var ≡ false → WalkedTo P M backs named trail i marks found
+      pub walked_by : is_seen marks step.var ≡ false → WalkedTo P M backs named trail i marks clause
       walked_by unmarked = record {
         inside = omega arith;
         sound = sound_at.1;
         reasoned = reasoned_at.1;
-        refutes = walk_unmarked M step (reverse (take i trail)) (is_seen marks) (members_of found) unmarked refutes_at;
-        picks = subst (Picks found) (sym behind) (picks_more found (reverse (drop (i + 1) trail)) step there.picks);
+        leaves = walk_unmarked M step (reverse (take i trail)) (is_seen marks) clause unmarked leaves_at;
       }
 
-      pub walked_decided : is_decided step ≡ true → WalkedTo P M backs named trail i marks (found ++ step.var ∷ [])
-      walked_decided decided = record {
+      walked_taken : WalkedTo P M backs named trail i marks (clause ++ denied step ∷ [])
+      walked_taken = record {
         inside = omega arith;
         sound = sound_at.1;
         reasoned = reasoned_at.1;
-        refutes = walk_decided M step (reverse (take i trail)) (is_seen marks) found (sound_at.0.out decided) refutes_at;
-        picks = subst (Picks (found ++ step.var ∷ [])) (sym behind) (picks_push found (reverse (drop (i + 1) trail)) step decided there.picks);
+        leaves = walk_taken M step (reverse (take i trail)) (is_seen marks) clause leaves_at;
       }
 
-      pub walked_forced : (N : NumberSet → Type 0) (more : List Bool) → ((set : NumberSet) → N set → M set) → ((set : NumberSet) → N set → backs step.reason set) → is_decided step ≡ false → ((var : ℕ) → is_seen marks var ≡ true → is_seen more var ≡ true) → ((var : ℕ) → named step.reason var ≡ true → is_seen more var ≡ true) → WalkedTo P N backs named trail i more found
+      pub walked_forced : (N : NumberSet → Type 0) (more : List Bool) → ((set : NumberSet) → N set → M set) → ((set : NumberSet) → N set → backs step.reason set) → is_decided step ≡ false → ((var : ℕ) → is_seen marks var ≡ true → is_seen more var ≡ true) → ((var : ℕ) → named step.reason var ≡ true → is_seen more var ≡ true) → WalkedTo P N backs named trail i more clause
       walked_forced N more fewer backed forced kept names = record {
         inside = omega arith;
         sound = sound_at.1;
         reasoned = reasoned_at.1;
-        refutes = walk_forced M step (reverse (take i trail)) N (backs step.reason) (is_seen marks) (is_seen more) (members_of found) (named step.reason) fewer backed (reasoned_at.0 forced) kept names refutes_at;
-        picks = subst (Picks found) (sym behind) (picks_more found (reverse (drop (i + 1) trail)) step there.picks);
+        leaves = walk_forced M step (reverse (take i trail)) N (backs step.reason) (is_seen marks) (is_seen more) (named step.reason) clause fewer backed (reasoned_at.0 forced) kept names leaves_at;
       }
+
+  -- steps that are not seen are passed over
+  walked_past : (marks : List Bool) (clause : List Lit) (start more : ℕ) → ((other : ℕ) (step : Step) → start ≤ other → other < start + more → IsAt trail other step → is_seen marks step.var ≡ false) → WalkedTo P M backs named trail (start + more) marks clause → WalkedTo P M backs named trail start marks clause
+  walked_past marks clause start zero alone walked = let same : start + 0 ≡ start = omega arith in subst (λ n. WalkedTo P M backs named trail n marks clause) same walked
+  walked_past marks clause start (suc more) alone walked =
+      let next : start + suc more ≡ start + more + 1 = omega arith in
+      let below : start + more < length trail = omega (arith, walked.inside) in
+      let at : IsAt trail (start + more) (some_at trail (start + more)) = (below, get_or_default trail (start + more) (some_at trail (start + more)) no_step below) in
+      walked_past marks clause start more (λ other step from to is. alone other step from (omega arith) is)
+      (walked_by (start + more) (some_at trail (start + more)) below at.1 (start + suc more) marks clause next walked (alone (start + more) (some_at trail (start + more)) (omega arith) (omega arith) at))
+
+  -- the literal of a seen step is taken, and the walk goes on where that says
+  pub walked_on : (i : ℕ) (step : Step) → i < length trail → get_or trail i step ≡ step → (left : ℕ) (marks : List Bool) (clause : List Lit) → left ≡ i + 1 → WalkedTo P M backs named trail left marks clause → (target start cut : ℕ) → IsTaken trail marks clause target i (Some (start, cut)) → WalkedTo P M backs named trail start marks (clause ++ denied step ∷ [])
+  walked_on i step below at left marks [] next walked target start cut taken =
+      let more : i ≡ start + (i - start) = omega (arith, taken.0.before) in
+      walked_past marks (denied step ∷ []) start (i - start) (λ other passed from to is. taken.0.alone other passed from (omega (arith, taken.0.before)) is)
+      (subst (λ n. WalkedTo P M backs named trail n marks (denied step ∷ [])) more (walked_taken i step below at left marks [] next walked))
+  walked_on i step below at left marks (first ∷ rest) next walked target start cut taken =
+      subst (λ n. WalkedTo P M backs named trail n marks ((first ∷ rest) ++ denied step ∷ [])) (sym taken.0) (walked_taken i step below at left marks (first ∷ rest) next walked)
+
+-- steps are walked past, and the literal of one of them is taken
+denied_more : (rest : List Lit) (steps : List Step) (step : Step) → AreDenied rest steps → AreDenied rest (steps ++ step ∷ [])
+denied_more [] steps step fail = tt
+denied_more (literal ∷ rest) [] step fail = absurd fail
+denied_more (literal ∷ rest) (first ∷ older) step (inl here) = inl (here.0, denied_more rest older step here.1)
+denied_more (literal ∷ rest) (first ∷ older) step (inr later) = inr (denied_more (literal ∷ rest) older step later)
+
+denied_push : (rest : List Lit) (steps : List Step) (step : Step) → AreDenied rest steps → AreDenied (rest ++ denied step ∷ []) (steps ++ step ∷ [])
+denied_push [] [] step fail = inl (refl, tt)
+denied_push [] (first ∷ older) step fail = inr (denied_push [] older step tt)
+denied_push (literal ∷ rest) [] step fail = absurd fail
+denied_push (literal ∷ rest) (first ∷ older) step (inl here) = inl (here.0, denied_push rest older step here.1)
+denied_push (literal ∷ rest) (first ∷ older) step (inr later) = inr (denied_push (literal ∷ rest) older step later)
+
+-- literals that are denied fail
+pub denied_fail : (rest : List Lit) (steps : List Step) (set : NumberSet) → AllFresh steps → AreDenied rest steps → Agrees steps set → clause_holds set rest ≡ false
+denied_fail [] steps set fresh fail agrees = refl
+denied_fail (literal ∷ rest) [] set fresh fail agrees = absurd fail
+denied_fail (literal ∷ rest) (step ∷ older) set fresh (inl here) agrees =
+    let is : set step.var ≡ step.value = agrees step.var step.value (value_in_newest step older step.var refl) in
+    let fails : literal_holds set literal ≡ false = ap (literal_holds set) here.0 ∙ denied_by (set step.var) step.value is in
+    or_from (literal_holds set literal) (clause_holds set rest) fails (denied_fail rest older set fresh.1 here.1 (λ var value found. agrees var value (value_in_kept step older var value fresh.0 found)))
+denied_fail (literal ∷ rest) (step ∷ older) set fresh (inr later) agrees =
+    denied_fail (literal ∷ rest) older set fresh.1 later (λ var value found. agrees var value (value_in_kept step older var value fresh.0 found))
+
+-- so a clause comes down to its first literal where that is free
+pub comes_down : (vars : ℕ) (steps : List Step) (first : Lit) (rest : List Lit) → AllFresh steps → first.var < vars → value_in steps first.var ≡ None → AreDenied rest steps → ComesDownTo vars steps (first ∷ rest) (Some first)
+comes_down vars steps first rest fresh ranged free fail = (
+  ranged,
+  free,
+  λ set agrees. ap (λ b. literal_holds set first || b) (denied_fail rest steps set fresh fail agrees) ∙ or-false (literal_holds set first),
+)
+
+-- what is fresh is so without the newest steps
+fresh_back : (newer older : List Step) → AllFresh (newer ++ older) → AllFresh older
+fresh_back [] older fresh = fresh
+fresh_back (step ∷ newer) older fresh = fresh_back newer older fresh.1
+
+free_back : (newer older : List Step) (var : ℕ) → AllFresh (newer ++ older) → value_in (newer ++ older) var ≡ None → value_in older var ≡ None
+free_back [] older var fresh free = free
+free_back (step ∷ newer) older var fresh free =
+    let other : step.var ≢ var = λ (same : step.var ≡ var). let clash : Some step.value ≡ None = sym (value_in_newest step (newer ++ older) var same) ∙ free in cc in
+    free_back newer older var fresh.1 (sym (value_in_older step (newer ++ older) var other) ∙ free)
+
+value_back : (newer older : List Step) (var : ℕ) (value : Bool) → AllFresh (newer ++ older) → value_in older var ≡ Some value → value_in (newer ++ older) var ≡ Some value
+value_back [] older var value fresh found = found
+value_back (step ∷ newer) older var value fresh found = value_in_kept step (newer ++ older) var value fresh.0 (value_back newer older var value fresh.1 found)
+
+-- a trail is what is newer than a place, and the rest
+parted : (trail : List Step) (count : ℕ) → reverse (drop count trail) ++ reverse (take count trail) ≡ reverse trail
+parted trail count = sym (reverse-append (take count trail) (drop count trail)) ∙ ap reverse (take-append-drop count trail)
+
+-- one step stands at a place
+pub same_at : (trail : List Step) (place : ℕ) (a b : Step) → IsAt trail place a → IsAt trail place b → a ≡ b
+same_at trail place a b at there = sym at.1 ∙ (get_or_default trail place a b at.0 ∙ there.1)
+
+module _ (trail : List Step) (fresh : AllFresh (reverse trail)) where
+  fresh_to : (count : ℕ) → AllFresh (reverse (take count trail))
+  fresh_to count = fresh_back (reverse (drop count trail)) (reverse (take count trail)) (subst AllFresh (sym (parted trail count)) fresh)
+
+  parted_to : (place count : ℕ) → place ≤ count → reverse (drop place (take count trail)) ++ reverse (take place trail) ≡ reverse (take count trail)
+  parted_to place count less = ap (λ part. reverse (drop place (take count trail)) ++ reverse part) (sym (take-take place count trail less)) ∙ parted (take count trail) place
+
+  -- what is free is so with fewer steps, and what stands on a trail is free before it
+  free_sooner : (place count var : ℕ) → place ≤ count → value_in (reverse (take count trail)) var ≡ None → value_in (reverse (take place trail)) var ≡ None
+  free_sooner place count var less free =
+      free_back (reverse (drop place (take count trail))) (reverse (take place trail)) var (subst AllFresh (sym (parted_to place count less)) (fresh_to count)) (ap (λ steps. value_in steps var) (parted_to place count less) ∙ free)
+
+  free_before : (i place : ℕ) (step : Step) → IsAt trail i step → place ≤ i → value_in (reverse (take place trail)) step.var ≡ None
+  free_before i place step at less =
+      let now : AllFresh (step ∷ reverse (take i trail)) = subst AllFresh (ahead trail i step at) (fresh_to (i + 1)) in
+      free_sooner place i step.var less now.0
+
+  -- what stands on a trail has its value, and so it is in range
+  pub step_in_range : (vars : ℕ) (values : List (Option Bool)) (i : ℕ) (step : Step) → IsLinked vars values (reverse trail) → IsAt trail i step → step.var < vars
+  step_in_range vars values i step linked at =
+      let here : value_in (reverse (take (i + 1) trail)) step.var ≡ Some step.value = ap (λ steps. value_in steps step.var) (ahead trail i step at) ∙ value_in_newest step (reverse (take i trail)) step.var refl in
+      let found : value_in (reverse trail) step.var ≡ Some step.value =
+      ap (λ steps. value_in steps step.var) (sym (parted trail (i + 1)))
+      ∙ value_back (reverse (drop (i + 1) trail)) (reverse (take (i + 1) trail)) step.var step.value (subst AllFresh (sym (parted trail (i + 1))) fresh) here in
+      set_in_range vars values (reverse trail) step.var step.value linked found
+
+  module _ (i : ℕ) (step : Step) (at : IsAt trail i step) where
+    behind : (place : ℕ) → i < place → place < length trail → reverse (drop i (take place trail)) ≡ reverse (drop (i + 1) (take place trail)) ++ step ∷ []
+    behind place before inside =
+        let within : i < length (take place trail) = omega (arith, length-take place trail) in
+        let read : get_or (take place trail) i step ≡ step = get_or-take place trail i step before ∙ at.1 in
+        ap reverse (drop_more (take place trail) i step within)
+        ∙ (reverse-append (get_or (take place trail) i step ∷ []) (drop (i + 1) (take place trail)) ∙ ap (λ s. reverse (drop (i + 1) (take place trail)) ++ s ∷ []) read)
+
+    -- the literal is taken
+    pub jump_taken : (marks : List Bool) (clause : List Lit) (target start cut : ℕ) → IsTaken trail marks clause target i (Some (start, cut)) → IsJump trail (i + 1) target clause → IsJump trail start cut (clause ++ denied step ∷ [])
+    jump_taken marks [] target start cut taken jump =
+        let here : IsCut trail start start (denied step) [] =
+        record {
+          decision = taken.0.decision;
+          at = taken.0.at;
+          decided = taken.0.decided;
+          before = omega arith;
+          free = free_before i start step at taken.0.before;
+          fail = tt;
+        } in
+        subst (λ n. IsCut trail start n (denied step) []) (sym taken.1) here
+    jump_taken marks (first ∷ rest) target start cut taken jump =
+        let before : i < target = omega (arith, jump.before) in
+        let here : IsCut trail i target first (rest ++ denied step ∷ []) =
+        record {
+          decision = jump.decision;
+          at = jump.at;
+          decided = jump.decided;
+          before = omega arith;
+          free = jump.free;
+          fail = subst (AreDenied (rest ++ denied step ∷ [])) (sym (behind target before jump.at.0)) (denied_push rest (reverse (drop (i + 1) (take target trail))) step jump.fail);
+        } in
+        subst (λ n. IsCut trail n cut first (rest ++ denied step ∷ [])) (sym taken.0) (subst (λ n. IsCut trail i n first (rest ++ denied step ∷ [])) (sym taken.1) here)
+
+    -- none is taken
+    pub jump_past : (clause : List Lit) (place : ℕ) → IsJump trail (i + 1) place clause → IsJump trail i place clause
+    jump_past [] place cut = tt
+    jump_past (first ∷ rest) place cut =
+        let before : i < place = omega (arith, cut.before) in
+        record {
+          decision = cut.decision;
+          at = cut.at;
+          decided = cut.decided;
+          before = omega arith;
+          free = cut.free;
+          fail = subst (AreDenied rest) (sym (behind place before cut.at.0)) (denied_more rest (reverse (drop (i + 1) (take place trail))) step cut.fail);
+        }
+
+    -- a clause of one literal wants none of the decisions
+    pub jump_here : (clause : List Lit) (place : ℕ) → length clause ≡ 1 → is_decided step ≡ true → IsJump trail (i + 1) place clause → IsJump trail i i clause
+    jump_here [] place one decided cut = absurd (omega arith)
+    jump_here (first ∷ []) place one decided cut = record {
+      decision = step;
+      at = at;
+      decided = decided;
+      before = omega arith;
+      free = free_sooner i place first.var (omega (arith, cut.before)) cut.free;
+      fail = tt;
+    }
+    jump_here (first ∷ second ∷ rest) place one decided cut = absurd (omega arith)
+
+-- a clause that has literals takes a further one
+pub taken_later : (trail : List Step) (marks : List Bool) (clause : List Lit) (target place : ℕ) → length clause ≢ 0 → IsTaken trail marks clause target place (Some (place, target))
+taken_later trail marks [] target place some = absurd (some refl)
+taken_later trail marks (first ∷ rest) target place some = (refl, refl)
+
+-- what is said of a clause of no literals is said of this one, if it has none
+pub taken_first : (trail : List Step) (marks : List Bool) (clause : List Lit) (target place : ℕ) (on : Option (ℕ × ℕ)) → length clause ≡ 0 → IsTaken trail marks [] target place on → IsTaken trail marks clause target place on
+taken_first trail marks [] target place on none taken = taken
+taken_first trail marks (first ∷ rest) target place on none taken = absurd (omega arith)
 
 -- one variable more is seen
 seen_here : (marks : List Bool) (var : ℕ) → is_seen (set marks var true) var ≡ true

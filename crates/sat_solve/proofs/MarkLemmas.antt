@@ -1,5 +1,5 @@
 -- Marks on groups: more of them, and what the sets that meet the marked groups meet.
-use Rattle.std.proofs.Common.{◌≡◌, ℕ, ◌<◌, Bool, true, false, Vec, Option, Some, None, List, length, get_or, set, slice_get, refl, sym, ◌∙◌, ap, subst, inl, inr, get_or-set_same, get_or-set_other}
+use Rattle.std.proofs.Common.{◌≡◌, ℕ, ◌<◌, Bool, true, false, Vec, All, Option, Some, None, List, length, get_or, set, slice_get, refl, sym, ◌∙◌, ap, subst, inl, inr, get_or-set_same, get_or-set_other}
 use Rattle.std.proofs.lemmas.Bool.{false≢true, cases_lt, cases_eq}
 use Rattle.std.proofs.lemmas.List.{get_or_past, length-set}
 use Rattle.std.proofs.lemmas.Option.{slice_get-get_or, slice_get_within, get_or_from_slice_get}
@@ -8,7 +8,8 @@ use Rattle.std.specs.declared.alloc.Global.{Global}
 use Rattle.sat_solve.specs.Answers.{IsAnswer}
 use Rattle.sat_solve.specs.Clauses.{Clause, AreWithin}
 use Rattle.sat_solve.specs.Spans.{no_span}
-use Rattle.sat_solve.specs.Reasons.{IsProblem, IsSolution, IsMarkedSolution, IsAnswerTo, IsUsed, Backs}
+use Rattle.sat_solve.specs.Reasons.{IsProblem, IsSolution, IsMarkedSolution, IsAnswerTo, IsUsed, IsLearnt, Backs}
+use Rattle.sat_solve.specs.declared.clause.Lit.{Lit}
 use Rattle.sat_solve.specs.declared.trail.Reason.TheVariants.{Clause as OfClause}
 use Rattle.sat_solve.specs.declared.problem.Problem.{Problem}
 use Rattle.sat_solve.proofs.SpanLemmas.{clause_met}
@@ -50,6 +51,10 @@ fewer_meet problem old new members within holds = record {
 -- what the problem asks for meets the marked groups
 pub solutions_meet : (problem : Problem) (used : List Bool) (members : NumberSet) → IsUsed problem used → IsSolution problem members → IsMarkedSolution problem used members
 solutions_meet problem used members is holds = fewer_meet problem used problem.keep.now members is.within holds
+
+-- with more marks the learnt clauses follow, too
+pub learnt_more : (problem : Problem) (old new : List Bool) (learnt : List (Vec Lit Global)) → ((members : NumberSet) → IsMarkedSolution problem new members → IsMarkedSolution problem old members) → All (IsLearnt problem old) learnt → All (IsLearnt problem new) learnt
+learnt_more problem old new learnt fewer all = λ k d inside. ((all k d inside).0, λ members holds. (all k d inside).1 members (fewer members holds))
 
 -- what was answered with some marks is answered of the kept groups too
 pub by_kept : (vars : ℕ) (clauses : List Clause) (keep : List Bool) (must : ℕ) (marks : List Bool) (answer : Option (Vec ℕ Global)) → IsAnswer vars clauses keep must marks answer → IsAnswer vars clauses keep must keep answer

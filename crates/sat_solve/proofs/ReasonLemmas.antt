@@ -2,7 +2,7 @@
 use Rattle.std.proofs.Common.{◌≡◌, ℕ, ◌+◌, ◌-◌, ◌≤◌, true, false, ◌||◌, not, cond, eqb, Some, None, unwrap_or, List, [], ◌∷◌, take, drop, slice_range, refl, sym, ◌∙◌, ap, subst, inl, inr, arith}
 use Rattle.std.proofs.lemmas.Bool.{cases_Bool, eq-eqb, or_left, or_right, false≢true}
 use Rattle.std.proofs.lemmas.List.{take-take, drop-take}
-use Rattle.number_sets.specs.Sets.{NumberSet, members_of}
+use Rattle.number_sets.specs.Sets.{NumberSet}
 use Rattle.sat_solve.specs.Clauses.{clause_holds, literal_holds}
 use Rattle.sat_solve.specs.Trail.{value_in}
 use Rattle.sat_solve.specs.ClauseStatus.{Agrees, ComesDownTo}
@@ -10,7 +10,7 @@ use Rattle.sat_solve.specs.Reasons.{variables_of, named_by, AgreesOn, RestsOn, F
 use Rattle.sat_solve.specs.declared.clause.Lit.{Lit}
 use Rattle.sat_solve.specs.declared.trail.Step.{Step}
 use Rattle.sat_solve.specs.declared.trail.Reason.{Reason}
-use Rattle.sat_solve.specs.declared.trail.Reason.TheVariants.{Decisions}
+use Rattle.sat_solve.specs.declared.trail.Reason.TheVariants.{Learnt}
 use Rattle.sat_solve.specs.declared.problem.Problem.{Problem}
 use Rattle.sat_solve.proofs.ClauseLemmas.{literal_sign}
 
@@ -64,33 +64,46 @@ module _ (P : NumberSet → Type 0) (vars : ℕ) (steps : List Step) (clause : L
   conflict_fails down set holds agrees = false≢true (sym (none_locally vars steps clause set agrees down) ∙ meets set holds)
 
 -- where two lists begin alike, a part of the beginning is the same in both
-take_less : (old new : List ℕ) (m n : ℕ) → m ≤ n → take n old ≡ take n new → take m old ≡ take m new
+take_less : (old new : List Lit) (m n : ℕ) → m ≤ n → take n old ≡ take n new → take m old ≡ take m new
 take_less old new m n less same = sym (take-take m n old less) ∙ (ap (take m) same ∙ take-take m n new less)
 
-slice_front : (numbers : List ℕ) (start stop : ℕ) → start ≤ stop → slice_range numbers start stop ≡ drop start (take stop numbers)
+slice_front : (numbers : List Lit) (start stop : ℕ) → start ≤ stop → slice_range numbers start stop ≡ drop start (take stop numbers)
 slice_front numbers start stop ordered =
     let e : start + (stop - start) ≡ stop = omega arith in
     sym (drop-take start (stop - start) numbers) ∙ ap (λ n. drop start (take n numbers)) e
 
-pub slice_same : (old new : List ℕ) (start stop end : ℕ) → start ≤ stop → stop ≤ end → take end old ≡ take end new → slice_range old start stop ≡ slice_range new start stop
+pub slice_same : (old new : List Lit) (start stop end : ℕ) → start ≤ stop → stop ≤ end → take end old ≡ take end new → slice_range old start stop ≡ slice_range new start stop
 slice_same old new start stop end ordered inside same =
     slice_front old start stop ordered ∙ (ap (drop start) (take_less old new stop end inside same) ∙ sym (slice_front new start stop ordered))
 
 -- what a reason names does not change with the arena past its part
-pub named_same : (problem : Problem) (old new : List ℕ) (reason : Reason) (end : ℕ) → IsPart reason end → take end old ≡ take end new → named_by problem old reason ≡ named_by problem new reason
-named_same problem old new (Decisions start stop) end part same = ap members_of (slice_same old new start stop end part.0 part.1 same)
+pub named_same : (problem : Problem) (old new : List Lit) (reason : Reason) (end : ℕ) → IsPart reason end → take end old ≡ take end new → named_by problem old reason ≡ named_by problem new reason
+named_same problem old new (Learnt start stop) end part same = ap variables_of (slice_same old new start stop end part.0 part.1 same)
 named_same problem old new _ end part same = refl
 
 pub end_before_within : (reason : Reason) (end : ℕ) → IsPart reason end → end_before reason end ≤ end
-end_before_within (Decisions start stop) end part = omega (arith, part.0, part.1)
+end_before_within (Learnt start stop) end part = omega (arith, part.0, part.1)
 end_before_within _ end part = omega arith
 
-pub reasoned_same : (P : Reason → NumberSet → Type 0) (problem : Problem) (old new : List ℕ) (steps : List Step) (end : ℕ) → AreParts steps end → take end old ≡ take end new → AreReasoned P (named_by problem old) steps → AreReasoned P (named_by problem new) steps
+pub reasoned_same : (P : Reason → NumberSet → Type 0) (problem : Problem) (old new : List Lit) (steps : List Step) (end : ℕ) → AreParts steps end → take end old ≡ take end new → AreReasoned P (named_by problem old) steps → AreReasoned P (named_by problem new) steps
 reasoned_same P problem old new [] end parts same reasoned = tt
 reasoned_same P problem old new (step ∷ older) end parts same reasoned = (
   λ forced. subst (RestsOn (P step.reason) older step) (named_same problem old new step.reason end parts.0 same) (reasoned.0 forced),
   reasoned_same P problem old new older (end_before step.reason end) parts.1 (take_less old new (end_before step.reason end) end (end_before_within step.reason end parts.0) same) reasoned.1,
 )
+
+-- a part of the arena lies below a later end too
+pub part_more : (reason : Reason) (end more : ℕ) → end ≤ more → IsPart reason end → IsPart reason more
+part_more (Learnt start stop) end more less part = (part.0, omega (arith, part.1))
+part_more _ end more less part = tt
+
+pub parts_more : (steps : List Step) (end more : ℕ) → end ≤ more → AreParts steps end → AreParts steps more
+parts_more [] end more less parts = tt
+parts_more (step ∷ older) end more less parts = (part_more step.reason end more less parts.0, parts_more older (end_before step.reason end) (end_before step.reason more) (ends_more step.reason) parts.1)
+  where
+    ends_more : (reason : Reason) → end_before reason end ≤ end_before reason more
+    ends_more (Learnt start stop) = omega arith
+    ends_more _ = less
 
 -- where no set agrees with all of a trail
 pub refuted_fails : (P : NumberSet → Type 0) (steps : List Step) → ((set : NumberSet) → P set → Agrees steps set → ⊥) → FailsOn P steps (λ _. true)

@@ -1,17 +1,17 @@
 -- Why variables have their values: what steps and conflicts rest on.
-use Rattle.std.specs.Prelude.{◌≡◌, ℕ, ◌<◌, ◌≤◌, ◌==◌, Bool, true, false, Vec, Option, Some, None, is_some}
-use Rattle.std.specs.Prelude.{List, [], ◌∷◌, ◌⊎◌, Contains, length, take, ◌+◌, ◌*◌, ◌-◌, slice_range, slice_index_or}
+use Rattle.std.specs.Prelude.{◌≡◌, ℕ, ◌<◌, ◌≤◌, ◌==◌, Bool, true, false, Vec, Option, Some, is_some}
+use Rattle.std.specs.Prelude.{List, [], ◌∷◌, All, Contains, length, take, slice_range, slice_index_or}
 use Rattle.std.specs.List.{list_any}
 use Rattle.std.specs.declared.alloc.Global.{Global}
-use Rattle.number_sets.specs.Sets.{NumberSet, members_of}
+use Rattle.number_sets.specs.Sets.{NumberSet}
 use Rattle.sat_solve.specs.Clauses.{IsTrueSet, AreWithin, clause_holds, not_both}
 use Rattle.sat_solve.specs.Answers.{IsAnswer}
 use Rattle.sat_solve.specs.Spans.{clause_at, clauses_of, no_span, AreClauses}
-use Rattle.sat_solve.specs.Trail.{value_in, is_decision, is_decided, rank, power_of_three}
+use Rattle.sat_solve.specs.Trail.{value_in, is_decision, is_decided}
 use Rattle.sat_solve.specs.declared.clause.Lit.{Lit}
 use Rattle.sat_solve.specs.declared.trail.Step.{Step}
 use Rattle.sat_solve.specs.declared.trail.Reason.{Reason}
-use Rattle.sat_solve.specs.declared.trail.Reason.TheVariants.{Decision, Given, Clause, Pair, Decisions, AllOlder}
+use Rattle.sat_solve.specs.declared.trail.Reason.TheVariants.{Decision, Given, Clause, Pair, Learnt, AllOlder}
 use Rattle.sat_solve.specs.declared.problem.Problem.{Problem}
 
 -- the clauses and the variable that a problem names are in range
@@ -57,7 +57,7 @@ Brings problem Decision set = Unit {0}
 Brings problem Given set = Unit {0}
 Brings problem (Clause number) set = MeetsOne problem number set
 Brings problem (Pair group owner other) set = MeetsPair problem group owner other set
-Brings problem (Decisions start end) set = Unit {0}
+Brings problem (Learnt start end) set = Unit {0}
 Brings problem AllOlder set = IsSolution problem set
 
 -- the set makes the clauses of the marked groups true, and meets what a reason brings in
@@ -73,29 +73,29 @@ abbrev pub variables_of : List Lit → NumberSet
 variables_of literals var = list_any (λ literal. literal.var == var) literals
 
 -- the variables that a reason names
-abbrev pub named_by : Problem → List ℕ → Reason → NumberSet
+abbrev pub named_by : Problem → List Lit → Reason → NumberSet
 named_by problem arena Decision = λ _. false
 named_by problem arena Given = λ _. false
 named_by problem arena (Clause number) = variables_of (clause_at problem.literals.now (slice_index_or problem.spans.now number no_span)).literals
 named_by problem arena (Pair group owner other) = variables_of (not_both owner other)
-named_by problem arena (Decisions start end) = members_of (slice_range arena start end)
+named_by problem arena (Learnt start end) = variables_of (slice_range arena start end)
 named_by problem arena AllOlder = λ _. true
 
 -- the set has the values that these steps give to these variables
 abbrev pub AgreesOn : List Step → NumberSet → NumberSet → Type 0
 AgreesOn steps marked set = (var : ℕ) (value : Bool) → marked var ≡ true → value_in steps var ≡ Some value → set var ≡ value
 
--- the set lacks each of these variables
-abbrev pub LacksAll : NumberSet → NumberSet → Type 0
-LacksAll found set = (var : ℕ) → found var ≡ true → set var ≡ false
-
 -- no set with P agrees with these steps on these variables
 abbrev pub FailsOn : (NumberSet → Type 0) → List Step → NumberSet → Type 0
 FailsOn P steps marked = (set : NumberSet) → P set → AgreesOn steps marked set → ⊥
 
--- each set that meets the marked groups lacks not all of these variables
-abbrev pub Refutes : Problem → List Bool → List ℕ → Type 0
-Refutes problem used decisions = (set : NumberSet) → IsMarkedSolution problem used set → LacksAll (members_of decisions) set → ⊥
+-- a clause follows from the marked groups: each set that meets them makes it true
+abbrev pub Implied : Problem → List Bool → List Lit → Type 0
+Implied problem used clause = (set : NumberSet) → IsMarkedSolution problem used set → clause_holds set clause ≡ true
+
+-- a learnt clause follows from the marked groups, and its variables are in range
+abbrev pub IsLearnt : Problem → List Bool → Vec Lit Global → Type 0
+IsLearnt problem used clause = All (λ literal. literal.var < problem.vars) clause.items × Implied problem used clause.items
 
 -- a step rests on these older variables
 abbrev pub RestsOn : (NumberSet → Type 0) → List Step → Step → NumberSet → Type 0
@@ -108,52 +108,30 @@ AreReasoned backs named (step ∷ older) = (is_decided step ≡ false → RestsO
 
 -- a reason's part of the arena lies below this end
 abbrev pub IsPart : Reason → ℕ → Type 0
-IsPart (Decisions start stop) end = (start ≤ stop) × (stop ≤ end)
+IsPart (Learnt start stop) end = (start ≤ stop) × (stop ≤ end)
 IsPart _ end = Unit {0}
 
 -- where the arena ends without a reason's part
 abbrev pub end_before : Reason → ℕ → ℕ
-end_before (Decisions start stop) end = start
+end_before (Learnt start stop) end = start
 end_before _ end = end
-
--- a reason brings in just this clause
-pub record Gives (problem : Problem) (reason : Reason) (clause : List Lit) : Type 0 where
-  pub implied : is_decision reason ≡ false
-  pub meets : (set : NumberSet) → IsSolution problem set → clause_holds set clause ≡ true
-  pub brought : (set : NumberSet) → Brings problem reason set → clause_holds set clause ≡ true
-  pub part : (end : ℕ) → IsPart reason end
-  pub ends : (end : ℕ) → end_before reason end ≡ end
-  pub named : (arena : List ℕ) → named_by problem arena reason ≡ variables_of clause
 
 -- the parts of the steps lie in the arena one below another, the newest step's highest
 abbrev pub AreParts : List Step → ℕ → Type 0
 AreParts [] end = Unit {0}
 AreParts (step ∷ older) end = IsPart step.reason end × AreParts older (end_before step.reason end)
 
--- these numbers are the variables of decided steps, in the order of the steps
-abbrev pub Picks : List ℕ → List Step → Type 0
-Picks [] steps = Unit {0}
-Picks (var ∷ rest) [] = ⊥
-Picks (var ∷ rest) (step ∷ older) = ((step.var ≡ var) × (is_decided step ≡ true) × Picks rest older) ⊎ Picks (var ∷ rest) older
-
 -- a variable is seen: it is marked, or past the marks
 abbrev pub is_seen : List Bool → NumberSet
 is_seen marks var = slice_index_or marks var true
 
--- where this is the reason of a step, each decision is named by it, and the arena before it stands as it did
-pub record IsReasonFor (decisions old new : List ℕ) (reason : Reason) : Type 0 where
-  pub named : (problem : Problem) (var : ℕ) → members_of decisions var ≡ true → named_by problem new reason var ≡ true
+-- where this is the reason of a step, it names the clause's variables, and the arena before it stands as it did
+pub record IsReasonFor (clause old new : List Lit) (reason : Reason) : Type 0 where
+  pub named : (problem : Problem) (var : ℕ) → variables_of clause var ≡ true → named_by problem new reason var ≡ true
   pub ends : end_before reason (length new) ≡ length old
   pub part : IsPart reason (length new)
   pub kept : take (length old) new ≡ old
   pub implied : is_decision reason ≡ false
-
--- the steps after the decision of this variable were taken back, and the decision too
-pub record UndoneThrough (vars var : ℕ) (rest : List ℕ) (old new : List Step) : Type 0 where
-  pub in_range : var < vars
-  pub free : value_in new var ≡ None
-  pub picked : Picks rest new
-  pub lower : rank vars old < 2 * power_of_three (vars - 1 - length new) + rank vars new
 
 -- these variables are seen now, and what was seen before still is
 pub record SeesAll (named : NumberSet) (old new : List Bool) : Type 0 where

@@ -1,9 +1,10 @@
 -- The state of a solve between two steps of it.
-use Rattle.std.specs.Prelude.{◌≡◌, ◌≢◌, ℕ, ◌<◌, ◌≤◌, true, not, Option, Some, None, List, length, slice_range}
+use Rattle.std.specs.Prelude.{◌≡◌, ◌≢◌, ℕ, ◌+◌, ◌*◌, ◌-◌, ◌<◌, ◌≤◌, true, false, not, Option, Some, None, List, All, length, take, reverse, slice_range}
 use Rattle.std.specs.List.{list_all}
 use Rattle.number_sets.specs.Sets.{NumberSet}
-use Rattle.sat_solve.specs.Trail.{value_in, set_of, IsSound, rank, steps_of, IsTrail}
-use Rattle.sat_solve.specs.Reasons.{IsSolution, IsUsed, Backs, named_by, AreReasoned, AreParts, FailsOn, UndoneThrough}
+use Rattle.sat_solve.specs.Clauses.{clause_holds}
+use Rattle.sat_solve.specs.Trail.{value_in, set_of, is_decision, IsSound, rank, power_of_three, steps_of, IsTrail}
+use Rattle.sat_solve.specs.Reasons.{IsSolution, IsUsed, IsLearnt, Backs, variables_of, named_by, AreReasoned, IsPart, AreParts, end_before, FailsOn}
 use Rattle.sat_solve.specs.declared.clause.Lit.{Lit}
 use Rattle.sat_solve.specs.declared.trail.Reason.{Reason}
 use Rattle.sat_solve.specs.declared.problem.Problem.{Problem}
@@ -21,13 +22,24 @@ pub record IsSolver (problem : Problem) (solver : Solver) : Type 0 where
   pub parts : AreParts (steps_of solver.trail) (length solver.arena.items)
   pub below : (var : ℕ) → var < solver.cursor → value_in (steps_of solver.trail) var ≢ None
   pub used : IsUsed problem solver.used.items
+  pub learnt : All (IsLearnt problem solver.used.items) solver.learnt.items
 
--- the steps down to that of this variable were taken back, and that one too
-pub record UndoesThrough (var : ℕ) (rest : List ℕ) (old new : Solver) : Type 0 where
+-- a reason brings in a clause that each set makes true that is looked for, and is fit for the next step
+pub record Gives (problem : Problem) (solver : Solver) (reason : Reason) (clause : List Lit) : Type 0 where
+  pub implied : is_decision reason ≡ false
+  pub meets : (set : NumberSet) → IsSolution problem set → clause_holds set clause ≡ true
+  pub backed : (set : NumberSet) → Backs problem solver.used.items reason set → clause_holds set clause ≡ true
+  pub part : IsPart reason (length solver.arena.items)
+  pub parts : AreParts (steps_of solver.trail) (end_before reason (length solver.arena.items))
+  pub named : (var : ℕ) → variables_of clause var ≡ true → named_by problem solver.arena.items reason var ≡ true
+
+-- the steps down to the decision at a place were taken back, and that one too
+pub record UndoesTo (place : ℕ) (old new : Solver) : Type 0 where
   pub linked : IsTrail new.trail
   pub vars : new.trail.vars ≡ old.trail.vars
   pub keeps : (problem : Problem) → IsSolver problem old → IsSolver problem new
-  pub dropped : UndoneThrough old.trail.vars var rest (steps_of old.trail) (steps_of new.trail)
+  pub cut : steps_of new.trail ≡ reverse (take place old.trail.steps.items)
+  pub lower : rank old.trail.vars (steps_of old.trail) < 2 * power_of_three (old.trail.vars - 1 - length (steps_of new.trail)) + rank old.trail.vars (steps_of new.trail)
 
 -- no literal of this part has a variable of the set
 abbrev pub IsClearPart : NumberSet → List Lit → ClearPart → Type 0

@@ -2,22 +2,27 @@
 
 ghost use Rattle.std.specs.Prelude.{◌≡◌, ◌≢◌, ℕ, ◌+◌, ◌*◌, ◌-◌, ◌<◌, ◌≤◌, true, false, Some, None};
 ghost use Rattle.std.specs.Prelude.{List, [], ◌∷◌, All, length, take, min, IfOk, IfSome, IfNone, OnSome};
-ghost use Rattle.number_sets.specs.Sets.{NumberSet, members_of};
-ghost use Rattle.sat_solve.specs.Trail.{value_in, steps_of, IsTrail};
-ghost use Rattle.sat_solve.specs.Reasons.{IsSolution, IsMarkedSolution, IsProblem, Gives, Refutes, Picks, IsReasonFor};
-ghost use Rattle.sat_solve.specs.SolverState.{IsSolver, UndoesThrough, GoesOn, height};
+ghost use Rattle.number_sets.specs.Sets.{NumberSet};
+ghost use Rattle.sat_solve.specs.Trail.{value_in, is_decided, steps_of, IsTrail};
+ghost use Rattle.sat_solve.specs.Reasons.{IsSolution, IsMarkedSolution, IsProblem, Implied, IsLearnt, IsReasonFor};
+ghost use Rattle.sat_solve.specs.Jumps.{IsAt, IsJump};
+ghost use Rattle.sat_solve.specs.SolverState.{IsSolver, Gives, UndoesTo, GoesOn, height};
 
 use crate::clause::Lit;
 use crate::problem::Problem;
 use crate::trail::{ClauseStatus, Reason, Step, Trail};
 use std::alloc::{AllocError, Global};
 
-/// The trail, what its turned decisions rest on, and how far propagation and deciding came.
+/// The trail, what was learnt, and how far propagation and deciding came.
 #[derive(Drop)]
 pub(crate) struct Solver {
     pub trail: Trail,
-    /// The decisions that turned decisions rest on, one part after another.
-    pub arena: Vec<u32>,
+    /// The learnt clauses that steps rest on, one after another: copies, so that no step wants a clause to stay learnt.
+    pub arena: Vec<Lit>,
+    /// Clauses that follow from those of the used groups.
+    pub learnt: Vec<Vec<Lit>>,
+    /// How many literals these have.
+    pub size: usize,
     /// A variable below which all are set.
     pub cursor: u32,
     /// How many steps of the trail were propagated.
@@ -32,6 +37,8 @@ impl Solver {
         Solver {
             trail: Trail::new(alloc),
             arena: Vec::new(alloc),
+            learnt: Vec::new(alloc),
+            size: 0,
             cursor: 0,
             propagated: 0,
             used: Vec::new(alloc),
@@ -43,9 +50,9 @@ impl Solver {
         requires { IsProblem problem.now }
         ensures { IfOk result (λ _. IsSolver problem.now self.new) }
     {
+        self.forget();
         self.trail.restart(problem.vars)?;
         self.arena.clear();
-        self.arena.reserve(problem.literals.len())?;
         self.cursor = 0;
         self.propagated = 0;
         self.used.clear();
@@ -83,7 +90,7 @@ impl Solver {
         ensures { IfOk result (GoesOn problem.now self.old self.new) }
     {
         if clause >= problem.spans.len() {
-            return Ok(None);
+            return self.examine_learnt(problem, clause - problem.spans.len());
         }
         let span = problem.spans[clause];
         if span.owner.is_some() || !problem.keep[span.group as usize] {
@@ -130,7 +137,7 @@ impl Solver {
     ) -> Result<Option<Reason>, AllocError>
         requires solver { IsSolver problem.now self.old }
         requires in_range { All (λ literal. literal.var < problem.now.vars) clause.now }
-        requires gives { Gives problem.now reason clause.now }
+        requires gives { Gives problem.now self.old reason clause.now }
         ensures { IfOk result (GoesOn problem.now self.old self.new) }
     {
         match self.trail.status(clause) {
@@ -144,6 +151,35 @@ impl Solver {
                 Ok(None)
             }
             ClauseStatus::Conflict => Ok(Some(reason)),
+        }
+    }
+
+    /// Looks at the learnt clause of a number: where all its literals fail but one that is free, that one is forced.
+    fn examine_learnt(
+        &mut self,
+        problem: &Problem,
+        number: usize,
+    ) -> Result<Option<Reason>, AllocError>
+        requires problem { IsProblem problem.now }
+        requires solver { IsSolver problem.now self.old }
+        ensures { IfOk result (GoesOn problem.now self.old self.new) }
+    {
+        if number >= self.learnt.len() {
+            return Ok(None);
+        }
+        let learnt = self.learnt[number].as_slice();
+        match self.trail.status(learnt) {
+            ClauseStatus::Satisfied | ClauseStatus::Unresolved => Ok(None),
+            ClauseStatus::Unit(literal) => {
+                let reason = reason_of(&mut self.arena, problem, learnt)?;
+                self.trail.push(Step {
+                    var: literal.var,
+                    value: literal.positive,
+                    reason,
+                })?;
+                Ok(None)
+            }
+            ClauseStatus::Conflict => Ok(Some(reason_of(&mut self.arena, problem, learnt)?)),
         }
     }
 
@@ -165,58 +201,93 @@ impl Solver {
         Some(step)
     }
 
-    /// Takes back the steps down to the one that set this variable, and that one too.
-    fn undo_through(&mut self, var: u32)
+    /// Takes back the steps down to the decision at a place, and that one too.
+    fn undo_to(&mut self, place: usize)
         requires { IsTrail self.old.trail }
         ensures used { self.new.used ≡ self.old.used }
-        ensures undone { (rest : List ℕ) → Picks (var ∷ rest) (steps_of self.old.trail) → UndoesThrough var rest self.old self.new }
+        ensures undone { (decision : Step) → IsAt self.old.trail.steps.items place decision → is_decided decision ≡ true → UndoesTo place self.old self.new }
     {
-        while let Some(step) = self.undo() {
-            if step.var == var {
+        'steps: while self.trail.steps.len() > place {
+            let Some(_) = self.undo() else {
                 return;
-            }
+            };
         }
     }
 
-    /// Puts decisions into the arena while there is room, as a reason.
-    fn reason_of(&mut self, decisions: &[u32]) -> Result<Reason, AllocError>
+    /// Whether the learnt clauses have more literals than there is room for.
+    pub(crate) fn is_full(&self, problem: &Problem) -> bool {
+        self.size > room(problem)
+    }
+
+    /// Drops all learnt clauses.
+    pub(crate) fn forget(&mut self)
+        ensures learnt { self.new.learnt.items ≡ [] }
         ensures trail { self.new.trail ≡ self.old.trail }
-        ensures cursor { self.new.cursor ≡ self.old.cursor }
         ensures used { self.new.used ≡ self.old.used }
-        ensures reason { IfOk result (IsReasonFor decisions.now self.old.arena.items self.new.arena.items) }
+        ensures keeps { (problem : Problem) → IsSolver problem self.old → IsSolver problem self.new }
     {
-        let start = self.arena.len();
-        if decisions.len() > self.arena.capacity().saturating_sub(start) {
-            return Ok(Reason::AllOlder);
-        }
-        self.arena.extend_from_slice(decisions)?;
-        Ok(Reason::Decisions(start, self.arena.len()))
+        self.learnt.clear();
+        self.size = 0;
     }
 
-    /// Goes back to the newest of these decisions and turns it to in, for the others' sake. False if there is none.
+    /// Takes in a learnt clause.
+    pub(crate) fn learn(&mut self, clause: Vec<Lit>) -> Result<(), AllocError>
+        ensures trail { self.new.trail ≡ self.old.trail }
+        ensures used { self.new.used ≡ self.old.used }
+        ensures keeps { IfOk result (λ _. (problem : Problem) → IsSolver problem self.old → IsLearnt problem self.old.used.items clause → IsSolver problem self.new) }
+    {
+        self.size = self.size.saturating_add(clause.len());
+        self.learnt.push(clause)?;
+        Ok(())
+    }
+
+    /// Goes back to where a learnt clause has one free literal, and sets that. False if the clause has none.
     pub(crate) fn backjump(
         &mut self,
         problem: &Problem,
-        decisions: &[u32],
+        clause: &[Lit],
+        place: usize,
     ) -> Result<bool, AllocError>
         requires solver { IsSolver problem.now self.old }
-        requires picked { Picks decisions.now (steps_of self.old.trail) }
-        requires refuted { Refutes problem.now self.old.used.items decisions.now }
+        requires ranged { All (λ literal. literal.var < problem.now.vars) clause.now }
+        requires implied { Implied problem.now self.old.used.items clause.now }
+        requires jump { IsJump self.old.trail.steps.items 0 place clause.now }
         ensures solver { IfOk result (λ _. IsSolver problem.now self.new) }
         ensures turned { IfOk result (λ found. found ≡ true → height problem.now self.old < height problem.now self.new) }
         ensures used { self.new.used ≡ self.old.used }
         ensures none { IfOk result (λ found. found ≡ false → (set : NumberSet) → IsMarkedSolution problem.now self.old.used.items set → ⊥) }
     {
-        let Some((var, others)) = decisions.split_first() else {
+        let Some((first, _others)) = clause.split_first() else {
             return Ok(false);
         };
-        self.undo_through(*var);
-        let reason = self.reason_of(others)?;
+        self.undo_to(place);
+        let reason = reason_of(&mut self.arena, problem, clause)?;
         self.trail.push(Step {
-            var: *var,
-            value: true,
+            var: first.var,
+            value: first.positive,
             reason,
         })?;
         Ok(true)
     }
+}
+
+/// How many learnt literals there is room for: twice those of the formula, and half a megabyte.
+fn room(problem: &Problem) -> usize {
+    problem
+        .literals
+        .len()
+        .saturating_mul(2)
+        .saturating_add(65_536)
+}
+
+/// Puts a clause into the arena while there is room, as a reason.
+fn reason_of(arena: &mut Vec<Lit>, problem: &Problem, clause: &[Lit]) -> Result<Reason, AllocError>
+    ensures { IfOk result (IsReasonFor clause.now arena.old.items arena.new.items) }
+{
+    let start = arena.len();
+    if clause.len() > room(problem).saturating_sub(start) {
+        return Ok(Reason::AllOlder);
+    }
+    arena.extend_from_slice(clause)?;
+    Ok(Reason::Learnt(start, arena.len()))
 }

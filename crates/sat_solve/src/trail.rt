@@ -9,6 +9,7 @@ ghost use Rattle.sat_solve.specs.Clauses.{clause_holds};
 ghost use Rattle.sat_solve.specs.ClauseStatus.{IsStatus};
 ghost use Rattle.sat_solve.specs.Trail.{value_in, set_of, is_decision, IsLinked, steps_of, IsTrail};
 ghost use Rattle.sat_solve.specs.Reasons.{end_before};
+ghost use Rattle.sat_solve.specs.Jumps.{denied};
 
 use crate::clause::Lit;
 use std::alloc::{AllocError, Global};
@@ -37,8 +38,8 @@ pub(crate) enum Reason {
     Clause(usize),
     /// On the other one of two variables that are not both in, by a clause of this group.
     Pair(u32, u32, u32),
-    /// On the decisions that stand in the arena from one place to another.
-    Decisions(usize, usize),
+    /// On the older values of the variables of the literals that stand in the arena from one place to another: those of a learnt clause.
+    Learnt(usize, usize),
     /// On all older values.
     AllOlder,
 }
@@ -59,7 +60,7 @@ impl Reason {
         ensures { result ≡ end_before self end }
     {
         match self {
-            Reason::Decisions(start, _) => start,
+            Reason::Learnt(start, _) => start,
             _ => end,
         }
     }
@@ -71,6 +72,18 @@ pub(crate) struct Step {
     pub var: u32,
     pub value: bool,
     pub reason: Reason,
+}
+
+impl Step {
+    /// The literal that fails by this step.
+    pub(crate) fn denied(self) -> Lit
+        ensures { result ≡ denied self }
+    {
+        Lit {
+            var: self.var,
+            positive: !self.value,
+        }
+    }
 }
 
 /// The variables that are set, and the order in which they were.
@@ -109,6 +122,16 @@ impl Trail {
             Some(Some(value)) => Some(*value == literal.positive),
             _ => None,
         }
+    }
+
+    /// How many steps stand before the oldest decision. It is a hint.
+    pub(crate) fn first_decision(&self) -> usize {
+        for place in 0..self.steps.len() {
+            if self.steps[place].reason.is_decision() {
+                return place;
+            }
+        }
+        self.steps.len()
     }
 
     /// The value of a variable, if it is set.

@@ -34,7 +34,7 @@ enum Fate {
     /// The other watch holds.
     Stay,
     /// Another literal of the clause, at this place, may still hold.
-    Move(usize),
+    Move(usize, Lit),
     /// All literals but that of the other watch failed.
     Examine,
 }
@@ -77,21 +77,52 @@ impl Watches {
     }
 
     /// Lets a watch watch the literal at a place.
-    fn move_to(&mut self, problem: &Problem, watch: u32, place: usize) {
-        if (watch as usize) < self.place.len() && place < problem.literals.len() {
+    fn move_to(&mut self, watch: u32, place: usize, literal: Lit) {
+        if (watch as usize) < self.place.len() {
             self.place[watch as usize] = place;
-            self.link(watch, Watches::list_of(problem.literals[place]));
+            self.link(watch, Watches::list_of(literal));
         }
     }
 
-    /// Watches the first two literals of a clause that has two or more.
-    fn attach(&mut self, problem: &Problem, clause: usize) {
-        if clause < problem.spans.len() && clause < END as usize / 2 {
-            let start = problem.spans[clause].start;
-            if start < problem.literals.len() {
-                let watch = clause as u32 * 2;
-                self.move_to(problem, watch, start);
-                self.move_to(problem, watch + 1, start + 1);
+    /// Watches the first two literals of a clause, which stand from a place on.
+    fn attach(&mut self, clause: usize, literals: &[Lit], start: usize) {
+        if clause < END as usize / 2 && literals.len() > start && literals.len() - start >= 2 {
+            let watch = clause as u32 * 2;
+            self.move_to(watch, start, literals[start]);
+            self.move_to(watch + 1, start + 1, literals[start + 1]);
+        }
+    }
+
+    /// Watches the clause that was learnt last.
+    pub(crate) fn watch_learnt(
+        &mut self,
+        problem: &Problem,
+        solver: &Solver,
+    ) -> Result<(), AllocError> {
+        if let Some(literals) = solver.learnt.last() {
+            let clause = problem.spans.len().saturating_add(solver.learnt.len() - 1);
+            let watches = clause.min(END as usize / 2 - 1) * 2 + 2;
+            self.next.resize(watches, END)?;
+            self.place.resize(watches, 0)?;
+            self.attach(clause, literals, 0);
+        }
+        Ok(())
+    }
+
+    /// Watches no learnt clause any more.
+    pub(crate) fn forget(&mut self, problem: &Problem) {
+        let given = problem.spans.len().min(END as usize / 2) * 2;
+        'lists: for list in 0..self.head.len() {
+            let mut watch = self.take_list(list);
+            'watches: for _ in 0..self.next.len() {
+                if watch as usize >= self.next.len() {
+                    break;
+                }
+                let after = self.next[watch as usize];
+                if (watch as usize) < given {
+                    self.link(watch, list);
+                }
+                watch = after;
             }
         }
     }
@@ -113,17 +144,14 @@ impl Watches {
 
     /// The first place from `start` to `end`, but for `other`, whose literal did not fail.
     fn free_place(
-        problem: &Problem,
+        literals: &[Lit],
         trail: &Trail,
         start: usize,
         end: usize,
         other: usize,
     ) -> Option<usize> {
-        for place in start..end {
-            if place != other
-                && place < problem.literals.len()
-                && trail.truth(problem.literals[place]) != Some(false)
-            {
+        for place in start..end.min(literals.len()) {
+            if place != other && trail.truth(literals[place]) != Some(false) {
                 return Some(place);
             }
         }
@@ -131,24 +159,43 @@ impl Watches {
     }
 
     /// What is to become of a watch whose literal failed.
-    fn fate(&self, problem: &Problem, trail: &Trail, watch: u32) -> Fate {
+    fn fate(&self, problem: &Problem, solver: &Solver, watch: u32) -> Fate {
         let clause = watch as usize / 2;
+        if clause < problem.spans.len() {
+            let span = problem.spans[clause];
+            return self.fate_in(problem.literals, span.start, span.end, &solver.trail, watch);
+        }
+        match solver.learnt.get(clause - problem.spans.len()) {
+            Some(learnt) => self.fate_in(learnt, 0, learnt.len(), &solver.trail, watch),
+            None => Fate::Examine,
+        }
+    }
+
+    /// What is to become of a watch of the clause that stands from `start` to `end`.
+    fn fate_in(
+        &self,
+        literals: &[Lit],
+        start: usize,
+        end: usize,
+        trail: &Trail,
+        watch: u32,
+    ) -> Fate {
         let other = self.place_of(watch ^ 1);
-        if clause >= problem.spans.len() || other >= problem.literals.len() {
+        if other >= literals.len() {
             return Fate::Examine;
         }
-        if trail.truth(problem.literals[other]) == Some(true) {
+        if trail.truth(literals[other]) == Some(true) {
             return Fate::Stay;
         }
-        let span = problem.spans[clause];
         let from = self.place_of(watch);
         // Where the last look for a literal ended, the next one begins: so a clause is read once for each time it is forced.
-        if let Some(place) = Watches::free_place(problem, trail, from, span.end, other) {
-            return Fate::Move(place);
-        }
-        match Watches::free_place(problem, trail, span.start, from, other) {
-            Some(place) => Fate::Move(place),
-            None => Fate::Examine,
+        let place = match Watches::free_place(literals, trail, from, end, other) {
+            Some(place) => Some(place),
+            None => Watches::free_place(literals, trail, start, from, other),
+        };
+        match place {
+            Some(place) if place < literals.len() => Fate::Move(place, literals[place]),
+            _ => Fate::Examine,
         }
     }
 
@@ -174,9 +221,9 @@ impl Watches {
             if conflict.is_some() {
                 self.link(watch, list);
             } else {
-                match self.fate(problem, &solver.trail, watch) {
+                match self.fate(problem, solver, watch) {
                     Fate::Stay => self.link(watch, list),
-                    Fate::Move(place) => self.move_to(problem, watch, place),
+                    Fate::Move(place, literal) => self.move_to(watch, place, literal),
                     Fate::Examine => {
                         self.link(watch, list);
                         conflict = solver.examine(problem, watch as usize / 2)?;
@@ -238,7 +285,7 @@ impl Watches {
                 self.exclusions.attach(problem, clause, owner)?;
             } else if span.end - span.start >= 2 {
                 if problem.keep[span.group as usize] {
-                    self.attach(problem, clause);
+                    self.attach(clause, problem.literals, span.start);
                 }
             } else {
                 let conflict = solver.examine(problem, clause)?;

@@ -4,7 +4,8 @@ use Rattle.sat_solve.proofs.analyze.Analysis.see_literals.Goals as goal
 
 pub loop-literal-preserved : goal.loop-literal-preserved
 loop-literal-preserved c = record {
-  decisions = c.see.ensures.decisions ∙ c.loop-literal.invariant.decisions;
+  clause = c.see.ensures.clause ∙ c.loop-literal.invariant.clause;
+  target = c.see.ensures.target ∙ c.loop-literal.invariant.target;
   seen = rw c.see.ensures.seen (seen_more (λ literal. literal.var) c.args.literals.now c.args.self.now.seen.items c.loop-literal.self.seen.items c.loop-literal.literal-index _ c.loop-literal-test.true c.loop-literal.invariant.seen);
 }
 

@@ -4,6 +4,7 @@ use Rattle.sat_solve.proofs.analyze.Analysis.see_literals.Given as goal
 
 abbrev pub invariant-loop-literal : goal.invariant-loop-literal
 invariant-loop-literal l = record {
-  decisions : l.self.decisions ≡ l.initial.self.decisions;
+  clause : l.self.clause ≡ l.initial.self.clause;
+  target : l.self.target ≡ l.initial.self.target;
   seen : SeesAll (variables_of (take l.literal-index l.literals)) l.initial.self.seen.items l.self.seen.items;
 }

@@ -7,7 +7,7 @@ use Rattle.sat_solve.proofs.SolverLemmas.{clause_gives}
 use Rattle.sat_solve.proofs.solver.Solver.examine.Goals as goal
 
 pub force-requires-clause-gives : goal.force-requires-clause-gives
-force-requires-clause-gives c = clause_gives c.args.problem.now c.args.clause c.requires.problem c.if-clause-problem.false (sym c.if-is_some.ensures) c.if-not-problem-span.false
+force-requires-clause-gives c = clause_gives c.args.problem.now c.args.self.now c.args.clause c.requires.problem c.requires.solver c.if-clause-problem.false (sym c.if-is_some.ensures) c.if-not-problem-span.false
 
 pub force-requires-clause-in_range : goal.force-requires-clause-in_range
 force-requires-clause-in_range c =

@@ -11,4 +11,5 @@ returns-clause-keeps c = λ problem is.
     (omega (arith, c.min-self.ensures))
     (omega (arith, c.min-self.ensures))
     refl
+    refl
     is

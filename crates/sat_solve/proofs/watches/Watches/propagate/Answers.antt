@@ -8,7 +8,7 @@ visit-requires c =
     let is = c.steps.invariant.solver in
     record {
       problem = c.requires.problem;
-      solver = record { linked = is.linked; vars = is.vars; sound = is.sound; reasoned = is.reasoned; parts = is.parts; below = is.below; used = is.used };
+      solver = record { linked = is.linked; vars = is.vars; sound = is.sound; reasoned = is.reasoned; parts = is.parts; below = is.below; used = is.used; learnt = is.learnt };
     }
 
 pub rule_out-requires : goal.rule_out-requires
