@@ -2,13 +2,10 @@
 
 import argparse
 import importlib
-import os
-import signal
-import sys
 from collections.abc import Callable, Sequence
 from typing import NoReturn, Optional, TypeAlias
 
-from debcheck_tools.errors import MEMORY, PROGRAM, USAGE, WRITE, Fault
+from debcheck_tools.errors import USAGE, Fault, ended
 
 # Modules with a call register(commands), which adds a sub-command; its `work` takes the options and gives the status.
 COMMANDS = ("check_command",)
@@ -36,23 +33,9 @@ def parser() -> Parser:
 
 
 def main(words: Optional[Sequence[str]] = None) -> int:
-    """The exit status; a fault is one line on standard error."""
-    try:
+    def work() -> int:
         options = parser().parse_args(words)
         status: int = options.work(options)
-        sys.stdout.flush()
         return status
-    except Fault as fault:
-        print(f"debcheck-archive: {fault.line}", file=sys.stderr)
-        return fault.status
-    except BrokenPipeError:
-        # Whoever reads has enough.
-        os.dup2(os.open(os.devnull, os.O_WRONLY), sys.stdout.fileno())
-        return WRITE
-    except MemoryError:
-        print("debcheck-archive: out of memory", file=sys.stderr)
-        return MEMORY
-    except KeyboardInterrupt:
-        signal.signal(signal.SIGINT, signal.SIG_DFL)
-        os.kill(os.getpid(), signal.SIGINT)
-        return PROGRAM
+
+    return ended("debcheck-archive", work)

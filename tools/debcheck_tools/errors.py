@@ -1,6 +1,9 @@
 """Exit statuses, and the one way in which a command ends without an answer."""
 
+import os
+import signal
 import sys
+from collections.abc import Callable
 
 OK, BROKEN = 0, 1
 # The command line is refused; an index has a fault; a name isn't there; a file can't be read; the answer can't be
@@ -19,3 +22,25 @@ class Fault(Exception):
 def note(line: str) -> None:
     """Tells on standard error what is no fault."""
     print(f"debcheck-archive: note: {line}", file=sys.stderr)
+
+
+def ended(command: str, work: Callable[[], int]) -> int:
+    """The exit status of a command; a fault is one line on standard error."""
+    try:
+        status = work()
+        sys.stdout.flush()
+        return status
+    except Fault as fault:
+        print(f"{command}: {fault.line}", file=sys.stderr)
+        return fault.status
+    except BrokenPipeError:
+        # Whoever reads has enough.
+        os.dup2(os.open(os.devnull, os.O_WRONLY), sys.stdout.fileno())
+        return WRITE
+    except MemoryError:
+        print(f"{command}: out of memory", file=sys.stderr)
+        return MEMORY
+    except KeyboardInterrupt:
+        signal.signal(signal.SIGINT, signal.SIG_DFL)
+        os.kill(os.getpid(), signal.SIGINT)
+        return PROGRAM

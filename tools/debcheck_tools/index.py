@@ -1,5 +1,6 @@
 """One index of several files: its stanzas with the file that each came from, and its one text."""
 
+import functools
 import os
 from collections import Counter
 from collections.abc import Iterable, Iterator, Sequence
@@ -50,21 +51,32 @@ def stanzas_of(file: IndexFile) -> Iterator[Stanza]:
 
 
 class Index:
-    """Files that are read as one index, and those of their stanzas that count.
-
-    `unread` is a file that apt can't read to its end: the program is asked about the whole text, and tells why.
-    """
+    """Files that are read as one index, and those of their stanzas that count."""
 
     def __init__(self, files: Sequence[IndexFile], stanzas: Optional[Sequence[Stanza]] = None) -> None:
         self.files = list(files)
         self.is_whole = stanzas is None
-        self.unread: Optional[IndexFile] = None
-        self.stanzas = list(stanzas or ())
-        for file in self.files if stanzas is None else ():
+        self.chosen = list(stanzas or ())
+
+    @functools.cached_property
+    def parsed(self) -> tuple[list[Stanza], Optional[IndexFile]]:
+        """The stanzas, which are read when they are first asked for, and the first file that apt can't read on."""
+        found, unread = list(self.chosen), None
+        for file in self.files if self.is_whole else ():
             try:
-                self.stanzas.extend(stanzas_of(file))
+                found.extend(stanzas_of(file))
             except apt_pkg.Error:
-                self.unread = self.unread or file
+                unread = unread or file
+        return found, unread
+
+    @property
+    def stanzas(self) -> list[Stanza]:
+        return self.parsed[0]
+
+    @property
+    def unread(self) -> Optional[IndexFile]:
+        """A file that apt can't read to its end: the program is asked about the whole text, and tells why."""
+        return self.parsed[1]
 
     def pieces(self) -> Iterator[tuple[IndexFile, int, int]]:
         """What its text is made of: longest runs of bytes of its files."""
@@ -185,23 +197,37 @@ def counted(indexes: Iterable[Index]) -> Iterator[tuple[IndexFile, Counter[str]]
             yield file, counts[id(file)]
 
 
-def latest(indexes: Sequence[Index], arch: Optional[str] = None) -> list[Index]:
-    """The indexes without each stanza whose version a stanza of its name exceeds, in whichever of them it is.
+def latest(indexes: Sequence[Index], arch: Optional[str] = None, count: int = 1) -> list[Index]:
+    """The indexes without each stanza whose version so many newer ones of its name exceed, whichever index has them.
 
     With an architecture only what is of it, or of `all`, is compared; other stanzas stay.
     """
-    newest: dict[str, str] = {}
+    versions: dict[str, list[str]] = {}
     compare = apt_pkg.version_compare
 
     def counts(stanza: Stanza) -> bool:
         return bool(stanza.package and stanza.version) and (arch is None or stanza.architecture in (arch, "all"))
 
     for stanza in (stanza for index in indexes for stanza in index.stanzas if counts(stanza)):
-        known = newest.setdefault(stanza.package, stanza.version)
-        if known != stanza.version and compare(stanza.version, known) > 0:
-            newest[stanza.package] = stanza.version
+        known = versions.setdefault(stanza.package, [])
+        if stanza.version not in known:
+            known.append(stanza.version)
+
+    least = {name: kept(known, count) for name, known in versions.items()}
 
     def stays(stanza: Stanza) -> bool:
-        return not counts(stanza) or compare(stanza.version, newest[stanza.package]) >= 0
+        return not counts(stanza) or compare(stanza.version, least[stanza.package]) >= 0
 
     return [index if index.unread else Index(index.files, list(filter(stays, index.stanzas))) for index in indexes]
+
+
+def kept(versions: Sequence[str], count: int) -> str:
+    """The least of so many newest versions; those that are equal count as one."""
+    newest = (
+        sorted(versions, key=functools.cmp_to_key(apt_pkg.version_compare), reverse=True) if versions[1:] else versions
+    )
+    for version, following in zip(newest, newest[1:]):
+        count -= apt_pkg.version_compare(version, following) > 0
+        if not count:
+            return version
+    return newest[-1]

@@ -42,15 +42,18 @@ def in_memory(text: bytes = b"") -> BinaryIO:
 EMPTY = "is empty; see whether what wrote it failed"
 
 
-def open_index(name: str, kind: str = PACKAGES, may_be_empty: bool = False) -> IndexFile:
-    """Opens a file, or standard input by the name "-", that has to be an index of this kind."""
+def open_index(name: str, kind: str = PACKAGES, may_be_empty: bool = False, sources_by: str = "--sources") -> IndexFile:
+    """Opens a file, or standard input by the name "-", that has to be an index of this kind.
+
+    Where it is one of sources in place of packages the fault says how these are named.
+    """
     shown = "standard input" if name == "-" else name
     text = unpacked(shown, raw(name, shown))
     size = text.seek(0, os.SEEK_END)
     file = IndexFile(shown, text, size, kind)
     found = what_it_is(file)
     if found != kind and not (found == EMPTY and may_be_empty):
-        refuse(shown, found, kind)
+        refuse(shown, found, sources_by)
     return file
 
 
@@ -152,9 +155,9 @@ def what_it_is(file: IndexFile) -> str:
     return PACKAGES
 
 
-def refuse(shown: str, found: str, wanted: str) -> NoReturn:
+def refuse(shown: str, found: str, sources_by: str) -> NoReturn:
     if found == SOURCES:
-        found = "is an index of sources; name it by --sources"
+        found = f"is an index of sources; name it by {sources_by}"
     elif found == PACKAGES:
         found = "is an index of binary packages, not of sources"
     raise Fault(DATA, f"{shown}: {found}")

@@ -103,9 +103,26 @@ class Program:
         names: Optional[Sequence[str]] = None,
     ) -> tuple[int, BinaryIO]:
         """Its status, OK or BROKEN, and what it writes; any other end is a fault in the words of the files."""
+        answer = self.ask(arch, index, background if background and background.stanzas else None, words, names)
+        unread = index.unread or (background and background.unread)
+        if unread:
+            raise Fault(
+                DATA, f"{unread.name}: debcheck can read it, and apt can't: a stanza there has no form that apt knows"
+            )
+        return answer
+
+    def ask(
+        self,
+        arch: str,
+        index: Index,
+        background: Optional[Index],
+        words: Sequence[str],
+        names: Optional[Sequence[str]] = None,
+    ) -> tuple[int, BinaryIO]:
+        """The same without apt's reading of the texts."""
         handed = []
         line = [self.path, "--arch", arch, "--quiet", *self.words, *words]
-        if background is not None and background.stanzas:
+        if background is not None:
             handed.append(background.text())
             line += ["--bg", f"/dev/fd/{handed[-1].fileno()}"]
         if names is not None:
@@ -126,12 +143,6 @@ class Program:
         out.seek(0)
         err.seek(0)
         if done.returncode in (OK, BROKEN):
-            unread = index.unread or (background and background.unread)
-            if unread:
-                raise Fault(
-                    DATA,
-                    f"{unread.name}: debcheck can read it, and apt can't: a stanza there has no form that apt knows",
-                )
             return done.returncode, out
         self.refuse(done.returncode, err.read().decode("utf-8", "replace").strip(), index, background)
 

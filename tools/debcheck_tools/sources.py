@@ -27,13 +27,14 @@ OPERATORS = {"<": "<<", ">": ">>"}
 
 @dataclass(frozen=True)
 class Building:
-    """How sources are to be built."""
+    """How sources are to be built; with `text_alone` those with Extra-Source-Only count, too."""
 
     arch: str
     profiles: Sequence[str] = ()
     indep: bool = True
     arch_only: bool = True
     first_alternative: bool = False
+    text_alone: bool = False
 
     def fields(self, all_three: tuple[str, str, str]) -> tuple[str, ...]:
         plain, indep, arch = all_three
@@ -47,6 +48,7 @@ class Source(NamedTuple):
     version: str
     maintainer: str
     binaries: str
+    architectures: str
     file: IndexFile
     fields: dict[str, str]
 
@@ -75,9 +77,9 @@ class Sources:
             tags = tags_of(in_memory(file.text.read(end - begin)))
             while tags.step():
                 name, version, maintainer, binaries, architectures, text_alone, *rest = values(tags.section, FIELDS)
-                if text_alone != "yes" and self.is_built(architectures):
+                if (self.building.text_alone or text_alone != "yes") and self.is_built(architectures):
                     fields = {field: value for field, value in zip(DEPENDS + CONFLICTS, rest) if value}
-                    yield Source(name, version, maintainer, binaries, file, fields)
+                    yield Source(name, version, maintainer, binaries, architectures, file, fields)
 
     def is_built(self, architectures: str) -> bool:
         """Whether an Architecture field has `all`, the architecture, or a wildcard that stands for it."""
