@@ -1,7 +1,118 @@
-"""debcheck-archive check: which packages of the files can't be installed."""
+"""debcheck-archive check: which packages of the files can't be installed, or which sources can't be built."""
 
+import argparse
+import difflib
+import json
+import sys
+from collections.abc import Iterator
+
+from debcheck_tools import inputs, overview, overview_text
 from debcheck_tools.command_line import Commands
+from debcheck_tools.errors import UNKNOWN, USAGE, Fault
+from debcheck_tools.inputs import Inputs
+from debcheck_tools.overview import Packages
+from debcheck_tools.program import Json, Program
+from debcheck_tools.progress import progress
+from debcheck_tools.sources import PREFIX
+from debcheck_tools.wrongs import Member, gathered
+
+SHOWN = ("explain", "failures", "successes", "causes", "all-reasons", "why")
 
 
 def register(commands: Commands) -> None:
-    commands.add_parser("check", help="what can't be installed")
+    about = (
+        "Tells what is wrong, the most useful thing to mend first; or, with --report, passes the program's report on."
+    )
+    parser = commands.add_parser(
+        "check", help="what can't be installed, or built, and what to mend first", description=about
+    )
+    inputs.add_files(parser)
+    inputs.add_sources(parser)
+    parser.add_argument("--format", choices=["text", "json"], default="text", help="the form of the overview")
+    parser.add_argument("--by", choices=["source", "maintainer"], help="group it by who needs what is missing")
+    parser.add_argument("--report", choices=["text", "json"], help="the program's report in place of the overview")
+    parser.add_argument("--checkonly", metavar="NAME,..", help="ask about these names alone")
+    parser.add_argument("--ignore-essential", action="store_true", help="let no name be essential")
+    report = parser.add_argument_group("with --report", "the program's words of these names")
+    for word in SHOWN:
+        report.add_argument(f"--{word}", action="store_true")
+    parser.set_defaults(work=work)
+
+
+def work(options: argparse.Namespace) -> int:
+    words = [f"--{word}" for word in SHOWN if getattr(options, word.replace("-", "_"))]
+    if words and not options.report:
+        raise Fault(USAGE, f"{words[0]} needs --report text or --report json: the overview doesn't have it")
+    asked = inputs.read(options)
+    program = Program(["--ignore-essential"] if options.ignore_essential else [])
+    names = names_of(options, asked)
+    progress.tell("asking debcheck")
+    if options.report == "text":
+        status, out = program.run(asked.arch, asked.index, asked.background, words, names)
+        progress.end()
+        sys.stdout.buffer.write(out.read())
+        return status
+    if options.report == "json":
+        report = program.check(asked.arch, asked.index, asked.background, words, names)
+        packages = Packages(asked)
+        shown = [told(package, packages) for package in report.packages()]
+        progress.end()
+        write_report(report.rest, shown)
+        return report.status
+    report = program.check(asked.arch, asked.index, asked.background, ["--failures", "--all-reasons"], names)
+    progress.tell("looking for what is wrong")
+    packages = Packages(asked)
+    found = gathered(report.packages(), packages.owner_of(options.by) if options.by else None)
+    rows = list(overview.rows(found, packages))
+    progress.end()
+    if options.format == "json":
+        json.dump(overview.in_json(asked.arch, report.rest, rows, packages), sys.stdout, indent=1)
+        print()
+    else:
+        print("\n".join(overview_text.lines(report.rest, rows, "sources" if asked.sources else "packages")))
+    return report.status
+
+
+def names_of(options: argparse.Namespace, asked: Inputs) -> list[str] | None:
+    """The names that are asked about, each of which has to be there."""
+    if options.checkonly is None:
+        return None
+    front = PREFIX if asked.sources else ""
+    known = {stanza.package for stanza in asked.index.stanzas}
+    names = [front + name for name in options.checkonly.split(",")]
+    for name in names:
+        if name not in known:
+            near = [other.removeprefix(front) for other in difflib.get_close_matches(name, known, 3, 0.7)]
+            files = ", ".join(file.name for file in asked.index.files)
+            hint = f"; similar: {', '.join(near)}" if near else ""
+            raise Fault(
+                UNKNOWN, f"{files}: no {'source' if front else 'package'} is called {name.removeprefix(front)!r}{hint}"
+            )
+    return names
+
+
+def told(package: Json, packages: Packages) -> Json:
+    """A package of the report with its source and file, and with reasons by the fields that asked."""
+    member = Member(package["package"], package["version"])
+    more: Json = {**package, **packages.told(member), "file": packages.file_of(member)}
+    for key in ("reasons", "also"):
+        if key in package:
+            cores = package[key] if key == "also" else [package[key]]
+            turned = [[packages.reason(line) for line in core] for core in cores]
+            more[key] = turned if key == "also" else turned[0]
+    return more
+
+
+def write_report(rest: Json, shown: list[Json]) -> None:
+    """The program's document, each package on a line of its own."""
+    head = {key: rest[key] for key in ("format", "options", "architecture") if key in rest}
+    tail = {key: value for key, value in rest.items() if key not in head}
+    sys.stdout.writelines(
+        parts(json.dumps(head)[:-1], [json.dumps(package) for package in shown], json.dumps(tail)[1:])
+    )
+
+
+def parts(head: str, packages: list[str], tail: str) -> Iterator[str]:
+    yield f'{head}, "report":[\n'
+    yield ",\n".join(packages) + ("\n" if packages else "")
+    yield f"],{tail}\n"

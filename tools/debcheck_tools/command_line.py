@@ -6,6 +6,7 @@ from collections.abc import Callable, Sequence
 from typing import NoReturn, Optional, TypeAlias
 
 from debcheck_tools.errors import USAGE, Fault, ended
+from debcheck_tools.progress import progress
 
 # Modules with a call register(commands), which adds a sub-command; its `work` takes the options and gives the status.
 COMMANDS = ("check_command",)
@@ -35,7 +36,11 @@ def parser() -> Parser:
 def main(words: Optional[Sequence[str]] = None) -> int:
     def work() -> int:
         options = parser().parse_args(words)
-        status: int = options.work(options)
+        progress.start()
+        try:
+            status: int = options.work(options)
+        finally:
+            progress.end()
         return status
 
     return ended("debcheck-archive", work)

@@ -22,6 +22,7 @@ class Stanza(NamedTuple):
     source: str
     maintainer: str
     provides: str
+    binaries: str
     file: IndexFile
     begin: int
     end: int
@@ -37,7 +38,7 @@ class Stanza(NamedTuple):
         return self.source.partition("(")[2].rstrip(") ") or self.version
 
 
-FIELDS = ("Package", "Version", "Architecture", "Source", "Maintainer", "Provides")
+FIELDS = ("Package", "Version", "Architecture", "Source", "Maintainer", "Provides", "Binary")
 
 
 def stanzas_of(file: IndexFile) -> Iterator[Stanza]:
@@ -45,8 +46,8 @@ def stanzas_of(file: IndexFile) -> Iterator[Stanza]:
     tags, begin = tags_of(file.text), 0
     while tags.step():
         end = tags.offset()
-        package, version, architecture, source, maintainer, provides = values(tags.section, FIELDS)
-        yield Stanza(package, version, architecture, source, maintainer, provides, file, begin, end)
+        package, version, architecture, source, maintainer, provides, binaries = values(tags.section, FIELDS)
+        yield Stanza(package, version, architecture, source, maintainer, provides, binaries, file, begin, end)
         begin = end
 
 
@@ -123,6 +124,16 @@ class Index:
                 if count == number:
                     return file, lines
         raise IndexError(number)
+
+
+def joined(indexes: Sequence[Index]) -> Index:
+    """One index of several."""
+    if len(indexes) == 1:
+        return indexes[0]
+    files = [file for index in indexes for file in index.files]
+    if any(index.unread for index in indexes):
+        return Index(files)
+    return Index(files, [stanza for index in indexes for stanza in index.stanzas])
 
 
 def append(whole: BinaryIO, file: IndexFile, begin: int, end: int) -> None:
