@@ -7,6 +7,8 @@ import sys
 from collections.abc import Iterator
 
 from debcheck_tools import inputs, overview, overview_text
+from debcheck_tools.change import WORDS
+from debcheck_tools.change_told import add_form, tell_change, write_json
 from debcheck_tools.command_line import Commands
 from debcheck_tools.errors import UNKNOWN, USAGE, Fault
 from debcheck_tools.inputs import Inputs
@@ -28,8 +30,8 @@ def register(commands: Commands) -> None:
     )
     inputs.add_files(parser)
     inputs.add_sources(parser)
-    parser.add_argument("--format", choices=["text", "json"], default="text", help="the form of the overview")
-    parser.add_argument("--by", choices=["source", "maintainer"], help="group it by who needs what is missing")
+    inputs.add_since(parser)
+    add_form(parser)
     parser.add_argument("--report", choices=["text", "json"], help="the program's report in place of the overview")
     parser.add_argument("--checkonly", metavar="NAME,..", help="ask about these names alone")
     parser.add_argument("--ignore-essential", action="store_true", help="let no name be essential")
@@ -59,17 +61,18 @@ def work(options: argparse.Namespace) -> int:
         progress.end()
         write_report(report.rest, shown)
         return report.status
-    report = program.check(asked.arch, asked.index, asked.background, ["--failures", "--all-reasons"], names)
-    progress.tell("looking for what is wrong")
+    if asked.earlier:
+        return tell_change(options, program, asked, asked.earlier, names)
     packages = Packages(asked)
-    found = gathered(report.packages(), packages.owner_of(options.by) if options.by else None)
-    rows = list(overview.rows(found, packages))
+    owner = packages.owner_of(options.by) if options.by else None
+    report = program.check(asked.arch, asked.index, asked.background, WORDS, names)
+    progress.tell("looking for what is wrong")
+    rows = list(overview.rows(gathered(report.packages(), owner), packages))
     progress.end()
     if options.format == "json":
-        json.dump(overview.in_json(asked.arch, report.rest, rows, packages), sys.stdout, indent=1)
-        print()
+        write_json(overview.in_json(asked.arch, report.rest, rows, packages))
     else:
-        print("\n".join(overview_text.lines(report.rest, rows, "sources" if asked.sources else "packages")))
+        print("\n".join(overview_text.lines(report.rest, rows, asked.what)))
     return report.status
 
 

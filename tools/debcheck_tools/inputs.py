@@ -26,6 +26,12 @@ class Inputs:
     background: Optional[Index]
     sources: Optional[Sources] = None
     building: Optional[dict[str, list[str]]] = None
+    earlier: Optional["Inputs"] = None
+
+    @property
+    def what(self) -> str:
+        """What is asked about, in a word."""
+        return "sources" if self.sources else "packages"
 
 
 def add_files(parser: argparse.ArgumentParser) -> None:
@@ -33,12 +39,17 @@ def add_files(parser: argparse.ArgumentParser) -> None:
     parser.add_argument(
         "files", metavar="FILE", nargs="*", help='Packages files, compressed or not; "-": standard input'
     )
-    files = parser.add_argument_group("what is asked about")
+    add_suite(parser)
+    parser.add_argument("--bg", metavar="FILE", action="append", default=[], help="what may be used and isn't asked")
+
+
+def add_suite(parser: argparse.ArgumentParser) -> None:
+    """The words of what stands in the place of files, and of which part of it counts."""
+    files = parser.add_argument_group("in place of files, and which part of them")
     files.add_argument("--mirror", metavar="DIR", help="a mirror: the folder that has dists/")
     files.add_argument("--suite", metavar="S", help="a suite of the mirror")
     files.add_argument("--component", metavar="C", action="append", default=[], help="a component of it; else all")
     files.add_argument("--apt", action="store_true", help="what apt of this machine has fetched")
-    files.add_argument("--bg", metavar="FILE", action="append", default=[], help="what may be used and isn't asked")
     files.add_argument("--arch", metavar="A", help="the architecture, where the files have several")
     files.add_argument("--latest", action="store_true", help="of each name the newest version alone")
 
@@ -51,10 +62,27 @@ def add_sources(parser: argparse.ArgumentParser) -> None:
         ("--built-by", "mark what no source of these builds any more; without FILE the same"),
     ):
         sources.add_argument(word, metavar="FILE", nargs="*", action="extend", help=tells)
+    add_building(parser)
+
+
+def add_building(parser: argparse.ArgumentParser) -> None:
+    """How sources are to be built."""
+    sources = parser.add_argument_group("how sources are built")
     sources.add_argument("--profiles", metavar="P,..", default="", help="build profiles, such as nocheck,nodoc")
     sources.add_argument("--no-indep", action="store_true", help="without Build-Depends-Indep")
     sources.add_argument("--no-arch", action="store_true", help="without Build-Depends-Arch")
     sources.add_argument("--first-alternative", action="store_true", help="of alternatives those of the first name")
+
+
+def add_since(parser: argparse.ArgumentParser) -> None:
+    """The words of an earlier state."""
+    since = parser.add_argument_group("change")
+    since.add_argument(
+        "--since", metavar="FILE", nargs="+", action="extend", help="the earlier files, with --sources those of sources"
+    )
+    since.add_argument(
+        "--since-bg", metavar="FILE", nargs="+", action="extend", help="what could be used then; else what can be now"
+    )
 
 
 def opened(names: Sequence[str], kind: str = PACKAGES, may_be_empty: bool = False) -> Index:
@@ -101,7 +129,26 @@ def read(options: argparse.Namespace) -> Inputs:
         inputs.background = rest[0] if rest else None
     if options.built_by is not None or options.sources is not None:
         read_sources(options, inputs)
+    if options.since:
+        inputs.earlier = read_earlier(options, inputs)
+    elif options.since_bg:
+        raise Fault(USAGE, "--since-bg needs --since")
     return inputs
+
+
+def read_earlier(options: argparse.Namespace, now: Inputs) -> Inputs:
+    """The earlier state, of the same architecture, and over the same background where none of its own is named."""
+    index = opened(options.since, SOURCES if now.sources else PACKAGES)
+    background = opened(options.since_bg) if options.since_bg else now.background
+    packages = [part for part in (None if now.sources else index, background) if part is not None]
+    architecture_of(packages, now.arch)
+    if options.latest:
+        index, *rest = latest([index]) if now.sources else latest(packages, now.arch)
+        background = latest([background], now.arch)[0] if now.sources and background else rest[0] if rest else None
+    if now.sources:
+        sources = Sources(index, now.sources.building)
+        return Inputs(now.arch, sources.index, background, sources)
+    return Inputs(now.arch, index, background)
 
 
 def read_sources(options: argparse.Namespace, inputs: Inputs) -> None:

@@ -60,13 +60,21 @@ class Names:
                 self.there.setdefault(name, []).append(stanza)
         self.sorted = sorted(self.there)
 
+    def having(self, name: str) -> Iterator[tuple[Stanza, str]]:
+        """The packages that have or provide a name, each with the version of it."""
+        for stanza in self.there.get(name, ()):
+            if stanza.package == name:
+                yield stanza, stanza.version
+            else:
+                yield from ((stanza, version) for other, version in provided(stanza) if other == name)
+
     def near(self, names: Iterable[str]) -> list[Near]:
         """What is near to a missing name, or to its alternatives: the nearest first."""
         found: dict[Near, None] = {}
         for name in names:
-            found.update(dict.fromkeys(near for stanza in self.there.get(name, ()) for near in under(stanza, name)))
+            found.update(dict.fromkeys(told(name, *pair) for pair in self.having(name)))
         for name in names:
-            alike = (near for like in self.alike(name) for near in under(self.there[like][0], like))
+            alike = (told(like, *next(self.having(like))) for like in self.alike(name))
             found.update(dict.fromkeys(near._replace(version="") for near in alike))
         for name in names:
             found.update(dict.fromkeys(Near(name, source=source) for source in self.building.get(name, ())))
@@ -92,11 +100,9 @@ class Names:
         return sorted(newer + older, key=lambda other: distance(numbers, stem(other)[1]))[:MOST]
 
 
-def under(stanza: Stanza, name: str) -> list[Near]:
-    """A package by a name that it has or provides."""
-    if stanza.package == name:
-        return [Near(name, stanza.version)]
-    return [Near(name, version, stanza.package) for other, version in provided(stanza) if other == name]
+def told(name: str, stanza: Stanza, version: str) -> Near:
+    """A package by a name that it has or provides in this version."""
+    return Near(name, version, "" if stanza.package == name else stanza.package)
 
 
 def provided(stanza: Stanza) -> Iterator[tuple[str, str]]:

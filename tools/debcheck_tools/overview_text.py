@@ -2,16 +2,20 @@
 
 import functools
 import itertools
+import textwrap
 from collections.abc import Iterator, Sequence
 
 import apt_pkg
 
+from debcheck_tools.change import Change
 from debcheck_tools.near import Near
 from debcheck_tools.overview import Row
 from debcheck_tools.program import Json
+from debcheck_tools.sources import PREFIX
 from debcheck_tools.wrongs import BY, CONFLICT
 
 WIDTH = 100
+CAN = {"packages": "be installed", "sources": "be built"}
 WHAT = 36  # columns of what is wrong, where it isn't longer by itself
 
 
@@ -19,9 +23,25 @@ def counted(number: int, one: str, several: str) -> str:
     return f"{number:,} {one if number == 1 else several}"
 
 
-def lines(rest: Json, rows: Sequence[Row], asked: str = "packages") -> Iterator[str]:
+def change_lines(found: Change, newly: Sequence[Row], further: Sequence[Row], asked: str) -> Iterator[str]:
+    """The lines of what changed: what is newly broken, further causes, what is mended and what is gone."""
+    broken, wrong = len(found.newly), counted(len(newly), "thing is", "things are")
+    yield f"{broken:,} of {found.rest['asked']:,} {asked} newly can't {CAN[asked]}; {wrong} wrong."
+    yield from table(newly)
+    if further:
+        yield f"Broken before, and now by more ({len(found.further):,}):"
+        yield from table(further)
+    for title, members in (("Mended", found.mended), ("Gone", found.gone)):
+        if members:
+            names = ", ".join(f"{member.package.removeprefix(PREFIX)} {member.version}" for member in members)
+            yield from textwrap.wrap(
+                f"{title} ({len(members):,}): {names}", WIDTH, subsequent_indent="  ", break_on_hyphens=False
+            )
+
+
+def lines(rest: Json, rows: Sequence[Row], asked: str) -> Iterator[str]:
     """The lines of an overview: a title, and a line for each wrong."""
-    can = "be built" if asked == "sources" else "be installed"
+    can = CAN[asked]
     wrong = counted(len(rows), "thing is", "things are")
     yield f"{rest['broken']:,} of {rest['asked']:,} {asked} can't {can}; {wrong} wrong."
     yield from table(rows)

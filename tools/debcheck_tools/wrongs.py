@@ -91,6 +91,10 @@ class Gathered:
     needs: list[dict[Member, dict[str, Json]]] = field(default_factory=list)
     alike: dict[Causes, list[Member]] = field(default_factory=dict)
 
+    def __len__(self) -> int:
+        """How many packages there are."""
+        return sum(map(len, self.alike.values()))
+
     def add(self, package: Json) -> Causes:
         """Takes in a broken package with the reasons of all its causes."""
         causes = tuple(self.cause(core) for core in (package["reasons"], *package["also"]))
