@@ -123,6 +123,9 @@ def unpacked(shown: str, source: BinaryIO) -> BinaryIO:
         raise Fault(READ, f"{shown}: {fault.strerror or fault}") from None
 
 
+# Fields that a source has, and no binary package.
+SOURCE_FIELDS = {"format", "directory", "build-depends", "build-depends-indep", "build-depends-arch", "build-conflicts"}
+
 # What files begin with that are no index, and what to do with each.
 STRANGERS = (
     (b"<", "is a web page, such as a server's error page; fetch it again"),
@@ -150,7 +153,7 @@ def what_it_is(file: IndexFile) -> str:
         return PACKAGES
     if "package" not in keys and keys & {"codename", "suite", "sha256", "md5sum"}:
         return "is a Release file; name the Packages file"
-    if "package" in keys and "filename" not in keys and ("format" in keys or {"binary", "directory"} <= keys):
+    if "package" in keys and "filename" not in keys and keys & SOURCE_FIELDS:
         return SOURCES
     return PACKAGES
 

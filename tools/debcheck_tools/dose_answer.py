@@ -1,0 +1,126 @@
+"""The report of a run in dose's form, written at once when all of it is there."""
+
+import argparse
+import io
+import os
+import shutil
+import sys
+from collections.abc import Iterator
+from typing import BinaryIO, cast
+
+from debcheck_tools.dose_chains import Chains, Json, member_of
+from debcheck_tools.dose_cone import cone
+from debcheck_tools.dose_inputs import Inputs, Say
+from debcheck_tools.dose_report import Told
+from debcheck_tools.dose_summary import Summary
+from debcheck_tools.dose_words import BUILDCHECK, DEBCHECK
+from debcheck_tools.dose_yaml import Value, items_of, lines_of
+from debcheck_tools.errors import BROKEN, OK, UNKNOWN, WRITE, Fault
+from debcheck_tools.index_files import in_memory
+from debcheck_tools.program import Report
+
+
+class Answer:
+    """The program's report on the inputs of a run, and how it is to be told."""
+
+    def __init__(
+        self, command: str, options: argparse.Namespace, inputs: Inputs, report: Report, explains: bool
+    ) -> None:
+        self.command, self.options, self.inputs = command, options, inputs
+        self.report, self.explains = report, explains
+        self.shows = options.failures or options.successes
+        self.by_version = any(selector.operator for selector in options.checkonly)
+        self.asked = self.broken = 0
+
+    def tell(self, say: Say) -> int:
+        """Writes it; the status is BROKEN where a package that is asked about is broken."""
+        text = in_memory()
+        with io.TextIOWrapper(io.BufferedWriter(cast(io.RawIOBase, text), 1 << 20), write_through=False) as lines:
+            for line in self.lines():
+                lines.write(line + "\n")
+            lines.flush()
+            skipped = self.report.rest["skipped"]
+            if skipped:
+                say("W", "Dose_deb", f"Ignoring {skipped} packages of architectures other than all,{self.inputs.arch}")
+            say("I", "Dose_applications", "Solving...")
+            text.seek(0)
+            self.write(text)
+        return BROKEN if self.broken else OK
+
+    def write(self, text: BinaryIO) -> None:
+        name = self.options.outfile
+        if name is None:
+            shutil.copyfileobj(text, sys.stdout.buffer, 1 << 20)
+            return
+        path = os.path.join(self.options.outdir or "", name)
+        try:
+            with open(path, "wb") as file:
+                shutil.copyfileobj(text, file, 1 << 20)
+        except OSError as fault:
+            raise Fault(WRITE, f"{path}: can't be written: {fault.strerror}") from None
+
+    def lines(self) -> Iterator[str]:
+        """All lines of the report."""
+        tells = self.shows or self.options.summary
+        known = self.inputs.own(self.report.text, self.options.explain_minimal) if tells else {}
+        told, summary = Told(known, self.options.deb_native_arch), Summary()
+        yield from lines_of(self.head())
+        if self.shows:
+            yield "report:"
+        for package in self.report.packages():
+            if self.is_asked(package):
+                yield from self.package(package, told, summary)
+        if self.by_version and not self.asked:
+            raise Fault(UNKNOWN, "no package has the version that --checkonly names")
+        if self.shows:
+            yield " "
+        yield from lines_of(self.counts())
+        if self.options.summary:
+            with_packages = self.options.explain and self.command == DEBCHECK
+            yield from lines_of(summary.node(told, with_packages))
+
+    def head(self) -> dict[str, Value]:
+        node: dict[str, Value] = {"output-version": "1.2"}
+        if self.options.deb_native_arch:
+            node["native-architecture"] = self.options.deb_native_arch
+        if self.command == BUILDCHECK:
+            node["host-architecture"] = self.options.deb_native_arch
+        return node
+
+    def is_asked(self, package: Json) -> bool:
+        """Whether the package is asked about: where versions are named, those alone."""
+        if not self.by_version:
+            return True
+        name, version = member_of(package)
+        return any(one.name == name and one.has(version) for one in self.options.checkonly)
+
+    def package(self, package: Json, told: Told, summary: Summary) -> Iterator[str]:
+        """The lines of a package, where it is shown; it is counted in any case."""
+        self.asked += 1
+        is_ok, root = package["status"] == "ok", member_of(package)
+        if not is_ok:
+            self.broken += 1
+            if self.options.summary:
+                chains = Chains(root, package["reasons"])
+                summary.add(root, list(chains.conflicts()), list(chains.missing()))
+        if self.options.successes if is_ok else self.options.failures:
+            chosen = [member_of(one) for one in package.get("installation-set", ())]
+            if self.options.explain_minimal:
+                chosen = cone(root, chosen, told.known)
+            yield from items_of([told.package(package, self.explains, self.options.explain_minimal, chosen)], " ")
+
+    def counts(self) -> dict[str, Value]:
+        """How many packages there are."""
+        rest = self.report.rest
+        total = rest["stanzas"] - rest["skipped"] - rest["duplicates"]
+        if not self.by_version:
+            self.asked, self.broken = rest["asked"], rest["broken"]
+        if self.command == BUILDCHECK:
+            sources = total - rest.get("background", 0)
+            return {"binary-packages": total, "source-packages": sources or total, "broken-packages": self.broken}
+        # Those of the background count, too, where the foreground has the same.
+        ground = rest["stanzas"] - rest["skipped"] - self.asked
+        node: dict[str, Value] = {}
+        if ground and (self.inputs.ground.files or self.options.checkonly):
+            node = {"background-packages": ground, "foreground-packages": self.asked}
+        return {**node, "total-packages": total, "broken-packages": self.broken}
