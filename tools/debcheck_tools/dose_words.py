@@ -31,7 +31,7 @@ WORDS = (
     Word(("-h", "--help"), "", "shows the words"),
     Word(("--version",), "", "shows the version of dose that is stood in for, and debcheck's"),
     Word(("-v", "--verbose"), "", "says on standard error what is read, and when it is solved"),
-    Word(("--progress",), "", "shows the progress on a terminal"),
+    Word(("--progress",), "", "changes nothing: there is little to wait for"),
     Word(("--timers",), "", "says on standard error how long it took to load and to solve"),
     Word(("--quiet",), "", "leaves out warnings"),
     Word(
@@ -68,7 +68,7 @@ WORDS = (
     Word(
         ("--checkonly",),
         "PACKAGES",
-        "asks about these packages alone, whichever file has them: NAME[:ARCH] [(= VERSION)], with commas between them",
+        "asks about these packages alone, whichever file has them: NAME[:ARCH] [(= VERSION)], with commas between",
     ),
     Word(("--latest",), "N", "leaves out all but the N newest versions of each name that is asked about"),
     Word(
