@@ -15,7 +15,7 @@ all:
 	./debcheck --version > /dev/null
 
 # Each has a Debian package of its own.
-parts = debcheck debcheck-tools
+parts = debcheck debcheck-tools debcheck-dose
 
 install: $(parts:%=install-%)
 
@@ -36,7 +36,25 @@ install-debcheck-tools:
 	install -d -m 755 $(share)/debcheck-tools/debcheck_tools
 	install -m 644 tools/debcheck_tools/*.py $(share)/debcheck-tools/debcheck_tools
 
+# dose's commands stand with their modules in a folder that is on no path, so that dose may be installed, too.
+dose = $(DESTDIR)$(PREFIX)/lib/debcheck/dose
+dose_modules = dose_* __init__ errors index index_files program sources tag_file
+
+install-debcheck-dose:
+	install -d -m 755 $(dose)/debcheck_tools
+	install -m 755 tools/dose-debcheck tools/dose-builddebcheck $(dose)
+	install -m 644 $(dose_modules:%=tools/debcheck_tools/%.py) $(dose)/debcheck_tools
+	install -D -m 644 docs/debcheck-dose.7 $(share)/man/man7/debcheck-dose.7
+	install -D -m 644 packaging/debcheck-dose/README.Debian $(share)/doc/debcheck-dose/README.Debian
+
 uninstall: $(parts:%=uninstall-%)
+
+uninstall-debcheck-dose:
+	rm -rf $(dose)
+	rm -f $(share)/man/man7/debcheck-dose.7 $(share)/doc/debcheck-dose/README.Debian
+	for folder in $(DESTDIR)$(PREFIX)/lib/debcheck $(share)/doc/debcheck-dose; do \
+	    [ ! -d $$folder ] || rmdir --ignore-fail-on-non-empty $$folder; \
+	done
 
 uninstall-debcheck-tools:
 	rm -f $(bin)/debcheck-archive

@@ -50,19 +50,34 @@ def suite_index(suite, arch, folder, path):
 
     It comes from where the machine's own main index comes from, into lists in the folder: the machine's are untouched.
     """
+    found = largest(targets(arch, fetched("deb", suite, arch, folder)), arch, path)
+    if found is None:
+        raise Failed("apt found no main index of %s for %s" % (suite, arch))
+    return found[1]
+
+
+def suite_sources(suite, arch, folder, path):
+    """Writes the index of the sources of another suite's main section to the path, from where its main index comes."""
+    words = ["apt-get"] + fetched("deb-src", suite, arch, folder) + ["indextargets", "--format", "$(FILENAME)", "Created-By: Sources"]
+    names = [name for name in output_of(words).decode().splitlines() if os.path.exists(name)]
+    if not names:
+        raise Failed("apt found no sources of " + suite)
+    with open(path, "wb") as file:
+        file.write(output_of(["/usr/lib/apt/apt-helper", "cat-file", names[0]]))
+
+
+def fetched(kind, suite, arch, folder):
+    """apt's settings for lists in the folder, which it has fetched: of packages by `deb`, of sources by `deb-src`."""
     uris = [target["REPO_URI"] for target in targets(arch) if is_whole_suite(target)]
     if not uris:
         raise Failed("apt has no main index for %s, whose archive could be asked for %s" % (arch, suite))
-    lists, sources = os.path.join(folder, suite + "-lists"), os.path.join(folder, suite + ".list")
+    lists, sources = (os.path.join(folder, "%s-%s%s" % (suite, kind, end)) for end in ("-lists", ".list"))
     os.makedirs(os.path.join(lists, "partial"))
     signed = "[signed-by=%s] " % KEYRING if os.path.exists(KEYRING) else ""
     with open(sources, "w", encoding="utf-8") as file:
-        file.write("deb %s%s %s main\n" % (signed, uris[0], suite))
+        file.write("%s %s%s %s main\n" % (kind, signed, uris[0], suite))
     settings = ["-o", "Dir::Etc::SourceList=" + sources, "-o", "Dir::Etc::SourceParts=/dev/null", "-o", "Dir::State::Lists=" + lists,
                 "-o", "Dir::Cache::PkgCache=", "-o", "Dir::Cache::SrcPkgCache=", "-o", "APT::Architectures=" + arch, "-o", "APT::Architecture=" + arch,
                 "-o", "APT::Sandbox::User=root", "-o", "Acquire::Languages=none"]
     output_of(["apt-get"] + settings + ["-qq", "update"])
-    found = largest(targets(arch, settings), arch, path)
-    if found is None:
-        raise Failed("apt found no main index of %s for %s" % (suite, arch))
-    return found[1]
+    return settings
