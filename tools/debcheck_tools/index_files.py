@@ -10,8 +10,7 @@ import subprocess
 import sys
 import zlib
 from collections.abc import Callable
-from dataclasses import dataclass
-from typing import BinaryIO, NoReturn, cast
+from typing import BinaryIO, NamedTuple, NoReturn, cast
 
 import apt_pkg
 
@@ -21,8 +20,7 @@ from debcheck_tools.tag_file import tags_of
 PACKAGES, SOURCES = "Packages", "Sources"
 
 
-@dataclass(frozen=True)
-class IndexFile:
+class IndexFile(NamedTuple):
     """A file by the name that messages give it, its plain text in memory, and what it is: PACKAGES or SOURCES."""
 
     name: str

@@ -5,7 +5,6 @@ Debian Policy 4.2 (build-essential), 7.1 (architectures and profiles in brackets
 
 import os
 from collections.abc import Iterable, Iterator, Sequence
-from dataclasses import dataclass
 from typing import NamedTuple, Optional
 
 import apt_pkg
@@ -25,8 +24,7 @@ IMPLIED = "build-essential"
 OPERATORS = {"<": "<<", ">": ">>"}
 
 
-@dataclass(frozen=True)
-class Building:
+class Building(NamedTuple):
     """How sources are to be built; with `text_alone` those with Extra-Source-Only count, too."""
 
     arch: str
