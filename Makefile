@@ -23,6 +23,7 @@ install-debcheck: all
 	install -D -m 755 $(program) $(bin)/debcheck
 	strip --strip-all --remove-section=.comment --remove-section=.note $(bin)/debcheck
 	install -D -m 644 docs/debcheck.1 $(share)/man/man1/debcheck.1
+	install -D -m 644 docs/debcheck-report.5 $(share)/man/man5/debcheck-report.5
 	install -D -m 644 completion/debcheck.bash $(share)/bash-completion/completions/debcheck
 	install -D -m 644 completion/debcheck.zsh $(zsh)/_debcheck
 	install -D -m 644 docs/report.schema.json $(share)/debcheck/report.schema.json
@@ -61,7 +62,8 @@ uninstall-debcheck-tools:
 	rm -rf $(share)/debcheck-tools
 
 uninstall-debcheck:
-	rm -f $(bin)/debcheck $(share)/man/man1/debcheck.1 $(share)/bash-completion/completions/debcheck $(zsh)/_debcheck
+	rm -f $(bin)/debcheck $(share)/man/man1/debcheck.1 $(share)/man/man5/debcheck-report.5
+	rm -f $(share)/bash-completion/completions/debcheck $(zsh)/_debcheck
 	rm -f $(share)/debcheck/report.schema.json $(addprefix $(share)/doc/debcheck/examples/,$(scripts) $(units))
 	for folder in $(share)/debcheck $(share)/doc/debcheck/examples $(share)/doc/debcheck; do \
 	    [ ! -d $$folder ] || rmdir --ignore-fail-on-non-empty $$folder; \
