@@ -52,7 +52,7 @@ def work(options: argparse.Namespace) -> int:
     if options.report == "text":
         status, out = program.run(asked.arch, asked.index, asked.background, words, names)
         progress.end()
-        sys.stdout.buffer.write(out.read())
+        sys.stdout.buffer.write(asked.sources.in_text(out.read()) if asked.sources else out.read())
         return status
     if options.report == "json":
         report = program.check(asked.arch, asked.index, asked.background, words, names)

@@ -21,7 +21,7 @@ def register(commands: Commands) -> None:
         "Puts the binaries of a source in --from into --to, takes those that it has there away, and tells what breaks."
     )
     migrate = add(
-        commands, "would-migrate", about, "what a migration would break", work_migrate, "SOURCE", "source", None
+        commands, "would-migrate", about, "what a migration would break", work_migrate, "SOURCE", "source", False
     )
     upgrade_about = "Puts packages of --to in the place of those of their names in --from, and tells what breaks."
     upgrade = add(commands, "partial-upgrade", upgrade_about, "what an upgrade of some would break", work_upgrade)
@@ -49,11 +49,14 @@ def add(
     work: Callable[[argparse.Namespace], int],
     metavar: str = "PACKAGE",
     what: str = "packages",
-    count: str | None = "+",
+    several: bool = True,
 ) -> argparse.ArgumentParser:
     """The parser of a question, with the words that all have."""
     parser = commands.add_parser(name, help=tells, description=about)
-    parser.add_argument(what, metavar=metavar, nargs=count)
+    if several:
+        parser.add_argument(what, metavar=metavar, nargs="+")
+    else:
+        parser.add_argument(what, metavar=metavar)
     parser.add_argument("--mirror", metavar="DIR", help="a mirror: the folder that has dists/")
     parser.add_argument("--component", metavar="C", action="append", default=[], help="a component of it; else all")
     parser.add_argument("--bg", metavar="FILE", action="append", default=[], help="what may be used and isn't asked")
@@ -83,9 +86,11 @@ def answer(
     """Writes what is newly broken in the composed index."""
     background = inputs.opened(options.bg) if options.bg else None
     indexes = [before, *more, *([background] if background else [])]
-    arch = architecture_of(indexes, options.arch)
+    arch, program = architecture_of(indexes, options.arch), Program()
+    for index in (index for index in more if index.unread):
+        program.run(arch, index, None, ["--failures"])
     asked, earlier = Inputs(arch, after, background), Inputs(arch, before, background)
-    return tell_change(options, Program(), asked, earlier, fresh=set(fresh))
+    return tell_change(options, program, asked, earlier, fresh=set(fresh))
 
 
 def replaced(index: Index, goes: Callable[[Stanza], bool], comes: Sequence[Stanza]) -> Index:
@@ -118,19 +123,22 @@ def work_migrate(options: argparse.Namespace) -> int:
     for stanza in comes:
         newest = stanza.source_version if apt_pkg.version_compare(stanza.source_version, newest) > 0 else newest
     comes = [stanza for stanza in comes if apt_pkg.version_compare(stanza.source_version, newest) == 0]
-    return answer(options, goal, replaced(goal, lambda stanza: stanza.source_name == options.source, comes), [start])
+    source: str = options.source
+    return answer(options, goal, replaced(goal, lambda stanza: stanza.source_name == source, comes), [start])
 
 
 def work_upgrade(options: argparse.Namespace) -> int:
     start, goal = state(options, options.from_), state(options, options.to_)
     comes = named_stanzas(goal, options.packages, options.arch)
-    return answer(options, start, replaced(start, lambda stanza: stanza.package in options.packages, comes), [goal])
+    names = set(options.packages)
+    return answer(options, start, replaced(start, lambda stanza: stanza.package in names, comes), [goal])
 
 
 def work_without(options: argparse.Namespace) -> int:
     index = own_index(options)
     named_stanzas(index, options.packages, options.arch)
-    return answer(options, index, replaced(index, lambda stanza: stanza.package in options.packages, []))
+    names = set(options.packages)
+    return answer(options, index, replaced(index, lambda stanza: stanza.package in names, []))
 
 
 def work_debfile(options: argparse.Namespace) -> int:

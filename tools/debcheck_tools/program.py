@@ -11,7 +11,8 @@ from typing import Any, BinaryIO, NoReturn, Optional, cast
 
 from debcheck_tools.errors import BROKEN, DATA, OK, PROGRAM, UNKNOWN, USAGE, Fault
 from debcheck_tools.index import Index
-from debcheck_tools.index_files import in_memory
+from debcheck_tools.index_files import SOURCES, in_memory
+from debcheck_tools.sources import PREFIX
 
 TOP = os.path.dirname(os.path.dirname(os.path.dirname(os.path.abspath(__file__))))
 BUILT = os.path.join(TOP, "crates", "debcheck_program", "out", "debcheck_program")
@@ -184,9 +185,7 @@ def stanza_fault(index: Index, number: int, text: str) -> str:
         if twice
         else ""
     )
-    which = (
-        f"package {name}"
-        if name
-        else f"a stanza without a package, which begins with {lines[0].decode('utf-8', 'replace')[:60]!r}"
-    )
+    which = f"source {name.removeprefix(PREFIX)}" if file.kind == SOURCES else f"package {name}"
+    if not name:
+        which = f"a stanza without a package, which begins with {lines[0].decode('utf-8', 'replace')[:60]!r}"
     return f"{file.name}: {which}: {text}{ends}"

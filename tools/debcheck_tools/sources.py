@@ -4,6 +4,7 @@ Debian Policy 4.2 (build-essential), 7.1 (architectures and profiles in brackets
 """
 
 import os
+import re
 from collections.abc import Iterable, Iterator, Sequence
 from typing import NamedTuple, Optional
 
@@ -22,6 +23,10 @@ FIELDS = ("Package", "Version", "Maintainer", "Binary", "Architecture", "Extra-S
 # The field of a dependency that each source has without saying so.
 IMPLIED = "build-essential"
 OPERATORS = {"<": "<<", ">": ">>"}
+
+
+# A line of the program's report that tells what a source asks for, without what stands behind the relation.
+LINE = re.compile(rf"{PREFIX}(\S+) (\S+) (Depends|Conflicts): (.+?)(?=$| missing\b| hits | \(above\))", re.M)
 
 
 class Building(NamedTuple):
@@ -65,7 +70,7 @@ class Sources:
             self.known.setdefault((PREFIX + source.name, source.version), source)
             stanzas.append(self.stanza(source))
         text = "".join(stanzas).encode()
-        file = IndexFile("the sources", in_memory(text), len(text), SOURCES)
+        file = IndexFile(", ".join(file.name for file in index.files), in_memory(text), len(text), SOURCES)
         self.index = Index([file])
 
     def counted(self, index: Index) -> Iterator[Source]:
@@ -121,6 +126,16 @@ class Sources:
     def source_of(self, package: str, version: str) -> Optional[Source]:
         """The source that a package of this index stands for."""
         return self.known.get((package, version))
+
+    def in_text(self, report: bytes) -> bytes:
+        """The program's report with each source by its own name, and with the fields that asked."""
+
+        def asked(found: re.Match[str]) -> str:
+            source = self.source_of(PREFIX + found[1], found[2])
+            return f"src:{found[1]} {found[2]} {self.field_of(source, found[4]) if source else found[3]}: {found[4]}"
+
+        text = LINE.sub(asked, report.decode())
+        return re.sub(rf"^((?:   - |  package: | +- )){PREFIX}", r"\1src:", text, flags=re.M).encode()
 
     def field_of(self, source: Source, relation: str) -> str:
         """The field that asked for a relation as the program prints it."""

@@ -14,7 +14,9 @@ from debcheck_tools.sources import Sources
 
 
 def register(commands: Commands) -> None:
-    about = "Writes each source that builds on the architecture as a package src_NAME, which depends on what it needs to be built."
+    about = (
+        "Writes each source that builds on the architecture as a package src_NAME that depends on what its build needs."
+    )
     parser = commands.add_parser("sources", help="sources as packages, for a pipe", description=about)
     parser.add_argument(
         "files", metavar="SOURCES", nargs="*", help='Sources files, compressed or not; "-": standard input'
