@@ -35,7 +35,9 @@ install-debcheck: all
 install-debcheck-tools:
 	install -D -m 755 tools/debcheck-archive $(bin)/debcheck-archive
 	install -d -m 755 $(share)/debcheck-tools/debcheck_tools
-	install -m 644 tools/debcheck_tools/*.py $(share)/debcheck-tools/debcheck_tools
+	install -m 644 tools/debcheck_tools/*.py tools/debcheck_tools/*.sql $(share)/debcheck-tools/debcheck_tools
+	install -d -m 755 $(share)/debcheck-tools/debcheck_tools/templates
+	install -m 644 tools/debcheck_tools/templates/* $(share)/debcheck-tools/debcheck_tools/templates
 
 # dose's commands stand with their modules in a folder that is on no path, so that dose may be installed, too.
 dose = $(DESTDIR)$(PREFIX)/lib/debcheck/dose

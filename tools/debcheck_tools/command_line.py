@@ -9,7 +9,7 @@ from debcheck_tools.errors import USAGE, Fault, ended
 from debcheck_tools.progress import progress
 
 # Modules with a call register(commands), which adds a sub-command; its `work` takes the options and gives the status.
-COMMANDS = ("check_command", "sources_command", "decisions_command")
+COMMANDS = ("check_command", "sources_command", "decisions_command", "page_command")
 
 
 class Parser(argparse.ArgumentParser):
