@@ -10,6 +10,7 @@ share = $(DESTDIR)$(PREFIX)/share
 zsh = $(share)/zsh/$(if $(filter /usr,$(PREFIX)),vendor-completions,site-functions)
 scripts = all-architectures before-publishing by-maintainer debcheck-news newest newly-broken
 units = debcheck-news.service debcheck-news.timer
+page_examples = debcheck-page.toml debcheck-page.service debcheck-page.timer
 
 all:
 	./debcheck --version > /dev/null
@@ -38,6 +39,9 @@ install-debcheck-tools:
 	install -m 644 tools/debcheck_tools/*.py tools/debcheck_tools/*.sql $(share)/debcheck-tools/debcheck_tools
 	install -d -m 755 $(share)/debcheck-tools/debcheck_tools/templates
 	install -m 644 tools/debcheck_tools/templates/* $(share)/debcheck-tools/debcheck_tools/templates
+	install -D -m 644 docs/debcheck-page.5 $(share)/man/man5/debcheck-page.5
+	install -d -m 755 $(share)/doc/debcheck-tools/examples
+	install -m 644 $(page_examples:%=examples/%) $(share)/doc/debcheck-tools/examples
 
 # dose's commands stand with their modules in a folder that is on no path, so that dose may be installed, too.
 dose = $(DESTDIR)$(PREFIX)/lib/debcheck/dose
@@ -62,6 +66,10 @@ uninstall-debcheck-dose:
 uninstall-debcheck-tools:
 	rm -f $(bin)/debcheck-archive
 	rm -rf $(share)/debcheck-tools
+	rm -f $(share)/man/man5/debcheck-page.5 $(addprefix $(share)/doc/debcheck-tools/examples/,$(page_examples))
+	for folder in $(share)/doc/debcheck-tools/examples $(share)/doc/debcheck-tools; do \
+	    [ ! -d $$folder ] || rmdir --ignore-fail-on-non-empty $$folder; \
+	done
 
 uninstall-debcheck:
 	rm -f $(bin)/debcheck $(share)/man/man1/debcheck.1 $(share)/man/man5/debcheck-report.5
