@@ -9,8 +9,9 @@ import shutil
 import signal
 import tempfile
 
-from script import Failed
+from script import TOP, Failed
 
+CRATES, EDITS = os.path.join(TOP, "crates"), os.path.join(TOP, "trials", "edits")
 JOBS = ["--jobs", "1"]
 HEAD = re.compile(r"( *)(?:pub(?:\([^)]*\))? )?(?:const |unsafe )*fn (\w+)")
 STATE = re.compile(r"(?:fn|struct|enum|trait|impl) (\S+): (.*)")
@@ -22,6 +23,23 @@ NAMED = "only because a proof file names what the edit took away"
 WEAK, ANEW = "weak", "anew"  # beside the kinds of rt: refused for a name alone; and nothing is known yet
 
 
+def listed():
+    """The paths of the edits that the list trials/edits/gate names by their crates and names, in its order."""
+    with open(os.path.join(EDITS, "gate"), encoding="utf-8") as file:
+        lines = [line.split() for line in file if line.strip() and not line.startswith("#")]
+    return [os.path.join(EDITS, crate, "%s.edit" % name) for crate, name in lines]
+
+
+def own_edits():
+    """The paths of the edits that rt ci tries, in the crates' folders."""
+    return sorted(glob.glob(os.path.join(CRATES, "*", "must-fail", "*.edit")))
+
+
+def crate_of(path):
+    """The crate whose edit a path is."""
+    return os.path.basename(os.path.dirname(path).removesuffix("/must-fail"))
+
+
 def load_rt():
     """The program rt as a module: what it tries an edit by."""
     path = shutil.which("rt")
@@ -31,22 +49,7 @@ def load_rt():
     rt = importlib.util.module_from_spec(importlib.util.spec_from_loader("rt", loader))
     loader.exec_module(rt)
     rt.rtlib.guarded()  # (a signal's handler, which only the main thread may set)
-    if not hasattr(rt, "linked"):
-        tell_kinds(rt)
     return rt
-
-
-def tell_kinds(rt):
-    """Has a kit whose rt says of an edit only whether it was refused say what it comes to, as later ones do."""
-    rt.REFUSED, rt.MISSED, rt.BAD, rt.AT_LIMIT, rt.UNSURE = "refused", "not refused", "bad", "at a limit", "unsure"
-    rt.SETTLED, rt.LIMITS, says = {rt.REFUSED}, re.compile(r"gave up|step limit"), rt.must_fail
-
-    def must_fail(crate, edit, flags, kept=None):
-        is_refused, text = says(crate, edit, flags, kept)
-        return rt.REFUSED if is_refused else rt.MISSED if "NOT REFUSED" in text else rt.BAD, text
-
-    rt.must_fail = must_fail
-    rt.linked = lambda kept, over: shutil.copytree(kept, over, copy_function=os.link)
 
 
 class Function:
@@ -197,6 +200,10 @@ class Tries:
             self.rt.linked(os.path.join(self.crate.folder, "out", "incremental"), over)
             return try_over(over)
 
+    def check(self, edits, texts):
+        """The ended check of the crate with these texts."""
+        return self.checked(lambda over: self.rt.checked(self.crate, texts, JOBS, over))
+
     def alone(self, edit):
         """What a whole check with the edit alone comes to; from nothing, where one over the kept work isn't refused."""
         kind, text = self.checked(lambda over: self.rt.must_fail(self.crate, edit.path, JOBS, over))
@@ -218,7 +225,7 @@ class Tries:
     def together(self, edits):
         """What each of some edits of different functions comes to; an edit of which too little was said is to be tried alone (None) or once more (ANEW)."""
         texts = self.texts_of(edits)
-        ran = self.checked(lambda over: self.rt.checked(self.crate, texts, JOBS, over))
+        ran = self.check(edits, texts)
         said = Said(self.rt, ran.stdout)
         unread = [it[0] for it in said.messages if self.rt.unread(it[0], texts) or not said.states and re.search(r"\berror\[[\w-]+\]", it[0])]
         if not said.states or unread:
