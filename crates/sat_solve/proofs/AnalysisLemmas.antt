@@ -1,7 +1,7 @@
 -- Conflict analysis: the walk back over the trail from a conflict to the clause that it teaches.
-use Rattle.std.proofs.Common.{◌≡◌, ◌≢◌, ℕ, zero, suc, ◌+◌, ◌-◌, ◌<◌, ◌≤◌, Bool, true, false, ◌||◌, not, eqb, if◌then◌else◌, All, Option, Some, None, List, [], ◌∷◌, ◌⊎◌, ◌++◌, reverse, length, get_or, set, take, drop, refl, sym, ◌∙◌, ap, subst, inl, inr, arith, length-take, get_or-set_same, get_or-set_other}
+use Rattle.std.proofs.Common.{◌≡◌, ◌≢◌, ℕ, zero, suc, ◌+◌, ◌-◌, ◌<◌, ◌≤◌, Bool, true, false, ◌||◌, not, eqb, if◌then◌else◌, Option, Some, None, List, [], ◌∷◌, ◌⊎◌, ◌++◌, reverse, length, get_or, set, take, drop, refl, sym, ◌∙◌, ap, subst, inl, inr, arith, length-take, get_or-set_same, get_or-set_other}
 use Rattle.std.proofs.Math.Bool.{or-false}
-use Rattle.std.proofs.lemmas.Bool.{false≢true, cases_lt, cases_eq, cases_Bool, eq-eqb, ne_eqb, or_cases, or_left, or_right, or_from}
+use Rattle.std.proofs.lemmas.Bool.{false≢true, cases_lt, cases_eq, ne_eqb, or_cases, or_left, or_right, or_from}
 use Rattle.std.proofs.lemmas.Bool.Decides.{eqb_tells}
 use Rattle.std.proofs.lemmas.List.{take_more, take_all, take-take, take-append-drop, drop_more, reverse-append, get_or_default, get_or-take, length-set, get_or_past}
 use Rattle.std.specs.List.{list_any}
@@ -11,7 +11,7 @@ use Rattle.sat_solve.specs.Clauses.{clause_holds, literal_holds}
 use Rattle.sat_solve.specs.Trail.{value_in, is_decided, AllFresh, IsSound, IsLinked}
 use Rattle.sat_solve.specs.ClauseStatus.{Agrees, ComesDownTo}
 use Rattle.sat_solve.specs.Reasons.{AgreesOn, FailsOn, RestsOn, AreReasoned, SeesAll, is_seen}
-use Rattle.sat_solve.specs.Jumps.{denied, IsAt, AreDenied, IsCut, IsJump, IsLevelStart, IsTaken}
+use Rattle.sat_solve.specs.Jumps.{denied, IsAt, AreDenied, IsCut, IsJump, IsTaken}
 use Rattle.sat_solve.specs.declared.clause.Lit.{Lit}
 use Rattle.sat_solve.specs.declared.trail.Step.{Step}
 use Rattle.sat_solve.specs.declared.trail.Reason.{Reason}

@@ -1,5 +1,5 @@
 -- Backjumping: steps are taken back, down to a decision.
-use Rattle.std.proofs.Common.{◌≡◌, ◌≢◌, ℕ, ◌+◌, ◌*◌, ◌-◌, ◌<◌, ◌≤◌, Bool, true, false, if◌then◌else◌, All, Option, None, List, [], ◌∷◌, get_or, reverse, length, take, sym, ◌∙◌, ap, subst, arith, length-take}
+use Rattle.std.proofs.Common.{◌≡◌, ◌≢◌, ℕ, ◌+◌, ◌*◌, ◌-◌, ◌<◌, ◌≤◌, Bool, true, false, if◌then◌else◌, All, Option, List, [], ◌∷◌, get_or, reverse, length, take, sym, ◌∙◌, ap, subst, arith, length-take}
 use Rattle.std.proofs.lemmas.List.{take-take, take_all, take_more, reverse-append, get_or_default}
 use Rattle.std.proofs.lemmas.Bool.{false≢true}
 use Rattle.number_sets.specs.Sets.{NumberSet}

@@ -1,5 +1,5 @@
 -- How a solver goes on by one step.
-use Rattle.std.proofs.Common.{◌≡◌, ◌≢◌, ℕ, ◌-◌, ◌<◌, ◌≤◌, Vec, Bool, true, false, is_some, Contains, slice_get, Option, Some, None, List, ◌∷◌, length, length-take, take, get_or, slice_range, refl, sym, ◌∙◌, ap, subst, inl, inr, arith}
+use Rattle.std.proofs.Common.{◌≡◌, ◌≢◌, ℕ, ◌-◌, ◌<◌, ◌≤◌, Vec, true, false, is_some, Contains, slice_get, Option, Some, None, List, ◌∷◌, length, length-take, take, get_or, slice_range, refl, sym, ◌∙◌, ap, subst, inl, inr, arith}
 use mathlib.Core.Path.{fun_ext}
 use Rattle.std.proofs.lemmas.Bool.{false≢true}
 use Rattle.std.proofs.lemmas.List.{take_all}

@@ -1,8 +1,7 @@
-use Rattle.std.proofs.Common.{◌≡◌, false, All, IfOk, sym, ap, subst}
+use Rattle.std.proofs.Common.{◌≡◌, false, IfOk, sym, subst}
 use Rattle.number_sets.specs.Sets.{NumberSet}
 use Rattle.sat_solve.specs.Trail.{steps_of}
-use Rattle.sat_solve.specs.Reasons.{IsMarkedSolution, Implied, Backs, AreReasoned, named_by}
-use Rattle.sat_solve.specs.Jumps.{IsJump}
+use Rattle.sat_solve.specs.Reasons.{IsMarkedSolution, Backs, AreReasoned, named_by}
 use Rattle.sat_solve.proofs.ReasonLemmas.{reasoned_more}
 use Rattle.sat_solve.proofs.MarkLemmas.{learnt_more}
 use Rattle.sat_solve.proofs.search.Workspace.backjump.Goals as goal
