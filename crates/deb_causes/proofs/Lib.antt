@@ -1,6 +1,7 @@
 pub mod CauseOrder
 pub mod CoreLemmas
 pub mod FirstOnes
+mod FreedLaw
 pub mod GatheringLemmas
 pub mod GatheredCauses
 pub mod NumberingLemmas

@@ -1,5 +1,6 @@
 pub mod Later
 pub mod Causes
+pub mod Freed
 pub mod Listing
 pub mod Numbering
 pub mod Said

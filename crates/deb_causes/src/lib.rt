@@ -4,11 +4,13 @@
 //!
 //! - `numbering` gives each text a number, `wrongs` one to each cause, `numbered` to each core that of its cause;
 //! - `gathered` gathers by these numbers, `cores` says what the cores of a cause tell, and `causes` lists them.
+//! - `laws`: what holds of the packages that a cause frees.
 #![tactic(auto)]
 
 mod causes;
 mod cores;
 mod gathered;
+pub mod laws;
 mod numbered;
 mod numbering;
 mod wrongs;
