@@ -106,6 +106,10 @@ def stem(name):
     return "-".join("" if is_sum(word) else re.sub("[0-9.]", "", word) for word in name.split("-"))
 
 
+def has_stem(name):
+    return stem(name).strip("-") != ""
+
+
 def known_names(index):
     """The names of packages and of what they provide, each once, in the order of the index."""
     names = {}
@@ -120,8 +124,8 @@ def is_other(name, wanted):
 
 
 def similar_to(index, wanted):
-    """The first names with the stem of a wanted one, where that isn't empty."""
-    return [name for name in known_names(index) if stem(wanted) and stem(name) == stem(wanted)][:SIMILAR_LIMIT]
+    """The first names with the stem of a wanted one, itself among them, where that has a byte that is no hyphen."""
+    return [name for name in known_names(index) if has_stem(wanted) and stem(name) == stem(wanted)][:SIMILAR_LIMIT]
 
 
 def similar_names(index, wanted):

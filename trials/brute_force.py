@@ -79,7 +79,7 @@ class Package(NamedTuple):
 
 class Constraint(NamedTuple):
     """A demand on sets of packages. `row` has the places (a bit mask) that meet a need, that an entry hits, or that have a name; `kind` is the word
-    that begins its line, and parts the needs that no package meets from the others; `wanted` has the names of a need's alternatives, in their order."""
+    that begins its line, and parts the needs that no package meets from the others; `group` has the alternatives of a need."""
     kind: str
     row: int
     name: str = ""
@@ -88,7 +88,12 @@ class Constraint(NamedTuple):
     package: Package = None
     field: str = ""
     relation: str = ""
-    wanted: tuple = ()
+    group: tuple = ()
+
+    @property
+    def wanted(self):
+        """The names of the alternatives, in their order."""
+        return tuple(atom.name for atom in self.group)
 
     def holds(self, chosen):
         if self.kind == "essential":
@@ -163,8 +168,8 @@ class Index:
     def needs_of(self, place, package):
         for number, (field, group) in enumerate((field, group) for field in NEEDS for group in package.needs[field]):
             row = self.places(lambda _, other: any(other.meets_as_a_need(atom) for atom in group))
-            relation, wanted = " | ".join(atom.printed() for atom in group), tuple(atom.name for atom in group)
-            yield Constraint("depends" if row else "missing", row, "", place, number, package, field, relation, wanted)
+            relation = " | ".join(atom.printed() for atom in group)
+            yield Constraint("depends" if row else "missing", row, "", place, number, package, field, relation, tuple(group))
 
     def entries_of(self, place, package):
         for number, (field, atom) in enumerate((field, atom) for field in APARTS for atom in package.aparts[field]):

@@ -83,8 +83,12 @@ def brought(one):
 
 
 def met_by(package, one):
-    """The entries of Provides by which a package answers a need, where it isn't by its name."""
-    return [] if package.name in one.wanted else [entry.printed() for entry in package.provided(one.wanted)]
+    """The first entry of Provides that meets an alternative of the group, where the package's own name and version meet none."""
+    plain = package._replace(provides=[])
+    if any(plain.meets_as_a_need(atom) for atom in one.group):
+        return []
+    alone = package._replace(name="")
+    return [entry.printed() for entry in package.provides if any(alone._replace(provides=[entry]).meets_as_a_need(atom) for atom in one.group)][:1]
 
 
 def provided(entries):

@@ -13,8 +13,8 @@ class Naming(NamedTuple):
 
 
 PLAIN = Naming(["a", "b", "c", "d", "e"], ["v", "w"], ["zz", "y"], 2)
-# Names that differ in numbers, some of them in sums of five bytes.
-NUMBERED = Naming(["l1", "l-2", "l1.2", "l", "m-a1b2c"], ["l3", "m-0zzzz", "w"], ["l4", "l-3", "m-x9xxx", "m-zzzzz", "m-abcdefg1"], 2)
+# Names that differ in numbers, some of them in sums of five bytes, and two of numbers and hyphens alone.
+NUMBERED = Naming(["l1", "l-2", "l1.2", "l", "m-a1b2c"], ["l3", "m-0zzzz", "w", "2-3"], ["l4", "l-3", "m-x9xxx", "m-zzzzz", "m-abcdefg1", "4-5"], 2)
 MANY = Naming(["l1", "l2", "l3", "l4", "l5"], ["l%d" % number for number in range(6, 20)], ["l0", "zz"], 5)
 QUALIFIERS = ["any"] * 6 + [ARCH, ARCH, "i386", "all", "Any"]
 # Values of Multi-Arch. The last one is folded, which takes nothing from it.

@@ -19,7 +19,7 @@ use Rattle.deb_relation.specs.Usable.{is_usable}
 use Rattle.deb_index.specs.Packages.{first_of_each}
 use Rattle.deb_index.proofs.FirstLemmas.{any-map, first-push, name-itself, names-turned, same-name}
 use Rattle.deb_index.proofs.TableLemmas.{any-turned, names-chain}
-use Rattle.deb_near.specs.Near.{first_with_stem, has_stem, similar_limit, stem}
+use Rattle.deb_near.specs.Near.{first_with_stem, has_stem, is_stem, similar_limit, stem}
 use Rattle.deb_near.specs.Stems.{first_told, has_text}
 use Rattle.list_steps.proofs.AtomSteps.{map_more}
 use Rattle.list_steps.proofs.ListLemmas.{all_seen, filter_fails, filter_passes}
@@ -183,16 +183,16 @@ pub has-key : {X S : Type 0} (lists : HashMap (Vec ℕ Global) X S) (one : List 
 has-key lists one = any-map (bytes_eq one) (λ key. key.items) (keys lists) ∙ sym (is_some-lookup (λ key. bytes_eq one key.items) lists.entries)
 
 other-stem : (one name : List ℕ) → bytes_eq one (stem name) ≡ false → has_stem one name ≡ false
-other-stem one name other = ap (λ b. not (length one == 0) && b) other ∙ none (not (length one == 0))
+other-stem one name other = ap (λ b. is_stem one && b) other ∙ none (is_stem one)
   where
     none : (b : Bool) → (b && false) ≡ false
     none true = refl
     none false = refl
 
-empty-stem : (one name : List ℕ) → length (stem name) ≡ 0 → has_stem one name ≡ false
-empty-stem one name empty =
+no-stem : (one name : List ℕ) → is_stem (stem name) ≡ false → has_stem one name ≡ false
+no-stem one name none =
     elim (cases_Bool (bytes_eq one (stem name))) [
-      | inl same ↦ ap (λ n. not (n == 0) && bytes_eq one (stem name)) (ap length (same-name one (stem name) same) ∙ empty)
+      | inl same ↦ ap (λ b. b && bytes_eq one (stem name)) (ap is_stem (same-name one (stem name) same) ∙ none)
       | inr other ↦ other-stem one name other
     ]
 
@@ -225,9 +225,9 @@ listed-same seen name one fails None is = tt
 listed-same seen name one fails (Some names) is = kept-same (has_stem one) seen name (texts names) is fails
 
 module _ {S : Type 0} (seen : List (List ℕ)) (name : List ℕ) where
-  -- with a stem that none has
-  pub listed-empty : (lists : Lists S) → AreListed seen lists → length (stem name) ≡ 0 → AreListed (seen ++ name ∷ []) lists
-  listed-empty lists are empty = λ one. listed-same seen name one (empty-stem one name empty) (at_key lists one) (are one)
+  -- with none
+  pub listed-none : (lists : Lists S) → AreListed seen lists → is_stem (stem name) ≡ false → AreListed (seen ++ name ∷ []) lists
+  listed-none lists are none = λ one. listed-same seen name one (no-stem one name none) (at_key lists one) (are one)
 
   -- with one that isn't sought
   pub listed-other : (lists : Lists S) → AreListed seen lists → at_key lists (stem name) ≡ None → AreListed (seen ++ name ∷ []) lists
@@ -238,7 +238,7 @@ module _ {S : Type 0} (seen : List (List ℕ)) (name : List ℕ) where
       ]
 
   -- with one that is
-  pub listed-more : (olds news : Lists S) (names : Vec (Vec ℕ Global) Global) → AreListed seen olds → (length (stem name) == 0) ≡ false
+  pub listed-more : (olds news : Lists S) (names : Vec (Vec ℕ Global) Global) → AreListed seen olds → is_stem (stem name) ≡ true
       → UpdatesBy (λ a b. bytes_eq a.items b.items) (λ key. bytes_eq (stem name) key.items) olds news (Some names) → texts names ≡ first_told (filter (has_stem (stem name)) seen ++ name ∷ [])
       → AreListed (seen ++ name ∷ []) news
   listed-more olds news names are some updates more = λ one.
@@ -250,7 +250,7 @@ module _ {S : Type 0} (seen : List (List ℕ)) (name : List ℕ) where
       ]
     where
       passes : has_stem (stem name) name ≡ true
-      passes = ap (λ b. not b && bytes_eq (stem name) (stem name)) some ∙ name-itself (stem name)
+      passes = ap (λ b. b && bytes_eq (stem name) (stem name)) some ∙ name-itself (stem name)
 
       mine : texts names ≡ first_with_stem (seen ++ name ∷ []) (stem name)
       mine = more ∙ ap first_told (sym (filter_passes (has_stem (stem name)) seen (seen ++ name ∷ []) name refl passes))

@@ -75,9 +75,13 @@ stem_of_word word = if is_sum word then [] else filter (λ byte. not (is_numeric
 unfoldable pub stem : List ℕ → List ℕ
 stem name = join_by stem_of_word (45 ∷ []) (slice_split (λ byte. byte == 45) name)
 
--- the name has this stem, which isn't empty
+-- hyphens alone are no stem
+abbrev pub is_stem : List ℕ → Bool
+is_stem left = list_any (λ byte. not (byte == 45)) left
+
+-- the name has this stem
 abbrev pub has_stem : List ℕ → List ℕ → Bool
-has_stem one name = not (length one == 0) && bytes_eq one (stem name)
+has_stem one name = is_stem one && bytes_eq one (stem name)
 
 -- the name of a package, and those that it provides
 abbrev pub names_of : List ℕ → PackageView → List (List ℕ)

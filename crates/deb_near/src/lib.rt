@@ -13,5 +13,5 @@ mod similar;
 mod stems;
 
 pub use missing::is_missing;
-pub use near::{NearMiss, answer_at, misses_at, near_misses, push_alternatives};
+pub use near::{NearMiss, near_misses};
 pub use similar::Similar;

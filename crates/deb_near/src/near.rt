@@ -23,10 +23,8 @@ pub struct NearMiss<'i> {
 }
 
 /// Adds the alternatives of a constraint, where it is a need.
-///
-/// The constraint is of the index. `AllocError` where there is no memory for it.
 #[tactic(auto, unfolding(crate::specs::Near::alternatives))]
-pub fn push_alternatives<'i>(
+fn push_alternatives<'i>(
     index: &'i Index,
     constraint: Constraint,
     atoms: &mut Vec<&'i Atom>,
@@ -141,9 +139,7 @@ fn near_miss<'i>(
 }
 
 /// What is told of the packages at these places.
-///
-/// The places are of the index. `AllocError` where there is no memory for it.
-pub fn misses_at<'i>(
+fn misses_at<'i>(
     alloc: Global,
     index: &'i Index,
     atoms: &[&Atom],
@@ -174,22 +170,4 @@ pub fn near_misses<'i>(
     let atoms = alternatives_of(alloc, index, constraints)?;
     let places = near_places(alloc, index, atoms.as_slice())?;
     misses_at(alloc, index, atoms.as_slice(), places.as_slice())
-}
-
-/// What is told of a package that answers a constraint: with the entries of its Provides that have the name of an alternative, where it has none itself.
-///
-/// The constraint and the place are of the index. `AllocError` where there is no memory for it.
-pub fn answer_at<'i>(
-    alloc: Global,
-    index: &'i Index,
-    constraint: Constraint,
-    place: u32,
-) -> Result<NearMiss<'i>, AllocError>
-    requires constraint { IsOfIndex index.now constraint }
-    requires place { place < length index.now.packages }
-    ensures { IfOk result (λ answer. near_view answer ≡ near_miss_at index.now (alternatives index.now constraint) place) }
-{
-    let mut atoms = Vec::new(alloc);
-    push_alternatives(index, constraint, &mut atoms)?;
-    near_miss(alloc, index.arch(), atoms.as_slice(), index.package(place))
 }

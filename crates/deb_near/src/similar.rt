@@ -10,7 +10,7 @@ ghost use Rattle.deb_near.specs.Near.{first_with_stem, is_one_of, names_of, simi
 ghost use Rattle.deb_near.specs.Stems.{first_told, has_text};
 
 use crate::near::alternatives_of;
-use crate::stems::{insert_once, put_stem, stems_of};
+use crate::stems::{insert_once, is_stem, put_stem, stems_of};
 use deb_index::{Constraint, Index, Package};
 use deb_relation::Atom;
 use std::alloc::{AllocError, Global};
@@ -116,7 +116,7 @@ impl Similar {
         ensures stems { OnOk result (stems_in self.new ≡ stems_in self.old) }
     {
         put_stem(buffer, name)?;
-        if buffer.is_empty() {
+        if !is_stem(buffer.as_slice()) {
             return Ok(());
         }
         if let Some(names) = self.lists.get_mut(buffer.as_slice()) {

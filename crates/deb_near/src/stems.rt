@@ -7,7 +7,7 @@ ghost use Rattle.std.specs.List.{list_any, position};
 ghost use Rattle.std.specs.Str.{bytes_eq};
 ghost use Rattle.deb_relation.specs.AtomView.{atom_view};
 ghost use Rattle.deb_index.specs.Constraints.{IsOfIndex};
-ghost use Rattle.deb_near.specs.Near.{is_numeric, is_sum, stem, stem_of_word};
+ghost use Rattle.deb_near.specs.Near.{is_numeric, is_stem, is_sum, stem, stem_of_word};
 ghost use Rattle.deb_near.specs.Stems.{AreSought, has_text};
 
 use crate::near::alternatives_of;
@@ -89,6 +89,18 @@ pub(crate) fn put_stem(out: &mut Vec<u8>, name: &[u8]) -> Result<(), AllocError>
         rest = others;
     }
     push_word(out, rest)
+}
+
+/// Whether what is left of a name is a stem, which hyphens alone are not.
+pub(crate) fn is_stem(left: &[u8]) -> bool
+    ensures { result ≡ is_stem left.now }
+{
+    for byte in left {
+        if *byte != b'-' {
+            return true;
+        }
+    }
+    false
 }
 
 /// Adds a text to a set, and says whether the set didn't have it.

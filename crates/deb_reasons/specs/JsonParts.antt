@@ -6,7 +6,8 @@ use Rattle.deb_relation.specs.Relationship.{AtomText, printed}
 use Rattle.deb_index.specs.declared.constraint.Constraint.{Constraint}
 use Rattle.deb_index.specs.declared.constraint.Constraint.TheVariants.{Essential, Need, Apart, Only}
 use Rattle.deb_index.specs.Packages.{IndexView, PackageView, name_at, need_at, package_at, places_of}
-use Rattle.deb_near.specs.Near.{NearMissView, alternatives, near_miss_at}
+use Rattle.deb_near.specs.Near.{NearMissView}
+use Rattle.deb_reasons.specs.Answers.{answer_at}
 use Rattle.deb_reasons.specs.Hits.{hits_of}
 use Rattle.deb_reasons.specs.Walk.{brought}
 use Rattle.deb_reasons.specs.Reasons.{OfName, OfRelation, ReasonView, reason_of}
@@ -82,9 +83,9 @@ provides_json entries = if length entries == 0 then [] else member (codes "provi
 unfoldable pub near_json : NearMissView → List ℕ
 near_json miss = object (label_json miss.deb ∷ provides_json miss.provides)
 
--- the packages that answer a constraint, with what they answer it by
+-- the packages that answer a constraint, with the entry that they answer it by
 unfoldable pub answers_to : IndexView → Constraint → List NearMissView
-answers_to index constraint = map (near_miss_at index (alternatives index constraint)) (brought index constraint)
+answers_to index constraint = map (answer_at index constraint) (brought index constraint)
 
 -- where a walk goes on from a constraint: to the packages that answer a need, or to its alternatives, where nothing answers it;
 -- to the packages that an entry hits; to the versions of a name

@@ -1,3 +1,4 @@
+pub mod Answers
 pub mod Hits
 pub mod JsonParts
 pub mod Own

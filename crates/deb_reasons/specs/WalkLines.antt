@@ -7,9 +7,10 @@ use Rattle.deb_relation.specs.Relationship.{AtomText}
 use Rattle.deb_index.specs.declared.constraint.Constraint.{Constraint}
 use Rattle.deb_index.specs.declared.constraint.Constraint.TheVariants.{Essential, Need, Apart, Only}
 use Rattle.deb_index.specs.Packages.{IndexView, apart_at, name_at, need_at, package_at}
-use Rattle.deb_near.specs.Near.{NearMissView, alternatives, near_miss_at, near_misses, similar_names}
+use Rattle.deb_near.specs.Near.{NearMissView, near_misses, similar_names}
 use Rattle.deb_reasons.specs.declared.walk.Step.{Step}
 use Rattle.deb_reasons.specs.declared.walk.Step.TheVariants.{Begin, Meet, Tell}
+use Rattle.deb_reasons.specs.Answers.{met_by}
 use Rattle.deb_reasons.specs.Walk.{are_told, brought, comers, first_steps, hits_in, own_steps, step_limit, versions_coming, walk}
 use Rattle.deb_reasons.specs.Reasons.{provides_text, asked_text, entry_field, group_field, label_of, titled}
 use Rattle.deb_texts.specs.Texts.{told_if}
@@ -73,7 +74,7 @@ constraint_text index coming told (Apart place number) = let deb = package_at in
     asked_text deb (entry_field deb number) (entry ∷ []) ++ hits_text index told (hits_in index coming place entry)
 constraint_text index coming told (Only name) = codes "versions: " ++ seen_texts index told (versions_coming index coming name)
 
--- the line of a package, with the entries of Provides by which it is met
+-- the line of a package, with the entry of Provides by which it is met
 unfoldable pub package_line : IndexView → ℕ → ℕ → List AtomText → Bool → List ℕ
 package_line index depth place entries told = lead depth ++ label_of (package_at index place) ++ provides_text entries ++ above_text told ++ codes "\n"
 
@@ -81,10 +82,6 @@ package_line index depth place entries told = lead depth ++ label_of (package_at
 unfoldable pub package_text : IndexView → List Constraint → ℕ → ℕ → List AtomText → List ℕ
 package_text index core depth place entries =
     if length (own_steps core depth place) == 0 || not (length entries == 0) then package_line index depth place entries false else []
-
--- the entries of Provides by which a package is met
-abbrev pub met_by : IndexView → Constraint → ℕ → List AtomText
-met_by index constraint place = (near_miss_at index (alternatives index constraint) place).provides
 
 -- what a step tells
 unfoldable pub step_text : IndexView → List Constraint → NumberSet → NumberSet → Step → List ℕ

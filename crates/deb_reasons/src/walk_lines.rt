@@ -14,6 +14,7 @@ ghost use Rattle.deb_reasons.specs.Walk.{IsStepOf, are_told, brought, own_steps,
 ghost use Rattle.deb_reasons.specs.Similar.{FitsWalk};
 ghost use Rattle.deb_reasons.specs.WalkLines.{above_text, constraint_text, lead, missing_text, near_text, need_ending, present_text, package_line, package_text, seen_text, similar_text, step_text, walk_lines, walk_text};
 
+use crate::answers::answer_at;
 use crate::line_parts::{push_asked, push_line, push_package, push_provides};
 use crate::own::OwnTable;
 use crate::reasons::{entry_field, group_field};
@@ -22,7 +23,7 @@ use crate::walk::{
     those_coming,
 };
 use deb_index::{Constraint, Index, Package};
-use deb_near::{NearMiss, Similar, answer_at, is_missing, near_misses};
+use deb_near::{NearMiss, Similar, is_missing, near_misses};
 use deb_relation::Atom;
 use deb_texts::{Print, push_group, push_joined, push_some, push_texts};
 use std::alloc::{AllocError, Global};

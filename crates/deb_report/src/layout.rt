@@ -42,6 +42,9 @@ fn text_in(
 /// status, as dose-debcheck(1) reports them; with `explain` the set that was found, or a line for each constraint that stands against each
 /// set, with the relationship as Debian Policy 7.1 writes it. Under `Format::Json` the same is one JSON document (RFC 8259). `AllocError`
 /// where there is no memory for it.
+///
+/// The first core of each package is all that is known here: with `all_reasons` no further one is told, and with `causes` the causes are those of
+/// first cores alone, so that a cause frees each package whose first core has it. `report_told` is lent the others.
 pub fn report(
     alloc: Global,
     index: &Index,

@@ -2,7 +2,7 @@
 //!
 //! `example` says what an example is and runs it, `reports` goes over all that are written out: those of `relations`, `meanings`, `qualifiers`, `settings`
 //! and `refusals`, of `sample` and `without_sets`, which any crew answers, of `backgrounds`, which have a second text, and of `json_reports`, documents in
-//! JSON; `cut_texts` and `large` have inputs of their own.
+//! JSON, and of `walks`; `cut_texts` and `large` have inputs of their own.
 #![tactic(auto)]
 
 #[cfg(test)]
@@ -29,5 +29,7 @@ mod reports;
 mod sample;
 #[cfg(test)]
 mod settings;
+#[cfg(test)]
+mod walks;
 #[cfg(test)]
 mod without_sets;

@@ -2,7 +2,7 @@
 
 use crate::example::{Example, NEXT, gives};
 use crate::{
-    backgrounds, json_reports, meanings, qualifiers, refusals, relations, sample, settings,
+    backgrounds, json_reports, meanings, qualifiers, refusals, relations, sample, settings, walks,
     without_sets,
 };
 use std::process::Abort;
@@ -31,6 +31,7 @@ fn examples_give_their_reports(rt: HostRuntime) {
         settings::EXAMPLES,
         refusals::EXAMPLES,
         json_reports::EXAMPLES,
+        walks::EXAMPLES,
     ] {
         check(&rt, document, &[""]);
     }

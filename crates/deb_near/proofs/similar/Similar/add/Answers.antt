@@ -1,18 +1,16 @@
-use Rattle.std.proofs.Common.{◌≡◌, ◌==◌, ◌++◌, ◌∷◌, [], ◌∙◌, None, Some, ap, arith, false, filter, length, subst, sym}
+use Rattle.std.proofs.Common.{◌≡◌, ◌++◌, ◌∷◌, [], ◌∙◌, None, Some, ap, false, filter, subst, sym, true}
 use Rattle.std.specs.HashMap.{UpdatesBy}
 use Rattle.std.specs.Option.{is_some}
-use Rattle.std.specs.Prelude.{vec_len}
 use Rattle.std.specs.Str.{bytes_eq}
-use Rattle.std.proofs.lemmas.Bool.{eqb-true}
-use Rattle.deb_near.specs.Near.{has_stem, stem}
-use Rattle.deb_near.proofs.SimilarLemmas.{AreListed, IsListed, at_key, listed-empty, listed-more, listed-other}
+use Rattle.deb_near.specs.Near.{has_stem, is_stem, stem}
+use Rattle.deb_near.proofs.SimilarLemmas.{AreListed, IsListed, at_key, listed-more, listed-none, listed-other}
 use Rattle.deb_near.proofs.similar.Similar.add.Goals as goal
 
-pub returns-then-is_empty-clause-found : goal.returns-then-is_empty-clause-found
-returns-then-is_empty-clause-found c = λ seen is.
-    let empty : vec_len c.put_stem.new.out ≡ 0 = eqb-true _ _ (sym c.is_empty.ensures ∙ c.if-is_empty.true) in
-    let none : length (stem c.args.name.now) ≡ 0 = omega (arith, empty, ap length c.in_ok-put_stem.ensures, c.put_stem.new.out.ok) in
-    listed-empty seen c.args.name.now c.args.self.now.lists is none
+pub returns-then-not-is_stem-clause-found : goal.returns-then-not-is_stem-clause-found
+returns-then-not-is_stem-clause-found c = λ seen is.
+    let left = c.as_slice.ensures.value ∙ c.in_ok-put_stem.ensures in
+    let none : is_stem (stem c.args.name.now) ≡ false = sym (ap is_stem left) ∙ sym c.is_stem.ensures ∙ c.if-not-is_stem.true in
+    listed-none seen c.args.name.now c.args.self.now.lists is none
 
 pub returns-in_ok-push_first-clause-found : goal.returns-in_ok-push_first-clause-found
 returns-in_ok-push_first-clause-found c = λ seen is.
@@ -20,10 +18,10 @@ returns-in_ok-push_first-clause-found c = λ seen is.
     let names = c.push_first.new.names in
     let news = c.get_mut.follows.lender names in
     let name = c.args.name.now in
-    let key : c.as_slice.result.now ≡ stem name = c.as_slice.ensures.value ∙ c.in_ok-put_stem.ensures in
+    let key : c.as_slice-2.result.now ≡ stem name = c.as_slice-2.ensures.value ∙ c.in_ok-put_stem.ensures in
     let here : at_key olds (stem name) ≡ Some c.in-Some.names.now = ap (at_key olds) (sym key) ∙ sym c.in-Some.ensures.value in
-    let size : length (stem name) ≡ vec_len c.put_stem.new.out = omega (arith, ap length c.in_ok-put_stem.ensures, c.put_stem.new.out.ok) in
-    let some : (length (stem name) == 0) ≡ false = ap (λ n. n == 0) size ∙ sym c.is_empty.ensures ∙ c.if-is_empty.false in
+    let left = c.as_slice.ensures.value ∙ c.in_ok-put_stem.ensures in
+    let some : is_stem (stem name) ≡ true = sym (ap is_stem left) ∙ sym c.is_stem.ensures ∙ c.if-not-is_stem.false in
     let updates = (c.get_mut.follows.holds names).3 (ap is_some (sym c.in-Some.ensures.value)) in
     listed-more seen name olds news names is some
     (subst (λ text. UpdatesBy (λ a b. bytes_eq a.items b.items) (λ key. bytes_eq text key.items) olds news (Some names)) key updates)
@@ -33,6 +31,6 @@ pub returns-in_default-clause-found : goal.returns-in_default-clause-found
 returns-in_default-clause-found c = λ seen is.
     let olds = c.args.self.now.lists in
     let name = c.args.name.now in
-    let key : c.as_slice.result.now ≡ stem name = c.as_slice.ensures.value ∙ c.in_ok-put_stem.ensures in
+    let key : c.as_slice-2.result.now ≡ stem name = c.as_slice-2.ensures.value ∙ c.in_ok-put_stem.ensures in
     let none : at_key olds (stem name) ≡ None = ap (at_key olds) (sym key) ∙ sym c.in_default.ensures.value in
     subst (AreListed (seen ++ name ∷ [])) (sym c.get_mut.follows.holds-at-none) (listed-other seen name olds is none)
