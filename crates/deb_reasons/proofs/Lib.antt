@@ -1,6 +1,5 @@
 pub mod HitLemmas
 mod OwnLemmas
 pub mod TextLemmas
-mod WalkLaws
 pub mod WalkLemmas
 mod WalkTextLemmas

@@ -23,13 +23,9 @@ escaped_byte byte =
     else if nat_lt byte 32 then codes "\\u00" ++ digit_char (byte / 16) ∷ digit_char (byte % 16) ∷ []
     else byte ∷ []
 
--- a text as it stands in a string
-unfoldable pub escaped : List ℕ → List ℕ
-escaped text = flat_map escaped_byte text
-
--- a string, of a text that needs no escapes
+-- a string
 unfoldable pub quoted : List ℕ → List ℕ
-quoted text = codes "\"" ++ text ++ codes "\""
+quoted text = codes "\"" ++ flat_map escaped_byte text ++ codes "\""
 
 -- texts of elements, with a comma between two
 abbrev pub listed : {A : Type 0} → (A → List ℕ) → List A → List ℕ

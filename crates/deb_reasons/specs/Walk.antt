@@ -124,20 +124,6 @@ walk (suc count) index core told (step ∷ steps) = (told, step) ∷ walk count 
 abbrev pub step_limit : ℕ
 step_limit = 18446744073709551615
 
--- the steps of that walk
-abbrev pub walk_of : IndexView → ℕ → List Constraint → List (NumberSet × Step)
-walk_of index place core = walk step_limit index core (members_of []) (first_steps core place)
-
--- what the core says in a step
-abbrev pub told_by : Step → List Constraint
-told_by (Begin place) = []
-told_by (Meet depth place constraint) = []
-told_by (Tell depth constraint) = constraint ∷ []
-
--- what the core says in the walk, in the order of its lines
-unfoldable pub told_in : IndexView → ℕ → List Constraint → List Constraint
-told_in index place core = flat_map (λ gone. told_by gone.1) (walk_of index place core)
-
 -- ---- what is of the index
 
 -- a step speaks of packages of the index, and of constraints of some kind

@@ -10,7 +10,7 @@ ghost use Rattle.deb_reasons.specs.JsonParts.{array, constraint_json, label_json
 ghost use Rattle.deb_texts.specs.Texts.{group_text};
 ghost use Rattle.deb_reasons.specs.Told.{reason_view};
 
-use crate::json_text::{push_array, push_quoted, push_text, push_title};
+use crate::json_text::{push_array, push_quoted, push_text};
 use crate::reasons::{Reason, reason_of};
 use deb_index::{Constraint, Index, Package};
 use deb_near::NearMiss;
@@ -58,42 +58,41 @@ impl<'i> Print<u32> for IndexJson<'i> {
     }
 }
 
-/// Adds the member that is the text of a relation.
-#[tactic(auto, unfolding(crate::specs::JsonParts::member, crate::specs::JsonParts::quoted))]
-pub fn push_relation(out: &mut Vec<u8>, relation: &[Atom]) -> Result<(), AllocError>
-    ensures { OnOk result (out.new.items ≡ out.old.items ++ codes "," ++ member (codes "relation") (quoted (group_text (map atom_view relation.now)))) }
-{
-    push_title(out, ",", "relation")?;
-    out.extend_from_slice(b"\"")?;
-    push_group(out, relation)?;
-    out.extend_from_slice(b"\"")
-}
+impl<'i> IndexJson<'i> {
+    /// Adds the member that is the text of a relation.
+    #[tactic(auto, unfolding(crate::specs::JsonParts::member))]
+    pub fn push_relation(&self, out: &mut Vec<u8>, relation: &[Atom]) -> Result<(), AllocError>
+        ensures { OnOk result (out.new.items ≡ out.old.items ++ codes "," ++ member (codes "relation") (quoted (group_text (map atom_view relation.now)))) }
+    {
+        let mut text = Vec::new(self.alloc);
+        push_group(&mut text, relation)?;
+        push_text(out, ",", "relation", text.as_slice())
+    }
 
-/// Adds what is told of a constraint, up to the end of its object.
-#[tactic(auto, unfolding(crate::specs::JsonParts::reason_front))]
-pub fn push_front(out: &mut Vec<u8>, reason: &Reason<'_>) -> Result<(), AllocError>
-    ensures { OnOk result (out.new.items ≡ out.old.items ++ reason_front (reason_view reason.now)) }
-{
-    match reason {
-        Reason::Name { kind, name } => {
-            push_text(out, "{", "kind", kind)?;
-            push_text(out, ",", "name", name)
-        }
-        Reason::Relation {
-            kind,
-            deb,
-            field,
-            relation,
-        } => {
-            push_text(out, "{", "kind", kind)?;
-            push_package(out, ",", deb)?;
-            push_text(out, ",", "field", field)?;
-            push_relation(out, relation)
+    /// Adds what is told of a constraint, up to the end of its object.
+    #[tactic(auto, unfolding(crate::specs::JsonParts::reason_front))]
+    pub fn push_front(&self, out: &mut Vec<u8>, reason: &Reason<'_>) -> Result<(), AllocError>
+        ensures { OnOk result (out.new.items ≡ out.old.items ++ reason_front (reason_view reason.now)) }
+    {
+        match reason {
+            Reason::Name { kind, name } => {
+                push_text(out, "{", "kind", kind)?;
+                push_text(out, ",", "name", name)
+            }
+            Reason::Relation {
+                kind,
+                deb,
+                field,
+                relation,
+            } => {
+                push_text(out, "{", "kind", kind)?;
+                push_package(out, ",", deb)?;
+                push_text(out, ",", "field", field)?;
+                self.push_relation(out, relation)
+            }
         }
     }
-}
 
-impl<'i> IndexJson<'i> {
     /// Adds a constraint alone, without where a walk goes on from it.
     pub fn push_constraint(
         &self,
@@ -104,7 +103,7 @@ impl<'i> IndexJson<'i> {
         ensures { OnOk result (out.new.items ≡ out.old.items ++ constraint_json self.now.index.now constraint) }
     {
         let reason = reason_of(self.alloc, self.index, constraint)?;
-        push_front(out, &reason)?;
+        self.push_front(out, &reason)?;
         out.extend_from_slice(b"}")
     }
 }
@@ -114,11 +113,10 @@ impl<'i> Print<Atom> for IndexJson<'i> {
 
     ghost text = { λ _ atom. quoted (printed (atom_view atom)) };
 
-    #[tactic(auto, unfolding(crate::specs::JsonParts::quoted))]
     fn print(&self, out: &mut Vec<u8>, atom: &Atom) -> Result<(), AllocError> {
-        out.extend_from_slice(b"\"")?;
-        atom.append_to(out)?;
-        out.extend_from_slice(b"\"")
+        let mut text = Vec::new(self.alloc);
+        atom.append_to(&mut text)?;
+        push_quoted(out, text.as_slice())
     }
 }
 

@@ -2,7 +2,8 @@
 
 ghost use Rattle.std.specs.Prelude.{◌≡◌, ◌++◌, ◌<◌, All, OnOk, codes, decimal};
 ghost use Rattle.std.specs.Char.{digit_char};
-ghost use Rattle.deb_reasons.specs.JsonParts.{array, escaped, escaped_byte, listed, member, quoted};
+ghost use Rattle.std.specs.List.{flat_map};
+ghost use Rattle.deb_reasons.specs.JsonParts.{array, escaped_byte, listed, member, quoted};
 
 use deb_texts::{Print, push_joined, push_texts};
 use std::alloc::{AllocError, Global};
@@ -34,10 +35,9 @@ fn push_escaped_byte(out: &mut Vec<u8>, byte: u8) -> Result<(), AllocError>
     Ok(())
 }
 
-/// Adds a text as it stands in a string.
-#[tactic(auto, unfolding(crate::specs::JsonParts::escaped))]
+/// Adds a text as it stands between quotes.
 fn push_escaped(out: &mut Vec<u8>, text: &[u8]) -> Result<(), AllocError>
-    ensures { OnOk result (out.new.items ≡ out.old.items ++ escaped text.now) }
+    ensures { OnOk result (out.new.items ≡ out.old.items ++ flat_map escaped_byte text.now) }
 {
     for byte in text {
         push_escaped_byte(out, *byte)?;
@@ -45,16 +45,18 @@ fn push_escaped(out: &mut Vec<u8>, text: &[u8]) -> Result<(), AllocError>
     Ok(())
 }
 
-/// Adds a text as a string: no byte of it needs an escape.
+/// Adds a text as a string.
 #[tactic(auto, unfolding(crate::specs::JsonParts::quoted))]
 pub fn push_quoted(out: &mut Vec<u8>, text: &[u8]) -> Result<(), AllocError>
     ensures { OnOk result (out.new.items ≡ out.old.items ++ quoted text.now) }
 {
-    push_texts(out, &[b"\"", text, b"\""])
+    out.extend_from_slice(b"\"")?;
+    push_escaped(out, text)?;
+    out.extend_from_slice(b"\"")
 }
 
 /// Adds what stands before the value of a member: the brace of its object or a comma, and the title.
-pub(crate) fn push_title(out: &mut Vec<u8>, lead: &str, title: &str) -> Result<(), AllocError>
+fn push_title(out: &mut Vec<u8>, lead: &str, title: &str) -> Result<(), AllocError>
     ensures { OnOk result (out.new.items ≡ out.old.items ++ lead.now ++ codes "\"" ++ title.now ++ codes "\":") }
 {
     push_texts(out, &[lead.as_bytes(), b"\"", title.as_bytes(), b"\":"])
@@ -67,22 +69,6 @@ pub fn push_text(out: &mut Vec<u8>, lead: &str, title: &str, text: &[u8]) -> Res
 {
     push_title(out, lead, title)?;
     push_quoted(out, text)
-}
-
-/// Adds a member that is any text.
-#[tactic(auto, unfolding(crate::specs::JsonParts::member, crate::specs::JsonParts::quoted))]
-pub fn push_any_text(
-    out: &mut Vec<u8>,
-    lead: &str,
-    title: &str,
-    text: &[u8],
-) -> Result<(), AllocError>
-    ensures { OnOk result (out.new.items ≡ out.old.items ++ lead.now ++ member title.now (quoted (escaped text.now))) }
-{
-    push_title(out, lead, title)?;
-    out.extend_from_slice(b"\"")?;
-    push_escaped(out, text)?;
-    out.extend_from_slice(b"\"")
 }
 
 /// Adds a member that is a number.

@@ -7,14 +7,12 @@
 //! - `reasons`: what is told of a constraint; `answers`: what answers it.
 //! - `line_parts`: what lines are made of; `walk_lines` tells the steps of a core in them.
 //! - `json_text`: the texts, members and arrays of JSON; `json_parts`: what tells packages and constraints in it; `why_json`: where a walk goes on.
-//! - `laws`: what holds of walks.
 #![tactic(auto)]
 
 mod answers;
 pub mod hits;
 pub mod json_parts;
 pub mod json_text;
-pub mod laws;
 pub mod line_parts;
 mod own;
 pub mod reasons;

@@ -11,7 +11,7 @@ use Rattle.deb_report.specs.CauseLines.{causes_text}
 use Rattle.deb_causes.specs.Causes.{CauseView, by_count, by_first, causes_list, cores_of}
 use Rattle.deb_report.specs.Content.{causes_if, content_since}
 use Rattle.deb_report.specs.Json.{block_json, causes_json, explanation_json, head_json, json_text, list_json, number_json, tall_array, told_json}
-use Rattle.deb_reasons.specs.JsonParts.{escaped, member, object, quoted}
+use Rattle.deb_reasons.specs.JsonParts.{member, object, quoted}
 use Rattle.deb_report.specs.Lines.{block_of, explanation, lines_text, list_lines}
 use Rattle.deb_outcome.specs.Outcome.{broken_ones, is_broken, numbers_of}
 use Rattle.deb_report.specs.Report.{TellingView, number_line, telling_of}
@@ -21,7 +21,6 @@ use Rattle.run_settings.specs.Settings.{Settings}
 use Rattle.deb_outcome.specs.Since.{BrokenView, amends_of, has_named, is_gone, is_new, is_news, news_of, summary_since}
 use Rattle.deb_report.specs.Written.{text_in, written_since}
 use Rattle.list_steps.proofs.JoinLemmas.{joined_map, lines_map}
-use Rattle.deb_report.proofs.SinceLemmas.{same-places}
 
 -- what is the same of each that passes is the same of all that do
 map-filtered : {A B : Type 0} (test : A → Bool) (f g : A → B) → ((x : A) → test x ≡ true → f x ≡ g x) → (xs : List A) → map f (filter test xs) ≡ map g (filter test xs)
@@ -42,6 +41,22 @@ broken-count count (u ∷ us) (v ∷ vs) same =
     let head : is_broken u ≡ is_broken v = cc in
     let tail : map is_broken us ≡ map is_broken vs = cc in
     ap (λ broken. fold (λ n verdict. n + cond (is_broken verdict) 1 0) (count + cond broken 1 0) us) head ∙ broken-count (count + cond (is_broken v) 1 0) us vs tail
+
+-- which places are broken depends on the statuses alone
+same-places : (asked : List ℕ) (one other : List VerdictView) → map is_broken one ≡ map is_broken other
+    → map (λ (told : ℕ × VerdictView). told.0) (broken_ones asked one) ≡ map (λ (told : ℕ × VerdictView). told.0) (broken_ones asked other)
+same-places [] one other same = refl
+same-places (p ∷ ps) [] [] same = refl
+same-places (p ∷ ps) [] (v ∷ vs) same = cc
+same-places (p ∷ ps) (u ∷ us) [] same = cc
+same-places (p ∷ ps) (u ∷ us) (v ∷ vs) same =
+    let head : is_broken u ≡ is_broken v = cc in
+    let tail : map is_broken us ≡ map is_broken vs = cc in
+    let later = same-places ps us vs tail in
+    elim (cases_Bool (is_broken v)) [
+      | inl broken ↦ rw (head, broken) (ap (λ rest. p ∷ rest) later)
+      | inr sound ↦ rw (head, sound) later
+    ]
 
 abbrev whole : List ℕ → List ℕ
 whole bytes = bytes
@@ -104,7 +119,7 @@ module _ (settings : Settings) (index : IndexView) (asked : List ℕ) (before : 
         ∙ lines_map whole (block_of index (telling second)) content.blocks)
     text_by_news Json =
         let content = content_since settings index asked other second before in
-        ap (λ (blocks : List ℕ). object (head_json (telling first).options ++ (member (codes "architecture") (quoted (escaped index.arch))
+        ap (λ (blocks : List ℕ). object (head_json (telling first).options ++ (member (codes "architecture") (quoted index.arch)
         ∷ member (codes "report") (codes "[" ++ blocks ++ codes "\n]")
         ∷ map number_json content.numbers ++ map list_json content.lists ++ causes_json index content.causes)) ++ codes "\n")
         (sym (joined_map whole (block_json index (telling first)) (codes ",") content.blocks)

@@ -13,7 +13,7 @@ use Rattle.run_settings.specs.declared.config.Show.TheVariants.{All, Failures, S
 use Rattle.deb_report.specs.CauseLines.{causes_text}
 use Rattle.deb_report.specs.Content.{ContentView, causes_if, content_of, content_since}
 use Rattle.deb_report.specs.Json.{block_json, causes_json, head_json, json_text, list_json, number_json, tall_array}
-use Rattle.deb_reasons.specs.JsonParts.{escaped, member, object, quoted}
+use Rattle.deb_reasons.specs.JsonParts.{member, object, quoted}
 use Rattle.deb_report.specs.Lines.{block_of, lines_text, list_lines}
 use Rattle.deb_outcome.specs.Outcome.{broken_ones, is_broken, is_shown, numbers_of, shown_of, status_of, summary_of}
 use Rattle.deb_report.specs.Report.{TellingView, number_line, telling_of}
@@ -89,7 +89,7 @@ text_same Text index telling one other same =
     (sym (lines_map whole (block_of index telling) one.blocks) ∙ ap (flat_map whole) (same.blocks (block_of index telling) (block_tells_status index telling)) ∙ lines_map whole (block_of index telling) other.blocks)
     same.numbers) same.lists) same.causes
 text_same Json index telling one other same =
-    ap₂ (λ front causes. object (head_json telling.options ++ (member (codes "architecture") (quoted (escaped index.arch)) ∷ front ++ causes_json index causes)) ++ codes "\n")
+    ap₂ (λ front causes. object (head_json telling.options ++ (member (codes "architecture") (quoted index.arch) ∷ front ++ causes_json index causes)) ++ codes "\n")
     (ap₂ (λ front lists. front ++ map list_json lists)
     (ap₂ (λ blocks numbers. member (codes "report") (codes "[" ++ blocks ++ codes "\n]") ∷ map number_json numbers)
     (sym (joined_map whole (block_json index telling) (codes ",") one.blocks) ∙ ap (join_by whole (codes ",")) (same.blocks (block_json index telling) (object_tells_status index telling))

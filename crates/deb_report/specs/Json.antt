@@ -1,4 +1,4 @@
--- The report on an index as one JSON document (RFC 8259). The texts in it need no escapes, but for architectures.
+-- The report on an index as one JSON document (RFC 8259).
 use Rattle.std.specs.Prelude.{ℕ, ◌==◌, List, [], ◌∷◌, ◌++◌, Option, None, Some, codes, decimal, if◌then◌else◌, length, map}
 use Rattle.deb_index.specs.declared.constraint.Constraint.{Constraint}
 use Rattle.deb_index.specs.declared.constraint.Constraint.TheVariants.{Essential, Need, Apart, Only}
@@ -14,7 +14,7 @@ use Rattle.deb_texts.specs.Texts.{group_text}
 use Rattle.deb_causes.specs.Later.{later_at}
 use Rattle.deb_outcome.specs.Outcome.{status_of}
 use Rattle.deb_outcome.specs.Since.{BrokenView}
-use Rattle.deb_reasons.specs.JsonParts.{escaped, quoted, listed, array, member, object, label_members, label_json, place_json, reason_front, constraint_json, near_json, why_json}
+use Rattle.deb_reasons.specs.JsonParts.{quoted, listed, array, member, object, label_members, label_json, place_json, reason_front, constraint_json, near_json, why_json}
 
 -- an array that ends on a line of its own
 unfoldable pub tall_array : {A : Type 0} → (A → List ℕ) → List A → List ℕ
@@ -22,7 +22,7 @@ tall_array text elements = codes "[" ++ listed text elements ++ codes "\n]"
 
 -- its architecture
 unfoldable pub architecture_json : PackageView → List ℕ
-architecture_json deb = member (codes "architecture") (quoted (escaped deb.architecture))
+architecture_json deb = member (codes "architecture") (quoted deb.architecture)
 
 -- a constraint of a core
 unfoldable pub told_json : IndexView → TellingView → Constraint → List ℕ
@@ -101,6 +101,6 @@ head_json options = if length options == 0 then [] else member (codes "format") 
 
 -- the report: the blocks, each on a line of its own, the numbers, the lists, the causes
 unfoldable pub json_text : IndexView → TellingView → ContentView → List ℕ
-json_text index telling content = object (head_json telling.options ++ (member (codes "architecture") (quoted (escaped index.arch))
+json_text index telling content = object (head_json telling.options ++ (member (codes "architecture") (quoted index.arch)
     ∷ member (codes "report") (tall_array (block_json index telling) content.blocks)
     ∷ map number_json content.numbers ++ map list_json content.lists ++ causes_json index content.causes)) ++ codes "\n"

@@ -9,5 +9,4 @@ pub mod Content
 pub mod Sought
 pub mod Lines
 pub mod Json
-pub mod Plain
 pub mod Written

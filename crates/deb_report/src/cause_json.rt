@@ -16,7 +16,7 @@ use deb_causes::Cause;
 use deb_index::Constraint;
 use deb_near::{NearMiss, Similar, near_misses};
 use deb_reasons::hits::hits_of;
-use deb_reasons::json_parts::{IndexJson, push_package, push_relation};
+use deb_reasons::json_parts::{IndexJson, push_package};
 use deb_reasons::json_text::{push_array, push_number, push_text};
 use deb_reasons::reasons::group_field;
 use deb_relation::Atom;
@@ -39,7 +39,7 @@ impl<'p, 'i> Print<Constraint> for WrongJson<'p, 'i> {
         match *constraint {
             Constraint::Need(place, number) => {
                 push_text(out, "{", "kind", b"missing")?;
-                push_relation(out, self.json.index.need(place, number))?;
+                self.json.push_relation(out, self.json.index.need(place, number))?;
                 out.extend_from_slice(b"}")
             }
             Constraint::Essential(_) | Constraint::Apart(_, _) | Constraint::Only(_) => {
@@ -67,7 +67,7 @@ impl<'p, 'i> Print<Constraint> for NeededJson<'p, 'i> {
                 let deb = self.json.index.package(place);
                 push_package(out, "{", deb)?;
                 push_text(out, ",", "field", group_field(deb, number).as_bytes())?;
-                push_relation(out, self.json.index.need(place, number))?;
+                self.json.push_relation(out, self.json.index.need(place, number))?;
                 out.extend_from_slice(b"}")
             }
             Constraint::Essential(_) | Constraint::Apart(_, _) | Constraint::Only(_) => {

@@ -19,10 +19,8 @@ use crate::telling::Telling;
 use deb_health::{Shown, Verdict};
 use deb_index::{Constraint, Index};
 use deb_outcome::{Amends, BrokenPackage, Number, status_text};
-use deb_reasons::json_parts::{IndexJson, push_front, push_label, push_package};
-use deb_reasons::json_text::{
-    push_any_text, push_array, push_list, push_number, push_quoted, push_text,
-};
+use deb_reasons::json_parts::{IndexJson, push_label, push_package};
+use deb_reasons::json_text::{push_array, push_list, push_number, push_quoted, push_text};
 use deb_reasons::reasons::reason_of;
 use deb_reasons::why_json::push_why;
 use deb_texts::{Print, push_all};
@@ -43,7 +41,7 @@ impl<'i> Print<Constraint> for Json<'i> {
     #[tactic(auto, unfolding(crate::specs::Json::told_json))]
     fn print(&self, out: &mut Vec<u8>, constraint: &Constraint) -> Result<(), AllocError> {
         let reason = reason_of(self.parts.alloc, self.parts.index, *constraint)?;
-        push_front(out, &reason)?;
+        self.parts.push_front(out, &reason)?;
         if self.telling.config.why {
             push_why(&self.parts, out, *constraint)?;
         }
@@ -132,7 +130,7 @@ impl<'i, 'v> Print<Shown<'v>> for Json<'i> {
     fn print(&self, out: &mut Vec<u8>, shown: &Shown<'v>) -> Result<(), AllocError> {
         let deb = self.parts.index.package(shown.place);
         push_package(out, "\n{", deb)?;
-        push_any_text(out, ",", "architecture", deb.architecture.as_slice())?;
+        push_text(out, ",", "architecture", deb.architecture.as_slice())?;
         push_text(out, ",", "status", status_text(shown.verdict))?;
         if self.telling.config.explain {
             self.push_explanation(out, shown)?;
@@ -234,8 +232,7 @@ impl<'i> Json<'i> {
 /// the architecture, an array with the object of each place that has a block, each on a line of its own, the numbers, the lists of what became of
 /// packages since an earlier index, and where causes are told, an array with the object of each.
 ///
-/// What it tells is as in the report in lines. Texts stand as they are, since names, versions and relations have no byte that needs an escape;
-/// those of architectures are escaped. `AllocError` where there is no memory for it.
+/// What it tells is as in the report in lines. `AllocError` where there is no memory for it.
 #[tactic(auto, unfolding(crate::specs::Json::json_text))]
 pub(crate) fn json_report(
     alloc: Global,
@@ -252,7 +249,7 @@ pub(crate) fn json_report(
     let options = telling.options(alloc)?;
     let mut out = Vec::new(alloc);
     json.push_head(&mut out, options.as_slice())?;
-    push_any_text(&mut out, "", "architecture", index.arch())?;
+    push_text(&mut out, "", "architecture", index.arch())?;
     json.push_blocks(&mut out, content)?;
     push_all(&mut out, &json, content.numbers.as_slice())?;
     push_all(&mut out, &json, content.lists.as_slice())?;

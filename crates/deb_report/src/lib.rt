@@ -6,14 +6,12 @@
 //!   words that it is made under.
 //! - `content`: what both tell, its causes by `deb_causes`.
 //! - `cause_lines` and `cause_json` tell causes in both forms; `sought`: which names that differ in numbers alone are looked for.
-//! - `laws`: what holds of reports.
 #![tactic(auto)]
 
 mod cause_json;
 mod cause_lines;
 mod content;
 mod json;
-pub mod laws;
 mod layout;
 mod lines;
 mod options;

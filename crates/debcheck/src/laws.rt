@@ -10,7 +10,7 @@ ghost use Rattle.deb_input.specs.Inputs.{Input, input};
 ghost use Rattle.debcheck.specs.Run.{Fails, IsReport, IsReportOn, is_of_background};
 ghost use Rattle.debcheck.specs.Since.{IsReportSince};
 
-pub use deb_report::laws::{causes_have_reasons, nothing_since_itself, plain_texts};
+pub use deb_health::laws::causes_have_reasons;
 
 /// Where a text and its background have a report under these settings and no device failed, a run on them is refused for want of memory alone.
 pub fn refused_for_memory()

@@ -1,7 +1,7 @@
 use Rattle.std.proofs.Common.{◌++◌, ◌∙◌, ap, arith, get_or, sym, take}
 use Rattle.std.proofs.lemmas.List.{flat_map_more, take_all, take_more}
 use Rattle.std.specs.List.{flat_map}
-use Rattle.deb_reasons.specs.JsonParts.{escaped, escaped_byte}
+use Rattle.deb_reasons.specs.JsonParts.{escaped_byte}
 use Rattle.deb_reasons.proofs.json_text.push_escaped.Goals as goal
 
 pub loop-byte-preserved : goal.loop-byte-preserved
@@ -15,7 +15,6 @@ loop-byte-preserved c =
     ∙ ap (λ gone. start ++ flat_map escaped_byte gone) (sym (take_more text i 0 c.loop-byte-test.true))
 
 pub returns : goal.returns
-unfolding escaped
 returns c =
     c.loop-byte.invariant
     ∙ ap (λ gone. c.args.out.now.items ++ flat_map escaped_byte gone) (take_all c.loop-byte.byte-index c.args.text.now (omega (arith, c.loop-byte-test.false)))

@@ -1,6 +1,6 @@
 use Rattle.std.proofs.Common.{◌++◌, codes}
 use Rattle.deb_report.specs.Json.{block_json, causes_json, head_json, json_text, list_json, number_json, tall_array}
-use Rattle.deb_reasons.specs.JsonParts.{escaped, member, quoted}
+use Rattle.deb_reasons.specs.JsonParts.{member, quoted}
 use Rattle.deb_outcome.specs.Since.{amends_view}
 use Rattle.deb_outcome.specs.Outcome.{number_view}
 use Rattle.deb_report.specs.Told.{content_view, telling_view}
@@ -14,7 +14,7 @@ returns c =
     let index = c.args.index.now in
     let content = content_view c.args.content.now in
     let telling = telling_view c.args.telling in
-    let first = member (codes "architecture") (quoted (escaped index.arch)) in
+    let first = member (codes "architecture") (quoted index.arch) in
     let second = member (codes "report") (tall_array (block_json index telling) content.blocks) in
     rw (
       c.in_ok-extend_from_slice.ensures.items,
@@ -22,7 +22,7 @@ returns c =
       c.in_ok-push_all-2.ensures,
       c.in_ok-push_all.ensures,
       c.in_ok-push_blocks.ensures,
-      c.in_ok-push_any_text.ensures,
+      c.in_ok-push_text.ensures,
       c.in_ok-push_head.ensures,
       c.as_slice.ensures.value,
       c.as_slice-2.ensures.value,

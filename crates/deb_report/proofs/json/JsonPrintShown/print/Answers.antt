@@ -25,10 +25,10 @@ returns c =
     elim c.if-self.branch [
       | then-self+in_ok-push_explanation w ↦
           let parts = explanation_json c.args.self.now.parts.index.now telling (shown_view c.args.shown.now) in
-          rw (c.in_ok-extend_from_slice.ensures.items, w.out-is, w.in_ok-push_explanation.ensures, c.in_ok-push_text.ensures, c.in_ok-push_any_text.ensures, c.as_slice.ensures.value, c.in_ok-push_package.ensures, c.status_text.ensures, ← c.package-deb.ensures)
+          rw (c.in_ok-extend_from_slice.ensures.items, w.out-is, w.in_ok-push_explanation.ensures, c.in_ok-push_text-2.ensures, c.in_ok-push_text.ensures, c.as_slice.ensures.value, c.in_ok-push_package.ensures, c.status_text.ensures, ← c.package-deb.ensures)
           (object-with out (codes "\n") label (architecture ∷ status ∷ []) parts
           ∙ ap (λ (told : List (List ℕ)). out ++ (codes "\n" ++ object (label ∷ architecture ∷ status ∷ told))) (explained telling.explain parts w.if-self.true))
       | else-self w ↦
-          rw (c.in_ok-extend_from_slice.ensures.items, w.out-is, c.in_ok-push_text.ensures, c.in_ok-push_any_text.ensures, c.as_slice.ensures.value, c.in_ok-push_package.ensures, c.status_text.ensures, ← c.package-deb.ensures, w.if-self.false)
+          rw (c.in_ok-extend_from_slice.ensures.items, w.out-is, c.in_ok-push_text-2.ensures, c.in_ok-push_text.ensures, c.as_slice.ensures.value, c.in_ok-push_package.ensures, c.status_text.ensures, ← c.package-deb.ensures, w.if-self.false)
           (object-of out (codes "\n") label (architecture ∷ status ∷ []))
     ]
