@@ -6,8 +6,11 @@ const FROM_INPUT: &str = "the index comes on standard input, write debcheck --ar
 const NO_SUCH: &str =
     "debcheck has no such option, see DIFFERENCES FROM DOSE-DEBCHECK in its manual page";
 
+// Of installcheck's, which that page doesn't speak of.
+const NONE_AT_ALL: &str = "debcheck has no such option";
+
 // The words of those programs, each with what to write in its place, or that there is nothing.
-static OTHER_WORDS: [(&str, &str); 24] = [
+static OTHER_WORDS: [(&str, &str); 36] = [
     ("-a", "write --arch A"),
     ("--deb-native-arch", "write --arch A"),
     ("-e", "write --explain"),
@@ -21,6 +24,11 @@ static OTHER_WORDS: [(&str, &str); 24] = [
         "the report goes to standard output, write > FILE",
     ),
     ("--fg", FROM_INPUT),
+    ("--nocheck", "write --bg FILE"),
+    (
+        "--progress",
+        "leave it out, progress is shown where standard error is a terminal",
+    ),
     ("-c", NO_SUCH),
     ("-d", NO_SUCH),
     ("-m", NO_SUCH),
@@ -29,12 +37,22 @@ static OTHER_WORDS: [(&str, &str); 24] = [
     ("--coinst", NO_SUCH),
     ("--compare", NO_SUCH),
     ("--dot", NO_SUCH),
+    ("--explain-condense", NO_SUCH),
+    ("--explain-minimal", NO_SUCH),
     ("--fields", NO_SUCH),
     ("--latest", NO_SUCH),
     ("--lowmem", NO_SUCH),
+    ("--outdir", NO_SUCH),
     ("--deb-builds-from", NO_SUCH),
     ("--deb-foreign-archs", NO_SUCH),
+    ("--opam-profiles", NO_SUCH),
+    ("--opam-switch", NO_SUCH),
+    ("--opam-switches", NO_SUCH),
     ("--timers", NO_SUCH),
+    ("--verbose", NO_SUCH),
+    ("--exclude", NONE_AT_ALL),
+    ("--withobsoletes", NONE_AT_ALL),
+    ("--withsrc", NONE_AT_ALL),
 ];
 
 /// What to write in the place of a word of those programs, or that there is nothing; none of another word.

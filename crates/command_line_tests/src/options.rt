@@ -10,6 +10,7 @@ i386, explain, ignore-essential, failures, causes, all-reasons, why, strict, qui
 /// Lines, and the settings that are not the usual ones. An architecture is enough, and no words ask for explanations.
 const ONE_OPTION: &str = " => amd64, explain
 |--arch|amd64 => amd64
+|--arch|amd64|-- => amd64
 |--arch=kfreebsd-i386 => kfreebsd-i386
 |--arch|amd64|--explain => amd64, explain
 |--arch|amd64|--ignore-essential => amd64, ignore-essential
