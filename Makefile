@@ -42,6 +42,10 @@ install-debcheck-tools:
 	install -D -m 644 docs/debcheck-page.5 $(share)/man/man5/debcheck-page.5
 	install -d -m 755 $(share)/doc/debcheck-tools/examples
 	install -m 644 $(page_examples:%=examples/%) $(share)/doc/debcheck-tools/examples
+	install -D -m 644 docs/debcheck-archive.1 $(share)/man/man1/debcheck-archive.1
+	install -D -m 644 completion/debcheck-archive.bash $(share)/bash-completion/completions/debcheck-archive
+	install -D -m 644 completion/debcheck-archive.zsh $(zsh)/_debcheck-archive
+	install -D -m 644 docs/overview.schema.json $(share)/debcheck-tools/overview.schema.json
 
 # dose's commands stand with their modules in a folder that is on no path, so that dose may be installed, too.
 dose = $(DESTDIR)$(PREFIX)/lib/debcheck/dose
@@ -64,7 +68,8 @@ uninstall-debcheck-dose:
 	done
 
 uninstall-debcheck-tools:
-	rm -f $(bin)/debcheck-archive
+	rm -f $(bin)/debcheck-archive $(share)/man/man1/debcheck-archive.1 $(zsh)/_debcheck-archive
+	rm -f $(share)/bash-completion/completions/debcheck-archive
 	rm -rf $(share)/debcheck-tools
 	rm -f $(share)/man/man5/debcheck-page.5 $(addprefix $(share)/doc/debcheck-tools/examples/,$(page_examples))
 	for folder in $(share)/doc/debcheck-tools/examples $(share)/doc/debcheck-tools; do \

@@ -1,11 +1,13 @@
 """debcheck-archive: one command with a sub-command for each question."""
 
 import argparse
+import gc
 import importlib
+import sys
 from collections.abc import Callable, Sequence
 from typing import NoReturn, Optional, TypeAlias
 
-from debcheck_tools.errors import USAGE, Fault, ended
+from debcheck_tools.errors import OK, USAGE, Fault, ended
 from debcheck_tools.progress import progress
 
 # Modules with a call register(commands), which adds a sub-command; its `work` takes the options and gives the status.
@@ -22,7 +24,7 @@ class Parser(argparse.ArgumentParser):
 Commands: TypeAlias = "argparse._SubParsersAction[Parser]"
 
 
-def parser() -> Parser:
+def parser() -> tuple[Parser, Commands]:
     made = Parser(
         prog="debcheck-archive", description="Asks debcheck about an archive's files as they are.", allow_abbrev=False
     )
@@ -30,12 +32,28 @@ def parser() -> Parser:
     for name in COMMANDS:
         register: Callable[[Commands], None] = importlib.import_module(f"debcheck_tools.{name}").register
         register(commands)
-    return made
+    return made, commands
+
+
+def told_to_completion(words: Sequence[str], commands: Commands) -> bool:
+    """Writes what the completion of shells asks for: the commands, or the options of one."""
+    known: dict[str, Parser] = dict(commands.choices)
+    if list(words) == ["--commands"]:
+        print("\n".join(known))
+    elif len(words) == 2 and words[0] == "--words":
+        print("\n".join(known[words[1]]._option_string_actions if words[1] in known else ()))
+    else:
+        return False
+    return True
 
 
 def main(words: Optional[Sequence[str]] = None) -> int:
     def work() -> int:
-        options = parser().parse_args(words)
+        given = sys.argv[1:] if words is None else words
+        made, commands = parser()
+        if told_to_completion(given, commands):
+            return OK
+        options = made.parse_args(given)
         progress.start()
         try:
             status: int = options.work(options)
@@ -43,4 +61,6 @@ def main(words: Optional[Sequence[str]] = None) -> int:
             progress.end()
         return status
 
+    # Hundreds of thousands of tuples without a cycle among them are looked through in vain.
+    gc.disable()
     return ended("debcheck-archive", work)

@@ -109,11 +109,8 @@ class Index:
 
     def known(self, arch: str) -> dict[tuple[str, str], Stanza]:
         """The stanza of each package of the architecture, by name and version."""
-        found: dict[tuple[str, str], Stanza] = {}
-        for stanza in self.stanzas:
-            if stanza.architecture in (arch, "all"):
-                found.setdefault((stanza.package, stanza.version), stanza)
-        return found
+        own = (arch, "all")
+        return {(one.package, one.version): one for one in reversed(self.stanzas) if one.architecture in own}
 
     def place_of(self, number: int) -> tuple[IndexFile, list[bytes]]:
         """The file and the lines of the stanza that the program counts so, from 1, in the text."""

@@ -56,8 +56,9 @@ class Names:
         self.building = building or {}
         for stanza in (stanza for index in indexes for stanza in index.stanzas if stanza.architecture in (arch, "all")):
             self.there.setdefault(stanza.package, []).append(stanza)
-            for name, _ in provided(stanza) if stanza.provides else ():
-                self.there.setdefault(name, []).append(stanza)
+            if stanza.provides:
+                for name, _ in provided(stanza):
+                    self.there.setdefault(name, []).append(stanza)
         self.sorted = sorted(self.there)
 
     def having(self, name: str) -> Iterator[tuple[Stanza, str]]:
@@ -105,11 +106,9 @@ def told(name: str, stanza: Stanza, version: str) -> Near:
     return Near(name, version, "" if stanza.package == name else stanza.package)
 
 
-def provided(stanza: Stanza) -> Iterator[tuple[str, str]]:
+def provided(stanza: Stanza) -> list[tuple[str, str]]:
     """The names that a stanza provides, with their versions; none where apt can't read them."""
-    if stanza.provides:
-        try:
-            for group in apt_pkg.parse_depends(stanza.provides, True):
-                yield from ((name, version) for name, version, _ in group)
-        except ValueError:
-            return
+    try:
+        return [atom[:2] for group in apt_pkg.parse_depends(stanza.provides, True) for atom in group]
+    except ValueError:
+        return []

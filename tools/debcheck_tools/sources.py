@@ -11,7 +11,7 @@ from typing import NamedTuple, Optional
 import apt_pkg
 
 from debcheck_tools.errors import DATA, Fault
-from debcheck_tools.index import Index
+from debcheck_tools.index import Index, Stanza
 from debcheck_tools.index_files import SOURCES, IndexFile, in_memory
 from debcheck_tools.tag_file import tags_of, values
 
@@ -65,13 +65,22 @@ class Sources:
         apt_pkg.config.set("APT::Build-Profiles", ",".join(building.profiles))
         self.built: dict[str, bool] = {}
         self.known: dict[tuple[str, str], Source] = {}
-        stanzas = []
+        texts: list[bytes] = []
+        stanzas: list[tuple[Source, int, int]] = []
+        size = 0
         for source in self.counted(index):
             self.known.setdefault((PREFIX + source.name, source.version), source)
-            stanzas.append(self.stanza(source))
-        text = "".join(stanzas).encode()
-        file = IndexFile(", ".join(file.name for file in index.files), in_memory(text), len(text), SOURCES)
-        self.index = Index([file])
+            texts.append(self.stanza(source).encode())
+            stanzas.append((source, size, size + len(texts[-1])))
+            size += len(texts[-1])
+        file = IndexFile(", ".join(file.name for file in index.files), in_memory(b"".join(texts)), size, SOURCES)
+        self.index = Index([file], [self.as_package(*place, file) for place in stanzas])
+
+    @staticmethod
+    def as_package(source: Source, begin: int, end: int, file: IndexFile) -> Stanza:
+        return Stanza(
+            PREFIX + source.name, source.version, "all", source.name, source.maintainer, "", "", file, begin, end
+        )
 
     def counted(self, index: Index) -> Iterator[Source]:
         """The sources of an index that are built on the architecture; some are there for their text alone."""
@@ -97,8 +106,10 @@ class Sources:
     def groups(self, source: Source, fields: Iterable[str]) -> Iterator[tuple[str, str]]:
         """Each dependency that counts, or conflict, as the program prints it, behind the field that has it."""
         for field in fields:
+            if field not in source.fields:
+                continue
             try:
-                parsed = self.parsed(source.fields.get(field, ""))
+                parsed = self.parsed(source.fields[field])
             except ValueError:
                 raise Fault(
                     DATA, f"{source.file.name}: source {source.name} {source.version}: {field} can't be read"
