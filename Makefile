@@ -8,9 +8,8 @@ bin = $(DESTDIR)$(PREFIX)/bin
 share = $(DESTDIR)$(PREFIX)/share
 # What the distribution installs has a folder of its own in zsh's path.
 zsh = $(share)/zsh/$(if $(filter /usr,$(PREFIX)),vendor-completions,site-functions)
-scripts = all-architectures before-publishing by-maintainer debcheck-news newest newly-broken
-units = debcheck-news.service debcheck-news.timer
-page_examples = debcheck-page.toml debcheck-page.service debcheck-page.timer
+scripts = before-publishing debcheck-news
+units = debcheck-news.service debcheck-news.timer debcheck-page.toml debcheck-page.service debcheck-page.timer
 
 all:
 	./debcheck --version > /dev/null
@@ -28,9 +27,6 @@ install-debcheck: all
 	install -D -m 644 completion/debcheck.bash $(share)/bash-completion/completions/debcheck
 	install -D -m 644 completion/debcheck.zsh $(zsh)/_debcheck
 	install -D -m 644 docs/report.schema.json $(share)/debcheck/report.schema.json
-	install -d -m 755 $(share)/doc/debcheck/examples
-	install -m 755 $(scripts:%=examples/%) $(share)/doc/debcheck/examples
-	install -m 644 $(units:%=examples/%) $(share)/doc/debcheck/examples
 
 # The tools are Python and stand beside each other in a folder of their own.
 install-debcheck-tools:
@@ -41,7 +37,8 @@ install-debcheck-tools:
 	install -m 644 tools/debcheck_tools/templates/* $(share)/debcheck-tools/debcheck_tools/templates
 	install -D -m 644 docs/debcheck-page.5 $(share)/man/man5/debcheck-page.5
 	install -d -m 755 $(share)/doc/debcheck-tools/examples
-	install -m 644 $(page_examples:%=examples/%) $(share)/doc/debcheck-tools/examples
+	install -m 755 $(scripts:%=examples/%) $(share)/doc/debcheck-tools/examples
+	install -m 644 $(units:%=examples/%) $(share)/doc/debcheck-tools/examples
 	install -D -m 644 docs/debcheck-archive.1 $(share)/man/man1/debcheck-archive.1
 	install -D -m 644 completion/debcheck-archive.bash $(share)/bash-completion/completions/debcheck-archive
 	install -D -m 644 completion/debcheck-archive.zsh $(zsh)/_debcheck-archive
@@ -71,7 +68,7 @@ uninstall-debcheck-tools:
 	rm -f $(bin)/debcheck-archive $(share)/man/man1/debcheck-archive.1 $(zsh)/_debcheck-archive
 	rm -f $(share)/bash-completion/completions/debcheck-archive
 	rm -rf $(share)/debcheck-tools
-	rm -f $(share)/man/man5/debcheck-page.5 $(addprefix $(share)/doc/debcheck-tools/examples/,$(page_examples))
+	rm -f $(share)/man/man5/debcheck-page.5 $(addprefix $(share)/doc/debcheck-tools/examples/,$(scripts) $(units))
 	for folder in $(share)/doc/debcheck-tools/examples $(share)/doc/debcheck-tools; do \
 	    [ ! -d $$folder ] || rmdir --ignore-fail-on-non-empty $$folder; \
 	done
@@ -79,10 +76,8 @@ uninstall-debcheck-tools:
 uninstall-debcheck:
 	rm -f $(bin)/debcheck $(share)/man/man1/debcheck.1 $(share)/man/man5/debcheck-report.5
 	rm -f $(share)/bash-completion/completions/debcheck $(zsh)/_debcheck
-	rm -f $(share)/debcheck/report.schema.json $(addprefix $(share)/doc/debcheck/examples/,$(scripts) $(units))
-	for folder in $(share)/debcheck $(share)/doc/debcheck/examples $(share)/doc/debcheck; do \
-	    [ ! -d $$folder ] || rmdir --ignore-fail-on-non-empty $$folder; \
-	done
+	rm -f $(share)/debcheck/report.schema.json
+	[ ! -d $(share)/debcheck ] || rmdir --ignore-fail-on-non-empty $(share)/debcheck
 
 deb: all
 	packaging/make_deb
