@@ -13,7 +13,7 @@ from debcheck_tools.command_line import Commands
 from debcheck_tools.errors import UNKNOWN, USAGE, Fault
 from debcheck_tools.inputs import Inputs
 from debcheck_tools.overview import Packages
-from debcheck_tools.program import Json, Program
+from debcheck_tools.program import WORKERS, Json, Program
 from debcheck_tools.progress import progress
 from debcheck_tools.sources import PREFIX
 from debcheck_tools.wrongs import Member, gathered
@@ -46,7 +46,7 @@ def work(options: argparse.Namespace) -> int:
     if words and not options.report:
         raise Fault(USAGE, f"{words[0]} needs --report text or --report json: the overview doesn't have it")
     asked = inputs.read(options)
-    program = Program(["--ignore-essential"] if options.ignore_essential else [])
+    program = Program([*WORKERS, "--ignore-essential"] if options.ignore_essential else WORKERS)
     names = names_of(options, asked)
     progress.tell("asking debcheck")
     if options.report == "text":

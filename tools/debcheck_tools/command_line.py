@@ -10,8 +10,17 @@ from typing import NoReturn, Optional, TypeAlias
 from debcheck_tools.errors import OK, USAGE, Fault, ended
 from debcheck_tools.progress import progress
 
-# Modules with a call register(commands), which adds a sub-command; its `work` takes the options and gives the status.
-COMMANDS = ("check_command", "sources_command", "decisions_command", "page_command")
+# The module of each command, with a call register(commands) that adds it; its `work` gives the status.
+DECISIONS = "decisions_command"
+COMMANDS = {
+    "check": "check_command",
+    "sources": "sources_command",
+    "would-migrate": DECISIONS,
+    "partial-upgrade": DECISIONS,
+    "without": DECISIONS,
+    "debfile": DECISIONS,
+    "page": "page_command",
+}
 
 
 class Parser(argparse.ArgumentParser):
@@ -24,12 +33,14 @@ class Parser(argparse.ArgumentParser):
 Commands: TypeAlias = "argparse._SubParsersAction[Parser]"
 
 
-def parser() -> tuple[Parser, Commands]:
+def parser(words: Sequence[str]) -> tuple[Parser, Commands]:
+    """The parser of a command line, with the command that it names, or else with all."""
     made = Parser(
         prog="debcheck-archive", description="Asks debcheck about an archive's files as they are.", allow_abbrev=False
     )
     commands = made.add_subparsers(metavar="COMMAND", required=True, parser_class=Parser)
-    for name in COMMANDS:
+    named = COMMANDS.get(words[0]) if words else None
+    for name in [named] if named else dict.fromkeys(COMMANDS.values()):
         register: Callable[[Commands], None] = importlib.import_module(f"debcheck_tools.{name}").register
         register(commands)
     return made, commands
@@ -50,7 +61,7 @@ def told_to_completion(words: Sequence[str], commands: Commands) -> bool:
 def main(words: Optional[Sequence[str]] = None) -> int:
     def work() -> int:
         given = sys.argv[1:] if words is None else words
-        made, commands = parser()
+        made, commands = parser(given)
         if told_to_completion(given, commands):
             return OK
         options = made.parse_args(given)

@@ -13,7 +13,7 @@ from debcheck_tools.errors import READ, UNKNOWN, USAGE, Fault
 from debcheck_tools.index import Index, Stanza, architecture_of
 from debcheck_tools.index_files import PACKAGES, IndexFile, in_memory
 from debcheck_tools.inputs import Inputs
-from debcheck_tools.program import Program
+from debcheck_tools.program import WORKERS, Program
 
 
 def register(commands: Commands) -> None:
@@ -86,7 +86,7 @@ def answer(
     """Writes what is newly broken in the composed index."""
     background = inputs.opened(options.bg) if options.bg else None
     indexes = [before, *more, *([background] if background else [])]
-    arch, program = architecture_of(indexes, options.arch), Program()
+    arch, program = architecture_of(indexes, options.arch), Program(WORKERS)
     for index in (index for index in more if index.unread):
         program.run(arch, index, None, ["--failures"])
     asked, earlier = Inputs(arch, after, background), Inputs(arch, before, background)

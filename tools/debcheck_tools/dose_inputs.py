@@ -87,7 +87,7 @@ class Inputs:
     def names(self) -> set[str]:
         """The names of all packages."""
         files = self.asked.files + self.ground.files
-        return {next(values(section, ("Package",))) for file in files for section in self.sections(file)}
+        return {values(section, ("Package",))[0] for file in files for section in self.sections(file)}
 
     def own(self, report: BinaryIO, with_needs: bool) -> dict[Member, Own]:
         """What stanzas say of each package that a report tells of, of several alike the first."""

@@ -52,18 +52,22 @@ class Names:
     """All names that indexes have or provide for an architecture."""
 
     def __init__(self, indexes: Iterable[Index], arch: str, building: Optional[dict[str, list[str]]] = None) -> None:
-        self.there: dict[str, list[Stanza]] = {}
+        self.first: dict[str, Stanza] = {}
+        self.more: dict[str, list[Stanza]] = {}
         self.building = building or {}
         for stanza in (stanza for index in indexes for stanza in index.stanzas if stanza.architecture in (arch, "all")):
-            self.there.setdefault(stanza.package, []).append(stanza)
+            names = [stanza.package]
             if stanza.provides:
-                for name, _ in provided(stanza):
-                    self.there.setdefault(name, []).append(stanza)
-        self.sorted = sorted(self.there)
+                names += [name for name, _ in provided(stanza)]
+            for name in names:
+                if self.first.setdefault(name, stanza) is not stanza:
+                    self.more.setdefault(name, []).append(stanza)
+        self.sorted = sorted(self.first)
 
     def having(self, name: str) -> Iterator[tuple[Stanza, str]]:
         """The packages that have or provide a name, each with the version of it."""
-        for stanza in self.there.get(name, ()):
+        first = self.first.get(name)
+        for stanza in dict.fromkeys([first, *self.more.get(name, ())] if first else ()):
             if stanza.package == name:
                 yield stanza, stanza.version
             else:

@@ -18,6 +18,9 @@ TOP = os.path.dirname(os.path.dirname(os.path.dirname(os.path.abspath(__file__))
 BUILT = os.path.join(TOP, "crates", "debcheck_program", "out", "debcheck_program")
 STANZA_FAULT = re.compile(r"debcheck: (?:(background|earlier index): )?stanza (\d+): (.*)")
 
+# As many workers as there are processors for this process.
+WORKERS = ("--workers", str(min(64, len(os.sched_getaffinity(0)))))
+
 Json = dict[str, Any]
 
 

@@ -1,6 +1,5 @@
 """apt's reading of control files, with the calls that its types don't name."""
 
-from collections.abc import Iterator
 from typing import BinaryIO, Optional, Protocol, cast
 
 import apt_pkg
@@ -41,8 +40,6 @@ def native() -> str:
     return str(apt_pkg.config.find("APT::Architecture"))
 
 
-def values(section: Section, fields: tuple[str, ...]) -> Iterator[str]:
+def values(section: Section, fields: tuple[str, ...]) -> list[str]:
     """The values of these fields, empty where there is none; bytes that are no UTF-8 are replaced."""
-    for field in fields:
-        value = section.get(field)
-        yield value.decode("utf-8", "replace") if value else ""
+    return [value.decode("utf-8", "replace") if value else "" for value in map(section.get, fields)]
