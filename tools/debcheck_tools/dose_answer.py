@@ -4,7 +4,6 @@ import argparse
 import io
 import os
 import shutil
-import sys
 from collections.abc import Iterator
 from typing import BinaryIO, cast
 
@@ -49,12 +48,9 @@ class Answer:
 
     def write(self, text: BinaryIO) -> None:
         name = self.options.outfile
-        if name is None:
-            shutil.copyfileobj(text, sys.stdout.buffer, 1 << 20)
-            return
-        path = os.path.join(self.options.outdir or "", name)
+        path = "standard output" if name is None else os.path.join(self.options.outdir or "", name)
         try:
-            with open(path, "wb") as file:
+            with open(1 if name is None else path, "wb", closefd=name is not None) as file:
                 shutil.copyfileobj(text, file, 1 << 20)
         except OSError as fault:
             raise Fault(WRITE, f"{path}: can't be written: {fault.strerror}") from None

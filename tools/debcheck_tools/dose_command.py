@@ -11,7 +11,7 @@ from debcheck_tools.dose_answer import Answer
 from debcheck_tools.dose_inputs import Inputs
 from debcheck_tools.dose_options import parsed
 from debcheck_tools.dose_words import DEBCHECK
-from debcheck_tools.errors import OK, UNKNOWN, Fault, ended
+from debcheck_tools.errors import OK, UNKNOWN, Fault, ended, tell
 from debcheck_tools.program import Program, Report, find
 
 # The version of dose whose words and form these are.
@@ -27,7 +27,7 @@ class Say:
     def __call__(self, kind: str, label: str, text: str) -> None:
         """Information is of the kind I, a warning of W."""
         if not self.options.quiet and (kind == "W" or self.options.verbose):
-            print(f"({kind}){label}: {text}", file=sys.stderr, flush=True)
+            tell(f"({kind}){label}: {text}")
 
 
 def program_words(options: argparse.Namespace, explains: bool) -> list[str]:
@@ -76,7 +76,7 @@ def work(command: str, words: Sequence[str]) -> int:
     status = Answer(command, options, inputs, report, explains).tell(say)
     if options.timers:
         solved = time.monotonic() - loaded
-        print(f"Timer Solver: {solved:f}.\nTimer Load: {loaded - started:f}.", file=sys.stderr)
+        tell(f"Timer Solver: {solved:f}.\nTimer Load: {loaded - started:f}.")
     return status
 
 

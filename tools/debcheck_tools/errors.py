@@ -21,24 +21,34 @@ class Fault(Exception):
 
 def note(line: str) -> None:
     """Tells on standard error what is no fault."""
-    print(f"debcheck-archive: note: {line}", file=sys.stderr)
+    tell(f"debcheck-archive: note: {line}")
+
+
+def tell(line: str) -> None:
+    """Writes a line to standard error, where that isn't closed."""
+    if sys.stderr is not None:
+        print(line, file=sys.stderr, flush=True)
 
 
 def ended(command: str, work: Callable[[], int]) -> int:
     """The exit status of a command; a fault is one line on standard error."""
+    if sys.stdout is None:
+        # Another file would get its number.
+        tell(f"{command}: standard output is closed")
+        return WRITE
     try:
         status = work()
         sys.stdout.flush()
         return status
     except Fault as fault:
-        print(f"{command}: {fault.line}", file=sys.stderr)
+        tell(f"{command}: {fault.line}")
         return fault.status
     except BrokenPipeError:
         # Whoever reads has enough.
         os.dup2(os.open(os.devnull, os.O_WRONLY), sys.stdout.fileno())
         return WRITE
     except MemoryError:
-        print(f"{command}: out of memory", file=sys.stderr)
+        tell(f"{command}: out of memory")
         return MEMORY
     except KeyboardInterrupt:
         signal.signal(signal.SIGINT, signal.SIG_DFL)

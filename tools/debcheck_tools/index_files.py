@@ -57,6 +57,8 @@ def open_index(name: str, kind: str = PACKAGES, may_be_empty: bool = False, sour
 
 def raw(name: str, shown: str) -> BinaryIO:
     try:
+        if name == "-" and sys.stdin is None:
+            raise Fault(READ, f"{shown}: is closed")
         if name == "-":
             source = in_memory()
             shutil.copyfileobj(sys.stdin.buffer, source)

@@ -3,10 +3,11 @@
 import bz2
 import gzip
 import lzma
+import subprocess
 from pathlib import Path
 
 import pytest
-from conftest import Write, stanza
+from conftest import TOOLS, Write, stanza
 from dose_runs import DEBCHECK, counts, names, run
 
 MAIN = stanza("a") + stanza("b", Depends="gone")
@@ -182,6 +183,26 @@ def test_output_to_a_file(write: Write, tmp_path: Path) -> None:
         68,
         "dose-debcheck: no/such/folder: can't be written: No such file or directory\n",
     )
+
+
+@pytest.mark.parametrize(
+    "end, status, said",
+    [
+        (">/dev/full", 68, "dose-debcheck: standard output: can't be written: No space left on device\n"),
+        (">&-", 68, "dose-debcheck: standard output is closed\n"),
+        ("- <&-", 67, "dose-debcheck: standard input: is closed\n"),
+    ],
+)
+def test_streams_that_are_closed_or_full(write: Write, end: str, status: int, said: str) -> None:
+    line = f"{TOOLS / DEBCHECK} -f {write('P', MAIN)} {end}"
+    done = subprocess.run(["sh", "-c", line], stdout=subprocess.DEVNULL, stderr=subprocess.PIPE, text=True)
+    assert (done.returncode, done.stderr) == (status, said)
+
+
+def test_warnings_stay_off_the_report_where_standard_error_is_closed(write: Write) -> None:
+    path = write("P", MAIN + stanza("z", architecture="i386"))
+    done = subprocess.run(["sh", "-c", f"{TOOLS / DEBCHECK} -v {path} 2>&-"], stdout=subprocess.PIPE, text=True)
+    assert done.stdout.splitlines() == ["output-version: 1.2", "total-packages: 2", "broken-packages: 1"]
 
 
 def test_a_fault_writes_no_file(write: Write, tmp_path: Path) -> None:
