@@ -46,7 +46,7 @@ def open_index(name: str, kind: str = PACKAGES, may_be_empty: bool = False, sour
     Where it is one of sources in place of packages the fault says how these are named.
     """
     shown = "standard input" if name == "-" else name
-    text = unpacked(shown, raw(name, shown))
+    text = unpacked(shown, raw(name, shown), name == "-")
     size = text.seek(0, os.SEEK_END)
     file = IndexFile(shown, text, size, kind)
     found = what_it_is(file)
@@ -61,7 +61,8 @@ def raw(name: str, shown: str) -> BinaryIO:
             raise Fault(READ, f"{shown}: is closed")
         if name == "-":
             source = in_memory()
-            shutil.copyfileobj(sys.stdin.buffer, source)
+            with open(0, "rb", buffering=0, closefd=False) as given:
+                shutil.copyfileobj(given, source, 1 << 20)
             source.seek(0)
             return source
         return open(name, "rb")
@@ -101,13 +102,15 @@ FORMS: tuple[tuple[bytes, Callable[[BinaryIO], BinaryIO]], ...] = (
 )
 
 
-def unpacked(shown: str, source: BinaryIO) -> BinaryIO:
-    """The plain text of a file."""
+def unpacked(shown: str, source: BinaryIO, is_in_memory: bool) -> BinaryIO:
+    """The plain text of a file, which is itself where it is plain and in memory."""
     try:
+        begin = source.read(6)
+        source.seek(0)
+        unpack = next((unpack for magic, unpack in FORMS if begin.startswith(magic)), None)
+        if is_in_memory and not unpack:
+            return source
         with source:
-            begin = source.read(6)
-            source.seek(0)
-            unpack = next((unpack for magic, unpack in FORMS if begin.startswith(magic)), None)
             text = in_memory()
             shutil.copyfileobj(unpack(source) if unpack else source, text, 1 << 20)
             return text
