@@ -99,10 +99,21 @@ class Check:
 
     def answer(self, digest: str) -> Answer:
         """What debcheck says of the cell."""
-        broken, gathered = self.report.read(), Gathered()
+        lines, entries = self.told(self.report.read())
+        causes: dict[str, set[str]] = {}
+        for entry in entries:
+            causes.setdefault(entry["package"], set()).update(entry["wrongs"])
+        there = {name for stanza in self.inputs.index.stanzas if (name := self.shown(stanza.package)) in self.before}
+        numbers = {name: self.report.rest[name] for name in ("asked", "broken")}
+        return Answer(digest, {**numbers, "rows": lines, "packages": entries}, causes, self.before - there)
+
+    def told(self, broken: Sequence[Json]) -> tuple[list[Json], list[Json]]:
+        """What is wrong, and each broken package."""
+        if not broken:
+            return [], []
+        gathered, packages = Gathered(), Packages(self.inputs)
         for one in broken:
             gathered.add(one)
-        packages = Packages(self.inputs)
         of_package: dict[tuple[str, str], list[str]] = {}
         lines = []
         for row in rows(gathered, packages):
@@ -110,13 +121,7 @@ class Check:
             lines.append(self.line(row, wrongs))
             for member in row.wrong.broken:
                 of_package.setdefault(member, []).extend(wrongs)
-        entries = [self.entry(one, of_package[one["package"], one["version"]], packages) for one in broken]
-        causes: dict[str, set[str]] = {}
-        for entry in entries:
-            causes.setdefault(entry["package"], set()).update(entry["wrongs"])
-        there = {name for stanza in self.inputs.index.stanzas if (name := self.shown(stanza.package)) in self.before}
-        numbers = {name: self.report.rest[name] for name in ("asked", "broken")}
-        return Answer(digest, {**numbers, "rows": lines, "packages": entries}, causes, self.before - there)
+        return lines, [self.entry(one, of_package[one["package"], one["version"]], packages) for one in broken]
 
     def shown(self, name: str) -> str:
         """The name of a package, or of the source for which it stands."""

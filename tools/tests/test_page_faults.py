@@ -1,5 +1,6 @@
 """debcheck-archive page where something is wrong: files, texts, names, and the place of the pages."""
 
+import fcntl
 import os
 import xml.etree.ElementTree as ElementTree
 from pathlib import Path
@@ -109,3 +110,19 @@ def test_a_place_that_has_something_else(archive: Archive, write: Write, tmp_pat
     left = [path.name for path in pages.parent.iterdir() if "pages" in path.name]
     assert sorted(left) == sorted(["pages", os.readlink(pages)]) and os.readlink(pages) != first
     assert oct((pages.parent / os.readlink(pages)).stat().st_mode)[-3:] == "755"
+
+
+def test_one_run_at_a_time_has_the_history(archive: Archive, write: Write, tmp_path: Path) -> None:
+    put(write)
+    with open(tmp_path / "history.sqlite.lock", "w") as other:
+        fcntl.flock(other, fcntl.LOCK_EX)
+        answer = run(archive, 0, 68)
+    assert answer.err == f"debcheck-archive: {tmp_path}/history.sqlite: another run has it; wait until that ends\n"
+    assert not (tmp_path / "pages").exists() and not (tmp_path / "history.sqlite").exists()
+
+
+def test_a_faulty_configuration_changes_nothing(archive: Archive, write: Write, tmp_path: Path) -> None:
+    path = write("page.toml", CONFIG.replace("files =", "file =", 1))
+    answer = archive("page", "page.toml")
+    assert answer.status == 64 and answer.err.startswith("debcheck-archive: page.toml:9: file: there is no such key")
+    assert [one.name for one in tmp_path.iterdir()] == [Path(path).name]
