@@ -55,9 +55,7 @@ def site_of(config: Config, views: Views, program: str) -> Json:
         "id": config.address or uuid.uuid5(uuid.NAMESPACE_URL, config.title).urn,
         "began": views.began,
         "program": program,
-        "against": f"since {views.before_began[:10]}"
-        if views.before
-        else "since an earlier day, of which there is none yet",
+        "against": f" since {views.before_began[:10]}" if views.before else "",
     }
 
 
