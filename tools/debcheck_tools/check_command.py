@@ -3,6 +3,7 @@
 import argparse
 import difflib
 import json
+import os
 import sys
 from collections.abc import Iterator
 
@@ -45,6 +46,7 @@ def work(options: argparse.Namespace) -> int:
     words = [f"--{word}" for word in SHOWN if getattr(options, word.replace("-", "_"))]
     if words and not options.report:
         raise Fault(USAGE, f"{words[0]} needs --report text or --report json: the overview doesn't have it")
+    see_commas(options)
     asked = inputs.read(options)
     program = Program([*WORKERS, "--ignore-essential"] if options.ignore_essential else WORKERS)
     names = names_of(options, asked)
@@ -74,6 +76,13 @@ def work(options: argparse.Namespace) -> int:
     else:
         print("\n".join(overview_text.lines(report.rest, rows, asked.what)))
     return report.status
+
+
+def see_commas(options: argparse.Namespace) -> None:
+    """Refuses names that blanks part, which would be taken for files."""
+    lost = [name for name in options.files if options.checkonly and name != "-" and not os.path.exists(name)]
+    if lost:
+        raise Fault(USAGE, f"{lost[0]}: there is no such file; put commas between the names of --checkonly")
 
 
 def names_of(options: argparse.Namespace, asked: Inputs) -> list[str] | None:

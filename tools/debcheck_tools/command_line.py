@@ -27,7 +27,8 @@ class Parser(argparse.ArgumentParser):
     """A parser that refuses a command line with the program's status."""
 
     def error(self, message: str) -> NoReturn:
-        raise Fault(USAGE, f"{message}\n{self.format_usage().rstrip()}")
+        hint = "; write --format json" if "--json" in message.split() else ""
+        raise Fault(USAGE, f"{message}{hint}\n{self.format_usage().rstrip()}")
 
 
 Commands: TypeAlias = "argparse._SubParsersAction[Parser]"
@@ -64,7 +65,12 @@ def main(words: Optional[Sequence[str]] = None) -> int:
         made, commands = parser(given)
         if told_to_completion(given, commands):
             return OK
-        options = made.parse_args(given)
+        options, rest = made.parse_known_args(given)
+        # Files may stand before and behind options.
+        if any(word.startswith("-") for word in rest) or rest and not hasattr(options, "files"):
+            made.error(f"unrecognized arguments: {' '.join(rest)}")
+        if rest:
+            options.files += rest
         progress.start()
         try:
             status: int = options.work(options)

@@ -47,6 +47,10 @@ def ended(command: str, work: Callable[[], int]) -> int:
         # Whoever reads has enough.
         os.dup2(os.open(os.devnull, os.O_WRONLY), sys.stdout.fileno())
         return WRITE
+    except OSError as fault:
+        os.dup2(os.open(os.devnull, os.O_WRONLY), sys.stdout.fileno())
+        print(f"{command}: the answer can't be written: {fault.strerror}", file=sys.stderr)
+        return WRITE
     except MemoryError:
         tell(f"{command}: out of memory")
         return MEMORY

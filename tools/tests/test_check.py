@@ -2,10 +2,12 @@
 
 import json
 import lzma
+import os
+import subprocess
 from collections.abc import Callable
 
 import pytest
-from conftest import Answer, Write, stanza
+from conftest import TOOLS, Answer, Write, stanza
 
 Archive = Callable[..., Answer]
 
@@ -171,7 +173,8 @@ SLIPS: dict[str, tuple[list[str], int, str]] = {
     "two": (["GOOD", "ARM"], 64, "name one by --arch: "),
     "bg": (["GOOD", "--bg", "ARM", "--arch", "amd64"], 65, "has packages of arm64, none of amd64"),
     "word": (["GOOD", "--explain"], 64, "--explain needs --report"),
-    "unknown": (["GOOD", "--json"], 64, "unrecognized arguments: --json"),
+    "unknown": (["GOOD", "--json"], 64, "unrecognized arguments: --json; write --format json"),
+    "blanks": (["GOOD", "--checkonly", "a", "b"], 64, "b: there is no such file; put commas between the names"),
     "sources": (["SOURCES"], 65, "name it by --sources"),
 }
 
@@ -187,3 +190,17 @@ def test_slips(archive: Archive, write: Write, name: str) -> None:
     answer = archive("check", *(write(word, files[word]) if word in files else word for word in words))
     assert (answer.status, answer.out) == (status, "")
     assert answer.err.startswith("debcheck-archive: ") and says in answer.err
+
+
+def test_what_cannot_be_written(write: Write) -> None:
+    """A full device is told; whoever closes a pipe has enough, and no word is said of it."""
+    words = [str(TOOLS / "debcheck-archive"), "check", write("Packages", ZIP), "--format", "json"]
+    with open("/dev/full", "wb") as full:
+        done = subprocess.run(words, stdout=full, stderr=subprocess.PIPE, check=False)
+    assert done.returncode == 68
+    assert done.stderr == b"debcheck-archive: the answer can't be written: No space left on device\n"
+    read, written = os.pipe()
+    os.close(read)
+    done = subprocess.run(words, stdout=written, stderr=subprocess.PIPE, check=False)
+    os.close(written)
+    assert (done.returncode, done.stderr) == (68, b"")
