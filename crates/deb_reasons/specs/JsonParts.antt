@@ -1,5 +1,5 @@
 -- Texts of JSON (RFC 8259), and what stands against a package in it.
-use Rattle.std.specs.Prelude.{ℕ, ◌==◌, ◌||◌, ◌/◌, ◌%◌, nat_lt, List, [], ◌∷◌, ◌++◌, codes, if◌then◌else◌, length, map}
+use Rattle.std.specs.Prelude.{ℕ, Bool, ◌==◌, ◌||◌, ◌/◌, ◌%◌, nat_lt, List, [], ◌∷◌, ◌++◌, codes, if◌then◌else◌, length, map}
 use Rattle.std.specs.Char.{digit_char}
 use Rattle.std.specs.List.{flat_map, join_by}
 use Rattle.deb_relation.specs.Relationship.{AtomText, printed}
@@ -15,6 +15,10 @@ use Rattle.deb_texts.specs.Texts.{group_text}
 use Rattle.deb_near.specs.Missing.{is_missing}
 
 -- ---- texts
+
+-- a byte that can't stand in a string as it is
+abbrev pub needs_escape : ℕ → Bool
+needs_escape byte = byte == 34 || byte == 92 || nat_lt byte 32
 
 -- a byte as it stands in a string: a quote and a backslash behind a backslash, a control byte by its number
 unfoldable pub escaped_byte : ℕ → List ℕ

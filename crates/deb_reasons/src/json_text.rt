@@ -2,8 +2,8 @@
 
 ghost use Rattle.std.specs.Prelude.{◌≡◌, ◌++◌, ◌<◌, All, OnOk, codes, decimal};
 ghost use Rattle.std.specs.Char.{digit_char};
-ghost use Rattle.std.specs.List.{flat_map};
-ghost use Rattle.deb_reasons.specs.JsonParts.{array, escaped_byte, listed, member, quoted};
+ghost use Rattle.std.specs.List.{flat_map, list_any};
+ghost use Rattle.deb_reasons.specs.JsonParts.{array, escaped_byte, listed, member, needs_escape, quoted};
 
 use deb_texts::{Print, push_joined, push_texts};
 use std::alloc::{AllocError, Global};
@@ -45,11 +45,26 @@ fn push_escaped(out: &mut Vec<u8>, text: &[u8]) -> Result<(), AllocError>
     Ok(())
 }
 
-/// Adds a text as a string.
+/// Whether some byte of a text can't stand in a string as it is.
+fn needs_escapes(text: &[u8]) -> bool
+    ensures { result ≡ list_any needs_escape text.now }
+{
+    for byte in text {
+        if *byte == b'"' || *byte == b'\\' || *byte < 32 {
+            return true;
+        }
+    }
+    false
+}
+
+/// Adds a text as a string. Hardly any has a byte that needs an escape, and a JSON report is strings: byte by byte it takes a quarter longer.
 #[tactic(auto, unfolding(crate::specs::JsonParts::quoted))]
 pub fn push_quoted(out: &mut Vec<u8>, text: &[u8]) -> Result<(), AllocError>
     ensures { OnOk result (out.new.items ≡ out.old.items ++ quoted text.now) }
 {
+    if !needs_escapes(text) {
+        return push_texts(out, &[b"\"", text, b"\""]);
+    }
     out.extend_from_slice(b"\"")?;
     push_escaped(out, text)?;
     out.extend_from_slice(b"\"")
