@@ -39,7 +39,8 @@ impl<'p, 'i> Print<Constraint> for WrongJson<'p, 'i> {
         match *constraint {
             Constraint::Need(place, number) => {
                 push_text(out, "{", "kind", b"missing")?;
-                self.json.push_relation(out, self.json.index.need(place, number))?;
+                self.json
+                    .push_relation(out, self.json.index.need(place, number))?;
                 out.extend_from_slice(b"}")
             }
             Constraint::Essential(_) | Constraint::Apart(_, _) | Constraint::Only(_) => {
@@ -67,7 +68,8 @@ impl<'p, 'i> Print<Constraint> for NeededJson<'p, 'i> {
                 let deb = self.json.index.package(place);
                 push_package(out, "{", deb)?;
                 push_text(out, ",", "field", group_field(deb, number).as_bytes())?;
-                self.json.push_relation(out, self.json.index.need(place, number))?;
+                self.json
+                    .push_relation(out, self.json.index.need(place, number))?;
                 out.extend_from_slice(b"}")
             }
             Constraint::Essential(_) | Constraint::Apart(_, _) | Constraint::Only(_) => {
