@@ -46,113 +46,115 @@ static OPTIONS: [LineOption; 18] = [
         name: "arch",
         value: &["A"],
         required: true,
-        help: "The architecture, neither all nor any",
+        help: "Architecture to check, such as amd64",
         ..VALUED
     },
     LineOption {
         name: "bg",
         value: &["FILE"],
-        help: "A second index, which is used and not checked",
+        help: "A second index, which may be used but is not checked",
         ..VALUED
     },
     LineOption {
         name: "since",
         value: &["FILE"],
-        help: "An earlier index: tells what is newly broken",
+        help: "An earlier index: report only what is newly broken",
         ..VALUED
     },
     LineOption {
         name: "checkonly",
         value: &["NAMES"],
-        help: "Checks these alone: N1,N2,.. or @FILE",
+        help: "Check only these packages: N1,N2,.. or @FILE",
         ..VALUED
     },
     LineOption {
         name: "format",
         value: &["FORM"],
         usual: &["text"],
-        help: "The form of the report, text or json",
+        help: "Format of the report, text or json",
         ..VALUED
     },
     LineOption {
         name: "workers",
         value: &["N"],
         usual: &["4"],
-        help: "How many workers check, 1 to 64",
+        help: "Number of workers, 1 to 64",
         ..VALUED
     },
     LineOption {
         name: "chunk",
         value: &["K"],
         usual: &["64"],
-        help: "Packages that a worker takes at once",
+        help: "Packages that a worker takes at a time",
         ..VALUED
     },
     LineOption {
         name: "explain",
-        help: "Tells the set that was found, or why there is none",
+        help: "Show the set that was found, or why there is none",
         ..FLAG
     },
     LineOption {
         name: "failures",
-        help: "Shows the packages that cannot be installed",
+        help: "Show only packages that cannot be installed",
         ..FLAG
     },
     LineOption {
         name: "successes",
-        help: "Shows the packages that can be installed",
+        help: "Show only packages that can be installed",
         ..FLAG
     },
     LineOption {
         name: "causes",
-        help: "Tells what is wrong in the end, and what it breaks",
+        help: "List what has to be mended, and what each breaks",
         ..FLAG
     },
     LineOption {
         name: "all-reasons",
-        help: "Tells the reasons of all causes, not of the first",
+        help: "Show reasons of all causes, not only of the first",
         ..FLAG
     },
     LineOption {
         name: "why",
-        help: "Tells reasons as they are walked from the package",
+        help: "Show reasons step by step, starting at the package",
         ..FLAG
     },
     LineOption {
         name: "ignore-essential",
-        help: "Asks for no essential packages in a set",
+        help: "Do not require essential packages",
         ..FLAG
     },
     LineOption {
         name: "strict",
-        help: "Ends with a fault where nothing is asked",
+        help: "Fail if there is nothing to check",
         ..FLAG
     },
     LineOption {
         name: "quiet",
-        help: "Shows no progress and no hints on a terminal",
+        help: "Show no progress and no hints on a terminal",
         ..FLAG
     },
     LineOption {
         name: "help",
         short: Some('h'),
         action: ArgAction::Help,
-        help: "Prints this help",
+        help: "Print this help",
         ..FLAG
     },
     LineOption {
         name: "version",
         short: Some('V'),
         action: ArgAction::Version,
-        help: "Prints the program's version",
+        help: "Print the version",
         ..FLAG
     },
 ];
 
 // What stands behind the options.
-const AFTER_HELP: &str = "Example: xzcat Packages.xz | debcheck --arch amd64 --failures --explain
-Exit: 0 ok, 1 broken, 64 words, 65 index, 66 name, 67 read, 68 write, 69 memory
-No words at all mean --arch amd64 --explain. The manual has more: man debcheck";
+const AFTER_HELP: &str =
+    "Example: xzcat Packages.xz | debcheck --arch amd64 --failures --why --strict
+Exit status: 0 all can be installed, 1 some cannot, 64 bad command line,
+65 bad index, 66 unknown name, 67 read error, 68 write error, 69 no memory
+Without arguments: --arch amd64 --explain. Manual: man debcheck";
 
 // An option as `clap` takes it.
 fn argument<'a>(alloc: Global, option: &'static LineOption) -> Arg<'a>
@@ -177,7 +179,7 @@ fn bare<'a>(alloc: Global) -> Command<'a>
     ensures { app_of result ≡ app_with [] }
 {
     Command::new(alloc, "debcheck")
-        .about("Checks which packages of the Debian index on standard input can be installed")
+        .about("Checks which packages of a Debian index can be installed")
         .override_usage("debcheck [OPTIONS] --arch <A> < Packages")
         .after_help(AFTER_HELP)
         .no_binary_name(true)

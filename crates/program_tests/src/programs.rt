@@ -227,8 +227,8 @@ static HELP_PARTS: [&str; 11] = [
     "--why",
     "--quiet",
     "-h, --help",
-    "\nExample: xzcat Packages.xz | debcheck --arch amd64 --failures --explain\n",
-    "\nExit: 0 ok, 1 broken, 64 words, ",
+    "\nExample: xzcat Packages.xz | debcheck --arch amd64 --failures --why --strict\n",
+    "\nExit status: 0 all can be installed, 1 some cannot, ",
 ];
 
 /// Help goes to the output, in lines that a terminal of 80 columns has room for.
