@@ -2,7 +2,7 @@
 //!
 //! `reading` makes an index of a text, `grounded` has one with its groundwork. `expected` compares what is found with what is expected, by
 //! `compared`, with `causes` for cores and `marks` for what is installable. `lent` makes an index with its groundwork and a workspace, and lends them
-//! to it. `verdicts`, `first_sets`, `cores`, `all_causes`, `installable` and `qualifiers` have worked examples, `generated` has some that nobody wrote;
+//! to it. `verdicts`, `first_sets`, `cores`, `all_causes`, `installable` and `qualifiers` have worked examples;
 //! `chains` has those of chains of needs, `many_answers` those of needs that very many packages may answer, and `numbered` makes their long texts.
 //! `workspaces` asks for verdicts by turns in one workspace, and `growths` has a test for each call that can want memory.
 #![tactic(auto)]
@@ -21,8 +21,6 @@ mod cores;
 mod expected;
 #[cfg(test)]
 mod first_sets;
-#[cfg(test)]
-mod generated;
 #[cfg(test)]
 mod grounded;
 #[cfg(test)]
