@@ -37,33 +37,24 @@ fn is_fit(part: &Part<'_>, set: &OnBase<'_>, lacking: &SparseSet, place: u32) ->
     true
 }
 
-/// The first place of a row that nothing is seen to speak against, or else the first that isn't known to lead nowhere.
+/// The first place of a row that nothing is seen to speak against, or else the first.
 pub(crate) fn choose(
     part: &Part<'_>,
     set: &OnBase<'_>,
-    unfit: &SparseSet,
     lacking: &SparseSet,
     row: &[u32],
 ) -> Option<u32>
     requires { All (λ q. q < length part.now.index.now.packages) row.now }
     ensures { IfSome result (λ q. q < length part.now.index.now.packages) }
 {
-    if let [only] = row {
-        return if unfit.contains(*only) {
-            None
-        } else {
-            Some(*only)
-        };
+    let first = *row.first()?;
+    if row.len() == 1 {
+        return Some(first);
     }
     for place in row {
-        if !unfit.contains(*place) && is_fit(part, set, lacking, *place) {
+        if is_fit(part, set, lacking, *place) {
             return Some(*place);
         }
     }
-    for place in row {
-        if !unfit.contains(*place) {
-            return Some(*place);
-        }
-    }
-    None
+    Some(first)
 }

@@ -96,7 +96,7 @@ fn lacks_essential(index: &Index, hopeless: &SparseSet) -> bool
 }
 
 /// Puts in all places where all packages of an essential name are hopeless.
-pub fn spread_by_essential(index: &Index, hopeless: &mut SparseSet) -> Result<(), AllocError>
+pub(crate) fn spread_by_essential(index: &Index, hopeless: &mut SparseSet) -> Result<(), AllocError>
     requires { AreHopeless index.now (members_of hopeless.old) }
     ensures { OnOk result (AreHopeless index.now (members_of hopeless.new)) }
 {

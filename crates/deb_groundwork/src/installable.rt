@@ -1,5 +1,5 @@
-//! Places that some healthy set is seen to have: the base set and a few more for all, or three for one package, are found without a search, and each
-//! is looked up to be healthy.
+//! Places that some healthy set is seen to have: the base set and a few more for all, or a witness for one package, are found without a search, and
+//! each is looked up to be healthy.
 
 ghost use Rattle.std.specs.Prelude.{◌≡◌, ◌<◌, true, All, IfOk, length};
 ghost use Rattle.number_sets.specs.Sets.{members_of, MarksOnly};
@@ -7,8 +7,10 @@ ghost use Rattle.deb_health.specs.Health.{IsHealthy, IsInstallable};
 
 use crate::check::meets_part;
 use crate::groundwork::Groundwork;
+use crate::growth::Witness;
 use crate::installation::{Installation, Lead, weight_of_all};
 use crate::part::Part;
+use crate::witness::is_seen_to_admit;
 use deb_index::Index;
 use number_sets::SparseSet;
 use std::alloc::{AllocError, Global};
@@ -18,9 +20,6 @@ const SETS: u32 = 64;
 
 /// How often at most, in all, as much as the whole index comes to them, or is taken out again.
 const TIMES: u64 = 8;
-
-/// How much may come to a set that is grown for one package.
-const SPARE_OF_ONE: u64 = 65_536;
 
 /// Whether a set is seen to be healthy. `false` where it isn't, or where there is too much to look at.
 fn is_healthy(index: &Index, set: &SparseSet) -> bool
@@ -149,40 +148,16 @@ pub fn find_installable(
     Ok(marks)
 }
 
-/// Whether a set that is grown for the package at a place, with essential ones, is seen to be healthy.
-fn is_seen_in(
-    groundwork: &Groundwork<'_>,
-    p: u32,
-    lead: Lead,
-    installation: &mut Installation,
-) -> bool
+/// Whether the package at a place is seen to be installable, without a search: by a set that grows for it on the base set.
+pub fn is_seen_installable(groundwork: &Groundwork<'_>, p: u32, witness: &mut Witness) -> bool
     requires { p < length groundwork.now.index.now.packages }
     ensures { result ≡ true → IsInstallable groundwork.now.index.now p }
 {
-    installation.clear(lead);
-    installation.spare = SPARE_OF_ONE;
-    if !installation.add(groundwork.index, &groundwork.hopeless, p)
-        || !installation.add_essentials(groundwork.index, &groundwork.hopeless)
-    {
-        return false;
-    }
-    let members = &installation.members;
-    members.contains(p) && is_healthy(groundwork.index, members)
-}
-
-/// Whether the package at a place is seen to be installable, without a search: three sets are grown for it, each by another lead.
-pub fn is_seen_installable(
-    groundwork: &Groundwork<'_>,
-    p: u32,
-    installation: &mut Installation,
-) -> bool
-    requires { p < length groundwork.now.index.now.packages }
-    ensures { result ≡ true → IsInstallable groundwork.now.index.now p }
-{
-    for lead in [Lead::First, Lead::LastOfName, Lead::Last] {
-        if is_seen_in(groundwork, p, lead, installation) {
-            return true;
-        }
-    }
-    false
+    let all = Part {
+        index: groundwork.index,
+        kept: &[],
+        rest: 0,
+        out: &[],
+    };
+    is_seen_to_admit(&all, p, &groundwork.base, &groundwork.lacking, witness)
 }

@@ -18,27 +18,13 @@ const TRIES: u32 = 8;
 #[derive(Clone, Copy)]
 pub(crate) enum Lead {
     First,
-    Last,
     /// Those that are the last of their names, and then from the first one on: so an index of one suite after another gives the later suite.
     LastOfName,
 }
 
-impl Lead {
-    /// The answer that is tried after so many others, by its number in a row of so many.
-    fn number(self, tried: usize, count: usize) -> usize
-        requires { tried < count }
-        ensures { result < count }
-    {
-        match self {
-            Lead::First | Lead::LastOfName => tried,
-            Lead::Last => count - 1 - tried,
-        }
-    }
-}
-
 /// Members with names of their own, of which no entry hits another one, and what was seen on the way to them.
 #[derive(Drop)]
-pub struct Installation {
+pub(crate) struct Installation {
     pub(crate) members: SparseSet,
     // What entries of members hit.
     barred: SparseSet,
@@ -48,8 +34,8 @@ pub struct Installation {
     forced: usize,
     answered: usize,
     lead: Lead,
-    /// How much may still come, by the weights of packages.
-    pub(crate) spare: u64,
+    // How much may still come, by the weights of packages.
+    spare: u64,
 }
 
 /// How much a package asks for: itself, its needs and its entries.
@@ -80,7 +66,7 @@ fn is_last_of_name(index: &Index, place: u32) -> bool
 
 impl Installation {
     /// Without members. So much may come in all, by the weights of packages, those that are taken out again among them.
-    pub fn new(alloc: Global, spare: u64) -> Installation
+    pub(crate) fn new(alloc: Global, spare: u64) -> Installation
         ensures { result.members ≡ [] }
     {
         Installation {
@@ -177,9 +163,8 @@ impl Installation {
                 return true;
             }
         }
-        for tried in 0..row.len() {
-            let place = row[self.lead.number(tried, row.len())];
-            if self.take(index, hopeless, place) {
+        for place in row {
+            if self.take(index, hopeless, *place) {
                 return true;
             }
         }

@@ -268,31 +268,6 @@ impl Propagation {
     }
 }
 
-/// Whether the steps that forcing took last, for whatever package and part, show that a part of the constraints admits no set with the package
-/// at a place. Where they do, `used` has the positions of constraints of the part that already admit none.
-pub fn refute_by_last_steps(
-    part: &Part<'_>,
-    p: u32,
-    buffers: &mut Propagation,
-    used: &mut Vec<u32>,
-) -> bool
-    ensures refuted { result ≡ true → IsRefutedBy used.new.items part.now p }
-    ensures still { result ≡ false → used.new.items ≡ used.old.items }
-    ensures forced { buffers.new.forced ≡ buffers.old.forced }
-{
-    let holds = is_refutation(
-        part,
-        p,
-        &buffers.steps,
-        &mut buffers.checked,
-        &mut buffers.positions,
-    );
-    if holds {
-        mem::swap(&mut buffers.positions, used);
-    }
-    holds
-}
-
 /// Whether a part of the constraints is seen to admit no set with the package at a place, by forcing alone, and none but what is beside the base
 /// set. Where it is, `used` has the positions of constraints of the part that already admit none.
 pub fn refute_by_forcing(
@@ -310,5 +285,18 @@ pub fn refute_by_forcing(
     let Some(conflict) = buffers.find(part, base, p) else {
         return false;
     };
-    buffers.derive(conflict) && refute_by_last_steps(part, p, buffers, used)
+    if !buffers.derive(conflict) {
+        return false;
+    }
+    let holds = is_refutation(
+        part,
+        p,
+        &buffers.steps,
+        &mut buffers.checked,
+        &mut buffers.positions,
+    );
+    if holds {
+        mem::swap(&mut buffers.positions, used);
+    }
+    holds
 }

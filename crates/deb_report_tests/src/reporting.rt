@@ -8,7 +8,7 @@ use deb_index::{Constraint, Index};
 use deb_report::{
     BrokenPackage, broken_packages, earlier_places, newly_broken, report_since, report_told,
 };
-use deb_verdict::{Groundwork, Verdict, Workspace, cores_in, groundwork_of, verdict};
+use deb_verdict::{Groundwork, Verdict, Workspace, cores_in, verdict};
 use run_settings::Config;
 use std::alloc::{AllocError, Global};
 use std::test::Fail;
@@ -109,7 +109,7 @@ fn later_below(
     requires { count ≤ length index.now.packages }
     ensures { IfOk result (λ later. All (λ cores. All (λ core. All (IsOfIndex index.now) core.items) cores.items) later.items) }
 {
-    let groundwork = groundwork_of(alloc, index)?;
+    let groundwork = Groundwork::new(alloc, index)?;
     let later = later_on(alloc, &groundwork, count);
     drop(groundwork);
     later

@@ -6,7 +6,7 @@ ghost use Rattle.std.specs.List.Sorted.{IsStrictlyIncreasing};
 ghost use Rattle.std.specs.Option.{ForSome};
 ghost use Rattle.number_sets.specs.Sets.{all_of, members_of};
 ghost use Rattle.deb_index.specs.Constraints.{IsOfIndex, constraints_of};
-ghost use Rattle.deb_health.specs.Causes.{AreCores, cause_at, cause_in, either, is_final, without};
+ghost use Rattle.deb_health.specs.Causes.{AreCores, cause_at, either, is_final, without};
 ghost use Rattle.deb_health.specs.Health.{Admits, AdmitsNone};
 ghost use Rattle.deb_verdict.specs.Formulas.{Tells};
 
@@ -29,27 +29,6 @@ fn is_final(index: &Index, constraint: Constraint, found: &mut Vec<u32>) -> Resu
         Constraint::Need(place, number) => Ok(index.answers(place, number, found)?.is_empty()),
         Constraint::Essential(_) | Constraint::Apart(_, _) | Constraint::Only(_) => Ok(true),
     }
-}
-
-/// The cause that a core has: its constraints, in their order, without the needs that some package of the index meets.
-///
-/// The core has constraints of the index alone. The one error is want of memory.
-pub fn cause_in(
-    alloc: Global,
-    index: &Index,
-    core: &[Constraint],
-) -> Result<Vec<Constraint>, AllocError>
-    requires { All (IsOfIndex index.now) core.now }
-    ensures { IfOk result (λ cause. cause.items ≡ cause_in index.now core.now) }
-{
-    let mut found = Vec::new(alloc);
-    let mut cause = Vec::new(alloc);
-    for constraint in core {
-        if is_final(index, *constraint, &mut found)? {
-            cause.push(*constraint)?;
-        }
-    }
-    Ok(cause)
 }
 
 /// Takes out the cause that the core at these positions has. `found` is a buffer.

@@ -4,8 +4,6 @@
 ghost use Rattle.std.specs.Prelude.{◌≡◌, ◌<◌, true, false, IfOk, OnOk, length, map};
 ghost use Rattle.std.specs.Option.{ForSome};
 ghost use Rattle.number_sets.specs.Sets.{members_of};
-ghost use Rattle.core_extract.specs.Reduction.{left};
-ghost use Rattle.deb_health.specs.Causes.{without};
 ghost use Rattle.deb_health.specs.Health.{AdmitsNone};
 ghost use Rattle.deb_groundwork.specs.Parts.{positions_in, IsRefutedBy};
 ghost use Rattle.deb_verdict.specs.Formulas.{IsChosen, Tells};
@@ -13,7 +11,6 @@ ghost use Rattle.deb_verdict.specs.Formulas.{IsChosen, Tells};
 use crate::core_formula::CoreFormula;
 use crate::first_set::count_of;
 use crate::kept_positions::{list_constraints, list_positions};
-use crate::lookup::Lookup;
 use crate::reach::reach;
 use crate::workspace::Workspace;
 use deb_encode::{Play, encode_each};
@@ -59,24 +56,13 @@ fn describe(
     })
 }
 
-/// Whether a part that keeps what `kept` looks up and all from `rest` on, without what `out` looks up, has a position.
-fn has_next(rest: u32, kept: &mut Lookup<'_>, out: &mut Lookup<'_>, position: u32) -> bool
-    ensures has { result ≡ without (members_of out.old.numbers.now) (left (members_of kept.old.numbers.now) rest) position }
-    ensures kept { kept.new.numbers.now ≡ kept.old.numbers.now }
-    ensures out { out.new.numbers.now ≡ out.old.numbers.now }
-{
-    (position >= rest || kept.has(position)) && !out.has(position)
-}
-
 /// Marks the positions that a part has.
 fn mark_kept(part: &Part<'_>, positions: &[u32], keep: &mut Vec<bool>) -> Result<(), AllocError>
     ensures { OnOk result (keep.new.items ≡ map (positions_in part.now) positions.now) }
 {
     keep.clear();
-    let mut kept = Lookup::new(part.kept);
-    let mut out = Lookup::new(part.out);
     for position in positions {
-        keep.push(has_next(part.rest, &mut kept, &mut out, *position))?;
+        keep.push(part.has(*position))?;
     }
     Ok(())
 }

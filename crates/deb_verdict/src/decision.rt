@@ -10,7 +10,6 @@ ghost use Rattle.deb_verdict.specs.Told.{IsToldCore, IsToldSet, IsToldVerdict};
 ghost use Rattle.deb_health.specs.Health.{IsHopeless};
 ghost use Rattle.deb_health.specs.Verdicts.{IsVerdict, SpeaksOf, verdict_view};
 
-use crate::essentials::groundwork_of;
 use crate::first_core::first_core;
 use crate::first_set::first_set;
 use crate::installability::is_installable_in;
@@ -50,8 +49,8 @@ fn verdict_by(
     ensures verdict { IfOk result (λ found. IsVerdict index.now p (verdict_view found)) }
     ensures within { IfOk result (λ found. SpeaksOf index.now (verdict_view found)) }
 {
-    let groundwork = groundwork_of(alloc, index)?;
-    let found = verdict_in(alloc, workspace, &groundwork, p);
+    let groundwork = Groundwork::new(alloc, index)?;
+    let found = told_verdict_in(alloc, workspace, &groundwork, p, Wanted::everything());
     drop(groundwork);
     found
 }
@@ -59,7 +58,7 @@ fn verdict_by(
 /// The verdict of the package at a place: the first healthy set that contains it, or, where there is none, the first set of constraints that
 /// no set with it meets. Of two sets of numbers the first is the one that lacks the least number in which they differ.
 ///
-/// It goes through the whole index first; for many packages of one index, `verdict_in` goes through it once.
+/// It goes through the whole index first; for many packages of one index, `told_verdict_in` goes through it once.
 /// `p` is a place of the index, counted from 0 and below `index.len()`. The one error is want of memory.
 pub fn verdict(alloc: Global, index: &Index, p: u32) -> Result<Verdict, AllocError>
     requires { p < length index.now.packages }
@@ -141,21 +140,4 @@ pub fn told_verdict_in(
             Ok(Verdict::Broken(core))
         }
     }
-}
-
-/// What `verdict` gives for the index of a groundwork, found in the buffers of an earlier verdict, of whatever package and index.
-///
-/// The answer does not depend on what the workspace was used for. `p` is a place of that index, counted from 0 and below its `len()`. The
-/// one error is want of memory.
-pub fn verdict_in(
-    alloc: Global,
-    workspace: &mut Workspace,
-    groundwork: &Groundwork<'_>,
-    p: u32,
-) -> Result<Verdict, AllocError>
-    requires { p < length groundwork.now.index.now.packages }
-    ensures verdict { IfOk result (λ found. IsVerdict groundwork.now.index.now p (verdict_view found)) }
-    ensures within { IfOk result (λ found. SpeaksOf groundwork.now.index.now (verdict_view found)) }
-{
-    told_verdict_in(alloc, workspace, groundwork, p, Wanted::everything())
 }

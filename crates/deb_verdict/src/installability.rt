@@ -25,7 +25,7 @@ pub fn is_installable_in(
     if groundwork.is_hopeless(p) {
         return Ok(false);
     }
-    if is_seen_installable(groundwork, p, &mut workspace.installation) {
+    if is_seen_installable(groundwork, p, &mut workspace.witness) {
         return Ok(true);
     }
     let found = first_set(alloc, workspace, groundwork, p)?;

@@ -3,8 +3,8 @@
 //! `decision` has the public calls, `laws` what holds of the definitions alone. What is found of a package, and what a healthy set is,
 //! `deb_health` says. `specs/Lib` names first the definitions that public contracts cite, then those of the inside. The modules, room by room:
 //!
-//! - `workspace` has the buffers that one verdict leaves to the next. What is told without a search, `deb_groundwork` tells; `essentials` adds to its
-//!   groundwork what it finds of names that no healthy set can have. `wanted` says what of a verdict is told.
+//! - `workspace` has the buffers that one verdict leaves to the next. What is told without a search, `deb_groundwork` tells. `wanted` says what of a
+//!   verdict is told.
 //! - The closure: `reach` finds it.
 //! - The first healthy set: `gather` finds the candidates beside the places that are in every healthy set, and the needs that these leave open,
 //!   `describe` has the encoder of `deb_encode` make clauses of all constraints that speak of these places, and `first_set` has the solver find the
@@ -12,7 +12,7 @@
 //! - The first core: `first_core` finds the first set of constraints that no set meets. The crate `core_extract` takes out those that no
 //!   refutation needs, and asks `question` whether a part of the constraints admits none: where `deb_groundwork` can't tell, `by_formula` does. It
 //!   knows of each part, by the `core_formula` of the package, which is made once: each constraint that speaks of the closure (`kept_positions`
-//!   lists them) is a group of clauses, the part says which groups are kept (by a `lookup` of each in rising order), and the solver which it used.
+//!   lists them) is a group of clauses, the part says which groups are kept, and the solver which it used.
 //! - All causes: `all_causes` takes the cause of the first core out of the constraints, and looks for the first core of what is left, as long
 //!   as that admits no set.
 #![tactic(auto)]
@@ -22,24 +22,21 @@ mod by_formula;
 mod core_formula;
 mod decision;
 mod describe;
-mod essentials;
 mod first_core;
 mod first_set;
 mod gather;
 mod installability;
 mod kept_positions;
 pub mod laws;
-mod lookup;
 mod question;
 mod reach;
 mod wanted;
 mod workspace;
 
-pub use all_causes::{cause_in, cores_in};
+pub use all_causes::cores_in;
 pub use deb_groundwork::{Groundwork, find_installable};
 pub use deb_health::Verdict;
-pub use decision::{closure, told_verdict_in, verdict, verdict_in};
-pub use essentials::groundwork_of;
+pub use decision::{closure, told_verdict_in, verdict};
 pub use installability::is_installable_in;
 pub use wanted::Wanted;
 pub use workspace::Workspace;

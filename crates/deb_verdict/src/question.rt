@@ -15,9 +15,7 @@ use crate::by_formula::refute_by_formula;
 use crate::core_formula::CoreFormula;
 use crate::workspace::Workspace;
 use core_extract::{Question, next_of};
-use deb_groundwork::{
-    BaseSet, Groundwork, Part, is_among, is_seen_to_admit, refute_by_forcing, refute_by_last_steps,
-};
+use deb_groundwork::{BaseSet, Groundwork, Part, is_among, is_seen_to_admit, refute_by_forcing};
 use number_sets::{SparseSet, sort_once};
 use std::alloc::{AllocError, Global};
 use std::mem;
@@ -43,10 +41,6 @@ pub(crate) fn refute_part(
 {
     let propagation = &mut workspace.propagation;
     let used = &mut workspace.used;
-    // What broke the last package often breaks this one.
-    if refute_by_last_steps(part, p, propagation, used) {
-        return Ok(true);
-    }
     // Each package whose core is looked for is broken, so only without some constraints is there a set.
     let may_admit = part.may_lack_one();
     if may_admit && is_seen_to_admit(part, p, base, lacking, &mut workspace.witness) {

@@ -5,7 +5,7 @@ ghost use Rattle.deb_verdict.specs.Workspaces.{IsFresh};
 
 use crate::gather::Candidates;
 use deb_encode::{Rivals, Versions};
-use deb_groundwork::{BaseSet, Installation, Propagation, Witness};
+use deb_groundwork::{BaseSet, Propagation, Witness};
 use deb_index::Constraint;
 use number_sets::SparseSet;
 use sat_solve::{Formula, Lit};
@@ -33,8 +33,6 @@ pub struct Workspace {
     pub(crate) way: BaseSet,
     /// A base set of nothing.
     pub(crate) nothing: BaseSet,
-    /// A set that is grown for a package whose set need not be shown.
-    pub(crate) installation: Installation,
     /// The closure of a broken package, and the constraints that speak of it.
     pub(crate) closure: SparseSet,
     pub(crate) constraints: Vec<Constraint>,
@@ -64,7 +62,6 @@ impl Workspace {
             witness: Witness::new(alloc),
             way: BaseSet::empty(alloc),
             nothing: BaseSet::empty(alloc),
-            installation: Installation::new(alloc, 0),
             closure: SparseSet::new(alloc),
             constraints: Vec::new(alloc),
             keep: Vec::new(alloc),

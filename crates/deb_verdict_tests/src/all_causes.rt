@@ -16,8 +16,8 @@ Version: 1
 Architecture: all
 Depends: absent | missing
 ",
-        expected: "0 cores [[Need(0, 0), Need(1, 0)]] causes [[Need(1, 0)]]
-1 cores [[Need(1, 0)]] causes [[Need(1, 0)]]
+        expected: "0 cores [[Need(0, 0), Need(1, 0)]]
+1 cores [[Need(1, 0)]]
 ",
     },
     Case {
@@ -32,8 +32,8 @@ Package: b
 Version: 1
 Architecture: all
 ",
-        expected: "0 cores [[Need(0, 3)], [Need(0, 2)], [Need(0, 0)]] causes [[Need(0, 3)], [Need(0, 2)], [Need(0, 0)]]
-1 cores [] causes []
+        expected: "0 cores [[Need(0, 3)], [Need(0, 2)], [Need(0, 0)]]
+1 cores []
 ",
     },
     // The conflict stands against both ways, so with it mended nothing does.
@@ -59,8 +59,8 @@ Package: e
 Version: 1
 Architecture: all
 ",
-        expected: "0 cores [[Need(0, 1), Apart(0, 0), Need(2, 0)]] causes [[Apart(0, 0)]]
-1 cores [] causes []
+        expected: "0 cores [[Need(0, 1), Apart(0, 0), Need(2, 0)]]
+1 cores []
 ",
     },
     // The need that leads to both causes stays, since a package meets it.
@@ -77,8 +77,8 @@ Architecture: all
 Depends: absent
 Conflicts: a
 ",
-        expected: "0 cores [[Need(0, 0), Apart(1, 0)], [Need(0, 0), Need(1, 0)]] causes [[Apart(1, 0)], [Need(1, 0)]]
-1 cores [[Need(1, 0)]] causes [[Need(1, 0)]]
+        expected: "0 cores [[Need(0, 0), Apart(1, 0)], [Need(0, 0), Need(1, 0)]]
+1 cores [[Need(1, 0)]]
 ",
     },
     // Two conflicts keep out two versions of one package, and the need between them is met: all of a cause is taken out at once.
@@ -104,8 +104,8 @@ Version: 1
 Architecture: all
 Essential: yes
 ",
-        expected: "0 cores [[Need(0, 0), Apart(0, 0), Apart(0, 1)], [Essential(2), Apart(0, 2)]] causes [[Apart(0, 0), Apart(0, 1)], [Essential(2), Apart(0, 2)]]
-1 cores [] causes []
+        expected: "0 cores [[Need(0, 0), Apart(0, 0), Apart(0, 1)], [Essential(2), Apart(0, 2)]]
+1 cores []
 ",
     },
     Case {
@@ -119,8 +119,8 @@ Version: 2
 Architecture: all
 Depends: a (<< 2), absent
 ",
-        expected: "0 cores [] causes []
-1 cores [[Need(1, 1)], [Need(1, 0), Only(0)]] causes [[Need(1, 1)], [Only(0)]]
+        expected: "0 cores []
+1 cores [[Need(1, 1)], [Need(1, 0), Only(0)]]
 ",
     },
 ];

@@ -1,18 +1,17 @@
 //! What is expected of the packages of an index, and whether it is found.
 //!
 //! It is a text with a line for each answer. The line `1 set [0, 1]` has the place of a package and its verdict, `2 core [Need(2, 0)]`
-//! that of a broken one, `0 closure [0, 1]` its closure, and `2 cores [[Need(2, 0)]] causes [[Need(2, 0)]]` all its cores and their causes.
+//! that of a broken one, `0 closure [0, 1]` its closure, and `2 cores [[Need(2, 0)]]` the cores of all its causes.
 //! The line `marks 0 1 = [true, true, false]` has places, and which packages are seen to be installable where these are asked for.
 
 ghost use Rattle.std.specs.Prelude.{◌<◌, length};
 
-use crate::causes::expect_causes;
 use crate::compared::compare_value;
 use crate::grounded::Grounded;
 use crate::marks::expect_marks;
 use deb_index::Index;
 use deb_verdict::{
-    Verdict, Wanted, Workspace, closure, is_installable_in, told_verdict_in, verdict, verdict_in,
+    Verdict, Wanted, Workspace, closure, cores_in, is_installable_in, told_verdict_in, verdict,
 };
 use std::alloc::{AllocError, AllocGlobal, Global};
 use std::process::Abort;
@@ -29,7 +28,6 @@ pub struct Case<'a> {
 #[derive(Clone, Copy)]
 pub enum Call {
     Verdict,
-    VerdictIn,
     IsInstallableIn,
     ToldVerdictIn(Wanted),
 }
@@ -49,7 +47,7 @@ const SETS: Wanted = Wanted {
     cores: false,
 };
 
-const EVERYTHING: Wanted = Wanted {
+pub const EVERYTHING: Wanted = Wanted {
     sets: true,
     cores: true,
 };
@@ -63,9 +61,8 @@ pub const TOLD: [Call; 5] = [
     Call::ToldVerdictIn(EVERYTHING),
 ];
 
-pub const ALL: [Call; 7] = [
+pub const ALL: [Call; 6] = [
     Call::Verdict,
-    Call::VerdictIn,
     Call::IsInstallableIn,
     Call::ToldVerdictIn(NEITHER),
     Call::ToldVerdictIn(CORES),
@@ -106,7 +103,7 @@ fn expect_answer(
     if wanted.starts_with("closure ") {
         expect_closure(rt, grounded.index, name, p, wanted)
     } else if wanted.starts_with("cores ") {
-        expect_causes(rt, workspace, grounded, name, p, wanted)
+        expect_cores(rt, workspace, grounded, name, p, wanted)
     } else {
         expect_verdict(rt, workspace, grounded, calls, name, p, wanted)
     }
@@ -123,6 +120,21 @@ fn expect_closure(
 {
     let members = closure(rt.alloc(), index, p)?;
     compare_value(rt, name, "closure", &members, wanted)
+}
+
+/// Compares the cores of all causes of a package.
+fn expect_cores(
+    rt: &(impl Abort + AllocGlobal),
+    workspace: &mut Workspace,
+    grounded: &Grounded<'_>,
+    name: &str,
+    p: u32,
+    wanted: &str,
+) -> Result<(), AllocError>
+    requires { p < length grounded.now.index.now.packages }
+{
+    let cores = cores_in(rt.alloc(), workspace, &grounded.groundwork, p)?;
+    compare_value(rt, name, "cores", &cores, wanted)
 }
 
 /// Compares the verdict of a package. After a refusal the same workspace serves, and what was left in it changes no answer.
@@ -174,7 +186,6 @@ fn verdict_by(
 {
     match call {
         Call::Verdict => verdict(alloc, grounded.index, p),
-        Call::VerdictIn => verdict_in(alloc, workspace, &grounded.groundwork, p),
         Call::IsInstallableIn => {
             if is_installable_in(alloc, workspace, &grounded.groundwork, p)? {
                 Ok(Verdict::Ok(Vec::new(alloc)))
@@ -191,7 +202,7 @@ fn verdict_by(
 /// What a call tells of a verdict.
 fn told_by(call: Call, verdict: &str) -> &str {
     let wanted = match call {
-        Call::Verdict | Call::VerdictIn => EVERYTHING,
+        Call::Verdict => EVERYTHING,
         Call::IsInstallableIn => NEITHER,
         Call::ToldVerdictIn(wanted) => wanted,
     };

@@ -3,7 +3,7 @@
 ghost use Rattle.std.specs.Prelude.{◌≡◌};
 
 use deb_index::Index;
-use deb_verdict::{Groundwork, groundwork_of};
+use deb_verdict::Groundwork;
 use std::alloc::{AllocError, Global};
 
 #[derive(Drop)]
@@ -16,7 +16,7 @@ pub struct Grounded<'a> {
 impl<'a> Grounded<'a> {
     /// The error is want of memory.
     pub fn new(alloc: Global, index: &'a Index) -> Result<Grounded<'a>, AllocError> {
-        let groundwork = groundwork_of(alloc, index)?;
+        let groundwork = Groundwork::new(alloc, index)?;
         Ok(Grounded { index, groundwork })
     }
 }

@@ -1,6 +1,6 @@
 //! One test for each call that can want memory; trials/growths runs them with each growth refused in turn.
 
-use crate::expected::{Call, Case, TOLD};
+use crate::expected::{Call, Case, EVERYTHING, TOLD};
 use crate::first_sets::ANSWER_BETWEEN;
 use crate::lent::expect_each;
 use std::alloc::{AllocError, AllocGlobal};
@@ -98,15 +98,16 @@ const BY_TURNS: [Case<'static>; 2] = [
 ];
 
 #[test]
-fn of_verdict_in(rt: HostRuntime) -> Result<(), AllocError> {
-    expect_each(&rt, true, &[Call::VerdictIn], &BY_TURNS)
+fn of_verdicts_by_turns(rt: HostRuntime) -> Result<(), AllocError> {
+    expect_each(&rt, true, &[Call::ToldVerdictIn(EVERYTHING)], &BY_TURNS)
 }
 
 /// The essential package that a groundwork knows of decides the verdict over it.
 #[test]
 fn of_groundwork(rt: HostRuntime) -> Result<(), AllocError> {
     let wanted = "1 core [Essential(0), Apart(1, 0)]";
-    expect(&rt, &[Call::VerdictIn], ESSENTIAL_CONFLICT, wanted)
+    let calls = [Call::ToldVerdictIn(EVERYTHING)];
+    expect(&rt, &calls, ESSENTIAL_CONFLICT, wanted)
 }
 
 #[test]
@@ -127,7 +128,7 @@ fn of_told_verdict_in(rt: HostRuntime) -> Result<(), AllocError> {
 /// The causes that an index with a groundwork has, before any verdict of it.
 #[test]
 fn of_cores_in(rt: HostRuntime) -> Result<(), AllocError> {
-    let wanted = "0 cores [[Need(0, 1)], [Need(0, 0)]] causes [[Need(0, 1)], [Need(0, 0)]]";
+    let wanted = "0 cores [[Need(0, 1)], [Need(0, 0)]]";
     expect(&rt, &[], TWO_MISSING, wanted)
 }
 

@@ -1,16 +1,14 @@
 //! Verdicts of small indexes, compared with answers that were found by hand or by brute force outside.
 //!
 //! `reading` makes an index of a text, `grounded` has one with its groundwork. `expected` compares what is found with what is expected, by
-//! `compared`, with `causes` for cores and `marks` for what is installable. `lent` makes an index with its groundwork and a workspace, and lends them
-//! to it. `verdicts`, `first_sets`, `cores`, `all_causes`, `installable` and `qualifiers` have worked examples;
+//! `compared`, with `marks` for what is installable. `lent` makes an index with its groundwork and a workspace, and lends them to it.
+//! `verdicts`, `first_sets`, `cores`, `all_causes`, `installable` and `qualifiers` have worked examples;
 //! `chains` has those of chains of needs, `many_answers` those of needs that very many packages may answer, and `numbered` makes their long texts.
 //! `workspaces` asks for verdicts by turns in one workspace, and `growths` has a test for each call that can want memory.
 #![tactic(auto)]
 
 #[cfg(test)]
 mod all_causes;
-#[cfg(test)]
-mod causes;
 #[cfg(test)]
 mod chains;
 #[cfg(test)]

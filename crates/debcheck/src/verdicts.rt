@@ -14,7 +14,7 @@ ghost use Rattle.debcheck.specs.Standing.{AreFound, HaveCores, Merges, is_unmark
 use crate::later::{Findings, put_cores, split_cores};
 use deb_index::Index;
 use deb_report::{BrokenPackage, newly_broken};
-use deb_verdict::{Groundwork, Verdict, Wanted, find_installable, groundwork_of};
+use deb_verdict::{Groundwork, Verdict, Wanted, find_installable};
 use run_settings::{Config, Show};
 use std::alloc::{AllocError, Global};
 use std::thread::Threads;
@@ -120,7 +120,7 @@ pub(crate) fn find_verdicts<G: Gate + Sync, R: Threads + Sync>(
     ensures within { IfOk result (λ v. All (SpeaksOf index.now) (map verdict_view v.items)) }
     ensures each { IfOk result (λ v. AnswersEach (IsToldVerdict wanted index.now) asked.now (map verdict_view v.items)) }
 {
-    let groundwork = groundwork_of(alloc, index)?;
+    let groundwork = Groundwork::new(alloc, index)?;
     let found = find_on(rt, alloc, config, wanted, &groundwork, asked, gate);
     drop(groundwork);
     found
@@ -222,7 +222,7 @@ pub(crate) fn find_told<G: Gate + Sync, R: Threads + Sync>(
         (map verdict_view found.verdicts.items) (later_view found.later.items)) }
 {
     if wanted.cores && (config.tells_all_causes() || !before.is_empty()) {
-        let ground = groundwork_of(alloc, index)?;
+        let ground = Groundwork::new(alloc, index)?;
         let found = find_news(
             rt, alloc, config, wanted, index, &ground, asked, before, gate,
         );

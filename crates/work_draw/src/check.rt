@@ -7,7 +7,7 @@ ghost use Rattle.work_draw.specs.Checks.{AnswersEach};
 use crate::pieces::gather;
 use crate::workers::crew_told;
 use deb_index::Index;
-use deb_verdict::{Groundwork, Verdict, Wanted, groundwork_of};
+use deb_verdict::{Groundwork, Verdict, Wanted};
 use draw_board::{Gate, new_board};
 use std::alloc::{AllocError, Global};
 use std::thread::Threads;
@@ -65,7 +65,7 @@ pub fn check_all<G: Gate + Sync, R: Threads + Sync>(
     ensures same { IfOk result (λ v. length v.items ≡ length asked.now) }
     ensures within { IfOk result (λ v. All (SpeaksOf index.now) (map verdict_view v.items)) }
 {
-    let groundwork = groundwork_of(alloc, index)?;
+    let groundwork = Groundwork::new(alloc, index)?;
     let wanted = Wanted::everything();
     let found = check_told(rt, alloc, &groundwork, wanted, asked, workers, chunk, gate);
     drop(groundwork);

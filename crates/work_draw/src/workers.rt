@@ -8,7 +8,7 @@ ghost use Rattle.work_draw.specs.Pieces.{AreFound, Find, Gains, GainsButLast, Ga
 use crate::chunks::{Finder, check_chunk};
 use crate::pieces::{Drawn, Piece};
 use deb_index::Index;
-use deb_verdict::{Wanted, Workspace, groundwork_of};
+use deb_verdict::{Groundwork, Wanted, Workspace};
 use draw_board::{Board, Drawer, Gate};
 use std::alloc::{AllocError, Global};
 use std::thread;
@@ -103,7 +103,7 @@ pub fn draw_pieces<G: Gate>(
     ensures refused { GainsButLast drawer.numbers result.pieces.items result.drawer.numbers }
     ensures found { AreFound index.now asked.now chunk result.pieces.items }
 {
-    let Ok(groundwork) = groundwork_of(alloc, index) else {
+    let Ok(groundwork) = Groundwork::new(alloc, index) else {
         return Drawn {
             drawer,
             pieces: Vec::new(alloc),
@@ -213,7 +213,7 @@ pub fn crew<G: Gate + Sync, R: Threads + Sync>(
     ensures gained { IfOk result (λ r. GainsInAll drawer.numbers r.1.items r.0.numbers) }
     ensures found { IfOk result (λ r. AreFound index.now asked.now chunk r.1.items) }
 {
-    let groundwork = groundwork_of(alloc, index)?;
+    let groundwork = Groundwork::new(alloc, index)?;
     let wanted = Wanted::everything();
     let drawn = crew_told(
         rt,

@@ -3,7 +3,7 @@
 ghost use Rattle.std.specs.Prelude.{◌<◌, All, IfOk, length};
 
 use deb_index::{Index, IndexError};
-use deb_verdict::{Groundwork, groundwork_of};
+use deb_verdict::Groundwork;
 use std::alloc::{AllocError, Global};
 use std::process::Abort;
 
@@ -58,5 +58,5 @@ pub fn ground_of<'a>(
     requires { All (λ place. place < length index.now.packages) places.now }
     ensures { IfOk result (λ groundwork. All (λ place. place < length groundwork.index.now.packages) places.now) }
 {
-    Ok(groundwork_of(alloc, index)?)
+    Ok(Groundwork::new(alloc, index)?)
 }
