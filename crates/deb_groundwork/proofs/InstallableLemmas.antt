@@ -5,16 +5,16 @@ use Rattle.std.proofs.lemmas.List.{get_or-replicate, get_or-set_other, length-re
 use Rattle.std.proofs.lemmas.List.Folds.{list_any_at}
 use Rattle.std.proofs.lemmas.Option.{slice_get_within, get_or_from_slice_get, slice_get-get_or}
 use Rattle.deb_index.specs.Packages.{IndexView}
-use Rattle.number_sets.specs.Sets.{members_of, MarksOnly}
+use Rattle.number_sets.specs.Sets.{NumberSet, members_of, MarksOnly}
 use Rattle.deb_health.specs.Causes.{without}
 use Rattle.deb_health.specs.Health.{IsHealthy, IsInstallable, MeetsAt}
 use Rattle.core_extract.specs.Reduction.{left}
 use Rattle.deb_health.proofs.HealthLemmas.{healthy_from_meets}
 
 -- a set that meets all constraints from the first one on is healthy
-pub healthy_from_all : (index : IndexView) (set : List ℕ) → MeetsAt index (members_of set) (without (members_of []) (left (members_of []) 0)) → IsHealthy index (members_of set)
+pub healthy_from_all : (index : IndexView) (set : NumberSet) → MeetsAt index set (without (members_of []) (left (members_of []) 0)) → IsHealthy index set
 healthy_from_all index set meets =
-    healthy_from_meets index (members_of set) (without (members_of []) (left (members_of []) 0))
+    healthy_from_meets index set (without (members_of []) (left (members_of []) 0))
     (λ k inside. and_from (left (members_of []) 0 k) true (or_right (members_of [] k) (leb 0 k) (le-leb 0 k (omega arith))) refl) meets
 
 -- each member of a healthy set can be installed

@@ -5,7 +5,6 @@ use Rattle.std.specs.Ordering.{nat_cmp}
 use Rattle.std.proofs.lemmas.Bool.{cases_lt, false_from_ne_true}
 use Rattle.std.proofs.lemmas.List.Sorted.{searched}
 use Rattle.number_sets.specs.Sets.{members_of}
-use Rattle.core_extract.specs.Reduction.{HasNone}
 use Rattle.core_extract.proofs.NextOf.{never_falls}
 use Rattle.number_sets.proofs.ListMembers.{members_of_at, at_members_of}
 
@@ -24,16 +23,3 @@ told xs x (Err i) parts =
 -- a binary search finds just the numbers of a rising list
 pub among : (numbers : List ℕ) (number : ℕ) (r : Result ℕ ℕ) → IsStrictlyIncreasing numbers → IsBinarySearchResult (λ y. nat_cmp y number) numbers r → is_ok r ≡ members_of numbers number
 among numbers number r rising found = told numbers number r (searched numbers number r found (never_falls numbers rising))
-
--- from a number on that the search didn't find the list has none, as far as the one at whose place it would stand
-pub lacking : (numbers : List ℕ) (number place past : ℕ) → IsStrictlyIncreasing numbers → IsBinarySearchResult (λ y. nat_cmp y number) numbers (Err place)
-    → (place < length numbers → past ≡ get_or numbers place 0)
-    → HasNone (members_of numbers) number past
-lacking numbers number place past rising found ends k from below =
-    let parts = searched numbers number (Err place) found (never_falls numbers rising) in
-    false_from_ne_true (members_of numbers k) (λ is_in.
-    let at = members_of_at numbers k is_in in
-    elim (cases_lt at.0 place) [
-      | inl before ↦ absurd (omega (arith, parts.1 at.0 before, at.2))
-      | inr later ↦ absurd (omega (arith, never_falls numbers rising place at.0 later at.1, at.2, ends (omega (arith, at.1))))
-    ])

@@ -47,14 +47,16 @@ pub(crate) fn choose(
     requires { All (λ q. q < length part.now.index.now.packages) row.now }
     ensures { IfSome result (λ q. q < length part.now.index.now.packages) }
 {
-    let first = *row.first()?;
-    if row.len() == 1 {
-        return Some(first);
+    if let [only] = row {
+        return Some(*only);
     }
     for place in row {
         if is_fit(part, set, lacking, *place) {
             return Some(*place);
         }
     }
-    Some(first)
+    match row {
+        [first, ..] => Some(*first),
+        [] => None,
+    }
 }

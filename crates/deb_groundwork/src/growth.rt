@@ -147,8 +147,9 @@ impl Witness {
         ensures { result ≡ true → AreNumbers (length part.now.index.now.packages) self.new.set }
     {
         self.set.clear();
-        self.take(p)
-            && self.take_essentials(part, base, lacking)
-            && self.take_needs(part, base, lacking)
+        if !self.take(p) || !self.take_essentials(part, base, lacking) {
+            return false;
+        }
+        self.take_needs(part, base, lacking)
     }
 }

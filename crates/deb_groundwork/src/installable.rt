@@ -1,5 +1,4 @@
-//! Places that some healthy set is seen to have: the base set and a few more for all, or a witness for one package, are found without a search, and
-//! each is looked up to be healthy.
+//! Places that some healthy set is seen to have: the base set and a few more are found without a search, and each is looked up to be healthy.
 
 ghost use Rattle.std.specs.Prelude.{◌≡◌, ◌<◌, true, All, IfOk, length};
 ghost use Rattle.number_sets.specs.Sets.{members_of, MarksOnly};
@@ -7,10 +6,8 @@ ghost use Rattle.deb_health.specs.Health.{IsHealthy, IsInstallable};
 
 use crate::check::meets_part;
 use crate::groundwork::Groundwork;
-use crate::growth::Witness;
 use crate::installation::{Installation, Lead, weight_of_all};
 use crate::part::Part;
-use crate::witness::is_seen_to_admit;
 use deb_index::Index;
 use number_sets::SparseSet;
 use std::alloc::{AllocError, Global};
@@ -146,18 +143,4 @@ pub fn find_installable(
     mark_sets(groundwork, asked, &mut installation, &mut marks);
     drop(installation);
     Ok(marks)
-}
-
-/// Whether the package at a place is seen to be installable, without a search: by a set that grows for it on the base set.
-pub fn is_seen_installable(groundwork: &Groundwork<'_>, p: u32, witness: &mut Witness) -> bool
-    requires { p < length groundwork.now.index.now.packages }
-    ensures { result ≡ true → IsInstallable groundwork.now.index.now p }
-{
-    let all = Part {
-        index: groundwork.index,
-        kept: &[],
-        rest: 0,
-        out: &[],
-    };
-    is_seen_to_admit(&all, p, &groundwork.base, &groundwork.lacking, witness)
 }

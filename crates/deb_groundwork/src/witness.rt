@@ -4,12 +4,13 @@
 ghost use Rattle.std.specs.Prelude.{◌≡◌, ℕ, ◌<◌, true, All, length};
 ghost use Rattle.number_sets.specs.Sets.{members_of};
 ghost use Rattle.deb_health.specs.Causes.{either};
-ghost use Rattle.deb_health.specs.Health.{Admits};
+ghost use Rattle.deb_health.specs.Health.{Admits, IsInstallable};
 ghost use Rattle.deb_groundwork.specs.BaseSets.{HasRoom, IsBase};
 ghost use Rattle.deb_groundwork.specs.Parts.{positions_in, MeetsAskedOf};
 
 use crate::base_set::{BaseSet, OnBase};
 use crate::check::{meets_essentials, meets_place};
+use crate::groundwork::Groundwork;
 use crate::growth::Witness;
 use crate::part::Part;
 use number_sets::SparseSet;
@@ -59,4 +60,18 @@ pub fn is_seen_to_admit(
         return false;
     }
     have_room(part, base, &witness.set) && is_witness(part, p, base, &witness.set)
+}
+
+/// Whether the package at a place is seen to be installable, without a search: by a set that grows for it on the base set.
+pub fn is_seen_installable(groundwork: &Groundwork<'_>, p: u32, witness: &mut Witness) -> bool
+    requires { p < length groundwork.now.index.now.packages }
+    ensures { result ≡ true → IsInstallable groundwork.now.index.now p }
+{
+    let all = Part {
+        index: groundwork.index,
+        kept: &[],
+        rest: 0,
+        out: &[],
+    };
+    is_seen_to_admit(&all, p, &groundwork.base, &groundwork.lacking, witness)
 }

@@ -1,4 +1,4 @@
-use Rattle.std.proofs.Common.{◌≡◌, ◌∙◌, ℕ, List, Vec, Global, ap}
+use Rattle.std.proofs.Common.{◌≡◌, ◌∙◌, ℕ, List, Vec, Global, refl, ap}
 use Rattle.std.proofs.lemmas.Bool.{false≢true, true≢false}
 use Rattle.std.proofs.lemmas.Result.{IfOk-weaker}
 use Rattle.deb_groundwork.proofs.BaseLemmas.{empty_is_base}
@@ -9,18 +9,6 @@ use Rattle.deb_verdict.proofs.question.refute_part.Goals.{else-lacks_room-via-th
 pub is_seen_to_admit-requires-then-may_admit-2-clause-base : goal.is_seen_to_admit-requires-then-may_admit-2-clause-base
 is_seen_to_admit-requires-then-may_admit-2-clause-base c = empty_is_base c.args.part.now.index.now c.clear.new.self c.clear.ensures.members
 
-pub returns-then-refute_by_last_steps-clause-refuted : goal.returns-then-refute_by_last_steps-clause-refuted
-returns-then-refute_by_last_steps-clause-refuted c = λ _. c.refute_by_last_steps.ensures.refuted c.if-refute_by_last_steps.true
-
-pub returns-then-refute_by_last_steps-clause-admitted : goal.returns-then-refute_by_last_steps-clause-admitted
-returns-then-refute_by_last_steps-clause-admitted c = λ is. absurd (true≢false is)
-
-pub returns-then-refute_by_last_steps-clause-still : goal.returns-then-refute_by_last_steps-clause-still
-returns-then-refute_by_last_steps-clause-still c = λ is. absurd (true≢false is)
-
-pub returns-then-refute_by_last_steps-clause-formula : goal.returns-then-refute_by_last_steps-clause-formula
-returns-then-refute_by_last_steps-clause-formula c = c.requires.formula
-
 pub returns-then-is_seen_to_admit-clause-refuted : goal.returns-then-is_seen_to_admit-clause-refuted
 returns-then-is_seen_to_admit-clause-refuted c = λ is. absurd (false≢true is)
 
@@ -28,7 +16,7 @@ pub returns-then-is_seen_to_admit-clause-admitted : goal.returns-then-is_seen_to
 returns-then-is_seen_to_admit-clause-admitted c = λ _ none. none (c.is_seen_to_admit.ensures c.if-is_seen_to_admit.true)
 
 pub returns-then-is_seen_to_admit-clause-still : goal.returns-then-is_seen_to_admit-clause-still
-returns-then-is_seen_to_admit-clause-still c = λ _. c.refute_by_last_steps.ensures.still c.if-refute_by_last_steps.false
+returns-then-is_seen_to_admit-clause-still c = λ _. refl
 
 pub returns-then-is_seen_to_admit-clause-formula : goal.returns-then-is_seen_to_admit-clause-formula
 returns-then-is_seen_to_admit-clause-formula c = c.requires.formula
@@ -52,7 +40,7 @@ pub returns-then-is_seen_to_admit-2-clause-admitted : goal.returns-then-is_seen_
 returns-then-is_seen_to_admit-2-clause-admitted c = λ _ none. none (c.is_seen_to_admit-then-may_admit-2.ensures c.if-is_seen_to_admit-2.true)
 
 pub returns-then-is_seen_to_admit-2-clause-still : goal.returns-then-is_seen_to_admit-2-clause-still
-returns-then-is_seen_to_admit-2-clause-still c = λ _. c.refute_by_forcing.ensures.still c.if-refute_by_forcing.false ∙ c.refute_by_last_steps.ensures.still c.if-refute_by_last_steps.false
+returns-then-is_seen_to_admit-2-clause-still c = λ _. c.refute_by_forcing.ensures.still c.if-refute_by_forcing.false
 
 pub returns-then-is_seen_to_admit-2-clause-formula : goal.returns-then-is_seen_to_admit-2-clause-formula
 returns-then-is_seen_to_admit-2-clause-formula c = c.requires.formula
@@ -80,7 +68,7 @@ returns-clause-formula c = c.refute_by_formula.ensures.formula
 
 pub returns-clause-still : goal.returns-clause-still
 returns-clause-still c =
-    let before = c.refute_by_forcing.ensures.still c.if-refute_by_forcing.false ∙ c.refute_by_last_steps.ensures.still c.if-refute_by_last_steps.false in
+    let before = c.refute_by_forcing.ensures.still c.if-refute_by_forcing.false in
     let items : Workspace → List ℕ = λ workspace. workspace.used.items in
     let so_far : c.else-lacks_room.workspace.used.items ≡ c.args.workspace.now.used.items =
     elim c.else-lacks_room.branch [
