@@ -5,7 +5,7 @@ use std::alloc::AllocError;
 
 #[test]
 fn of_first_failing(rt: HostRuntime) -> Result<(), AllocError> {
-    let asked = asked_for(rt.alloc(), &[0, 700, 1023], 0)?;
+    let asked = asked_for(rt.alloc(), &[0, 700, 1023], 0, u32::MAX)?;
     assert!(rt; asked == Some(4));
     Ok(())
 }

@@ -102,13 +102,38 @@ fn refute_described(
         described.must,
         &mut workspace.marks,
     )?;
-    let admits = found.is_some();
-    drop(found);
-    if admits {
+    if let Some(set) = found {
+        workspace.set = set;
         return Ok(false);
     }
     take_marked(&described.positions, &workspace.marks, &mut workspace.used)?;
     Ok(true)
+}
+
+/// Lists constraints each of which every refutation of a part needs, by sets that are come by from the last one, which lacks the constraint at
+/// this position alone.
+pub(crate) fn list_needed(
+    alloc: Global,
+    part: &Part<'_>,
+    described: &CoreFormula,
+    last: u32,
+    workspace: &mut Workspace,
+) -> Result<(), AllocError> {
+    workspace.needed.clear();
+    let Ok(group) = described.positions.binary_search(&last) else {
+        return Ok(());
+    };
+    mark_kept(part, &described.positions, &mut workspace.keep)?;
+    described.formula.mark_needed(
+        alloc,
+        &mut workspace.rotation,
+        &workspace.keep,
+        described.must,
+        &workspace.set,
+        group as u32,
+        &mut workspace.marks,
+    )?;
+    take_marked(&described.positions, &workspace.marks, &mut workspace.needed)
 }
 
 /// Takes the formula of a package, which is made where it isn't there yet.

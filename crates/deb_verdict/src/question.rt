@@ -11,7 +11,7 @@ ghost use Rattle.deb_groundwork.specs.Needed.{AreNeeded};
 ghost use Rattle.deb_groundwork.specs.Parts.{positions_in, IsRefutedBy};
 ghost use Rattle.deb_verdict.specs.Formulas.{Tells};
 
-use crate::by_formula::refute_by_formula;
+use crate::by_formula::{list_needed, refute_by_formula};
 use crate::core_formula::CoreFormula;
 use crate::workspace::Workspace;
 use core_extract::{Question, next_of};
@@ -64,18 +64,6 @@ pub(crate) fn refute_part(
     refute_by_formula(alloc, part, p, formula, workspace)
 }
 
-/// Whether the part lacks the constraint before its rest, and that is among these.
-fn lacks_needed(part: &Part<'_>, needed: &[u32]) -> bool
-    requires { IsStrictlyIncreasing needed.now }
-    ensures { result ≡ true → (u : ℕ) × (members_of needed.now u ≡ true) × (positions_in part.now u ≡ false) }
-{
-    if part.rest == 0 {
-        return false;
-    }
-    let last = part.rest - 1;
-    is_among(needed, last) && !part.has(last)
-}
-
 /// Takes over what a refutation used, in rising order. `found` is then a buffer.
 fn take_rising(found: &mut Vec<u32>, used: &mut Vec<u32>)
     ensures rising { IsStrictlyIncreasing used.new.items }
@@ -85,14 +73,21 @@ fn take_rising(found: &mut Vec<u32>, used: &mut Vec<u32>)
     sort_once(used);
 }
 
+/// After so many questions about a package the others are put to its formula alone.
+const MANY: u32 = 16;
+
 /// Whether positions of the index's list of constraints, without those that are taken out, admit no set with the package at a place.
 #[derive(Drop)]
 pub(crate) struct Blocking<'a> {
     pub(crate) groundwork: &'a Groundwork<'a>,
     pub(crate) p: u32,
     pub(crate) out: &'a [u32],
-    /// Positions of constraints that each refutation needs.
-    pub(crate) needed: &'a [u32],
+    /// Positions of constraints, rising, that each refutation needs out of the settled ones and all from one on.
+    pub(crate) needed: Vec<u32>,
+    pub(crate) settled: Vec<u32>,
+    pub(crate) from: u32,
+    /// How many questions were asked.
+    pub(crate) asked: u32,
     pub(crate) workspace: &'a mut Workspace,
     /// The positions of the constraints that the last refutation used, rising.
     pub(crate) used: Vec<u32>,
@@ -100,10 +95,52 @@ pub(crate) struct Blocking<'a> {
     pub(crate) formula: Option<CoreFormula>,
     ghost place: { p < length groundwork.now.index.now.packages },
     ghost rising: { IsStrictlyIncreasing out.now },
-    ghost needed_rising: { IsStrictlyIncreasing needed.now },
-    ghost all_needed: { AreNeeded groundwork.now.index.now p (without (members_of out.now) all_of) needed.now },
+    ghost needed_rising: { IsStrictlyIncreasing needed.items },
     ghost used_rising: { IsStrictlyIncreasing used.items },
     ghost told: { ForSome formula (Tells groundwork.now.index.now p) },
+}
+
+impl<'a> Blocking<'a> {
+    /// Whether this is the first number of the last refutation that is not settled. It is a hint.
+    fn is_next(&self, kept: &[u32], number: u32) -> bool {
+        let from = match kept.last() {
+            Some(last) => last.saturating_add(1),
+            None => 0,
+        };
+        next_of(&self.used, from) == Some(number)
+    }
+
+    /// Whether these numbers and all from one on are among the settled ones and all from where they end.
+    fn is_within(&self, kept: &[u32], rest: u32) -> bool {
+        let count = self.settled.len();
+        rest >= self.from
+            && kept.len() >= count
+            && kept[..count] == self.settled[..]
+            && (kept.len() == count || kept[count] >= self.from)
+    }
+
+    /// Takes in what each refutation needs out of the kept constraints and all from a position on, where a set lacks that one alone.
+    fn take_needed(&mut self, alloc: Global, kept: &[u32], first: u32) -> Result<(), AllocError> {
+        let Some(described) = &self.formula else {
+            return Ok(());
+        };
+        let part = Part {
+            index: self.groundwork.index,
+            kept,
+            rest: first,
+            out: self.out,
+        };
+        list_needed(alloc, &part, described, first, self.workspace)?;
+        if !self.is_within(kept, first) {
+            self.needed.clear();
+        }
+        self.settled.clear();
+        self.settled.extend_from_slice(kept)?;
+        self.from = first;
+        self.needed.extend_from_slice(&self.workspace.needed)?;
+        sort_once(&mut self.needed);
+        Ok(())
+    }
 }
 
 impl<'a> Question for Blocking<'a> {
@@ -135,26 +172,38 @@ impl<'a> Question for Blocking<'a> {
             rest,
             out: self.out,
         };
-        if lacks_needed(&part, self.needed) {
-            return Ok(false);
+        self.workspace.set.clear();
+        self.asked = self.asked.saturating_add(1);
+        let refuted = if self.asked > MANY {
+            refute_by_formula(alloc, &part, self.p, &mut self.formula, self.workspace)?
+        } else {
+            refute_part(
+                alloc,
+                &part,
+                self.p,
+                &self.groundwork.base,
+                &self.groundwork.lacking,
+                &mut self.formula,
+                self.workspace,
+            )?
+        };
+        if refuted {
+            take_rising(&mut self.workspace.used, &mut self.used);
+            return Ok(true);
         }
-        let refuted = refute_part(
-            alloc,
-            &part,
-            self.p,
-            &self.groundwork.base,
-            &self.groundwork.lacking,
-            &mut self.formula,
-            self.workspace,
-        )?;
-        if !refuted {
-            return Ok(false);
+        if rest > 0 && !self.workspace.set.is_empty() && self.is_next(kept, rest - 1) {
+            self.take_needed(alloc, kept, rest - 1)?;
         }
-        take_rising(&mut self.workspace.used, &mut self.used);
-        Ok(true)
+        Ok(false)
     }
 
     fn next_used(&self, from: u32) -> Option<u32> {
         next_of(&self.used, from)
+    }
+
+    fn is_needed(&self, kept: &[u32], number: u32) -> bool {
+        is_among(&self.needed, number)
+            && self.is_within(kept, number.saturating_add(1))
+            && !is_among(kept, number)
     }
 }

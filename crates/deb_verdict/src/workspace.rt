@@ -39,6 +39,10 @@ pub struct Workspace {
     /// The groups that a solve keeps, and those that it used.
     pub(crate) keep: Vec<bool>,
     pub(crate) marks: Vec<bool>,
+    /// A set that a formula admitted, and what is come by from it.
+    pub(crate) set: Vec<u32>,
+    pub(crate) rotation: sat_solve::Rotation,
+    pub(crate) needed: Vec<u32>,
     /// The positions of the constraints that the last refutation used.
     pub(crate) used: Vec<u32>,
 }
@@ -66,6 +70,9 @@ impl Workspace {
             constraints: Vec::new(alloc),
             keep: Vec::new(alloc),
             marks: Vec::new(alloc),
+            set: Vec::new(alloc),
+            rotation: sat_solve::Rotation::new(alloc),
+            needed: Vec::new(alloc),
             used: Vec::new(alloc),
         })
     }

@@ -1,12 +1,14 @@
 //! A formula: clauses in groups, and the calls that solve it.
 
-ghost use Rattle.std.specs.Prelude.{◌≡◌, ◌<◌, length, All, IfOk, OnErr, [], ◌∷◌, ◌++◌, map};
+ghost use Rattle.std.specs.Prelude.{◌≡◌, ◌<◌, length, All, IfOk, OnErr, OnOk, [], ◌∷◌, ◌++◌, map};
 ghost use Rattle.sat_solve.specs.Answers.{IsAnswer};
 ghost use Rattle.sat_solve.specs.Clauses.{excluding};
+ghost use Rattle.sat_solve.specs.Rotation.{AreNeeded};
 ghost use Rattle.sat_solve.specs.Spans.{out_of, span_of};
 
 use crate::clause::{Lit, Owner, Span};
 use crate::problem::Problem;
+use crate::rotation::Rotation;
 use crate::search::Workspace;
 use std::alloc::{AllocError, Global};
 use std::marker::Model;
@@ -169,6 +171,35 @@ impl Formula {
         marks.clear();
         marks.extend_from_slice(workspace.used())?;
         Ok(answer)
+    }
+
+    /// Marks kept groups, one mark a group, without each of which the others have a set: those that are come by from a set, if it breaks
+    /// the clauses of one group alone.
+    ///
+    /// Nothing need be known of the set and of the group. The error is want of memory.
+    pub fn mark_needed(
+        &self,
+        alloc: Global,
+        rotation: &mut Rotation,
+        keep: &[bool],
+        must: u32,
+        set: &[u32],
+        group: u32,
+        marks: &mut Vec<bool>,
+    ) -> Result<(), AllocError>
+        requires keep { length keep.now ≡ self.now.groups }
+        requires must { must < self.now.vars }
+        ensures sized { OnOk result (length marks.new.items ≡ self.now.groups) }
+        ensures needed { OnOk result (AreNeeded self.now.vars self.now.clauses keep.now must marks.new.items) }
+    {
+        let problem = Problem {
+            vars: self.vars,
+            literals: &self.literals,
+            spans: &self.spans,
+            keep,
+            must,
+        };
+        rotation.walk(alloc, &problem, set, group, marks)
     }
 
     /// What `solve_in` gives. Where there is no set, the workspace then has the marks of `solve_marked`.

@@ -1,0 +1,32 @@
+use Rattle.std.proofs.Common.{◌≡◌, ℕ, ◌<◌, false, length, Vec, Global, Bool, refl, sym, subst, arith, ◌∙◌}
+use Rattle.sat_solve.specs.Rotation.{BreaksAlone, IsListed}
+use Rattle.sat_solve.proofs.RotationLemmas.{marked_more, none_marked}
+use Rattle.sat_solve.proofs.rotation.Rotation.walk.Goals as goal
+
+pub returns-then-listed_by-gt-LISTED-clause-needed : goal.returns-then-listed_by-gt-LISTED-clause-needed
+returns-then-listed_by-gt-LISTED-clause-needed c = λ group is. absurd (none_marked c.resize.new.self.items
+    (λ k below. c.in_ok-resize.ensures.by_index.1 k false refl (omega (arith, c.clear.ensures.items, c.clear.new.self.ok)) (omega (arith, c.in_ok-resize.ensures.len, c.resize.new.self.ok))) group is)
+
+pub loop-init : goal.loop-init
+loop-init c =
+    let problem = c.args.problem.now in
+    let alone : BreaksAlone c.args.problem.now c.start.new.self.inside.items c.args.group = c.in_ok-start.ensures.alone c.if-not-branch.false in
+    record {
+      listed = λ k below. subst (λ (lists : Vec (Vec ℕ Global) Global). IsListed problem lists.items k) (sym (c.in_ok-push_turns.ensures.0 ∙ c.in_ok-start.ensures.lists)) (c.in_ok-list_all.ensures k below);
+      alone =
+          subst (λ (group : ℕ). BreaksAlone problem c.push_turns.new.self.inside.items group) (sym (c.in_ok-push_turns.ensures.2 ∙ c.in_ok-start.ensures.group))
+          (subst (λ (inside : Vec Bool Global). BreaksAlone problem inside.items c.args.group) (sym c.in_ok-push_turns.ensures.1) alone);
+      needed = marked_more problem c.start.new.self.inside.items c.resize.new.self.items c.mark.new.marks.items c.args.group alone (λ group is. absurd (none_marked c.resize.new.self.items
+      (λ k below. c.in_ok-resize.ensures.by_index.1 k false refl (omega (arith, c.clear.ensures.items, c.clear.new.self.ok)) (omega (arith, c.in_ok-resize.ensures.len, c.resize.new.self.ok))) group is)) c.mark.ensures.marked;
+      sized = omega (arith, c.mark.ensures.sized, c.in_ok-resize.ensures.len, c.resize.new.self.ok);
+    }
+
+pub loop-preserved : goal.loop-preserved
+loop-preserved c =
+    let problem = c.args.problem.now in
+    record {
+      listed = λ k below. subst (λ (lists : Vec (Vec ℕ Global) Global). IsListed problem lists.items k) (sym c.in_ok-take.ensures.lists) (c.loop.invariant.listed k below);
+      alone = c.in_ok-take.ensures.after;
+      needed = c.in_ok-take.ensures.needed;
+      sized = c.in_ok-take.ensures.sized ∙ c.loop.invariant.sized;
+    }
