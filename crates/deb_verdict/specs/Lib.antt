@@ -8,3 +8,4 @@ pub mod Formulas
 pub mod Gathering
 pub mod Listing
 pub mod Reach
+pub mod Known

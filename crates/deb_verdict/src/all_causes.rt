@@ -79,6 +79,7 @@ fn is_blocked(
         p,
         &groundwork.base,
         &groundwork.lacking,
+        false,
         formula,
         workspace,
     )

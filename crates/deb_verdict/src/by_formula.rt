@@ -5,12 +5,15 @@ ghost use Rattle.std.specs.Prelude.{◌≡◌, ◌<◌, true, false, IfOk, OnOk,
 ghost use Rattle.std.specs.Option.{ForSome};
 ghost use Rattle.number_sets.specs.Sets.{members_of};
 ghost use Rattle.deb_health.specs.Health.{AdmitsNone};
+ghost use Rattle.deb_groundwork.specs.Needed.{AreNeeded};
 ghost use Rattle.deb_groundwork.specs.Parts.{positions_in, IsRefutedBy};
 ghost use Rattle.deb_verdict.specs.Formulas.{IsChosen, Tells};
+ghost use Rattle.deb_verdict.specs.Known.{AreKnown};
 
 use crate::core_formula::CoreFormula;
 use crate::first_set::count_of;
 use crate::kept_positions::{list_constraints, list_positions};
+use crate::known::Known;
 use crate::reach::reach;
 use crate::workspace::Workspace;
 use deb_encode::{Play, encode_each};
@@ -110,18 +113,22 @@ fn refute_described(
     Ok(true)
 }
 
-/// Lists constraints each of which every refutation of a part needs, by sets that are come by from the last one, which lacks the constraint at
-/// this position alone.
-pub(crate) fn list_needed(
+/// Lists constraints of a part each of which every refutation of it needs, by sets that are come by from the last one, if that lacks the
+/// constraint at this position alone.
+fn list_needed(
     alloc: Global,
     part: &Part<'_>,
+    p: u32,
     described: &CoreFormula,
     last: u32,
     workspace: &mut Workspace,
-) -> Result<(), AllocError> {
-    workspace.needed.clear();
-    let Ok(group) = described.positions.binary_search(&last) else {
-        return Ok(());
+) -> Result<(), AllocError>
+    requires { Tells part.now.index.now p described.now }
+    ensures { OnOk result (AreNeeded part.now.index.now p (positions_in part.now) workspace.new.needed.items) }
+{
+    let group = match described.positions.binary_search(&last) {
+        Ok(group) => group,
+        Err(group) => group,
     };
     mark_kept(part, &described.positions, &mut workspace.keep)?;
     described.formula.mark_needed(
@@ -133,7 +140,54 @@ pub(crate) fn list_needed(
         group as u32,
         &mut workspace.marks,
     )?;
-    take_marked(&described.positions, &workspace.marks, &mut workspace.needed)
+    take_marked(&described.positions, &workspace.marks, &mut workspace.needed)?;
+    Ok(())
+}
+
+/// Whether a position is the first that the last refutation used behind the kept ones. It is a hint.
+fn is_next(used: &[u32], kept: &[u32], position: u32) -> bool {
+    let behind = match kept.last() {
+        Some(last) => last.saturating_add(1),
+        None => 0,
+    };
+    match used.binary_search(&behind) {
+        Ok(place) => used.get(place) == Some(&position),
+        Err(place) => used.get(place) == Some(&position),
+    }
+}
+
+/// Takes in what is needed of what is left, where a set was found for a part of it without one constraint.
+pub(crate) fn learn(
+    alloc: Global,
+    part: &Part<'_>,
+    p: u32,
+    used: &[u32],
+    formula: &Option<CoreFormula>,
+    known: &mut Known,
+    workspace: &mut Workspace,
+) -> Result<(), AllocError>
+    requires formula { ForSome formula.now (Tells part.now.index.now p) }
+    requires known { AreKnown part.now.index.now p (members_of part.now.out.now) known.old }
+    ensures { AreKnown part.now.index.now p (members_of part.now.out.now) known.new }
+{
+    let Some(described) = formula else {
+        return Ok(());
+    };
+    if part.rest == 0 || workspace.set.is_empty() {
+        return Ok(());
+    }
+    let last = part.rest - 1;
+    if !is_next(used, part.kept, last) {
+        return Ok(());
+    }
+    let left = Part {
+        index: part.index,
+        kept: part.kept,
+        rest: last,
+        out: part.out,
+    };
+    list_needed(alloc, &left, p, described, last, workspace)?;
+    known.take(alloc, part.kept, last, &workspace.needed)
 }
 
 /// Takes the formula of a package, which is made where it isn't there yet.

@@ -12,6 +12,7 @@ ghost use Rattle.deb_verdict.specs.Formulas.{Tells};
 
 use crate::core_formula::CoreFormula;
 use crate::kept_positions::list_constraints;
+use crate::known::Known;
 use crate::question::Blocking;
 use crate::workspace::Workspace;
 use core_extract::first_failing;
@@ -42,9 +43,11 @@ pub(crate) fn first_positions(
         groundwork,
         p,
         out,
-        needed,
-        settled: Vec::new(alloc),
-        from: 0,
+        known: Known {
+            needed,
+            settled: Vec::new(alloc),
+            from: 0,
+        },
         asked: 0,
         workspace,
         used: Vec::new(alloc),

@@ -27,6 +27,7 @@ mod first_set;
 mod gather;
 mod installability;
 mod kept_positions;
+mod known;
 pub mod laws;
 mod question;
 mod reach;

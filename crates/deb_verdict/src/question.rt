@@ -7,27 +7,29 @@ ghost use Rattle.number_sets.specs.Sets.{all_of, members_of};
 ghost use Rattle.deb_health.specs.Causes.{without};
 ghost use Rattle.deb_health.specs.Health.{AdmitsNone};
 ghost use Rattle.deb_groundwork.specs.BaseSets.{IsBase};
-ghost use Rattle.deb_groundwork.specs.Needed.{AreNeeded};
 ghost use Rattle.deb_groundwork.specs.Parts.{positions_in, IsRefutedBy};
 ghost use Rattle.deb_verdict.specs.Formulas.{Tells};
+ghost use Rattle.deb_verdict.specs.Known.{AreKnown};
 
-use crate::by_formula::{list_needed, refute_by_formula};
+use crate::by_formula::{learn, refute_by_formula};
 use crate::core_formula::CoreFormula;
+use crate::known::Known;
 use crate::workspace::Workspace;
 use core_extract::{Question, next_of};
-use deb_groundwork::{BaseSet, Groundwork, Part, is_among, is_seen_to_admit, refute_by_forcing};
+use deb_groundwork::{BaseSet, Groundwork, Part, is_seen_to_admit, refute_by_forcing};
 use number_sets::{SparseSet, sort_once};
 use std::alloc::{AllocError, Global};
 use std::mem;
 
 /// Whether a part of the constraints admits no set with the package at a place. Where it admits none, the workspace's `used` then has the
-/// positions of constraints of the part that already do; where it admits one, `used` stays.
+/// positions of constraints of the part that already do; where it admits one, `used` stays. The formula may be asked at once.
 pub(crate) fn refute_part(
     alloc: Global,
     part: &Part<'_>,
     p: u32,
     base: &BaseSet,
     lacking: &SparseSet,
+    by_formula: bool,
     formula: &mut Option<CoreFormula>,
     workspace: &mut Workspace,
 ) -> Result<bool, AllocError>
@@ -39,6 +41,9 @@ pub(crate) fn refute_part(
     ensures admitted { IfOk result (λ refuted. refuted ≡ false → AdmitsNone part.now.index.now p (positions_in part.now) → ⊥) }
     ensures still { IfOk result (λ refuted. refuted ≡ false → workspace.new.used.items ≡ workspace.old.used.items) }
 {
+    if by_formula {
+        return refute_by_formula(alloc, part, p, formula, workspace);
+    }
     let propagation = &mut workspace.propagation;
     let used = &mut workspace.used;
     // Each package whose core is looked for is broken, so only without some constraints is there a set.
@@ -82,10 +87,8 @@ pub(crate) struct Blocking<'a> {
     pub(crate) groundwork: &'a Groundwork<'a>,
     pub(crate) p: u32,
     pub(crate) out: &'a [u32],
-    /// Positions of constraints, rising, that each refutation needs out of the settled ones and all from one on.
-    pub(crate) needed: Vec<u32>,
-    pub(crate) settled: Vec<u32>,
-    pub(crate) from: u32,
+    /// What is known to be needed.
+    pub(crate) known: Known,
     /// How many questions were asked.
     pub(crate) asked: u32,
     pub(crate) workspace: &'a mut Workspace,
@@ -95,52 +98,9 @@ pub(crate) struct Blocking<'a> {
     pub(crate) formula: Option<CoreFormula>,
     ghost place: { p < length groundwork.now.index.now.packages },
     ghost rising: { IsStrictlyIncreasing out.now },
-    ghost needed_rising: { IsStrictlyIncreasing needed.items },
+    ghost is_known: { AreKnown groundwork.now.index.now p (members_of out.now) known },
     ghost used_rising: { IsStrictlyIncreasing used.items },
     ghost told: { ForSome formula (Tells groundwork.now.index.now p) },
-}
-
-impl<'a> Blocking<'a> {
-    /// Whether this is the first number of the last refutation that is not settled. It is a hint.
-    fn is_next(&self, kept: &[u32], number: u32) -> bool {
-        let from = match kept.last() {
-            Some(last) => last.saturating_add(1),
-            None => 0,
-        };
-        next_of(&self.used, from) == Some(number)
-    }
-
-    /// Whether these numbers and all from one on are among the settled ones and all from where they end.
-    fn is_within(&self, kept: &[u32], rest: u32) -> bool {
-        let count = self.settled.len();
-        rest >= self.from
-            && kept.len() >= count
-            && kept[..count] == self.settled[..]
-            && (kept.len() == count || kept[count] >= self.from)
-    }
-
-    /// Takes in what each refutation needs out of the kept constraints and all from a position on, where a set lacks that one alone.
-    fn take_needed(&mut self, alloc: Global, kept: &[u32], first: u32) -> Result<(), AllocError> {
-        let Some(described) = &self.formula else {
-            return Ok(());
-        };
-        let part = Part {
-            index: self.groundwork.index,
-            kept,
-            rest: first,
-            out: self.out,
-        };
-        list_needed(alloc, &part, described, first, self.workspace)?;
-        if !self.is_within(kept, first) {
-            self.needed.clear();
-        }
-        self.settled.clear();
-        self.settled.extend_from_slice(kept)?;
-        self.from = first;
-        self.needed.extend_from_slice(&self.workspace.needed)?;
-        sort_once(&mut self.needed);
-        Ok(())
-    }
 }
 
 impl<'a> Question for Blocking<'a> {
@@ -174,27 +134,30 @@ impl<'a> Question for Blocking<'a> {
         };
         self.workspace.set.clear();
         self.asked = self.asked.saturating_add(1);
-        let refuted = if self.asked > MANY {
-            refute_by_formula(alloc, &part, self.p, &mut self.formula, self.workspace)?
-        } else {
-            refute_part(
+        let refuted = refute_part(
+            alloc,
+            &part,
+            self.p,
+            &self.groundwork.base,
+            &self.groundwork.lacking,
+            self.asked > MANY,
+            &mut self.formula,
+            self.workspace,
+        )?;
+        if !refuted {
+            learn(
                 alloc,
                 &part,
                 self.p,
-                &self.groundwork.base,
-                &self.groundwork.lacking,
-                &mut self.formula,
+                &self.used,
+                &self.formula,
+                &mut self.known,
                 self.workspace,
-            )?
-        };
-        if refuted {
-            take_rising(&mut self.workspace.used, &mut self.used);
-            return Ok(true);
+            )?;
+            return Ok(false);
         }
-        if rest > 0 && !self.workspace.set.is_empty() && self.is_next(kept, rest - 1) {
-            self.take_needed(alloc, kept, rest - 1)?;
-        }
-        Ok(false)
+        take_rising(&mut self.workspace.used, &mut self.used);
+        Ok(true)
     }
 
     fn next_used(&self, from: u32) -> Option<u32> {
@@ -202,8 +165,6 @@ impl<'a> Question for Blocking<'a> {
     }
 
     fn is_needed(&self, kept: &[u32], number: u32) -> bool {
-        is_among(&self.needed, number)
-            && self.is_within(kept, number.saturating_add(1))
-            && !is_among(kept, number)
+        self.known.has(kept, number)
     }
 }
