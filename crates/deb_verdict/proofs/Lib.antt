@@ -17,3 +17,4 @@ pub mod Reaching
 pub mod Settled
 pub mod ToldLemmas
 pub mod Whole
+pub mod KnownLemmas

@@ -79,7 +79,6 @@ fn is_blocked(
         p,
         &groundwork.base,
         &groundwork.lacking,
-        false,
         formula,
         workspace,
     )

@@ -137,7 +137,7 @@ fn list_needed(
         &workspace.keep,
         described.must,
         &workspace.set,
-        group as u32,
+        group.min(u32::MAX as usize) as u32,
         &mut workspace.marks,
     )?;
     take_marked(&described.positions, &workspace.marks, &mut workspace.needed)?;

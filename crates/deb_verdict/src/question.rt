@@ -22,14 +22,13 @@ use std::alloc::{AllocError, Global};
 use std::mem;
 
 /// Whether a part of the constraints admits no set with the package at a place. Where it admits none, the workspace's `used` then has the
-/// positions of constraints of the part that already do; where it admits one, `used` stays. The formula may be asked at once.
+/// positions of constraints of the part that already do; where it admits one, `used` stays.
 pub(crate) fn refute_part(
     alloc: Global,
     part: &Part<'_>,
     p: u32,
     base: &BaseSet,
     lacking: &SparseSet,
-    by_formula: bool,
     formula: &mut Option<CoreFormula>,
     workspace: &mut Workspace,
 ) -> Result<bool, AllocError>
@@ -41,9 +40,6 @@ pub(crate) fn refute_part(
     ensures admitted { IfOk result (λ refuted. refuted ≡ false → AdmitsNone part.now.index.now p (positions_in part.now) → ⊥) }
     ensures still { IfOk result (λ refuted. refuted ≡ false → workspace.new.used.items ≡ workspace.old.used.items) }
 {
-    if by_formula {
-        return refute_by_formula(alloc, part, p, formula, workspace);
-    }
     let propagation = &mut workspace.propagation;
     let used = &mut workspace.used;
     // Each package whose core is looked for is broken, so only without some constraints is there a set.
@@ -69,6 +65,34 @@ pub(crate) fn refute_part(
     refute_by_formula(alloc, part, p, formula, workspace)
 }
 
+/// After so many questions about a package the others are put to its formula alone, which may tell of several constraints that they are needed.
+const MANY: u32 = 16;
+
+/// What `refute_part` says, where so many questions were asked before.
+fn refute_next(
+    alloc: Global,
+    part: &Part<'_>,
+    p: u32,
+    groundwork: &Groundwork<'_>,
+    asked: u32,
+    formula: &mut Option<CoreFormula>,
+    workspace: &mut Workspace,
+) -> Result<bool, AllocError>
+    requires place { p < length part.now.index.now.packages }
+    requires index { groundwork.now.index.now ≡ part.now.index.now }
+    requires formula { ForSome formula.old (Tells part.now.index.now p) }
+    ensures formula { ForSome formula.new (Tells part.now.index.now p) }
+    ensures refuted { IfOk result (λ refuted. refuted ≡ true → IsRefutedBy workspace.new.used.items part.now p) }
+    ensures admitted { IfOk result (λ refuted. refuted ≡ false → AdmitsNone part.now.index.now p (positions_in part.now) → ⊥) }
+{
+    workspace.set.clear();
+    if asked >= MANY {
+        return refute_by_formula(alloc, part, p, formula, workspace);
+    }
+    let base = &groundwork.base;
+    refute_part(alloc, part, p, base, &groundwork.lacking, formula, workspace)
+}
+
 /// Takes over what a refutation used, in rising order. `found` is then a buffer.
 fn take_rising(found: &mut Vec<u32>, used: &mut Vec<u32>)
     ensures rising { IsStrictlyIncreasing used.new.items }
@@ -77,9 +101,6 @@ fn take_rising(found: &mut Vec<u32>, used: &mut Vec<u32>)
     mem::swap(found, used);
     sort_once(used);
 }
-
-/// After so many questions about a package the others are put to its formula alone.
-const MANY: u32 = 16;
 
 /// Whether positions of the index's list of constraints, without those that are taken out, admit no set with the package at a place.
 #[derive(Drop)]
@@ -132,18 +153,16 @@ impl<'a> Question for Blocking<'a> {
             rest,
             out: self.out,
         };
-        self.workspace.set.clear();
-        self.asked = self.asked.saturating_add(1);
-        let refuted = refute_part(
+        let refuted = refute_next(
             alloc,
             &part,
             self.p,
-            &self.groundwork.base,
-            &self.groundwork.lacking,
-            self.asked > MANY,
+            self.groundwork,
+            self.asked,
             &mut self.formula,
             self.workspace,
         )?;
+        self.asked = self.asked.saturating_add(1);
         if !refuted {
             learn(
                 alloc,

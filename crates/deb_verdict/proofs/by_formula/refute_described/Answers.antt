@@ -1,21 +1,16 @@
-use Rattle.std.proofs.Common.{◌≡◌, ℕ, List, Bool, Option, Some, None, true, false, length, map, refl, sym, ◌∙◌, ap, subst}
-use Rattle.std.specs.Prelude.{is_some, IfSome, IfNone}
+use Rattle.std.proofs.Common.{◌≡◌, ℕ, List, Bool, Option, None, Vec, Global, length, map, refl, sym, ◌∙◌, ap, subst}
+use Rattle.std.specs.Prelude.{IfSome, IfNone}
 use Rattle.std.proofs.lemmas.Bool.{false≢true, true≢false}
 use Rattle.std.proofs.lemmas.List.{length-map}
-use Rattle.number_sets.specs.Sets.{NumberSet, members_of}
+use Rattle.number_sets.specs.Sets.{NumberSet, members_of, IsFirst}
 use Rattle.sat_solve.specs.Clauses.{IsTrueSet, AreWithin}
 use Rattle.deb_verdict.specs.Formulas.{IsChosen}
 use Rattle.deb_groundwork.specs.Parts.{positions_in}
 use Rattle.deb_verdict.proofs.Settled.{kept_has}
 use Rattle.deb_verdict.proofs.by_formula.refute_described.Goals as goal
 
-some_there : {T : Type 0} (o : Option T) (P : T → Type 0) → is_some o ≡ true → IfSome o P → (x : T) × P x
-some_there (Some x) P is holds = (x, holds)
-some_there None P never holds = absurd (false≢true never)
-
-none_there : {T : Type 0} (o : Option T) (Q : Type 0) → is_some o ≡ false → IfNone o Q → Q
-none_there (Some x) Q never holds = absurd (true≢false never)
-none_there None Q is holds = holds
+none_there : {T : Type 0} (o : Option T) (Q : Type 0) → o ≡ None → IfNone o Q → Q
+none_there o Q is holds = subst (λ found. IfNone found Q) is holds
 
 pub solve_marked-requires-clause-keep : goal.solve_marked-requires-clause-keep
 solve_marked-requires-clause-keep c =
@@ -26,20 +21,20 @@ solve_marked-requires-clause-keep c =
 pub take_marked-requires : goal.take_marked-requires
 take_marked-requires c =
     let part : NumberSet = positions_in c.args.part.now in
-    let sized = none_there c.in_ok-found.found _ (sym c.is_some-admits.ensures ∙ c.if-admits.false) c.in_ok-found.ensures.sized in
+    let sized = none_there c.in_ok-found.found _ c.in_default.is c.in_ok-found.ensures.sized in
     ap length c.deref-4.ensures.value
     ∙ (sized
     ∙ (ap length (c.deref-2.ensures.value ∙ (c.in_ok-mark_kept.ensures ∙ ap (map part) c.deref.ensures.value))
     ∙ (length-map c.args.described.now.positions.items part ∙ ap length (sym c.deref-3.ensures.value))))
 
-pub returns-then-admits-clause-admitted : goal.returns-then-admits-clause-admitted
-returns-then-admits-clause-admitted c = λ is.
+pub returns-in-Some-clause-admitted : goal.returns-in-Some-clause-admitted
+returns-in-Some-clause-admitted c = λ is.
     let part : NumberSet = positions_in c.args.part.now in
     let positions : List ℕ = c.args.described.now.positions.items in
     let keep_is : c.deref-2.result.now ≡ map part positions = c.deref-2.ensures.value ∙ (c.in_ok-mark_kept.ensures ∙ ap (map part) c.deref.ensures.value) in
-    let found = some_there c.in_ok-found.found _ (sym c.is_some-admits.ensures ∙ c.if-admits.true) c.in_ok-found.ensures.first in
-    let IsOne : List Bool → Type 0 = λ keep. IsTrueSet c.args.described.now.formula.vars c.args.described.now.formula.clauses keep c.args.described.now.must (members_of found.0.items) in
-    c.requires.admitted part (members_of found.0.items) (subst IsOne keep_is found.1.0)
+    let IsOne : List Bool → Type 0 = λ keep. IsTrueSet c.args.described.now.formula.vars c.args.described.now.formula.clauses keep c.args.described.now.must (members_of c.in-Some.set.items) in
+    let IsFound : Option (Vec ℕ Global) → Type 0 = λ found. IfSome found (λ members. IsFirst (IsTrueSet c.args.described.now.formula.vars c.args.described.now.formula.clauses c.deref-2.result.now c.args.described.now.must) (members_of members.items)) in
+    c.requires.admitted part (members_of c.in-Some.set.items) (subst IsOne keep_is ((subst IsFound c.in-Some.is c.in_ok-found.ensures.first).0))
 
 pub returns-clause-refuted : goal.returns-clause-refuted
 returns-clause-refuted c = λ is.
@@ -48,7 +43,7 @@ returns-clause-refuted c = λ is.
     let marks : List Bool = c.solve_marked.new.marks.items in
     let used : List ℕ = c.take_marked.new.used.items in
     let keep_is : c.deref-2.result.now ≡ map part positions = c.deref-2.ensures.value ∙ (c.in_ok-mark_kept.ensures ∙ ap (map part) c.deref.ensures.value) in
-    let none : is_some c.in_ok-found.found ≡ false = sym c.is_some-admits.ensures ∙ c.if-admits.false in
+    let none : c.in_ok-found.found ≡ None = c.in_default.is in
     let Of : List ℕ → Type 0 = λ list. IsChosen list c.deref-4.result.now (members_of used) in
     let By : List Bool → Type 0 = λ list. IsChosen positions list (members_of used) in
     let chosen : IsChosen positions marks (members_of used) = subst By c.deref-4.ensures.value (subst Of c.deref-3.ensures.value c.in_ok-take_marked.ensures) in
@@ -61,11 +56,11 @@ returns-clause-refuted c = λ is.
       fails = c.requires.refuted marks (members_of used) chosen (none_there c.in_ok-found.found _ none c.in_ok-found.ensures.marked);
     }
 
-pub returns-then-admits-clause-refuted : goal.returns-then-admits-clause-refuted
-returns-then-admits-clause-refuted c = λ is. absurd (false≢true is)
+pub returns-in-Some-clause-refuted : goal.returns-in-Some-clause-refuted
+returns-in-Some-clause-refuted c = λ is. absurd (false≢true is)
 
-pub returns-then-admits-clause-still : goal.returns-then-admits-clause-still
-returns-then-admits-clause-still c = λ _. refl
+pub returns-in-Some-clause-still : goal.returns-in-Some-clause-still
+returns-in-Some-clause-still c = λ _. refl
 
 pub returns-clause-admitted : goal.returns-clause-admitted
 returns-clause-admitted c = λ is. absurd (true≢false is)
