@@ -1,11 +1,10 @@
-use Rattle.std.proofs.Common.{ℕ, List, sym, subst, ◌∙◌, arith}
+use Rattle.std.proofs.Common.{ℕ, List, refl, sym, subst, ◌∙◌, arith}
 use Rattle.std.specs.List.Sorted.{IsStrictlyIncreasing}
 use Rattle.deb_index.specs.Packages.{IndexView}
 use Rattle.number_sets.specs.Sets.{all_of, members_of}
-use Rattle.deb_health.specs.Causes.{without}
-use Rattle.deb_groundwork.specs.Needed.{AreNeeded}
 use Rattle.number_sets.proofs.ListMembers.{below_members}
 use Rattle.deb_verdict.specs.Formulas.{Tells}
+use Rattle.deb_verdict.proofs.KnownLemmas.{fewer_needed}
 use Rattle.deb_verdict.proofs.Whole.{first_in_list}
 use Rattle.deb_verdict.proofs.first_core.first_positions.Goals as goal
 
@@ -20,13 +19,14 @@ returns-clause-within c =
 pub invariant_of-question : goal.invariant_of-question
 invariant_of-question c =
     let Rising : List ℕ → Type 0 = λ list. IsStrictlyIncreasing list in
-    let Needed : List ℕ → Type 0 = λ list. AreNeeded c.args.groundwork.now.index.now c.args.p (without (members_of c.args.out.now) all_of) list in
     record {
       place = c.requires.place;
       rising = c.requires.rising;
-      needed_rising = subst Rising (sym c.deref.ensures.value) c.in_ok-needed.ensures.rising;
-      all_needed = subst Needed (sym c.deref.ensures.value) c.in_ok-needed.ensures.needed;
-      used_rising = subst Rising (sym c.new.ensures.items) (λ k never. absurd (omega (arith, never)));
+      is_known = record {
+        rising = c.in_ok-needed.ensures.rising;
+        needed = fewer_needed c.args.groundwork.now.index.now c.args.p (members_of c.args.out.now) all_of _ c.in_ok-needed.needed.items (λ k has. refl) c.in_ok-needed.ensures.needed;
+      };
+      used_rising = subst Rising (sym c.new-2.ensures.items) (λ k never. absurd (omega (arith, never)));
       told = λ x is. c.requires.formula x (sym c.take.ensures.value ∙ is);
     }
 
@@ -36,8 +36,7 @@ invariant_of-question-in_err-positions c =
     record {
       place = before.place;
       rising = before.rising;
-      needed_rising = before.needed_rising;
-      all_needed = before.all_needed;
+      is_known = before.is_known;
       used_rising = before.used_rising;
       told = before.told;
     }
