@@ -1,9 +1,8 @@
 -- Cores that are found one after the other, each with its cause taken out.
-use Rattle.std.proofs.Common.{◌≡◌, ℕ, zero, suc, ◌+◌, ◌<◌, ◌≤◌, Bool, true, false, ◌&&◌, ◌||◌, eqb, leb, List, [], ◌∷◌, ◌++◌, length, map, filter, get_or, take, All, Some, slice_get, if◌then◌else◌, refl, sym, subst, ◌∙◌, ap, append_assoc, append-nil, inl, inr, arith}
+use Rattle.std.proofs.Common.{◌≡◌, ℕ, zero, suc, ◌+◌, ◌<◌, ◌≤◌, Bool, true, false, ◌&&◌, ◌||◌, eqb, leb, List, [], ◌∷◌, ◌++◌, length, map, get_or, take, All, Some, slice_get, if◌then◌else◌, refl, sym, subst, ◌∙◌, ap, append_assoc, append-nil, inl, inr, arith}
 use mathlib.Core.Path.{fun_ext}
 use Rattle.std.proofs.lemmas.Bool.{cases_Bool, cases_lt, and_parts, eqb-true, le-leb, or_left, or_right}
 use Rattle.std.proofs.lemmas.List.{map-append, take_more}
-use Rattle.std.proofs.lemmas.List.Elements.{filter-append}
 use Rattle.deb_index.specs.declared.constraint.Constraint.{Constraint}
 use Rattle.deb_index.specs.Packages.{IndexView}
 use Rattle.deb_index.specs.Constraints.{constraints_of}
@@ -19,16 +18,6 @@ use Rattle.deb_verdict.proofs.FirstExists.{admits_some}
 use Rattle.deb_verdict.proofs.Whole.{all_admit_none}
 
 -- ---- a cause, one constraint of its core after the other
-
-module _ (p : Constraint → Bool) (xs : List Constraint) (i : ℕ) (d : Constraint) (inside : i < length xs) where
-  one_more : filter p (take (i + 1) xs) ≡ filter p (take i xs) ++ filter p (get_or xs i d ∷ [])
-  one_more = ap (filter p) (take_more xs i d inside) ∙ filter-append p (take i xs) (get_or xs i d ∷ [])
-
-  pub filter_keeps : p (get_or xs i d) ≡ true → filter p (take (i + 1) xs) ≡ filter p (take i xs) ++ get_or xs i d ∷ []
-  filter_keeps passes = one_more ∙ rw passes refl
-
-  pub filter_leaves : p (get_or xs i d) ≡ false → filter p (take (i + 1) xs) ≡ filter p (take i xs)
-  filter_leaves fails = one_more ∙ rw fails (append-nil (filter p (take i xs)))
 
 -- what is out, with one member more that is final
 taken_or : (out is_in here final : Bool) → (here ≡ true → final ≡ true) → ((out || (is_in && final)) || (here || false)) ≡ (out || ((is_in || (here || false)) && final))
