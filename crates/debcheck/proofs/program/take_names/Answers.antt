@@ -19,9 +19,9 @@ returns-in_err-read_names-in-Ok-clause-taken g c = rw (err_from_is_err_and c.fro
 pub returns-in_err-read_names-in-Ok-clause-refused : goal.returns-in_err-read_names-in-Ok-clause-refused
 returns-in_err-read_names-in-Ok-clause-refused g c =
     let p = err_from_is_err_and c.from_residual.result c.from_residual.ensures.1 in
-    rw (p.1, p.2) (takes_bad _ (option_map string_bytes c.args.config.now.only_file) c.as_str.result.now (string_bytes c.in-Some.list)
+    rw (p.1, p.2) (takes_bad _ (option_map string_bytes c.args.config.now.only_file) c.as_str.result.now (string_bytes c.in-Some.list) _
     (input (g.O.File.Source.remaining c.in-Ok.file) (g.O.File.Source.failed c.read_names.new.source)) _
-    (rw c.in-Some.is refl) c.as_str.ensures.value c.in-Ok.ensures.opened c.in_err-read_names-in-Ok.ensures.refused)
+    (rw c.in-Some.is refl) c.as_str.ensures.value c.in-Ok.ensures.opened c.in-Ok.ensures.may_fail c.in_err-read_names-in-Ok.ensures.may_fail c.in_err-read_names-in-Ok.ensures.refused)
 
 pub returns-in-Err-Memory-clause-refused : goal.returns-in-Err-Memory-clause-refused
 returns-in-Err-Memory-clause-refused g c = takes_memory _ _ (string_bytes c.in-Some.list) _ (rw c.in-Some.is refl) refl
