@@ -34,9 +34,14 @@ unfoldable pub count_before : IndexError → IndexError → ℕ
 count_before (TooManyStanzas stanza) own = 0
 count_before fault own = unwrap_or (stanza_of fault) 0 - unwrap_or (stanza_of own) 0
 
--- the same by what became of the text, and of the piece by itself
+-- the same by what becomes of the piece by itself
+unfoldable pub fault_before : IndexError → Result IndexView IndexError → ℕ
+fault_before fault (Err own) = count_before fault own
+fault_before fault (Ok index) = 0
+
+-- and by what became of the text
 unfoldable pub stanzas_before : Result IndexView RunFault → Result IndexView IndexError → ℕ
-stanzas_before (Err (Index fault)) (Err own) = count_before fault own
+stanzas_before (Err (Index fault)) piece = fault_before fault piece
 stanzas_before outcome piece = 0
 
 -- the line on the stanza for whose fault an input is refused, by what stands of its text behind so many stanzas

@@ -5,7 +5,7 @@ ghost use Rattle.std.specs.Option.{option_copied};
 ghost use Rattle.deb_index.specs.Reading.{byte_limit, index_of};
 ghost use Rattle.run_settings.specs.Settings.{settings_of};
 ghost use Rattle.input_hints.specs.Architectures.{TellsMost};
-ghost use Rattle.debcheck.specs.Clues.{IsElsewhere, clue_of, count_before, name_text, provider_of, refused_text, stanza_of, stanza_text, stanzas_before};
+ghost use Rattle.debcheck.specs.Clues.{IsElsewhere, clue_of, count_before, fault_before, name_text, provider_of, refused_text, stanza_of, stanza_text, stanzas_before};
 
 use crate::hints::Clue;
 use deb_index::{Index, IndexError};
@@ -128,8 +128,30 @@ fn count_before(fault: &IndexError, own: &IndexError) -> u64
     }
 }
 
+// The same of a piece that is read by itself for that.
+#[tactic(auto, unfolding(crate::specs::Clues::fault_before))]
+fn fault_before(
+    alloc: Global,
+    config: &Config,
+    fault: &IndexError,
+    piece: &[u8],
+) -> Result<u64, AllocError>
+    requires { length piece.now ≤ byte_limit }
+    ensures { IfOk result (λ before. before ≡
+        fault_before fault.now (index_of piece.now (settings_of config.now).arch (settings_of config.now).essential)) }
+{
+    match Index::fault_of(alloc, piece, config.arch.as_str(), config.essential) {
+        Some(own) => match stanza_of(&own) {
+            Some(_) => Ok(count_before(fault, &own)),
+            None => Err(AllocError),
+        },
+        None => Ok(0),
+    }
+}
+
 /// How many stanzas stand before a piece of a text that is refused for a fault of this piece: read by itself, it has that fault at a number of its
 /// own. Where there are too many stanzas that number is another one, and none is told. `AllocError` where there is no memory to read the piece.
+#[tactic(auto, unfolding(crate::specs::Clues::stanzas_before))]
 pub(crate) fn stanzas_before(
     alloc: Global,
     config: &Config,
@@ -140,13 +162,9 @@ pub(crate) fn stanzas_before(
     ensures { IfOk result (λ before. before ≡
         stanzas_before outcome.now (index_of piece.now (settings_of config.now).arch (settings_of config.now).essential)) }
 {
-    let Err(RunFault::Index(fault)) = outcome else {
-        return Ok(0);
-    };
-    match Index::fault_of(alloc, piece, config.arch.as_str(), config.essential) {
-        Some(IndexError::Memory) => Err(AllocError),
-        Some(own) => Ok(count_before(fault, &own)),
-        None => Ok(0),
+    match outcome {
+        Err(RunFault::Index(fault)) => fault_before(alloc, config, fault, piece),
+        _ => Ok(0),
     }
 }
 
