@@ -1,6 +1,6 @@
 //! Bytes that were read and are not yet taken into the index.
 
-ghost use Rattle.std.specs.Prelude.{◌≡◌, ◌<◌, ◌+◌, ◌^◌, ◌≤◌, [], IfErr, IfOk, OnOk, drop, length, take};
+ghost use Rattle.std.specs.Prelude.{◌≡◌, ◌<◌, ◌+◌, ◌^◌, ◌≤◌, [], IfErr, IfOk, OnOk, drop, length, take, true};
 ghost use Rattle.deb_input.specs.Pieces.{HoldsMore, TellsFull};
 ghost use Rattle.deb_input.specs.Inputs.{FailsAtRead};
 
@@ -83,6 +83,8 @@ impl Held {
         ensures full { IfOk result (TellsFull count self.old self.new (S.remaining reader.new)) }
         ensures mark { OnOk result (S.failed reader.new ≡ S.failed reader.old) }
         ensures refused { IfErr result (FailsAtRead (S.failed reader.old) (S.failed reader.new)) }
+        ensures steady { S.may_fail reader.new ≡ S.may_fail reader.old }
+        ensures may_fail { IfErr result (λ fault. fault ≡ RunFault.Read → S.may_fail reader.old ≡ true) }
     {
         let wanted = self.filled + count;
         widen(&mut self.bytes, wanted)?;
@@ -104,6 +106,8 @@ impl Held {
         ensures full { IfOk result (TellsFull count self.old self.new (S.remaining reader.new)) }
         ensures mark { OnOk result (S.failed reader.new ≡ S.failed reader.old) }
         ensures refused { IfErr result (FailsAtRead (S.failed reader.old) (S.failed reader.new)) }
+        ensures steady { S.may_fail reader.new ≡ S.may_fail reader.old }
+        ensures may_fail { IfErr result (λ fault. fault ≡ RunFault.Read → S.may_fail reader.old ≡ true) }
     {
         let wanted = self.len() + count;
         'reads: while self.len() < wanted {

@@ -1,6 +1,6 @@
 //! Reading to the end, or into a room.
 
-ghost use Rattle.std.specs.Prelude.{◌≡◌, ◌<◌, ◌≤◌, ◌+◌, ◌^◌, ℕ, List, OnOk, IfOk, IfErr, length, take};
+ghost use Rattle.std.specs.Prelude.{◌≡◌, ◌<◌, ◌≤◌, ◌+◌, ◌^◌, ℕ, List, OnErr, OnOk, IfOk, IfErr, length, take, true};
 ghost use Rattle.std.specs.Io.KnownBytes.{Consumes, IsAtEnd};
 ghost use Rattle.deb_input.specs.Inputs.{FailsAtRead, FailsToRead, ReadsOneOver};
 
@@ -21,6 +21,8 @@ pub(crate) fn fill<S: Source>(reader: &mut S, room: &mut [u8]) -> Result<usize, 
     ensures end { IfOk result (λ count. count < length room.old → IsAtEnd (S.remaining reader.new)) }
     ensures mark { OnOk result (S.failed reader.new ≡ S.failed reader.old) }
     ensures refused { IfErr result (FailsAtRead (S.failed reader.old) (S.failed reader.new)) }
+    ensures steady { S.may_fail reader.new ≡ S.may_fail reader.old }
+    ensures may_fail { OnErr result (S.may_fail reader.old ≡ true) }
 {
     let mut filled = 0;
     'reads: while filled < room.len() {
@@ -41,6 +43,7 @@ fn skip_through<S: Source>(reader: &mut S, limit: usize, buffer: &mut [u8]) -> R
     ensures end { OnOk result (IsAtEnd (S.remaining reader.new)) }
     ensures mark { OnOk result (S.failed reader.new ≡ S.failed reader.old) }
     ensures refused { IfErr result (FailsToRead (S.remaining reader.old) (S.failed reader.old) (S.failed reader.new) limit) }
+    ensures may_fail { IfErr result (λ fault. fault ≡ RunFault.Read → S.may_fail reader.old ≡ true) }
 {
     let mut room = limit + 1;
     'reads: while room > 0 {
@@ -67,6 +70,7 @@ pub(crate) fn skip_rest<S: Source>(
     ensures end { OnOk result (IsAtEnd (S.remaining reader.new)) }
     ensures mark { OnOk result (S.failed reader.new ≡ S.failed reader.old) }
     ensures refused { IfErr result (FailsToRead (S.remaining reader.old) (S.failed reader.old) (S.failed reader.new) limit) }
+    ensures may_fail { IfErr result (λ fault. fault ≡ RunFault.Read → S.may_fail reader.old ≡ true) }
 {
     let mut buffer = vec![in alloc; 0; STEP]?;
     skip_through(reader, limit, buffer.as_mut_slice())
@@ -86,6 +90,7 @@ fn read_through<S: Source>(
     ensures within { IfOk result (λ bytes. length bytes.items ≤ limit) }
     ensures mark { OnOk result (S.failed reader.new ≡ S.failed reader.old) }
     ensures refused { IfErr result (FailsToRead (S.remaining reader.old) (S.failed reader.old) (S.failed reader.new) limit) }
+    ensures may_fail { IfErr result (λ fault. fault ≡ RunFault.Read → S.may_fail reader.old ≡ true) }
     ensures over { IfErr result (ReadsOneOver limit (S.remaining reader.old) (S.remaining reader.new)) }
 {
     let mut bytes = Vec::new(alloc);
@@ -112,6 +117,7 @@ pub fn read_all<S: Source>(alloc: Global, reader: &mut S, limit: usize) -> Resul
     ensures within { IfOk result (λ bytes. length bytes.items ≤ limit) }
     ensures mark { OnOk result (S.failed reader.new ≡ S.failed reader.old) }
     ensures refused { IfErr result (FailsToRead (S.remaining reader.old) (S.failed reader.old) (S.failed reader.new) limit) }
+    ensures may_fail { IfErr result (λ fault. fault ≡ RunFault.Read → S.may_fail reader.old ≡ true) }
     ensures over { IfErr result (ReadsOneOver limit (S.remaining reader.old) (S.remaining reader.new)) }
 {
     let mut buffer = vec![in alloc; 0; STEP]?;

@@ -59,6 +59,7 @@ pub fn read_names<S: Source>(alloc: Global, source: &mut S) -> Result<Vec<Vec<u8
     ensures names { IfOk result (λ names.
         ReadsNames (input (S.remaining source.old) (S.failed source.new)) (map (λ name. name.items) names.items)) }
     ensures refused { IfErr result (FailsToName (input (S.remaining source.old) (S.failed source.new))) }
+    ensures may_fail { IfErr result (λ fault. fault ≡ RunFault.NamesRead → S.may_fail source.old ≡ true) }
 {
     match read_all(alloc, source, TEXT_LIMIT) {
         Ok(bytes) => names_of(alloc, bytes.as_slice()),

@@ -18,9 +18,6 @@ use run_settings::Config;
 use std::alloc::Global;
 use std::thread::Threads;
 
-/// How many bytes of a text are read before some of them are taken into the index.
-pub const PIECE: usize = 4_194_304;
-
 /// What a text came to that was read to its end.
 #[derive(Drop)]
 pub struct TextRead {
@@ -87,6 +84,8 @@ fn read_piece<S: Source>(
     ensures end { IfOk result (λ last. last ≡ true → IsAtEnd (S.remaining reader.new)) }
     ensures mark { OnOk result (S.failed reader.new ≡ S.failed reader.old) }
     ensures refused { IfErr result (FailsToRead (S.remaining reader.old) (S.failed reader.old) (S.failed reader.new) (limit - length held.old)) }
+    ensures steady { S.may_fail reader.new ≡ S.may_fail reader.old }
+    ensures may_fail { IfErr result (λ fault. fault ≡ RunFault.Read → S.may_fail reader.old ≡ true) }
 {
     // Where no empty line was found, as much again is read before the next try, so that a text without such lines is looked through a few times
     // only.
@@ -116,6 +115,7 @@ fn read_outcome<S: Source, R: Threads + Sync>(
     ensures text { IfOk result (ReadsText (settings_of config.now)
         (S.remaining reader.old) (S.remaining reader.new) (S.failed reader.old) (S.failed reader.new)) }
     ensures refused { IfErr result (FailsToRead (S.remaining reader.old) (S.failed reader.old) (S.failed reader.new) byte_limit) }
+    ensures may_fail { IfErr result (λ fault. fault ≡ RunFault.Read → S.may_fail reader.old ≡ true) }
 {
     let mut front = PartialIndex::new(alloc, config.arch.as_str(), config.essential)?;
     'pieces: loop {
@@ -160,6 +160,7 @@ pub fn read_text<S: Source, R: Threads + Sync>(
     ensures text { IfOk result (λ read. ReadsText (settings_of config.now)
         (S.remaining reader.old) (S.remaining reader.new) (S.failed reader.old) (S.failed reader.new) read.outcome) }
     ensures refused { IfErr result (FailsToRead (S.remaining reader.old) (S.failed reader.old) (S.failed reader.new) byte_limit) }
+    ensures may_fail { IfErr result (λ fault. fault ≡ RunFault.Read → S.may_fail reader.old ≡ true) }
 {
     let mut held = Held::new(alloc);
     let outcome = read_outcome(rt, alloc, config, reader, &mut held, piece)?;
@@ -218,6 +219,7 @@ pub fn read_pieces<E: Source, R: Threads + Sync>(
         × (index_of_both bytes more.now (settings_of config.now).arch (settings_of config.now).essential ≡ Ok index)) }
     ensures refused { IfErr result (FailsInPieces (settings_of config.now)
         (E.remaining reader.old) (E.remaining reader.new) (E.failed reader.old) (E.failed reader.new) more.now) }
+    ensures may_fail { IfErr result (λ fault. fault ≡ RunFault.Read → E.may_fail reader.old ≡ true) }
 {
     let read = read_text(rt, alloc, config, reader, piece)?;
     finish(rt, alloc, config, read.outcome, more)

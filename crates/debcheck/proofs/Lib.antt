@@ -1,4 +1,5 @@
 mod BackgroundLemmas
+mod ClueLemmas
 mod LaterLemmas
 mod MergeLemmas
 mod NewsLemmas

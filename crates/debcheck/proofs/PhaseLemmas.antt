@@ -9,7 +9,7 @@ use Rattle.deb_input.specs.declared.fault.RunFault.TheVariants.{Read, TooLong, B
 use Rattle.deb_outcome.specs.declared.summary.Summary.{Summary}
 use Rattle.devices.specs.Devices.{AppendsPart}
 use Rattle.run_settings.specs.Settings.{Settings}
-use Rattle.deb_input.specs.Inputs.{FailsToAccept, Input, IsRead, IsReadAs, input, is_unread}
+use Rattle.deb_input.specs.Inputs.{FailsToAccept, FailsToRead, Input, IsRead, IsReadAs, input, is_unread}
 use Rattle.debcheck.specs.Run.{Fails, FailsToIndex, FailsToReadBehind, FailsToReport, HasAsked, HasIndex, IfIndexed, IfTold, IsReport, IsReportOn, Leaves, ReadsAs, Reports, TellsReport, WritesBy, WritesFrontBy, behind}
 use Rattle.debcheck.proofs.BackgroundLemmas.{back-asked}
 use Rattle.deb_input.proofs.IndexLemmas.{both-fore}
@@ -256,3 +256,9 @@ writing-fails settings text background w output summary tells failed = (
         (λ a b report. (report.index, report.is_index, (report.holds.asked, report.holds.is_asked))) tells.1,
   ),
 )
+
+-- ---- reads that may fail
+
+-- where reading a text fails, no read of what stands behind it did
+pub reads-before : (text : Option (List ℕ)) (before failed : Bool) (limit : ℕ) (fault : RunFault) → FailsToRead text before failed limit fault → fault ≡ BackgroundRead → ⊥
+reads-before text before failed limit fault h e = subst (λ (f : RunFault). FailsToRead text before failed limit f) e h

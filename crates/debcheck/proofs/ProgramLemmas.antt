@@ -1,5 +1,5 @@
 -- Lemmas on what a program comes to.
-use Rattle.std.proofs.Common.{◌≡◌, ℕ, Bool, true, false, List, Option, Some, None, Result, Ok, Err, IfErr, IfOk, OnErr, OnOk, inl, inr, option_map, refl, string_bytes, subst}
+use Rattle.std.proofs.Common.{◌≡◌, ◌∙◌, ℕ, Bool, true, false, List, Option, Some, None, Result, Ok, Err, IfErr, IfOk, OnErr, OnOk, inl, inr, option_map, refl, string_bytes, subst, sym}
 use Rattle.std.specs.Io.KnownBytes.{Appends}
 use Rattle.run_settings.specs.declared.config.Config.{Config}
 use Rattle.deb_outcome.specs.declared.summary.Summary.{Summary}
@@ -9,13 +9,13 @@ use Rattle.deb_input.specs.declared.fault.RunFault.{RunFault}
 use Rattle.deb_input.specs.declared.fault.RunFault.TheVariants as run_fault
 use Rattle.command_line.specs.declared.line.LineFault.{LineFault}
 use Rattle.command_line.specs.declared.line.LineFault.TheVariants.{Refused, Help, Memory}
-use Rattle.devices.specs.Devices.{AppendsPart, IsHeld, IsUnopened}
+use Rattle.devices.specs.Devices.{AppendsPart, IsHeld, IsUnopened, unknown}
 use Rattle.deb_input.specs.Faults.{told_line}
 use Rattle.debcheck.specs.Statuses.{status_of}
 use Rattle.command_line.specs.Line.{Accepts, RefusesLine, line_status_of}
 use Rattle.debcheck.specs.LineFaults.{KeepsOther, TellsFront, TellsLine, mark_of}
 use Rattle.deb_input.specs.Names.{FailsToName, ReadsNames}
-use Rattle.debcheck.specs.Program.{Asks, Ends, FailsToTake, IsEarlier, IsNamed, IsUnbegun, Named, Refuses, Runs, RunsBehind, RunsNamed, RunsTo, TakesNames, TellsFault, TellsOutcome, Text, Written, written}
+use Rattle.debcheck.specs.Program.{Asks, Ends, EndsSomehow, FailsToTake, IsEarlier, IsNamed, IsUnbegun, MayFail, Named, Refuses, Runs, RunsBehind, RunsNamed, RunsTo, TakesNames, TellsFault, TellsOutcome, TellsUnless, Text, Written, is_silent, written}
 use Rattle.deb_input.specs.Inputs.{Input, input}
 use Rattle.debcheck.specs.Run.{Fails, Leaves, WritesReport}
 use Rattle.debcheck.specs.Since.{FailsSince, LeavesSince, WritesReportSince}
@@ -28,6 +28,15 @@ pub tells_fault : (device : Written) (fault : RunFault) (r : Result Bool DeviceF
 unfolding TellsFault
 tells_fault device fault (Ok own) line flushed part failed = (own, inl (line, flushed))
 tells_fault device fault (Err e) line flushed part failed = (part.0, inr (part.1, failed))
+
+-- nothing is told, or the line of a fault
+pub tells_nothing : (silent : Bool) (device : Written) (fault : RunFault) → silent ≡ true → device.now ≡ device.held → TellsUnless silent device fault
+tells_nothing true device fault is kept = kept
+tells_nothing false device fault is kept = absurd cc
+
+pub tells_something : (silent : Bool) (device : Written) (fault : RunFault) → silent ≡ false → TellsFault device fault → TellsUnless silent device fault
+tells_something true device fault is told = absurd cc
+tells_something false device fault is told = told
 
 -- a line without a configuration, of which all was told
 pub all_told : (fault : LineFault) (output errors : Written) (status : ℕ) → status ≡ line_status_of fault → TellsLine fault output.held output.now errors.held errors.now
@@ -49,11 +58,11 @@ front_told Memory output errors status other is front failed kept = (is, kept, i
 -- help of which a front was told, and then that it was not written
 pub help_told : (fault : LineFault) (output errors : Written) (mid : Option (List ℕ)) (mid_failed : Bool) (status : ℕ) → mark_of fault true false ≡ true
     → status ≡ 68 → TellsFront fault output.held output.now errors.held mid → mark_of fault output.failed mid_failed ≡ true → KeepsOther fault output.held output.now errors.held mid
-    → TellsFault (written mid errors.now errors.failed errors.flushed) run_fault.Write → Refuses fault output errors status
+    → TellsUnless output.abandoned (written mid errors.now errors.failed errors.flushed errors.abandoned) run_fault.Write → Refuses fault output errors status
 unfolding Refuses
 help_told (Refused text) output errors mid mid_failed status out is front failed kept told = absurd cc
 help_told (Help text) output errors mid mid_failed status out is front failed kept told =
-    let P : Option (List ℕ) → Type 0 = λ held. TellsFault (written held errors.now errors.failed errors.flushed) run_fault.Write in
+    let P : Option (List ℕ) → Type 0 = λ held. TellsUnless output.abandoned (written held errors.now errors.failed errors.flushed errors.abandoned) run_fault.Write in
     inr (is, (front, failed), subst P kept told)
 help_told Memory output errors mid mid_failed status out is front failed kept told = absurd cc
 
@@ -85,6 +94,26 @@ earlier_by files (Some found) told said earlier is same held =
     let P : Text → Type 0 = λ t. IsHeld (files t) earlier.text in
     (earlier, refl, subst P e held)
 
+-- where a read of what was opened may fail, so may one of what stands under the name
+pub may_by : (files : Named) (name : Option Text) (told said : Text) (may : Bool) → name ≡ Some said → told ≡ said → may ≡ (files told).may_fail → may ≡ true → MayFail files name
+may_by files None told said may is same stands fails = tt
+may_by files (Some found) told said may is same stands fails =
+    let e : told ≡ found = cc in
+    let P : Text → Type 0 = λ t. may ≡ (files t).may_fail in
+    let here : may ≡ (files found).may_fail = subst P e stands in
+    sym here ∙ fails
+
+pub may_behind : (files : Named) (name : Option Text) (told said : Text) (may : Bool) (r : Result Summary RunFault) → name ≡ Some said → told ≡ said → may ≡ (files told).may_fail
+    → IfErr r (λ fault. fault ≡ run_fault.BackgroundRead → may ≡ true) → r ≡ Err run_fault.BackgroundRead → MayFail files name
+may_behind files name told said may (Ok summary) is same stands fails outcome = absurd cc
+may_behind files name told said may (Err fault) is same stands fails outcome =
+    let e : fault ≡ run_fault.BackgroundRead = cc in
+    may_by files name told said may is same stands (fails e)
+
+pub may_none : (files : Named) (name : Option Text) → name ≡ None → MayFail files name
+may_none files None is = tt
+may_none files (Some found) is = absurd cc
+
 -- a run without an earlier index
 pub runs_alone : (settings : Settings) (files : Named) (since : Option Text) (text background : Input) (rest : Option (List ℕ)) (output : Written) (r : Result Summary RunFault) → since ≡ None
     → IfErr r (Fails settings text background output.failed) → OnOk r ((text.failed ≡ false) × (background.failed ≡ false) × (output.failed ≡ false))
@@ -92,39 +121,40 @@ pub runs_alone : (settings : Settings) (files : Named) (since : Option Text) (te
     → RunsBehind settings files since text background rest output r
 unfolding RunsBehind
 runs_alone settings files None text background rest output (Ok summary) none fails unfailed flushed report leaves = (unfailed.0, unfailed.2, flushed, (None, refl, report))
-runs_alone settings files None text background rest output (Err fault) none fails unfailed flushed report leaves = inr (None, refl, fails, leaves)
+runs_alone settings files None text background rest output (Err fault) none fails unfailed flushed report leaves = inr (None, refl, (λ is. tt), fails, leaves)
 runs_alone settings files (Some name) text background rest output r none fails unfailed flushed report leaves = absurd cc
 
 -- a run on an earlier index
-pub runs_since : (settings : Settings) (files : Named) (since : Option Text) (told said : Text) (text background earlier : Input) (rest : Option (List ℕ)) (output : Written) (r : Result Summary RunFault)
-    → since ≡ Some said → told ≡ said → IsHeld (files told) earlier.text → IfErr r (FailsSince settings text background earlier output.failed)
+pub runs_since : (settings : Settings) (files : Named) (since : Option Text) (told said : Text) (may : Bool) (text background earlier : Input) (rest : Option (List ℕ)) (output : Written) (r : Result Summary RunFault)
+    → since ≡ Some said → told ≡ said → IsHeld (files told) earlier.text → may ≡ (files told).may_fail → IfErr r (λ fault. fault ≡ run_fault.EarlierRead → may ≡ true) → IfErr r (FailsSince settings text background earlier output.failed)
     → OnOk r ((text.failed ≡ false) × (background.failed ≡ false) × (earlier.failed ≡ false) × (output.failed ≡ false)) → OnOk r (output.flushed ≡ true)
     → IfOk r (WritesReportSince settings text background earlier output.held output.now) → IfErr r (LeavesSince settings text background earlier output.held output.now)
     → RunsBehind settings files since text background rest output r
 unfolding RunsBehind
-runs_since settings files since told said text background earlier rest output (Ok summary) is same held fails unfailed flushed report leaves =
+runs_since settings files since told said may text background earlier rest output (Ok summary) is same held stands honest fails unfailed flushed report leaves =
     (unfailed.0, unfailed.3, flushed, (Some earlier, earlier_by files since told said earlier is same held, report))
-runs_since settings files since told said text background earlier rest output (Err fault) is same held fails unfailed flushed report leaves =
-    inr (Some earlier, earlier_by files since told said earlier is same held, fails, leaves)
+runs_since settings files since told said may text background earlier rest output (Err fault) is same held stands honest fails unfailed flushed report leaves =
+    inr (Some earlier, earlier_by files since told said earlier is same held, (λ e. may_by files since told said may is same stands (honest e)), fails, leaves)
 
 pub runs_named : (settings : Settings) (files : Named) (bg since : Option Text) (text background : Input) (rest : Option (List ℕ)) (output : Written) (r : Result Summary RunFault)
-    → IsNamed files bg background → RunsBehind settings files since text background rest output r → Runs settings files bg since text rest output r
+    → IsNamed files bg background → (r ≡ Err run_fault.BackgroundRead → MayFail files bg) → RunsBehind settings files since text background rest output r
+    → Runs settings files bg since text rest output r
 unfolding Runs
-runs_named settings files bg since text background rest output r named runs = inr (background, named, runs)
+runs_named settings files bg since text background rest output r named honest runs = inr (background, named, honest, runs)
 
 -- a file was not opened, since there is nothing, or memory was wanted
-pub unopened : (files : Named) (name : Option Text) (fault : RunFault) (told said : Text) (rest held : Option (List ℕ)) (read write flushed : Bool) → name ≡ Some said → told ≡ said → read ≡ false
-    → IsUnopened (files told) → IsUnbegun files name fault (input rest read) rest (written held held write flushed) fault
-unopened files None fault told said rest held read write flushed is same unread none = absurd cc
-unopened files (Some found) fault told said rest held read write flushed is same unread none =
+pub unopened : (files : Named) (name : Option Text) (fault : RunFault) (told said : Text) (rest held : Option (List ℕ)) (read write flushed abandoned : Bool) → name ≡ Some said → told ≡ said → read ≡ false
+    → IsUnopened (files told) → IsUnbegun files name fault (input rest read) rest (written held held write flushed abandoned) fault
+unopened files None fault told said rest held read write flushed abandoned is same unread none = absurd cc
+unopened files (Some found) fault told said rest held read write flushed abandoned is same unread none =
     let e : told ≡ found = cc in
     let P : Text → Type 0 = λ t. IsUnopened (files t) in
     (unread, refl, refl, inl (refl, subst P e none))
 
-pub unopened_memory : (files : Named) (name : Option Text) (fault : RunFault) (said : Text) (rest held : Option (List ℕ)) (read write flushed : Bool) → name ≡ Some said → read ≡ false
-    → IsUnbegun files name fault (input rest read) rest (written held held write flushed) run_fault.Memory
-unopened_memory files None fault said rest held read write flushed is unread = absurd cc
-unopened_memory files (Some found) fault said rest held read write flushed is unread = (unread, refl, refl, inr refl)
+pub unopened_memory : (files : Named) (name : Option Text) (fault : RunFault) (said : Text) (rest held : Option (List ℕ)) (read write flushed abandoned : Bool) → name ≡ Some said → read ≡ false
+    → IsUnbegun files name fault (input rest read) rest (written held held write flushed abandoned) run_fault.Memory
+unopened_memory files None fault said rest held read write flushed abandoned is unread = absurd cc
+unopened_memory files (Some found) fault said rest held read write flushed abandoned is unread = (unread, refl, refl, inr refl)
 
 pub unbegun_earlier : (settings : Settings) (files : Named) (since : Option Text) (text background : Input) (rest : Option (List ℕ)) (output : Written) (fault : RunFault)
     → IsUnbegun files since run_fault.EarlierRead text rest output fault → RunsBehind settings files since text background rest output (Err fault)
@@ -161,38 +191,39 @@ pub takes_memory : (files : Named) (name : Option Text) (said : Text) (fault : R
 takes_memory files None said fault is wanted = absurd cc
 takes_memory files (Some found) said fault is wanted = inr (inl wanted)
 
-pub takes_bad : (files : Named) (name : Option Text) (told said : Text) (source : Input) (fault : RunFault) → name ≡ Some said → told ≡ said → IsHeld (files told) source.text → FailsToName source fault
+pub takes_bad : (files : Named) (name : Option Text) (told said : Text) (may : Bool) (source : Input) (fault : RunFault) → name ≡ Some said → told ≡ said → IsHeld (files told) source.text
+    → may ≡ (files told).may_fail → (fault ≡ run_fault.NamesRead → may ≡ true) → FailsToName source fault
     → FailsToTake files name fault
-takes_bad files None told said source fault is same held fails = absurd cc
-takes_bad files (Some found) told said source fault is same held fails =
+takes_bad files None told said may source fault is same held stands honest fails = absurd cc
+takes_bad files (Some found) told said may source fault is same held stands honest fails =
     let e : told ≡ found = cc in
     let P : Text → Type 0 = λ t. IsHeld (files t) source.text in
-    inr (inr (source, subst P e held, fails))
+    inr (inr (source, subst P e held, (λ e. may_by files (Some found) told said may is same stands (honest e)), fails))
 
 pub runs_taken : (names : Option Text) (settings taken : Settings) (files : Named) (bg since : Option Text) (text : Input) (rest : Option (List ℕ)) (output : Written) (r : Result Summary RunFault)
     → TakesNames files names settings taken → Runs taken files bg since text rest output r → RunsNamed names settings files bg since text rest output r
 unfolding RunsNamed
 runs_taken names settings taken files bg since text rest output r takes runs = inr (taken, takes, runs)
 
-pub runs_untaken : (names : Option Text) (settings : Settings) (files : Named) (bg since : Option Text) (rest held : Option (List ℕ)) (read write flushed : Bool) (fault : RunFault)
-    → read ≡ false → FailsToTake files names fault → RunsNamed names settings files bg since (input rest read) rest (written held held write flushed) (Err fault)
+pub runs_untaken : (names : Option Text) (settings : Settings) (files : Named) (bg since : Option Text) (rest held : Option (List ℕ)) (read write flushed abandoned : Bool) (fault : RunFault)
+    → read ≡ false → FailsToTake files names fault → RunsNamed names settings files bg since (input rest read) rest (written held held write flushed abandoned) (Err fault)
 unfolding RunsNamed
-runs_untaken names settings files bg since rest held read write flushed fault unread fails = inl (fault, refl, unread, refl, refl, fails)
+runs_untaken names settings files bg since rest held read write flushed abandoned fault unread fails = inl (fault, refl, unread, refl, refl, fails)
 
 -- ---- the program
 
 pub runs_to : (config : Config) (files : Named) (text : Input) (rest : Option (List ℕ)) (output errors : Written) (status : ℕ) (outcome : Result Summary RunFault) → status ≡ status_of outcome
-    → TellsOutcome errors outcome → RunsNamed (option_map string_bytes config.only_file) (settings_of config) files (option_map string_bytes config.bg) (option_map string_bytes config.since) text rest output outcome → RunsTo config files text rest output errors status
+    → TellsOutcome output.abandoned errors outcome → RunsNamed (option_map string_bytes config.only_file) (settings_of config) files (option_map string_bytes config.bg) (option_map string_bytes config.since) text rest output outcome → RunsTo config files text rest output errors status
 unfolding RunsTo
 runs_to config files text rest output errors status outcome is told runs = (outcome, is, told, runs)
 
-pub nothing_told : (errors : Written) (summary : Summary) → errors.now ≡ errors.held → TellsOutcome errors (Ok summary)
+pub nothing_told : (abandoned : Bool) (errors : Written) (summary : Summary) → errors.now ≡ errors.held → TellsOutcome abandoned errors (Ok summary)
 unfolding TellsOutcome
-nothing_told errors summary kept = kept
+nothing_told abandoned errors summary kept = kept
 
-pub fault_told : (errors : Written) (fault : RunFault) → TellsFault errors fault → TellsOutcome errors (Err fault)
+pub fault_told : (abandoned : Bool) (errors : Written) (fault : RunFault) → TellsUnless (is_silent abandoned fault) errors fault → TellsOutcome abandoned errors (Err fault)
 unfolding TellsOutcome
-fault_told errors fault told = told
+fault_told abandoned errors fault told = told
 
 pub ends_run : (words : Result (List Text) LineFault) (files : Named) (text : Input) (rest : Option (List ℕ)) (output errors : Written) (status : ℕ) (config : Config) → Asks words (Ok config)
     → RunsTo config files text rest output errors status → Ends words files text rest output errors status
@@ -203,3 +234,11 @@ pub ends_refused : (words : Result (List Text) LineFault) (files : Named) (text 
     → text.failed ≡ false → rest ≡ text.text → Refuses fault output errors status → Ends words files text rest output errors status
 unfolding Ends
 ends_refused words files text rest output errors status fault asked unread unbegun refuses = (Err fault, asked, (unread, unbegun, refuses))
+
+-- what is known of one way in which it ends
+pub ends_somehow : (words : Result (List Text) LineFault) (text : Input) (rest : Option (List ℕ)) (output errors : Written) (status code : ℕ) → code ≡ status
+    → Ends words (λ name. unknown) text rest output errors status → EndsSomehow code
+unfolding EndsSomehow
+ends_somehow words text rest output errors status code is ends =
+    let P : ℕ → Type 0 = λ n. Ends words (λ name. unknown) text rest output errors n in
+    (words, text, rest, output, errors, subst P (sym is) ends)

@@ -1,5 +1,5 @@
 -- Lemmas on what a run answers.
-use Rattle.std.proofs.Common.{◌≡◌, ℕ, false, List, [], Some, Ok, Err, refl, ap, sym, subst, arith, inl, inr}
+use Rattle.std.proofs.Common.{◌≡◌, ◌∙◌, ℕ, false, List, [], Some, Ok, Err, refl, ap, sym, subst, arith, inl, inr}
 use Rattle.std.proofs.lemmas.Bool.{cases_Bool}
 use Rattle.deb_index.specs.Packages.{IndexView}
 use Rattle.deb_input.specs.declared.fault.RunFault.{RunFault}
@@ -8,7 +8,8 @@ use Rattle.deb_outcome.specs.declared.summary.Summary.{Summary}
 use Rattle.deb_outcome.specs.Asked.{asked_places}
 use Rattle.run_settings.specs.Settings.{Settings}
 use Rattle.deb_input.specs.Inputs.{Input, input}
-use Rattle.debcheck.specs.Run.{Fails, IsReport, behind}
+use Rattle.debcheck.specs.Run.{Fails, FailsToIndex, HasAsked, HasIndex, IsReport, behind}
+use Rattle.debcheck.specs.Since.{FailsSince, IsReportSince, earlier_fault}
 use Rattle.deb_input.specs.Strict.{slip_of}
 use Rattle.deb_input.proofs.IndexLemmas.{fore-of-both}
 
@@ -19,64 +20,112 @@ told_behind settings background none = elim (cases_Bool settings.background) [
   | inr unread ↦ rw unread (ap (λ bytes. input (Some bytes) false) (sym (none unread)))
 ]
 
--- where there is a report and no device failed, only want of memory is left; so far of what is read behind the index
-refused-behind : (settings : Settings) (text background output : List ℕ) (summary : Summary) (fault : RunFault) → behind settings (input (Some background) false) ≡ input (Some background) false
-    → IsReport settings text background output summary → Fails settings (input (Some text) false) (input (Some background) false) false fault → fault ≡ Memory
-refused-behind settings text background output summary Read is report fails = cc
-refused-behind settings text background output summary TooLong is report fails =
-    let within = report.within in
+-- where there is an index and no device failed, only want of memory is left; so far of what is read behind the index
+indexed-behind : (settings : Settings) (text background : List ℕ) (P : IndexView → Type 0) (fault : RunFault) → behind settings (input (Some background) false) ≡ input (Some background) false
+    → HasIndex settings text background P → FailsToIndex settings (input (Some text) false) (input (Some background) false) fault → fault ≡ Memory
+indexed-behind settings text background P Read is has fails = cc
+indexed-behind settings text background P TooLong is has fails =
+    let within = has.within in
     let over = fails.1 in
     absurd (omega arith)
-refused-behind settings text background output summary BackgroundRead is report fails =
+indexed-behind settings text background P BackgroundRead is has fails =
     let failed : (behind settings (input (Some background) false)).failed ≡ false = ap (λ (source : Input). source.failed) is in
     let other = fails.1 in
     cc
-refused-behind settings text background output summary BackgroundTooLong is report fails =
-    let within = report.background_within in
+indexed-behind settings text background P BackgroundTooLong is has fails =
+    let within = has.background_within in
     let over = (rw is at fails.1).1 in
     absurd (omega arith)
-refused-behind settings text background output summary EarlierRead is report fails = absurd fails
-refused-behind settings text background output summary EarlierTooLong is report fails = absurd fails
-refused-behind settings text background output summary NamesRead is report fails = absurd fails
-refused-behind settings text background output summary NamesTooLong is report fails = absurd fails
-refused-behind settings text background output summary (BadNameLine line) is report fails = absurd fails
-refused-behind settings text background output summary (Index fault) is report fails =
+indexed-behind settings text background P EarlierRead is has fails = absurd fails
+indexed-behind settings text background P EarlierTooLong is has fails = absurd fails
+indexed-behind settings text background P NamesRead is has fails = absurd fails
+indexed-behind settings text background P NamesTooLong is has fails = absurd fails
+indexed-behind settings text background P (BadNameLine line) is has fails = absurd fails
+indexed-behind settings text background P (Index fault) is has fails =
     let refused = fails.2 in
-    let accepted = fore-of-both text background settings.arch settings.essential report.index report.is_index in
+    let accepted = fore-of-both text background settings.arch settings.essential has.index has.is_index in
     absurd (accepted fault refused)
-refused-behind settings text background output summary (Background fault) is report fails =
+indexed-behind settings text background P (Background fault) is has fails =
     let refused = rw is at fails.3 in
-    let accepted = report.is_index in
+    let accepted = has.is_index in
     cc
-refused-behind settings text background output summary (Earlier fault) is report fails = absurd fails
-refused-behind settings text background output summary (UnknownAsked name) is report fails =
-    let accepted = report.is_index in
+indexed-behind settings text background P (Earlier fault) is has fails = absurd fails
+indexed-behind settings text background P (UnknownAsked name) is has fails = absurd fails
+indexed-behind settings text background P (Slipped slip) is has fails = absurd fails
+indexed-behind settings text background P Memory is has fails = refl
+indexed-behind settings text background P Write is has fails = absurd fails
+
+-- the same of a run, where what is asked is known, too
+asked-behind : (settings : Settings) (text background : List ℕ) (fault : RunFault) → behind settings (input (Some background) false) ≡ input (Some background) false
+    → HasIndex settings text background (HasAsked settings) → Fails settings (input (Some text) false) (input (Some background) false) false fault → fault ≡ Memory
+asked-behind settings text background Read is has fails = indexed-behind settings text background (HasAsked settings) Read is has fails
+asked-behind settings text background TooLong is has fails = indexed-behind settings text background (HasAsked settings) TooLong is has fails
+asked-behind settings text background BackgroundRead is has fails = indexed-behind settings text background (HasAsked settings) BackgroundRead is has fails
+asked-behind settings text background BackgroundTooLong is has fails = indexed-behind settings text background (HasAsked settings) BackgroundTooLong is has fails
+asked-behind settings text background EarlierRead is has fails = absurd fails
+asked-behind settings text background EarlierTooLong is has fails = absurd fails
+asked-behind settings text background NamesRead is has fails = absurd fails
+asked-behind settings text background NamesTooLong is has fails = absurd fails
+asked-behind settings text background (BadNameLine line) is has fails = absurd fails
+asked-behind settings text background (Index fault) is has fails = indexed-behind settings text background (HasAsked settings) (Index fault) is has fails
+asked-behind settings text background (Background fault) is has fails = indexed-behind settings text background (HasAsked settings) (Background fault) is has fails
+asked-behind settings text background (Earlier fault) is has fails = absurd fails
+asked-behind settings text background (UnknownAsked name) is has fails =
+    let accepted = has.is_index in
     let found = rw is at fails.1 in
     let other = found.1 in
-    let same : found.0 ≡ report.index = cc in
+    let same : found.0 ≡ has.index = cc in
     let P : IndexView → Type 0 = λ index. asked_places index settings.only ≡ Err name.items in
     let unknown = subst P same found.2 in
-    let asked = report.holds.is_asked.are_asked in
+    let asked = has.holds.1.are_asked in
     cc
-refused-behind settings text background output summary (Slipped slip) is report fails =
-    let accepted = report.is_index in
+asked-behind settings text background (Slipped slip) is has fails =
+    let accepted = has.is_index in
     let found = rw is at fails.1 in
     let other = found.1 in
-    let same : found.0 ≡ report.index = cc in
+    let same : found.0 ≡ has.index = cc in
     let P : IndexView → Type 0 = λ index. (asked : List ℕ) × (asked_places index settings.only ≡ Ok asked) × (slip_of settings index asked ≡ Some slip) in
     let slipped = subst P same found.2 in
     let first = slipped.1 in
-    let second = report.holds.is_asked.are_asked in
-    let places : slipped.0 ≡ report.holds.asked = cc in
-    let Q : List ℕ → Type 0 = λ asked. slip_of settings report.index asked ≡ Some slip in
+    let second = has.holds.1.are_asked in
+    let places : slipped.0 ≡ has.holds.0 = cc in
+    let Q : List ℕ → Type 0 = λ asked. slip_of settings has.index asked ≡ Some slip in
     let some = subst Q places slipped.2 in
-    let none = report.holds.is_asked.no_slip in
+    let none = has.holds.1.no_slip in
     cc
-refused-behind settings text background output summary Memory is report fails = refl
-refused-behind settings text background output summary Write is report fails =
+asked-behind settings text background Memory is has fails = refl
+asked-behind settings text background Write is has fails =
     let failed = fails.0 in
     cc
 
 pub refused-memory : (settings : Settings) (text background output : List ℕ) (summary : Summary) (fault : RunFault)
     → IsReport settings text background output summary → Fails settings (input (Some text) false) (input (Some background) false) false fault → fault ≡ Memory
-refused-memory settings text background output summary fault report fails = refused-behind settings text background output summary fault (told_behind settings background report.no_background) report fails
+refused-memory settings text background output summary fault report fails =
+    let has : HasIndex settings text background (HasAsked settings) = record {
+      index = report.index;
+      within = report.within;
+      background_within = report.background_within;
+      no_background = report.no_background;
+      is_index = report.is_index;
+      holds = (report.holds.asked, report.holds.is_asked);
+    } in
+    asked-behind settings text background fault (told_behind settings background report.no_background) has fails
+
+pub refused-memory-since : (settings : Settings) (earlier text background output : List ℕ) (summary : Summary) (fault : RunFault) → IsReportSince settings earlier text background output summary
+    → FailsSince settings (input (Some text) false) (input (Some background) false) (input (Some earlier) false) false fault → fault ≡ Memory
+refused-memory-since settings earlier text background output summary fault report (inl h) =
+    let now = report.has in
+    let has : HasIndex settings text background (HasAsked settings) = record {
+      index = now.index;
+      within = now.within;
+      background_within = now.background_within;
+      no_background = now.no_background;
+      is_index = now.is_index;
+      holds = (now.holds.asked, now.holds.is_asked);
+    } in
+    asked-behind settings text background fault (told_behind settings background now.no_background) has h.0
+refused-memory-since settings earlier text background output summary fault report (inr h) =
+    let why = h.1 in
+    let was = report.was in
+    let cause : why.0 ≡ Memory = indexed-behind settings earlier background _ why.0 (told_behind settings background was.no_background) was why.3 in
+    why.1 ∙ ap earlier_fault cause

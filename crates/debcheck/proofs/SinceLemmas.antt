@@ -377,3 +377,55 @@ since-front settings text background earlier old new output summary tells h =
 pub since-writing-fails : (settings : Settings) (text background earlier : Input) (write_failed : Bool) (output : List ℕ) (summary : Summary)
     → TellsReportSince settings text background earlier output summary → write_failed ≡ true → FailsSince settings text background earlier write_failed Write
 since-writing-fails settings text background earlier w output summary tells failed = inl ((failed, tells.0), λ is. tells.1)
+
+-- ---- reads that may fail
+
+-- where reading the earlier index fails, a read of it may fail
+pub reading-may : (text : Option (List ℕ)) (before failed may : Bool) (limit : ℕ) (fault : RunFault) → FailsToRead text before failed limit fault → (fault ≡ Read → may ≡ true)
+    → earlier_fault fault ≡ EarlierRead → may ≡ true
+reading-may text before failed may limit Read h honest e = honest refl
+reading-may text before failed may limit TooLong h honest e = absurd cc
+reading-may text before failed may limit BackgroundRead h honest e = absurd h
+reading-may text before failed may limit BackgroundTooLong h honest e = absurd h
+reading-may text before failed may limit EarlierRead h honest e = absurd h
+reading-may text before failed may limit EarlierTooLong h honest e = absurd h
+reading-may text before failed may limit NamesRead h honest e = absurd h
+reading-may text before failed may limit NamesTooLong h honest e = absurd h
+reading-may text before failed may limit (BadNameLine line) h honest e = absurd h
+reading-may text before failed may limit (Index fault) h honest e = absurd h
+reading-may text before failed may limit (Background fault) h honest e = absurd h
+reading-may text before failed may limit (Earlier fault) h honest e = absurd h
+reading-may text before failed may limit (UnknownAsked name) h honest e = absurd h
+reading-may text before failed may limit (Slipped slip) h honest e = absurd h
+reading-may text before failed may limit Memory h honest e = absurd cc
+reading-may text before failed may limit Write h honest e = absurd h
+
+-- and it doesn't fail once that was read
+pub accepting-never : (settings : Settings) (bytes more : List ℕ) (fault : RunFault) → FailsToAccept settings bytes more fault → earlier_fault fault ≡ EarlierRead → ⊥
+accepting-never settings bytes more Read h e = h
+accepting-never settings bytes more TooLong h e = h
+accepting-never settings bytes more BackgroundRead h e = h
+accepting-never settings bytes more BackgroundTooLong h e = h
+accepting-never settings bytes more EarlierRead h e = h
+accepting-never settings bytes more EarlierTooLong h e = h
+accepting-never settings bytes more NamesRead h e = h
+accepting-never settings bytes more NamesTooLong h e = h
+accepting-never settings bytes more (BadNameLine line) h e = h
+accepting-never settings bytes more (Index fault) h e = absurd cc
+accepting-never settings bytes more (Background fault) h e = absurd cc
+accepting-never settings bytes more (Earlier fault) h e = h
+accepting-never settings bytes more (UnknownAsked name) h e = h
+accepting-never settings bytes more (Slipped slip) h e = h
+accepting-never settings bytes more Memory h e = absurd cc
+accepting-never settings bytes more Write h e = h
+
+pub after-may : {X : Type 0} (settings : Settings) (index : IndexView) (may : Bool) (before : Result X RunFault) (fault : RunFault) → IfErr before (λ cause. cause ≡ EarlierRead → may ≡ true)
+    → FailsToReport settings index fault ⊎ (HasAsked settings index × (before ≡ Err fault)) → fault ≡ EarlierRead → may ≡ true
+after-may settings index may before fault honest (inl h) e = absurd (subst (λ (f : RunFault). FailsToReport settings index f) e h)
+after-may settings index may (Ok x) fault honest (inr h) e =
+    let other = h.1 in
+    absurd cc
+after-may settings index may (Err cause) fault honest (inr h) e =
+    let same = h.1 in
+    let is : cause ≡ EarlierRead = cc in
+    honest is

@@ -1,6 +1,6 @@
 -- What is seen of a text that is refused, or of a name that is asked in vain.
-use Rattle.std.specs.Prelude.{◌≡◌, ℕ, ◌==◌, not, nat_lt, List, Option, Some, None, Result, Ok, Err, Vec, length, option_map, slice_get, if◌then◌else◌}
-use Rattle.std.specs.Option.{option_and_then}
+use Rattle.std.specs.Prelude.{◌≡◌, ℕ, ◌-◌, ◌==◌, not, nat_lt, List, Option, Some, None, Result, Ok, Err, Vec, length, option_map, slice_get, if◌then◌else◌}
+use Rattle.std.specs.Option.{option_and_then, unwrap_or}
 use Rattle.std.specs.declared.alloc.AllocError.{AllocError}
 use Rattle.std.specs.declared.alloc.Global.{Global}
 use Rattle.deb_index.specs.Meets.{provided_at}
@@ -28,6 +28,21 @@ stanza_of (BadVersion stanza) = Some stanza
 stanza_of (BadRelation stanza field) = Some stanza
 stanza_of (TooManyStanzas stanza) = Some stanza
 stanza_of Memory = None
+
+-- how many stanzas stand before a piece of a text that has the one fault, where the piece by itself has the other
+unfoldable pub count_before : IndexError → IndexError → ℕ
+count_before (TooManyStanzas stanza) own = 0
+count_before fault own = unwrap_or (stanza_of fault) 0 - unwrap_or (stanza_of own) 0
+
+-- the same by what becomes of the piece by itself
+unfoldable pub fault_before : IndexError → Result IndexView IndexError → ℕ
+fault_before fault (Err own) = count_before fault own
+fault_before fault (Ok index) = 0
+
+-- and by what became of the text
+unfoldable pub stanzas_before : Result IndexView RunFault → Result IndexView IndexError → ℕ
+stanzas_before (Err (Index fault)) piece = fault_before fault piece
+stanzas_before outcome piece = 0
 
 -- the line on the stanza for whose fault an input is refused, by what stands of its text behind so many stanzas
 unfoldable pub stanza_text : Input → IndexError → ℕ → List ℕ → Option (List ℕ)

@@ -8,7 +8,7 @@ use Rattle.deb_input.specs.declared.fault.RunFault.{RunFault}
 use Rattle.deb_input.specs.declared.fault.RunFault.TheVariants as run_fault
 use Rattle.command_line.specs.declared.line.LineFault.{LineFault}
 use Rattle.command_line.specs.declared.line.LineFault.TheVariants.{Refused, Help, Memory}
-use Rattle.devices.specs.Devices.{AppendsPart, IsHeld, IsUnopened}
+use Rattle.devices.specs.Devices.{AppendsPart, IsHeld, IsUnopened, Stands, unknown}
 use Rattle.deb_input.specs.Faults.{fault_line, told_line}
 use Rattle.debcheck.specs.Statuses.{status_of}
 use Rattle.command_line.specs.Line.{Accepts, RefusesLine}
@@ -22,9 +22,9 @@ use Rattle.debcheck.specs.Since.{FailsAny, LeavesAny, WritesAny}
 abbrev pub Text : Type 0
 Text = List ℕ
 
--- what is known of names: nothing of a name, or that nothing can be opened there, or the bytes that stand there
+-- what is known of what stands under names
 abbrev pub Named : Type 0
-Named = Text → Option (Option (List ℕ))
+Named = Text → Stands
 
 -- the background is what stands under the name of the words, where they name one
 abbrev pub IsNamed : Named → Option Text → Input → Type 0
@@ -36,18 +36,23 @@ abbrev pub IsEarlier : Named → Option Text → Option Input → Type 0
 IsEarlier files None earlier = earlier ≡ None
 IsEarlier files (Some name) earlier = (source : Input) × (earlier ≡ Some source) × IsHeld (files name) source.text
 
+-- a read of what stands under the name may fail
+abbrev pub MayFail : Named → Option Text → Type 0
+MayFail files name = IfSome name (λ name. (files name).may_fail ≡ true)
+
 -- ---- what is written
 
 -- what is known of a device that was written to: what it held at the call, where it tells that, and what it holds now, whether a call of it has failed,
--- and whether all is flushed
+-- whether all is flushed, and whether a call failed because nobody reads any more what is written
 pub record Written : Type 0 where
   pub held : Option (List ℕ)
   pub now : Option (List ℕ)
   pub failed : Bool
   pub flushed : Bool
+  pub abandoned : Bool
 
-abbrev pub written : Option (List ℕ) → Option (List ℕ) → Bool → Bool → Written
-written held now failed flushed = record { held = held; now = now; failed = failed; flushed = flushed }
+abbrev pub written : Option (List ℕ) → Option (List ℕ) → Bool → Bool → Bool → Written
+written held now failed flushed abandoned = record { held = held; now = now; failed = failed; flushed = flushed; abandoned = abandoned }
 
 -- a text was added and flushed
 abbrev pub Adds : Written → List ℕ → Type 0
@@ -65,10 +70,20 @@ Tells device text = Adds device text ⊎ AddsFront device text
 unfoldable pub TellsFault : Written → RunFault → Type 0
 TellsFault device fault = (own : Bool) × Tells device (told_line own fault)
 
--- what is told of a run: nothing where there is a report, else the line of its fault
-unfoldable pub TellsOutcome : Written → Result Summary RunFault → Type 0
-TellsOutcome errors (Ok summary) = errors.now ≡ errors.held
-TellsOutcome errors (Err fault) = TellsFault errors fault
+-- no line is told of a failed write where nobody reads any more what is written
+abbrev pub is_silent : Bool → RunFault → Bool
+is_silent abandoned run_fault.Write = abandoned
+is_silent abandoned fault = false
+
+-- nothing was added, or the line of a fault
+abbrev pub TellsUnless : Bool → Written → RunFault → Type 0
+TellsUnless true device fault = device.now ≡ device.held
+TellsUnless false device fault = TellsFault device fault
+
+-- what is told of a run: nothing where there is a report, or where nobody reads it any more; else the line of its fault
+unfoldable pub TellsOutcome : Bool → Written → Result Summary RunFault → Type 0
+TellsOutcome abandoned errors (Ok summary) = errors.now ≡ errors.held
+TellsOutcome abandoned errors (Err fault) = TellsUnless (is_silent abandoned fault) errors fault
 
 -- ---- the words
 
@@ -83,7 +98,7 @@ Asks (Err fault) line = line ≡ Err fault
 unfoldable pub Refuses : LineFault → Written → Written → ℕ → Type 0
 Refuses (Help text) output errors status =
     ((status ≡ 0) × Adds output (string_bytes text) × (errors.now ≡ errors.held))
-    ⊎ ((status ≡ 68) × AddsFront output (string_bytes text) × TellsFault errors run_fault.Write)
+    ⊎ ((status ≡ 68) × AddsFront output (string_bytes text) × TellsUnless output.abandoned errors run_fault.Write)
 Refuses (Refused text) output errors status = (status ≡ 64) × (output.now ≡ output.held) × Tells errors (string_bytes text)
 Refuses Memory output errors status = (status ≡ 69) × (output.now ≡ output.held) × Tells errors (fault_line run_fault.Memory)
 
@@ -96,19 +111,20 @@ IsUnbegun files (Some name) unopened text rest output fault = (text.failed ≡ f
     × (((fault ≡ unopened) × IsUnopened (files name)) ⊎ (fault ≡ run_fault.Memory))
 
 -- a run on the text, on the background, and on the earlier index under the name, where there is one:
--- the report was written and flushed, or there is a reason why it was not, and what was written until then
+-- the report was written and flushed, or there is a reason why it was not, and what was written until then. A failed read is told where one may fail
 unfoldable pub RunsBehind : Settings → Named → Option Text → Input → Input → Option (List ℕ) → Written → Result Summary RunFault → Type 0
 RunsBehind settings files since text background rest output (Ok summary) = (text.failed ≡ false) × (output.failed ≡ false) × (output.flushed ≡ true)
     × ((earlier : Option Input) × IsEarlier files since earlier × WritesAny settings text background earlier output.held output.now summary)
 RunsBehind settings files since text background rest output (Err fault) = IsUnbegun files since run_fault.EarlierRead text rest output fault
-    ⊎ ((earlier : Option Input) × IsEarlier files since earlier × FailsAny settings text background earlier output.failed fault
-    × LeavesAny settings text background earlier output.held output.now fault)
+    ⊎ ((earlier : Option Input) × IsEarlier files since earlier × (fault ≡ run_fault.EarlierRead → MayFail files since)
+    × FailsAny settings text background earlier output.failed fault × LeavesAny settings text background earlier output.held output.now fault)
 
 -- the same, on the background under its name; it is opened before the earlier index
 unfoldable pub Runs : Settings → Named → Option Text → Option Text → Input → Option (List ℕ) → Written → Result Summary RunFault → Type 0
 Runs settings files bg since text rest output outcome = ((fault : RunFault) × (outcome ≡ Err fault)
     × IsUnbegun files bg run_fault.BackgroundRead text rest output fault)
-    ⊎ ((background : Input) × IsNamed files bg background × RunsBehind settings files since text background rest output outcome)
+    ⊎ ((background : Input) × IsNamed files bg background × (outcome ≡ Err run_fault.BackgroundRead → MayFail files bg)
+    × RunsBehind settings files since text background rest output outcome)
 
 -- ---- the names that are asked
 
@@ -116,7 +132,7 @@ Runs settings files bg since text rest output outcome = ((fault : RunFault) × (
 abbrev pub FailsToTake : Named → Option Text → RunFault → Type 0
 FailsToTake files None fault = ⊥
 FailsToTake files (Some name) fault = ((fault ≡ run_fault.NamesRead) × IsUnopened (files name)) ⊎ (fault ≡ run_fault.Memory)
-    ⊎ ((source : Input) × IsHeld (files name) source.text × FailsToName source fault)
+    ⊎ ((source : Input) × IsHeld (files name) source.text × (fault ≡ run_fault.NamesRead → MayFail files (Some name)) × FailsToName source fault)
 
 -- the settings with the names of the file that has them, where there is one
 abbrev pub TakesNames : Named → Option Text → Settings → Settings → Type 0
@@ -134,7 +150,7 @@ RunsNamed names settings files bg since text rest output outcome =
 
 -- a run under a configuration, the line of its fault, and its exit status
 unfoldable pub RunsTo : Config → Named → Input → Option (List ℕ) → Written → Written → ℕ → Type 0
-RunsTo config files text rest output errors status = (outcome : Result Summary RunFault) × (status ≡ status_of outcome) × TellsOutcome errors outcome
+RunsTo config files text rest output errors status = (outcome : Result Summary RunFault) × (status ≡ status_of outcome) × TellsOutcome output.abandoned errors outcome
     × RunsNamed (option_map string_bytes config.only_file) (settings_of config) files (option_map string_bytes config.bg)
     (option_map string_bytes config.since) text rest output outcome
 
@@ -146,3 +162,8 @@ EndsBy files text rest output errors status (Err fault) = (text.failed ≡ false
 -- what a program comes to: the words ask for a run, or give no configuration, and it ends by that
 unfoldable pub Ends : Result (List Text) LineFault → Named → Input → Option (List ℕ) → Written → Written → ℕ → Type 0
 Ends words files text rest output errors status = (line : Result Config LineFault) × Asks words line × EndsBy files text rest output errors status line
+
+-- what a process comes to that ends with this status: some words, files and streams, of which nothing else is known here, come to it
+unfoldable pub EndsSomehow : ℕ → Type 0
+EndsSomehow status = (words : Result (List Text) LineFault) × (text : Input) × (rest : Option (List ℕ)) × (output : Written) × (errors : Written)
+    × Ends words (λ name. unknown) text rest output errors status

@@ -2,9 +2,10 @@
 
 ghost use Rattle.std.specs.Prelude.{◌≡◌, ◌≤◌, IfOk, IfSome, length, option_map};
 ghost use Rattle.std.specs.Option.{option_copied};
-ghost use Rattle.deb_index.specs.Reading.{byte_limit};
+ghost use Rattle.deb_index.specs.Reading.{byte_limit, index_of};
+ghost use Rattle.run_settings.specs.Settings.{settings_of};
 ghost use Rattle.input_hints.specs.Architectures.{TellsMost};
-ghost use Rattle.debcheck.specs.Clues.{IsElsewhere, clue_of, name_text, provider_of, refused_text, stanza_of, stanza_text};
+ghost use Rattle.debcheck.specs.Clues.{IsElsewhere, clue_of, count_before, fault_before, name_text, provider_of, refused_text, stanza_of, stanza_text, stanzas_before};
 
 use crate::hints::Clue;
 use deb_index::{Index, IndexError};
@@ -114,26 +115,56 @@ fn note_line(clue: &mut Option<Clue>, line: Result<Option<Vec<u8>>, AllocError>)
     }
 }
 
+// How many stanzas stand before a piece of a text that has the one fault, where the piece by itself has the other.
+#[tactic(auto, unfolding(crate::specs::Clues::count_before))]
+fn count_before(fault: &IndexError, own: &IndexError) -> u64
+    ensures { result ≡ count_before fault.now own.now }
+{
+    match fault {
+        IndexError::TooManyStanzas { .. } => 0,
+        _ => stanza_of(fault)
+            .unwrap_or(0)
+            .saturating_sub(stanza_of(own).unwrap_or(0)),
+    }
+}
+
+// The same of a piece that is read by itself for that.
+#[tactic(auto, unfolding(crate::specs::Clues::fault_before))]
+fn fault_before(
+    alloc: Global,
+    config: &Config,
+    fault: &IndexError,
+    piece: &[u8],
+) -> Result<u64, AllocError>
+    requires { length piece.now ≤ byte_limit }
+    ensures { IfOk result (λ before. before ≡
+        fault_before fault.now (index_of piece.now (settings_of config.now).arch (settings_of config.now).essential)) }
+{
+    match Index::fault_of(alloc, piece, config.arch.as_str(), config.essential) {
+        Some(own) => match stanza_of(&own) {
+            Some(_) => Ok(count_before(fault, &own)),
+            None => Err(AllocError),
+        },
+        None => Ok(0),
+    }
+}
+
 /// How many stanzas stand before a piece of a text that is refused for a fault of this piece: read by itself, it has that fault at a number of its
-/// own. Where there are too many stanzas that number is another one, and none is told.
+/// own. Where there are too many stanzas that number is another one, and none is told. `AllocError` where there is no memory to read the piece.
+#[tactic(auto, unfolding(crate::specs::Clues::stanzas_before))]
 pub(crate) fn stanzas_before(
     alloc: Global,
     config: &Config,
     outcome: &Result<Index, RunFault>,
     piece: &[u8],
-) -> u64
+) -> Result<u64, AllocError>
     requires { length piece.now ≤ byte_limit }
+    ensures { IfOk result (λ before. before ≡
+        stanzas_before outcome.now (index_of piece.now (settings_of config.now).arch (settings_of config.now).essential)) }
 {
-    let number = match outcome {
-        Err(RunFault::Index(IndexError::TooManyStanzas { .. })) => return 0,
-        Err(RunFault::Index(fault)) => stanza_of(fault),
-        _ => return 0,
-    };
-    match Index::fault_of(alloc, piece, config.arch.as_str(), config.essential) {
-        Some(own) => number
-            .unwrap_or(0)
-            .saturating_sub(stanza_of(&own).unwrap_or(0)),
-        None => 0,
+    match outcome {
+        Err(RunFault::Index(fault)) => fault_before(alloc, config, fault, piece),
+        _ => Ok(0),
     }
 }
 

@@ -8,15 +8,20 @@ ghost use Rattle.run_settings.specs.Settings.{Settings};
 ghost use Rattle.deb_input.specs.declared.fault.RunFault.{RunFault};
 ghost use Rattle.deb_input.specs.Inputs.{Input, input};
 ghost use Rattle.debcheck.specs.Run.{Fails, IsReport, IsReportOn, is_of_background};
-ghost use Rattle.debcheck.specs.Since.{IsReportSince};
+ghost use Rattle.debcheck.specs.Since.{FailsSince, IsReportSince};
 
 pub use deb_health::laws::causes_have_reasons;
 
-/// Where a text and its background have a report under these settings and no device failed, a run on them is refused for want of memory alone.
+/// Where a text and its background have a report under these settings and no device failed, a run on them is refused for want of memory alone; and so is
+/// one since an earlier text, where they have a report since that.
 pub fn refused_for_memory()
-    ensures { (settings : Settings) (text background output : List ℕ) (summary : Summary) (fault : RunFault)
+    ensures alone { (settings : Settings) (text background output : List ℕ) (summary : Summary) (fault : RunFault)
         → IsReport settings text background output summary
         → Fails settings (input (Some text) false) (input (Some background) false) false fault → fault ≡ RunFault.Memory }
+    ensures since { (settings : Settings) (earlier text background output : List ℕ) (summary : Summary) (fault : RunFault)
+        → IsReportSince settings earlier text background output summary
+        → FailsSince settings (input (Some text) false) (input (Some background) false) (input (Some earlier) false) false fault
+        → fault ≡ RunFault.Memory }
 {}
 
 /// A text and its background have at most one report under the same settings, and one set of numbers; and so they have since an earlier text.

@@ -12,7 +12,7 @@ use crate::clues::{note_read, stanzas_before};
 use crate::hints::Clue;
 use crate::verdicts::{find_told, wanted_of};
 use deb_index::{BothError, Index, PART_SIZE, TEXT_LIMIT};
-use deb_input::{PIECE, RunFault, TextRead, finish, read_all, read_text};
+use deb_input::{RunFault, TextRead, finish, read_all, read_text};
 use deb_report::{Summary, report_told, summary_of};
 use devices::{Sink, Source, write_all};
 use run_settings::Config;
@@ -51,6 +51,7 @@ fn read_behind<B: Source>(
     ensures bytes { IfOk result (λ bytes.
         IsReadAs (behind (settings_of config.now) (input (B.remaining background.old) (B.failed background.new))) bytes.items) }
     ensures refused { IfErr result (FailsToReadBehind (behind (settings_of config.now) (input (B.remaining background.old) (B.failed background.new)))) }
+    ensures may_fail { IfErr result (λ fault. fault ≡ RunFault.BackgroundRead → B.may_fail background.old ≡ true) }
 {
     if config.bg.is_none() {
         return Ok(Vec::new(alloc));
@@ -82,6 +83,7 @@ pub(crate) fn read_texts<S: Source, B: Source>(
         IsReadAs (behind (settings_of config.now) (input (B.remaining background.old) (B.failed background.new))) texts.1.items) }
     ensures refused { IfErr result (FailsToIndex (settings_of config.now)
         (input (S.remaining reader.old) (S.failed reader.new)) (input (B.remaining background.old) (B.failed background.new))) }
+    ensures may_fail { IfErr result (λ fault. fault ≡ RunFault.BackgroundRead → B.may_fail background.old ≡ true) }
 {
     let text = read_all(alloc, reader, TEXT_LIMIT)?;
     let behind = read_behind(alloc, config, background)?;
@@ -160,8 +162,10 @@ fn read_index<S: Source, B: Source, R: Threads + Sync>(
         (input (S.remaining reader.old) (S.failed reader.new)) (input (B.remaining background.old) (B.failed background.new))) }
     ensures refused { IfErr result (FailsToIndex (settings_of config.now)
         (input (S.remaining reader.old) (S.failed reader.new)) (input (B.remaining background.old) (B.failed background.new))) }
+    ensures may_fail { IfErr result (λ fault. fault ≡ RunFault.BackgroundRead → B.may_fail background.old ≡ true) }
 {
-    let TextRead { outcome, last } = read_text(rt, alloc, config, reader, PIECE)?;
+    let size = reader.piece();
+    let TextRead { outcome, last } = read_text(rt, alloc, config, reader, size)?;
     let more = match read_behind(alloc, config, background) {
         Ok(more) => more,
         Err(fault) => {
@@ -171,8 +175,9 @@ fn read_index<S: Source, B: Source, R: Threads + Sync>(
     };
     let index = finish(rt, alloc, config, outcome, more.as_slice());
     let (piece, more) = (last.as_slice(), more.as_slice());
-    let before = stanzas_before(alloc, config, &index, piece);
-    note_read(alloc, clue, &index, before, piece, more);
+    if let Ok(before) = stanzas_before(alloc, config, &index, piece) {
+        note_read(alloc, clue, &index, before, piece, more);
+    }
     index
 }
 
@@ -224,6 +229,7 @@ fn read_and_report<S: Source, B: Source, G: Gate + Sync, R: Threads + Sync>(
         (input (S.remaining reader.old) (S.failed reader.new)) (input (B.remaining background.old) (B.failed background.new)) r.0.items r.1) }
     ensures refused { IfErr result (Fails (settings_of config.now)
         (input (S.remaining reader.old) (S.failed reader.new)) (input (B.remaining background.old) (B.failed background.new)) false) }
+    ensures may_fail { IfErr result (λ fault. fault ≡ RunFault.BackgroundRead → B.may_fail background.old ≡ true) }
 {
     let index = read_index(rt, alloc, config, reader, background, clue)?;
     let told = check_and_report(rt, alloc, config, &index, gate, clue);
@@ -264,6 +270,7 @@ pub(crate) fn run_noting<S: Source, B: Source, K: Sink, G: Gate + Sync, R: Threa
     ensures left { IfErr result (Leaves (settings_of config.now)
         (input (S.remaining reader.old) (S.failed reader.new)) (input (B.remaining background.old) (B.failed background.new))
         (K.contents writer.old) (K.contents writer.new)) }
+    ensures may_fail { IfErr result (λ fault. fault ≡ RunFault.BackgroundRead → B.may_fail background.old ≡ true) }
 {
     let (output, summary) = read_and_report(
         rt, alloc, config, reader, background, gate, clue, after,

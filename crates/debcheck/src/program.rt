@@ -1,10 +1,12 @@
 //! A program, from its words to its exit status.
 
-ghost use Rattle.std.specs.Prelude.{◌≡◌, ◌<◌, ◌≤◌, IfErr, IfOk, OnOk, map, option_map, string_bytes, false};
+ghost use Rattle.std.specs.Prelude.{◌≡◌, ◌<◌, ◌≤◌, IfErr, IfOk, OnOk, map, option_map, string_bytes, false, true};
+ghost use Rattle.std.specs.Process.{exit_status};
 ghost use Rattle.std.specs.Result.{result_map_both};
 ghost use Rattle.run_settings.specs.Settings.{settings_of};
 ghost use Rattle.deb_input.specs.Inputs.{input};
-ghost use Rattle.debcheck.specs.Program.{Asks, Ends, FailsToTake, Refuses, Runs, RunsBehind, RunsNamed, RunsTo, TakesNames, TellsOutcome, written};
+ghost use Rattle.debcheck.specs.Program.{Asks, Ends, EndsSomehow, FailsToTake, Refuses, Runs, RunsBehind, RunsNamed, RunsTo, TakesNames};
+ghost use Rattle.debcheck.specs.Program.{TellsOutcome, TellsUnless, is_silent, written};
 
 use crate::exit_status::status;
 use crate::hints::{Clue, note, tell_hint};
@@ -36,17 +38,38 @@ pub struct Ended<K> {
     pub output: K,
 }
 
+// Whether no line is told of a fault: where nobody reads the output any more, as in front of `head`, nobody misses it.
+fn is_silent(abandoned: bool, fault: &RunFault) -> bool
+    ensures { result ≡ is_silent abandoned fault.now }
+{
+    match fault {
+        RunFault::Write => abandoned,
+        _ => false,
+    }
+}
+
+// Tells a fault, unless nobody reads the output any more for which it stands. A line that cannot be written changes no status.
+fn tell_fault<E: Sink>(alloc: Global, errors: &mut E, fault: &RunFault, abandoned: bool)
+    ensures { TellsUnless (is_silent abandoned fault.now)
+        (written (E.contents errors.old) (E.contents errors.new) (E.failed errors.new) (E.flushed errors.new) (E.abandoned errors.new)) fault.now }
+{
+    if is_silent(abandoned, fault) {
+        return;
+    }
+    let _ = write_fault(alloc, errors, fault);
+}
+
 // Says what there is to say of a line that gives no configuration. The answer is the exit status.
 fn refuse<K: Sink, E: Sink>(alloc: Global, output: &mut K, errors: &mut E, fault: &LineFault) -> u8
-    ensures { Refuses fault.now (written (K.contents output.old) (K.contents output.new) (K.failed output.new) (K.flushed output.new))
-        (written (E.contents errors.old) (E.contents errors.new) (E.failed errors.new) (E.flushed errors.new)) result }
+    ensures { Refuses fault.now (written (K.contents output.old) (K.contents output.new) (K.failed output.new) (K.flushed output.new) (K.abandoned output.new))
+        (written (E.contents errors.old) (E.contents errors.new) (E.failed errors.new) (E.flushed errors.new) (E.abandoned errors.new)) result }
 {
     match write_line_fault(output, errors, fault) {
         Ok(()) => line_status(fault),
         Err(_) => match fault {
             // Help that nobody got is no success: a script has to see it.
             LineFault::Help { .. } => {
-                let _ = write_fault(alloc, errors, &RunFault::Write);
+                tell_fault(alloc, errors, &RunFault::Write, output.is_abandoned());
                 status(&Err(RunFault::Write))
             }
             LineFault::Refused { .. } => line_status(fault),
@@ -78,9 +101,10 @@ fn run_behind<
     requires reader { S.failed reader.old ≡ false }
     requires background { B.failed background.old ≡ false }
     requires output { K.failed output.old ≡ false }
-    ensures { RunsBehind (settings_of config.now) (O.named files.now) (option_map string_bytes config.now.since)
+    ensures runs { RunsBehind (settings_of config.now) (O.named files.now) (option_map string_bytes config.now.since)
         (input (S.remaining reader.old) (S.failed reader.new)) (input (B.remaining background.old) (B.failed background.new)) (S.remaining reader.new)
-        (written (K.contents output.old) (K.contents output.new) (K.failed output.new) (K.flushed output.new)) result }
+        (written (K.contents output.old) (K.contents output.new) (K.failed output.new) (K.flushed output.new) (K.abandoned output.new)) result }
+    ensures may_fail { IfErr result (λ fault. fault ≡ RunFault.BackgroundRead → B.may_fail background.old ≡ true) }
 {
     let alloc = rt.alloc();
     let Some(file) = &config.since else {
@@ -134,7 +158,7 @@ fn open_and_run<O: Opener, S: Source, K: Sink, G: Gate + Sync, R: Threads + Sync
     requires output { K.failed output.old ≡ false }
     ensures { Runs (settings_of config.now) (O.named files.now) (option_map string_bytes config.now.bg) (option_map string_bytes config.now.since)
         (input (S.remaining reader.old) (S.failed reader.new)) (S.remaining reader.new)
-        (written (K.contents output.old) (K.contents output.new) (K.failed output.new) (K.flushed output.new)) result }
+        (written (K.contents output.old) (K.contents output.new) (K.failed output.new) (K.flushed output.new) (K.abandoned output.new)) result }
 {
     let Some(name) = &config.bg else {
         let mut nothing = Std::new([].as_slice());
@@ -200,7 +224,7 @@ fn name_and_run<O: Opener, S: Source, K: Sink, G: Gate + Sync, R: Threads + Sync
     ensures { RunsNamed (option_map string_bytes config.old.only_file) (settings_of config.old) (O.named files.now)
         (option_map string_bytes config.old.bg) (option_map string_bytes config.old.since)
         (input (S.remaining reader.old) (S.failed reader.new)) (S.remaining reader.new)
-        (written (K.contents output.old) (K.contents output.new) (K.failed output.new) (K.flushed output.new)) result }
+        (written (K.contents output.old) (K.contents output.new) (K.failed output.new) (K.flushed output.new) (K.abandoned output.new)) result }
 {
     match take_names(rt.alloc(), files, config) {
         Ok(()) => open_and_run(rt, config, files, reader, output, gate, clue),
@@ -208,22 +232,26 @@ fn name_and_run<O: Opener, S: Source, K: Sink, G: Gate + Sync, R: Threads + Sync
     }
 }
 
-// Tells the fault of a run that has one. A line that cannot be written changes no status.
-fn tell_outcome<E: Sink>(alloc: Global, errors: &mut E, outcome: &Result<Summary, RunFault>)
-    ensures { TellsOutcome (written (E.contents errors.old) (E.contents errors.new) (E.failed errors.new) (E.flushed errors.new)) outcome.now }
+// Tells the fault of a run that has one.
+fn tell_outcome<E: Sink>(
+    alloc: Global,
+    errors: &mut E,
+    outcome: &Result<Summary, RunFault>,
+    abandoned: bool,
+)
+    ensures { TellsOutcome abandoned
+        (written (E.contents errors.old) (E.contents errors.new) (E.failed errors.new) (E.flushed errors.new) (E.abandoned errors.new)) outcome.now }
 {
     match outcome {
         Ok(_) => {}
-        Err(fault) => {
-            let _ = write_fault(alloc, errors, fault);
-        }
+        Err(fault) => tell_fault(alloc, errors, fault, abandoned),
     }
 }
 
 // The program under a configuration.
 fn run_asked<
     O: Opener,
-    S: Source,
+    S: Source + IsTerminal,
     K: Sink,
     E: Sink,
     T: IsTerminal + Write + Copy + Sync,
@@ -242,14 +270,14 @@ fn run_asked<
     requires reader { S.failed reader.old ≡ false }
     requires output { K.failed output ≡ false }
     ensures { RunsTo config (O.named files.now) (input (S.remaining reader.old) (S.failed reader.new)) (S.remaining reader.new)
-        (written (K.contents output) (K.contents result.output) (K.failed result.output) (K.flushed result.output))
-        (written (E.contents errors.old) (E.contents errors.new) (E.failed errors.new) (E.flushed errors.new)) result.status }
+        (written (K.contents output) (K.contents result.output) (K.failed result.output) (K.flushed result.output) (K.abandoned result.output))
+        (written (E.contents errors.old) (E.contents errors.new) (E.failed errors.new) (E.flushed errors.new) (E.abandoned errors.new)) result.status }
 {
     let mut config = config;
     let progress = Progress::new(rt, screen, &config);
     let mut output = Wiping::new(&progress, output);
     let mut clue = None;
-    progress.tell_reading(reader.is_typed());
+    progress.tell_reading(reader.is_terminal());
     let outcome = name_and_run(
         rt,
         &mut config,
@@ -260,7 +288,7 @@ fn run_asked<
         &mut clue,
     );
     progress.wipe();
-    tell_outcome(rt.alloc(), errors, &outcome);
+    tell_outcome(rt.alloc(), errors, &outcome, output.is_abandoned());
     note(&mut clue, &outcome, Input::Index, reader.front());
     tell_hint(rt.alloc(), screen, &config, files, &outcome, clue);
     Ended {
@@ -286,7 +314,8 @@ fn config_of(alloc: Global, words: Result<Vec<String>, LineFault>) -> Result<Con
 /// The file of names that they name is opened and read before anything else. The background is opened before the index is read, and then the
 /// earlier index; where one can't be opened, that is told as a failed read of it. After a report the output has got it, flushed, and the errors have
 /// got nothing. Under a fault its line, or that of want of memory, goes to the errors, and the output has got nothing, but for a front of the report
-/// where it failed. Help and the version go to the output, and where it fails, that is told as of a report; a refusal goes to the errors. The status
+/// where it failed. Help and the version go to the output, and where it fails, that is told as of a report; a refusal goes to the errors. Of an output
+/// that nobody reads any more no line is told. The status
 /// is that of `status` or of `line_status`: a line that the errors don't take changes none.
 ///
 /// The index isn't given back, since a program ends with it.
@@ -295,7 +324,7 @@ fn config_of(alloc: Global, words: Result<Vec<String>, LineFault>) -> Result<Con
 /// line that begins with `hint: ` is written to it behind all else, if it is a terminal and quiet isn't asked for.
 pub fn run_program<
     O: Opener,
-    S: Source,
+    S: Source + IsTerminal,
     K: Sink,
     E: Sink,
     T: IsTerminal + Write + Copy + Sync,
@@ -314,8 +343,8 @@ pub fn run_program<
     requires errors { E.failed errors.old ≡ false }
     ensures { Ends (result_map_both (λ list. map string_bytes list.items) (λ fault. fault) words) (O.named files.now)
         (input (S.remaining reader.old) (S.failed reader.new)) (S.remaining reader.new)
-        (written (K.contents output) (K.contents result.output) (K.failed result.output) (K.flushed result.output))
-        (written (E.contents errors.old) (E.contents errors.new) (E.failed errors.new) (E.flushed errors.new)) result.status }
+        (written (K.contents output) (K.contents result.output) (K.failed result.output) (K.flushed result.output) (K.abandoned result.output))
+        (written (E.contents errors.old) (E.contents errors.new) (E.failed errors.new) (E.flushed errors.new) (E.abandoned errors.new)) result.status }
 {
     match config_of(rt.alloc(), words) {
         Ok(config) => run_asked(rt, config, files, reader, output, errors, screen),
@@ -327,21 +356,30 @@ pub fn run_program<
     }
 }
 
-/// The program on the words, the files and the standard streams of its process.
+// The process ends with this status.
+fn code_of(status: u8) -> ExitCode
+    ensures { exit_status result ≡ status }
+{
+    ExitCode::from(status)
+}
+
+/// The program on the words, the files and the standard streams of its process, which ends with the status of `run_program`.
 pub fn run_process<R: Env + Files + Clock + Threads + Sync + AllocGlobal>(
     rt: &R,
     input: Stdin,
     output: Stdout,
     errors: Stderr,
-) -> ExitCode {
+) -> ExitCode
+    ensures { EndsSomehow (exit_status result) }
+{
     let ended = run_program(
         rt,
         words_of(rt),
         &Disk(rt),
-        &mut Recording::new(Std::of_stream(input)),
+        &mut Recording::new(Std::new(input)),
         Std::new(output),
         &mut Std::new(errors),
         errors,
     );
-    ExitCode::from(ended.status)
+    code_of(ended.status)
 }

@@ -15,7 +15,7 @@ use crate::hints::Clue;
 use crate::phases::{After, index_from, let_go, read_texts};
 use crate::verdicts::{find_told, find_verdicts};
 use deb_index::Index;
-use deb_input::{PIECE, RunFault, TextRead, finish, read_text};
+use deb_input::{RunFault, TextRead, finish, read_text};
 use deb_report::{BrokenPackage, Summary, broken_packages, earlier_places, report_since};
 use deb_verdict::Wanted;
 use devices::{Sink, Source, write_all};
@@ -77,12 +77,15 @@ fn read_earlier<E: Source, R: Threads + Sync>(
     ensures refused { IfErr result (λ fault. (background : Input) → IsReadAs (behind (settings_of config.now) background) more.now
         → FailsToIndex (settings_of config.now) (input (E.remaining earlier.old) (E.failed earlier.new)) background fault) }
     ensures behind_read { IfErr result (λ fault. is_unread_behind (earlier_fault fault) ≡ false) }
+    ensures may_fail { IfErr result (λ fault. earlier_fault fault ≡ RunFault.EarlierRead → E.may_fail earlier.old ≡ true) }
 {
-    let TextRead { outcome, last } = read_text(rt, alloc, config, earlier, PIECE)?;
+    let size = earlier.piece();
+    let TextRead { outcome, last } = read_text(rt, alloc, config, earlier, size)?;
     let index = finish(rt, alloc, config, outcome, more);
     let piece = last.as_slice();
-    let before = stanzas_before(alloc, config, &index, piece);
-    note_earlier(alloc, seen, &index, before, piece);
+    if let Ok(before) = stanzas_before(alloc, config, &index, piece) {
+        note_earlier(alloc, seen, &index, before, piece);
+    }
     index
 }
 
@@ -107,6 +110,7 @@ fn read_before<E: Source, G: Gate + Sync, R: Threads + Sync>(
         (WereBroken (settings_of config.now) (map broken_view before.items))) }
     ensures refused { IfErr result (λ fault. (background : Input) → IsReadAs (behind (settings_of config.now) background) more.now
         → FailsEarlier (settings_of config.now) (input (E.remaining earlier.old) (E.failed earlier.new)) background fault) }
+    ensures may_fail { IfErr result (λ fault. fault ≡ RunFault.EarlierRead → E.may_fail earlier.old ≡ true) }
 {
     match read_earlier(rt, alloc, config, earlier, more, seen) {
         Ok(index) => {
@@ -210,6 +214,8 @@ fn read_since<S: Source, B: Source, E: Source, G: Gate + Sync, R: Threads + Sync
     ensures refused { IfErr result (FailsSince (settings_of config.now)
         (input (S.remaining reader.old) (S.failed reader.new)) (input (B.remaining background.old) (B.failed background.new))
         (input (E.remaining earlier.old) (E.failed earlier.new)) false) }
+    ensures may_fail { IfErr result (λ fault. fault ≡ RunFault.BackgroundRead → B.may_fail background.old ≡ true) }
+    ensures earlier_may_fail { IfErr result (λ fault. fault ≡ RunFault.EarlierRead → E.may_fail earlier.old ≡ true) }
 {
     let (text, behind) = read_texts(alloc, config, reader, background)?;
     let mut seen = None;
@@ -267,6 +273,8 @@ pub(crate) fn run_since_noting<
     ensures left { IfErr result (LeavesSince (settings_of config.now)
         (input (S.remaining reader.old) (S.failed reader.new)) (input (B.remaining background.old) (B.failed background.new))
         (input (E.remaining earlier.old) (E.failed earlier.new)) (K.contents writer.old) (K.contents writer.new)) }
+    ensures may_fail { IfErr result (λ fault. fault ≡ RunFault.BackgroundRead → B.may_fail background.old ≡ true) }
+    ensures earlier_may_fail { IfErr result (λ fault. fault ≡ RunFault.EarlierRead → E.may_fail earlier.old ≡ true) }
 {
     let (output, summary) = read_since(
         rt, alloc, config, reader, background, earlier, gate, clue, after,

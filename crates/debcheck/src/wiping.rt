@@ -37,6 +37,8 @@ impl<R: Clock + AllocGlobal, T: IsTerminal + Write + Copy, K: Sink> Sink for Wip
 
     ghost flushed = { λ w. K.flushed w.sink };
 
+    ghost abandoned = { λ w. K.abandoned w.sink };
+
     fn write_some(&mut self, bytes: &[u8]) -> Result<usize, DeviceFault> {
         self.progress.wipe();
         self.sink.write_some(bytes)
@@ -44,5 +46,9 @@ impl<R: Clock + AllocGlobal, T: IsTerminal + Write + Copy, K: Sink> Sink for Wip
 
     fn flush_all(&mut self) -> Result<(), DeviceFault> {
         self.sink.flush_all()
+    }
+
+    fn is_abandoned(&self) -> bool {
+        self.sink.is_abandoned()
     }
 }

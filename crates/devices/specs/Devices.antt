@@ -1,5 +1,5 @@
 -- What a device's mark says, what is read and written, and what an opened file holds.
-use Rattle.std.specs.Prelude.{◌≡◌, ◌≢◌, ℕ, ◌==◌, ◌&&◌, not, Bool, List, ◌++◌, length, take, Option, Some, None, Result, Ok, Err, IfSome}
+use Rattle.std.specs.Prelude.{◌≡◌, ◌≢◌, ℕ, ◌==◌, ◌&&◌, not, Bool, true, List, ◌++◌, length, take, Option, Some, None, Result, Ok, Err, IfSome}
 
 -- a write took no byte of a text that has some
 abbrev pub is_stuck : ℕ → List ℕ → Bool
@@ -20,10 +20,19 @@ abbrev pub KeepsFront : {E : Type 0} → List ℕ → List ℕ → Result ℕ E 
 KeepsFront old new (Ok count) bytes = new ≡ take front_limit (old ++ take count bytes)
 KeepsFront old new (Err fault) bytes = new ≡ old
 
+-- what is known of what stands under a name: where that is told, its bytes, or nothing that can be opened; and whether a read of it may fail
+pub record Stands : Type 0 where
+  pub held : Option (Option (List ℕ))
+  pub may_fail : Bool
+
+-- nothing is known
+abbrev pub unknown : Stands
+unknown = record { held = None; may_fail = true }
+
 -- an opened file holds these bytes, where it is told what stands under its name
-abbrev pub IsHeld : Option (Option (List ℕ)) → Option (List ℕ) → Type 0
-IsHeld told text = IfSome told (λ held. (held ≢ None) × (text ≡ held))
+abbrev pub IsHeld : Stands → Option (List ℕ) → Type 0
+IsHeld stands text = IfSome stands.held (λ held. (held ≢ None) × (text ≡ held))
 
 -- nothing can be opened, where it is told what stands under the name
-abbrev pub IsUnopened : Option (Option (List ℕ)) → Type 0
-IsUnopened told = IfSome told (λ held. held ≡ None)
+abbrev pub IsUnopened : Stands → Type 0
+IsUnopened stands = IfSome stands.held (λ held. held ≡ None)

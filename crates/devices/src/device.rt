@@ -1,6 +1,6 @@
 //! What a run reads from and writes to.
 
-ghost use Rattle.std.specs.Prelude.{◌≡◌, ◌≤◌, ◌||◌, ℕ, Bool, List, Option, IfOk, OnErr, OnOk, false, true, length};
+ghost use Rattle.std.specs.Prelude.{◌≡◌, ◌<◌, ◌≤◌, ◌||◌, ℕ, Bool, List, Option, IfOk, OnErr, OnOk, false, true, length};
 ghost use Rattle.std.specs.Io.KnownBytes.{Keeps, ReadConsumes, WriteAppends};
 ghost use Rattle.devices.specs.Devices.{is_stuck};
 
@@ -11,13 +11,17 @@ use thiserror::Error;
 #[error("the device failed")]
 pub struct DeviceFault;
 
-/// What a run reads from. A contract sees the bytes that are left in it, where it tells them, and a mark that some read failed, which stays.
+/// What a run reads from. A contract sees the bytes that are left in it, where it tells them, a mark that some read failed, which stays, and whether
+/// one may fail at all.
 pub trait Source {
     // The bytes that reads will give from here on, where they are told.
     ghost remaining: { Self → Option (List ℕ) };
 
     // Some read failed.
     ghost failed: { Self → Bool };
+
+    // A read may fail.
+    ghost may_fail: { Self → Bool } = { λ _. true };
 
     /// Reads some bytes into the front of `buf` and tells how many: none at the end alone, or where `buf` is empty.
     ///
@@ -26,16 +30,20 @@ pub trait Source {
         ensures count { IfOk result (λ n. n ≤ length buf.new) }
         ensures bytes { ReadConsumes (remaining self.old) (remaining self.new) result buf.new }
         ensures kept { OnOk result (failed self.new ≡ failed self.old) }
-        ensures failed { OnErr result (failed self.new ≡ true) };
+        ensures failed { OnErr result (failed self.new ≡ true) }
+        ensures steady { may_fail self.new ≡ may_fail self.old }
+        ensures may_fail { OnErr result (may_fail self.old ≡ true) };
 
     /// The first bytes that were read, as far as it keeps them; a source need not keep any.
     fn front(&self) -> &[u8] {
         &[]
     }
 
-    /// Whether what is read is typed on a terminal, as far as it is known.
-    fn is_typed(&self) -> bool {
-        false
+    /// How many of its bytes are read at least before some of them are taken into an index.
+    fn piece(&self) -> usize
+        ensures { 0 < result }
+    {
+        4_194_304
     }
 }
 
@@ -50,6 +58,9 @@ pub trait Sink {
 
     // Nothing was written since the last flush.
     ghost flushed: { Self → Bool };
+
+    // Some call failed because nobody reads any more what is written.
+    ghost abandoned: { Self → Bool };
 
     /// Writes some bytes of the front of `bytes` and tells how many. That it takes none, though there are some, sets the mark too.
     ///
@@ -70,4 +81,8 @@ pub trait Sink {
         ensures failed { OnErr result (failed self.new ≡ true) }
         ensures flushed { OnOk result (flushed self.new ≡ true) }
         ensures unflushed { OnErr result (flushed self.new ≡ flushed self.old) };
+
+    /// Whether some call failed because nobody reads any more what is written, as at the closed end of a pipe.
+    fn is_abandoned(&self) -> bool
+        ensures { result ≡ abandoned self.now };
 }

@@ -1,7 +1,7 @@
 //! What opens the files that a command line names.
 
-ghost use Rattle.std.specs.Prelude.{◌≡◌, ℕ, List, Option, None, IfErr, IfOk, false};
-ghost use Rattle.devices.specs.Devices.{IsHeld, IsUnopened};
+ghost use Rattle.std.specs.Prelude.{◌≡◌, ℕ, List, IfErr, IfOk, false};
+ghost use Rattle.devices.specs.Devices.{IsHeld, IsUnopened, Stands, unknown};
 ghost use Rattle.devices.specs.declared.opener.OpenFault.TheVariants.{Unopened};
 
 use crate::device::Source;
@@ -32,18 +32,20 @@ impl From<io::Error> for OpenFault {
     }
 }
 
-/// Opens files by their names. A contract sees, where it is told, what stands under a name: bytes, or nothing that can be opened.
+/// Opens files by their names. A contract sees, where it is told, what stands under a name: bytes, or nothing that can be opened; and whether a read of
+/// these bytes may fail.
 pub trait Opener {
     /// What is opened.
     type File: Source + Drop;
 
-    // What stands under a name, where that is told: its bytes, or nothing that can be opened.
-    ghost named: { Self → List ℕ → Option (Option (List ℕ)) };
+    // What is known of what stands under a name.
+    ghost named: { Self → List ℕ → Stands };
 
     /// Opens what stands under a name, from its beginning. It is none of the standard streams, not even of those that are closed.
     fn open(&self, name: &str) -> Result<Self::File, OpenFault>
         ensures unfailed { IfOk result (λ file. Self.File.failed file ≡ false) }
         ensures opened { IfOk result (λ file. IsHeld (named self.now name.now) (Self.File.remaining file)) }
+        ensures may_fail { IfOk result (λ file. Self.File.may_fail file ≡ (named self.now name.now).may_fail) }
         ensures refused { IfErr result (λ fault. fault ≡ Unopened → IsUnopened (named self.now name.now)) };
 
     /// What keeps the file of a name from being opened or read, as far as that can be told: `Other` where it can't.
@@ -57,7 +59,7 @@ pub struct Disk<'a, R>(pub &'a R);
 impl<R: Files> Opener for Disk<'_, R> {
     type File = Recording<Std<R::File>>;
 
-    ghost named = { λ _ _. None };
+    ghost named = { λ _ _. unknown };
 
     fn open(&self, name: &str) -> Result<Recording<Std<R::File>>, OpenFault> {
         // An opened file gets the number of a standard stream that is closed; a copy of it gets none of these three numbers.

@@ -6,6 +6,7 @@ ghost use Rattle.devices.specs.Devices.{KeepsFront, front_limit};
 
 use crate::device::{DeviceFault, Source};
 use arrayvec::ArrayVec;
+use std::io::IsTerminal;
 
 // How many bytes are kept.
 const FRONT_LIMIT: usize = 4_096;
@@ -43,11 +44,15 @@ impl<S: Source> Source for Recording<S> {
 
     ghost failed = { λ r. S.failed r.inner };
 
+    ghost may_fail = { λ r. S.may_fail r.inner };
+
     fn read_some(&mut self, buf: &mut [u8]) -> Result<usize, DeviceFault>
         ensures count { IfOk result (λ n. n ≤ length buf.new) }
         ensures bytes { ReadConsumes (S.remaining self.old.inner) (S.remaining self.new.inner) result buf.new }
         ensures kept { OnOk result (S.failed self.new.inner ≡ S.failed self.old.inner) }
         ensures failed { OnErr result (S.failed self.new.inner ≡ true) }
+        ensures steady { S.may_fail self.new.inner ≡ S.may_fail self.old.inner }
+        ensures may_fail { OnErr result (S.may_fail self.old.inner ≡ true) }
         ensures front { KeepsFront self.old.front.items self.new.front.items result buf.new }
     {
         match self.inner.read_some(buf) {
@@ -65,7 +70,13 @@ impl<S: Source> Source for Recording<S> {
         self.front.as_slice()
     }
 
-    fn is_typed(&self) -> bool {
-        self.inner.is_typed()
+    fn piece(&self) -> usize {
+        self.inner.piece()
+    }
+}
+
+impl<S: IsTerminal> IsTerminal for Recording<S> {
+    fn is_terminal(&self) -> bool {
+        self.inner.is_terminal()
     }
 }

@@ -3,15 +3,15 @@
 ghost use Rattle.std.specs.Prelude.{◌≡◌, false};
 
 use crate::device::{DeviceFault, Sink, Source};
-use std::io::{IsTerminal, Read, Write};
+use std::io::{ErrorKind, IsTerminal, Read, Write};
 
 /// A reader or a writer of std as a source or a sink, with its marks. An interrupted call counts as failed.
 #[derive(Drop)]
 pub struct Std<T> {
     inner: T,
-    is_typed: bool,
     failed: bool,
     flushed: bool,
+    abandoned: bool,
 }
 
 impl<T> Std<T> {
@@ -23,24 +23,16 @@ impl<T> Std<T> {
     {
         Std {
             inner,
-            is_typed: false,
             failed: false,
             flushed: false,
+            abandoned: false,
         }
     }
 }
 
-impl<T: IsTerminal> Std<T> {
-    /// The same of a standard stream, which may be a terminal.
-    pub fn of_stream(inner: T) -> Std<T>
-        ensures inner { result.inner ≡ inner }
-        ensures failed { result.failed ≡ false }
-        ensures flushed { result.flushed ≡ false }
-    {
-        let is_typed = inner.is_terminal();
-        let mut device = Std::new(inner);
-        device.is_typed = is_typed;
-        device
+impl<T: IsTerminal> IsTerminal for Std<T> {
+    fn is_terminal(&self) -> bool {
+        self.inner.is_terminal()
     }
 }
 
@@ -59,10 +51,6 @@ impl<T: Read> Source for Std<T> {
             }
         }
     }
-
-    fn is_typed(&self) -> bool {
-        self.is_typed
-    }
 }
 
 impl<T: Write> Sink for Std<T> {
@@ -71,6 +59,8 @@ impl<T: Write> Sink for Std<T> {
     ghost failed = { λ s. s.failed };
 
     ghost flushed = { λ s. s.flushed };
+
+    ghost abandoned = { λ s. s.abandoned };
 
     fn write_some(&mut self, bytes: &[u8]) -> Result<usize, DeviceFault> {
         self.flushed = false;
@@ -81,7 +71,8 @@ impl<T: Write> Sink for Std<T> {
                 }
                 Ok(count)
             }
-            Err(_) => {
+            Err(error) => {
+                self.abandoned |= error.kind() == ErrorKind::BrokenPipe;
                 self.failed = true;
                 Err(DeviceFault)
             }
@@ -94,10 +85,15 @@ impl<T: Write> Sink for Std<T> {
                 self.flushed = true;
                 Ok(())
             }
-            Err(_) => {
+            Err(error) => {
+                self.abandoned |= error.kind() == ErrorKind::BrokenPipe;
                 self.failed = true;
                 Err(DeviceFault)
             }
         }
+    }
+
+    fn is_abandoned(&self) -> bool {
+        self.abandoned
     }
 }

@@ -179,3 +179,35 @@ fn what_nobody_got_has_a_status(rt: HostRuntime) {
         expect_unheard(&rt, words);
     }
 }
+
+/// An output that fails since nobody reads it any more: its status is that of a failed write, and no line is told of it.
+fn expect_abandoned(rt: &(impl Abort + Clock + Threads + Sync + AllocGlobal), words: &str) {
+    for (fails_at, flush_fails) in [(1, false), (2, false), (0, true)] {
+        let alloc = rt.alloc();
+        let mut output = sink_of(alloc, 12, fails_at, flush_fails);
+        output.abandoned = true;
+        let left = written_to(rt, words, output, sink_of(alloc, 50, 0, false));
+        assert!(rt; left.status == 68 && left.errors.calls == 0, "{words}");
+    }
+}
+
+#[test]
+fn nothing_is_told_of_an_abandoned_output(rt: HostRuntime) {
+    for words in ["|--help", "|--version", "|--arch|amd64"] {
+        expect_abandoned(&rt, words);
+    }
+}
+
+/// A fault of the index is told, whoever reads the output.
+#[test]
+fn a_fault_is_told_beside_an_abandoned_output(rt: HostRuntime) {
+    let alloc = rt.alloc();
+    let mut output = sink_of(alloc, 12, 1, false);
+    output.abandoned = true;
+    let words = "|--arch|amd64|--checkonly|zz";
+    let left = written_to(&rt, words, output, sink_of(alloc, 50, 0, false));
+    assert!(rt;
+        left.status == 66
+            && left.errors.bytes.as_slice() == b"debcheck: unknown package zz\n".as_slice()
+    );
+}

@@ -1,8 +1,9 @@
 //! Tests of whole programs, from their words to their exit status.
 //!
 //! `runs` runs one, on devices over memory. `programs` runs some, those that tell all causes, of `more_reasons`, and those since an earlier index, of
-//! `since_programs`; `named_programs` runs those whose names stand in a file, `unread_files` those whose files can't be read. `failing_devices` has each
-//! device fail in turn. What a screen shows of a program, `screen_tests` tries.
+//! `since_programs`; `named_programs` runs those whose names stand in a file, `unread_files` those whose files can't be read, `pieces` those whose texts come
+//! in small pieces. `failing_devices` has each device fail in turn; `real_files` opens files of the system. What a screen shows of a program,
+//! `screen_tests` tries.
 #![tactic(auto)]
 
 #[cfg(test)]
@@ -12,7 +13,11 @@ mod more_reasons;
 #[cfg(test)]
 mod named_programs;
 #[cfg(test)]
+mod pieces;
+#[cfg(test)]
 mod programs;
+#[cfg(test)]
+mod real_files;
 #[cfg(test)]
 mod runs;
 #[cfg(test)]

@@ -3,7 +3,7 @@
 use crate::more_reasons::MORE_REASONS;
 use crate::runs::{Case, expect_on, run_on};
 use crate::since_programs::{self, BACKGROUND_OF_BOTH, CUT, EARLIER, ELSEWHERE};
-use debcheck::{Disk, OpenFault, Opener};
+use debcheck::OpenFault;
 use std::str::from_utf8;
 use test_devices::{BACKED_REPORT, BACKGROUND, Cabinet, INDEX, source_of};
 
@@ -246,9 +246,4 @@ fn help_goes_to_the_output(rt: HostRuntime) {
         fine &= line.len() <= 80;
     }
     assert!(rt; fine, "{text}");
-}
-
-#[test]
-fn the_disk_opens_no_file_that_is_not_there(rt: HostRuntime) {
-    assert!(rt; matches!(Disk(&rt).open("no such file"), Err(OpenFault::Unopened)));
 }

@@ -2,6 +2,7 @@
 
 use crate::runs::{Left, run_line};
 use debcheck::{OpenFault, Recording};
+use std::io::ErrorKind;
 use std::process::Abort;
 use std::thread::Threads;
 use test_devices::{BACKGROUND, Cabinet, INDEX, Screen, clock_of, sink_of, source_of};
@@ -345,6 +346,9 @@ fn left_by(
     let files = [("others", case.file)];
     let mut files = Cabinet::new(&files, OpenFault::Unopened);
     files.torn = torn;
+    if torn {
+        files.obstacle = ErrorKind::IsADirectory;
+    }
     run_line(
         &clock_of(rt, 0),
         line,

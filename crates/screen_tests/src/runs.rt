@@ -4,6 +4,7 @@ ghost use Rattle.std.specs.Prelude.{◌≡◌, false};
 
 use debcheck::{LineFault, Opener, Source, run_program};
 use std::alloc::Global;
+use std::io::IsTerminal;
 use std::thread::Threads;
 use std::time::Clock;
 use test_devices::{Beside, Held, Screen, words_in};
@@ -25,7 +26,7 @@ fn words_of_line(alloc: Global, line: &str) -> Result<Vec<String>, LineFault> {
 }
 
 /// The program under the words of a line.
-pub fn run_line<O: Opener, S: Source, R: Clock + Threads + Sync + AllocGlobal>(
+pub fn run_line<O: Opener, S: Source + IsTerminal, R: Clock + Threads + Sync + AllocGlobal>(
     rt: &R,
     line: &str,
     files: &O,

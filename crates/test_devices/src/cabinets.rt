@@ -12,6 +12,10 @@ pub struct Cabinet<'a> {
     fault: OpenFault,
     /// Reading fails behind the bytes.
     pub torn: bool,
+    /// Of what is read so many bytes make a piece.
+    pub piece: usize,
+    /// What keeps a file from being opened or read.
+    pub obstacle: ErrorKind,
     asked: AtomicU32,
 }
 
@@ -21,6 +25,8 @@ impl<'a> Cabinet<'a> {
             files,
             fault,
             torn: false,
+            piece: 4_194_304,
+            obstacle: ErrorKind::NotFound,
             asked: AtomicU32::new(0),
         }
     }
@@ -33,10 +39,11 @@ impl<'a> Cabinet<'a> {
 
 impl<'a> Opener for Cabinet<'a> {
     ghost use Rattle.std.specs.Prelude.{None};
+    ghost use Rattle.devices.specs.Devices.{Stands};
 
     type File = Recording<Feed<'a>>;
 
-    ghost named = { λ _ _. None };
+    ghost named = { λ c _. record { held = None; may_fail = c.torn } };
 
     fn open(&self, name: &str) -> Result<Recording<Feed<'a>>, OpenFault> {
         self.asked.fetch_add(1, Ordering::SeqCst);
@@ -44,18 +51,14 @@ impl<'a> Opener for Cabinet<'a> {
             if *file == name {
                 let mut feed = source_of(*bytes, 7);
                 feed.fails = self.torn;
+                feed.piece = self.piece;
                 return Ok(Recording::new(feed));
             }
         }
         Err(self.fault)
     }
 
-    // What is torn is read as a folder is.
     fn obstacle(&self, _name: &str) -> ErrorKind {
-        if self.torn {
-            ErrorKind::IsADirectory
-        } else {
-            ErrorKind::NotFound
-        }
+        self.obstacle
     }
 }

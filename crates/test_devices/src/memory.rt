@@ -1,9 +1,10 @@
 //! A reader and a writer over memory, which fail where they are told to. A contract sees the bytes that are left, and those that were written.
 
-ghost use Rattle.std.specs.Prelude.{◌≡◌, IfOk, Some, false};
+ghost use Rattle.std.specs.Prelude.{◌≡◌, ◌&&◌, IfOk, Some, false};
 
 use devices::{DeviceFault, Sink, Source};
 use std::alloc::{AllocError, Global};
+use std::io::IsTerminal;
 
 /// Gives some bytes of a text at each read. Behind them it ends, or fails at each read.
 #[derive(Drop)]
@@ -15,6 +16,8 @@ pub struct Feed<'a> {
     pub reads: u32,
     /// It says that it is a terminal.
     pub is_typed: bool,
+    /// It is read in pieces of so many bytes, but at least one.
+    pub piece: usize,
 }
 
 /// Reads a text, so many bytes a call, but at least one; no call has failed.
@@ -29,6 +32,7 @@ pub fn source_of(text: &[u8], step: usize) -> Feed<'_>
         failed: false,
         reads: 0,
         is_typed: false,
+        piece: 4_194_304,
     }
 }
 
@@ -36,6 +40,8 @@ impl Source for Feed<'_> {
     ghost remaining = { λ f. Some f.rest.now };
 
     ghost failed = { λ f. f.failed };
+
+    ghost may_fail = { λ f. f.fails };
 
     fn read_some(&mut self, buf: &mut [u8]) -> Result<usize, DeviceFault> {
         self.reads = self.reads.saturating_add(1);
@@ -50,7 +56,13 @@ impl Source for Feed<'_> {
         Ok(count)
     }
 
-    fn is_typed(&self) -> bool {
+    fn piece(&self) -> usize {
+        self.piece.max(1)
+    }
+}
+
+impl IsTerminal for Feed<'_> {
+    fn is_terminal(&self) -> bool {
         self.is_typed
     }
 }
@@ -68,6 +80,8 @@ pub struct Held {
     pub flushes: u32,
     pub failed: bool,
     pub flushed: bool,
+    /// It says that it fails because nobody reads it any more.
+    pub abandoned: bool,
 }
 
 /// Takes so many bytes a call, and fails at this write or at each flush; no call has failed.
@@ -84,6 +98,7 @@ pub fn sink_of(alloc: Global, step: usize, fails_at: u32, flush_fails: bool) -> 
         flushes: 0,
         failed: false,
         flushed: false,
+        abandoned: false,
     }
 }
 
@@ -102,6 +117,8 @@ impl Sink for Held {
     ghost failed = { λ h. h.failed };
 
     ghost flushed = { λ h. h.flushed };
+
+    ghost abandoned = { λ h. h.failed && h.abandoned };
 
     fn write_some(&mut self, bytes: &[u8]) -> Result<usize, DeviceFault> {
         self.flushed = false;
@@ -130,5 +147,9 @@ impl Sink for Held {
         }
         self.flushed = true;
         Ok(())
+    }
+
+    fn is_abandoned(&self) -> bool {
+        self.failed && self.abandoned
     }
 }

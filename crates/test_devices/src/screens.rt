@@ -1,6 +1,6 @@
 //! A screen that knows whether a line stands on it, what is written beside it, and a clock that goes on at each look.
 
-ghost use Rattle.std.specs.Prelude.{◌≡◌, Some};
+ghost use Rattle.std.specs.Prelude.{◌≡◌, ◌&&◌, Some};
 
 use crate::memory::Held;
 use devices::{DeviceFault, Sink};
@@ -170,6 +170,8 @@ impl Sink for Beside<'_> {
 
     ghost flushed = { λ b. b.held.flushed };
 
+    ghost abandoned = { λ b. b.held.failed && b.held.abandoned };
+
     fn write_some(&mut self, bytes: &[u8]) -> Result<usize, DeviceFault> {
         self.look();
         self.held.write_some(bytes)
@@ -178,5 +180,9 @@ impl Sink for Beside<'_> {
     fn flush_all(&mut self) -> Result<(), DeviceFault> {
         self.look();
         self.held.flush_all()
+    }
+
+    fn is_abandoned(&self) -> bool {
+        self.held.is_abandoned()
     }
 }

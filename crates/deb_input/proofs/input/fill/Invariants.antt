@@ -7,6 +7,7 @@ invariant-reads g l = Consumes (g.S.Source.remaining l.initial.reader) (g.S.Sour
     × (g.S.Source.failed l.reader ≡ g.S.Source.failed l.initial.reader)
     × (l.filled ≤ length l.room)
     × (length l.room ≡ length l.initial.room)
+    × (g.S.Source.may_fail l.reader ≡ g.S.Source.may_fail l.initial.reader)
 
 abbrev pub decreases-reads : goal.decreases-reads
 decreases-reads g l = length l.room - l.filled

@@ -11,7 +11,7 @@ pub pieces-init : goal.pieces-init
 pieces-init g c =
     let is = subst (λ (arch : List ℕ). IsFrontOf arch c.args.config.now.essential [] c.in_ok-front.front) c.as_str.ensures.value c.in_ok-front.ensures in
     let p = reads-none (settings_of c.args.config.now) (g.S.Source.remaining c.args.reader.now) c.in_ok-front.front c.args.held.now c.requires.held is in
-    (p.0, omega (arith, p.1), refl)
+    (p.0, omega (arith, p.1), refl, refl)
 
 pub returns-in-Ok-true-clause-text : goal.returns-in-Ok-true-clause-text
 returns-in-Ok-true-clause-text g c =
@@ -50,7 +50,7 @@ pieces-preserved g c =
     let left = subst (λ (bytes : List ℕ). TakesPiece (settings_of c.args.config.now) c.pieces.front c.read_piece.new.held c.in-Ok.next bytes) {x = drop c.in-Ok.taken c.read_piece.new.held} (sym c.drop_front.ensures) takes in
     let p = reads-taken (settings_of c.args.config.now) (g.S.Source.remaining c.args.reader.now) (g.S.Source.remaining c.read_piece.new.reader) c.pieces.front c.in-Ok.next c.read_piece.new.held
     c.drop_front.new.self reads left in
-    (p.0, omega (arith, p.1, c.size-limit.ensures.value, c.size-limit.ensures.short, c.in-Ok-false.ensures.within), c.in-Ok-false.ensures.mark ∙ c.pieces.invariant.2)
+    (p.0, omega (arith, p.1, c.size-limit.ensures.value, c.size-limit.ensures.short, c.in-Ok-false.ensures.within), c.in-Ok-false.ensures.mark ∙ c.pieces.invariant.2, c.read_piece.ensures.steady ∙ c.pieces.invariant.3)
 
 pub returns-in_err-skip_rest-in-Err-take_piece-clause-refused : goal.returns-in_err-skip_rest-in-Err-take_piece-clause-refused
 returns-in_err-skip_rest-in-Err-take_piece-clause-refused g c =

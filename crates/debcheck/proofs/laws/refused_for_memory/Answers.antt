@@ -1,5 +1,8 @@
-use Rattle.debcheck.proofs.RunLemmas.{refused-memory}
+use Rattle.debcheck.proofs.RunLemmas.{refused-memory, refused-memory-since}
 use Rattle.debcheck.proofs.laws.refused_for_memory.Goals as goal
 
 pub returns : goal.returns
-returns c = refused-memory
+returns c = record {
+  alone = refused-memory;
+  since = refused-memory-since;
+}

@@ -1,6 +1,7 @@
-use Rattle.std.proofs.Common.{false}
+use Rattle.std.proofs.Common.{false, subst}
 use Rattle.std.proofs.lemmas.Result.{IfErr-weaker, IfOk-weaker, err_from_is_err_and}
 use Rattle.run_settings.specs.Settings.{settings_of}
+use Rattle.deb_input.specs.declared.fault.RunFault.{RunFault}
 use Rattle.deb_input.specs.Inputs.{input}
 use Rattle.debcheck.specs.Run.{Fails, FailsToReport, IsReportOn, TellsReport}
 use Rattle.debcheck.proofs.PhaseLemmas.{indexing-fails, report-fails, report-told}
@@ -35,3 +36,13 @@ returns-clause-refused g c =
     let index = c.in_ok-index.index in
     IfErr-weaker c.check_and_report-told.result (FailsToReport settings index) (Fails settings text background false)
     (λ fault h. report-fails settings text background index fault c.in_ok-index.ensures.index h) c.check_and_report-told.ensures.refused
+
+pub returns-in_err-index-clause-may_fail : goal.returns-in_err-index-clause-may_fail
+returns-in_err-index-clause-may_fail g c =
+    let p = err_from_is_err_and c.from_residual.result c.from_residual.ensures.1 in
+    rw (p.1, p.2) c.in_err-index.ensures.may_fail
+
+pub returns-clause-may_fail : goal.returns-clause-may_fail
+returns-clause-may_fail g c =
+    IfErr-weaker c.check_and_report-told.result _ _
+    (λ fault h e. absurd (subst (λ (f : RunFault). FailsToReport (settings_of c.args.config.now) c.in_ok-index.index f) e h)) c.check_and_report-told.ensures.refused

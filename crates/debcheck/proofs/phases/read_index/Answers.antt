@@ -1,8 +1,9 @@
-use Rattle.std.proofs.Common.{◌∙◌, sym}
+use Rattle.std.proofs.Common.{◌∙◌, subst, sym}
 use Rattle.std.proofs.lemmas.Bool.{false≢true}
 use Rattle.std.proofs.lemmas.Result.{IfErr-weaker, IfOk-weaker}
 use Rattle.run_settings.specs.Settings.{settings_of}
-use Rattle.deb_input.specs.Inputs.{input}
+use Rattle.deb_input.specs.declared.fault.RunFault.{RunFault}
+use Rattle.deb_input.specs.Inputs.{FailsToAccept, input}
 use Rattle.debcheck.proofs.PhaseLemmas.{accept-fails, accepted-as, behind-fails, read-as, read_whole}
 use Rattle.debcheck.proofs.phases.read_index.Goals as goal
 
@@ -46,3 +47,9 @@ returns-in-Err-clause-unbegun g c unread =
     let first = read_whole (g.S.Source.remaining c.args.reader.now) (g.S.Source.remaining c.read_text.new.reader) (g.S.Source.failed c.read_text.new.reader) read.0
     read.1.consumes read.1.ends (read.1.unfailed ∙ c.requires.reader) read.1.within in
     absurd (false≢true (sym (behind-fails (settings_of c.args.config.now) text background c.in-Err.fault (read-as text read.0 first) c.in-Err.ensures.refused).1 ∙ unread))
+
+pub returns-clause-may_fail : goal.returns-clause-may_fail
+returns-clause-may_fail g c =
+    let read = c.in_ok-outcome.ensures.text in
+    IfErr-weaker c.finish-index.result _ _
+    (λ fault fails e. absurd (subst (λ (f : RunFault). FailsToAccept (settings_of c.args.config.now) read.0 c.as_slice.result.now f) e (fails read.0 read.2))) c.finish-index.ensures.refused

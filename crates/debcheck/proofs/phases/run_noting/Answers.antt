@@ -49,3 +49,8 @@ returns-clause-refused g c =
     let background = input (g.B.Source.remaining c.args.background.now) (g.B.Source.failed c.read_and_report.new.background) in
     writing-fails (settings_of c.args.config.now) text background (g.K.Sink.failed c.write_all.new.writer)
     c.in_ok-output.output.items c.in_ok-output.summary c.in_ok-output.ensures.report c.in-Err.ensures.failed
+
+pub returns-in_err-output-clause-may_fail : goal.returns-in_err-output-clause-may_fail
+returns-in_err-output-clause-may_fail g c =
+    let p = err_from_is_err_and c.from_residual.result c.from_residual.ensures.1 in
+    rw (p.1, p.2) c.in_err-output.ensures.may_fail

@@ -12,4 +12,4 @@ returns-in-Ok g c =
     runs_taken _ (settings_of before) (settings_of taken) _ _ _ _ _ _ c.open_and_run.result c.in-Ok.ensures.taken (rw bg at (rw since at c.open_and_run.ensures))
 
 pub returns-in-Err : goal.returns-in-Err
-returns-in-Err g c = runs_untaken _ _ _ _ _ _ _ _ _ _ c.in-Err.fault c.requires.reader c.in-Err.ensures.refused
+returns-in-Err g c = runs_untaken _ _ _ _ _ _ _ _ _ _ _ c.in-Err.fault c.requires.reader c.in-Err.ensures.refused

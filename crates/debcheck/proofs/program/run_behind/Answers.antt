@@ -2,19 +2,20 @@ use Rattle.std.proofs.Common.{option_map, refl, string_bytes}
 use Rattle.debcheck.proofs.ProgramLemmas.{runs_alone, runs_since, unbegun_earlier, unopened, unopened_memory}
 use Rattle.debcheck.proofs.program.run_behind.Goals as goal
 
-pub returns-in_default : goal.returns-in_default
-returns-in_default g c =
-    runs_alone _ _ _ _ _ _ _ c.run_noting.result (rw c.in_default.is refl) c.run_noting.ensures.refused c.run_noting.ensures.unfailed c.run_noting.ensures.flushed c.run_noting.ensures.report c.run_noting.ensures.left
+pub returns-in_default-clause-runs : goal.returns-in_default-clause-runs
+returns-in_default-clause-runs g c =
+    runs_alone _ (g.O.Opener.named c.args.files.now) _ _ _ _ _ c.run_noting.result (rw c.in_default.is refl) c.run_noting.ensures.refused c.run_noting.ensures.unfailed c.run_noting.ensures.flushed c.run_noting.ensures.report c.run_noting.ensures.left
 
-pub returns-in-Ok : goal.returns-in-Ok
-returns-in-Ok g c =
-    runs_since _ _ (option_map string_bytes c.args.config.now.since) c.as_str.result.now (string_bytes c.in-Some.file) _ _ _ _ _ c.run_since_noting-outcome.result (rw c.in-Some.is refl) c.as_str.ensures.value c.in-Ok.ensures.opened
+pub returns-in-Ok-clause-runs : goal.returns-in-Ok-clause-runs
+returns-in-Ok-clause-runs g c =
+    runs_since _ (g.O.Opener.named c.args.files.now) (option_map string_bytes c.args.config.now.since) c.as_str.result.now (string_bytes c.in-Some.file) _ _ _ _ _ _ c.run_since_noting-outcome.result (rw c.in-Some.is refl) c.as_str.ensures.value c.in-Ok.ensures.opened
+    c.in-Ok.ensures.may_fail c.run_since_noting-outcome.ensures.earlier_may_fail
     c.run_since_noting-outcome.ensures.refused c.run_since_noting-outcome.ensures.unfailed c.run_since_noting-outcome.ensures.flushed c.run_since_noting-outcome.ensures.report c.run_since_noting-outcome.ensures.left
 
-pub returns-in-Err-Memory : goal.returns-in-Err-Memory
-returns-in-Err-Memory g c = unbegun_earlier _ _ _ _ _ _ _ _ (unopened_memory _ _ _ (string_bytes c.in-Some.file) _ _ _ _ _ (rw c.in-Some.is refl) c.requires.reader)
+pub returns-in-Err-Memory-clause-runs : goal.returns-in-Err-Memory-clause-runs
+returns-in-Err-Memory-clause-runs g c = unbegun_earlier _ (g.O.Opener.named c.args.files.now) _ _ _ _ _ _ (unopened_memory (g.O.Opener.named c.args.files.now) _ _ (string_bytes c.in-Some.file) _ _ _ _ _ _ (rw c.in-Some.is refl) c.requires.reader)
 
-pub returns-in-Err-Unopened : goal.returns-in-Err-Unopened
-returns-in-Err-Unopened g c =
-    unbegun_earlier _ _ _ _ _ _ _ _ (unopened _ _ _ c.as_str.result.now (string_bytes c.in-Some.file) _ _ _ _ _ (rw c.in-Some.is refl) c.as_str.ensures.value c.requires.reader
+pub returns-in-Err-Unopened-clause-runs : goal.returns-in-Err-Unopened-clause-runs
+returns-in-Err-Unopened-clause-runs g c =
+    unbegun_earlier _ (g.O.Opener.named c.args.files.now) _ _ _ _ _ _ (unopened (g.O.Opener.named c.args.files.now) _ _ c.as_str.result.now (string_bytes c.in-Some.file) _ _ _ _ _ _ (rw c.in-Some.is refl) c.as_str.ensures.value c.requires.reader
     (c.in-Err-Unopened.ensures.refused c.in-Err-Unopened.field-0-is))

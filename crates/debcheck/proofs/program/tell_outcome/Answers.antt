@@ -1,9 +1,9 @@
 use Rattle.std.proofs.Common.{refl}
-use Rattle.debcheck.proofs.ProgramLemmas.{fault_told, nothing_told, tells_fault}
+use Rattle.debcheck.proofs.ProgramLemmas.{fault_told, nothing_told}
 use Rattle.debcheck.proofs.program.tell_outcome.Goals as goal
 
 pub returns-in-Ok : goal.returns-in-Ok
-returns-in-Ok g c = rw c.in-Ok.is (nothing_told _ _ refl)
+returns-in-Ok g c = rw c.in-Ok.is (nothing_told _ _ _ refl)
 
 pub returns-in-Err : goal.returns-in-Err
-returns-in-Err g c = rw c.in-Err.is (fault_told _ c.in-Err.fault (tells_fault _ _ c.write_fault.result c.write_fault.ensures.line c.write_fault.ensures.flushed c.write_fault.ensures.part c.write_fault.ensures.failed))
+returns-in-Err g c = rw c.in-Err.is (fault_told _ _ c.in-Err.fault c.tell_fault.ensures)

@@ -16,3 +16,9 @@ returns-in-Ok-clause-refused g c =
     let earlier = input (g.E.Source.remaining c.args.earlier.now) (g.E.Source.failed c.read_earlier.new.earlier) in
     IfErr-weaker c.broken_in-broken.result _ _
     (λ fault is. rw is (λ background second. wanting-earlier (settings_of c.args.config.now) earlier background c.in-Ok.index (c.in-Ok.ensures.index background second))) c.broken_in-broken.ensures.refused
+
+pub returns-in-Ok-clause-may_fail : goal.returns-in-Ok-clause-may_fail
+returns-in-Ok-clause-may_fail g c = IfErr-weaker c.broken_in-broken.result _ _ (λ fault is e. absurd cc) c.broken_in-broken.ensures.refused
+
+pub returns-in-Err-clause-may_fail : goal.returns-in-Err-clause-may_fail
+returns-in-Err-clause-may_fail g c = rw c.as_earlier.ensures c.in-Err.ensures.may_fail

@@ -1,7 +1,7 @@
-use Rattle.std.proofs.lemmas.Result.{IfErr-weaker, IfOk-weaker}
+use Rattle.std.proofs.lemmas.Result.{IfErr-weaker, IfOk-weaker, err_from_is_err_and}
 use Rattle.run_settings.specs.Settings.{settings_of}
 use Rattle.deb_input.proofs.PieceLemmas.{pieces-make, pieces-make-none}
-use Rattle.debcheck.proofs.SinceLemmas.{pieces-accepted, pieces-behind, pieces-fail}
+use Rattle.debcheck.proofs.SinceLemmas.{accepting-never, pieces-accepted, pieces-behind, pieces-fail, reading-may}
 use Rattle.debcheck.proofs.since.read_earlier.Goals as goal
 
 pub returns-clause-index : goal.returns-clause-index
@@ -38,3 +38,14 @@ returns-clause-behind_read g c =
     IfErr-weaker c.finish-index.result _ _
     (λ fault fails. pieces-behind settings old new before failed c.args.more.now fault
     (pieces-make-none settings old new before failed c.in_ok-outcome.field-0.outcome c.args.more.now fault c.in_ok-outcome.ensures.text fails)) c.finish-index.ensures.refused
+
+pub returns-in_err-outcome-clause-may_fail : goal.returns-in_err-outcome-clause-may_fail
+returns-in_err-outcome-clause-may_fail g c =
+    let p = err_from_is_err_and c.from_residual.result c.from_residual.ensures.1 in
+    rw (p.1, p.2) (reading-may _ _ _ _ _ _ c.in_err-outcome.ensures.refused c.in_err-outcome.ensures.may_fail)
+
+pub returns-clause-may_fail : goal.returns-clause-may_fail
+returns-clause-may_fail g c =
+    let read = c.in_ok-outcome.ensures.text in
+    IfErr-weaker c.finish-index.result _ _
+    (λ fault fails e. absurd (accepting-never (settings_of c.args.config.now) read.0 c.args.more.now fault (fails read.0 read.2) e)) c.finish-index.ensures.refused

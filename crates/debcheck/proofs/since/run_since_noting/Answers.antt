@@ -63,3 +63,13 @@ returns-clause-refused g c =
     let earlier = input (g.E.Source.remaining c.args.earlier.now) (g.E.Source.failed c.read_since.new.earlier) in
     since-writing-fails (settings_of c.args.config.now) text background earlier (g.K.Sink.failed c.write_all.new.writer)
     c.in_ok-output.output.items c.in_ok-output.summary c.in_ok-output.ensures.report c.in-Err.ensures.failed
+
+pub returns-in_err-output-clause-may_fail : goal.returns-in_err-output-clause-may_fail
+returns-in_err-output-clause-may_fail g c =
+    let p = err_from_is_err_and c.from_residual.result c.from_residual.ensures.1 in
+    rw (p.1, p.2) c.in_err-output.ensures.may_fail
+
+pub returns-in_err-output-clause-earlier_may_fail : goal.returns-in_err-output-clause-earlier_may_fail
+returns-in_err-output-clause-earlier_may_fail g c =
+    let p = err_from_is_err_and c.from_residual.result c.from_residual.ensures.1 in
+    rw (p.1, p.2) c.in_err-output.ensures.earlier_may_fail

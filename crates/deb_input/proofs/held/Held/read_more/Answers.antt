@@ -9,6 +9,7 @@ reads-preserved g c =
           c.read_part.new.self c.reads.invariant.0 c.in_ok-read_part.ensures.bytes,
       c.in_ok-read_part.ensures.mark ∙ c.reads.invariant.1,
       omega arith,
+      c.read_part.ensures.steady ∙ c.reads.invariant.3,
     )
 
 pub returns-then-not-branch-clause-bytes : goal.returns-then-not-branch-clause-bytes
