@@ -73,13 +73,20 @@ impl<'a> Question for Counting<'a> {
     }
 
     fn is_needed(&self, kept: &[u32], number: u32) -> bool {
-        self.known <= number && next_of(self.needed, number) == Some(number) && !kept.contains(&number)
+        self.known <= number
+            && next_of(self.needed, number) == Some(number)
+            && !kept.contains(&number)
     }
 }
 
 /// How many questions it takes where these numbers are needed, all below `idle` are used as long as they are there, and the needed ones from
 /// `known` on are known; none, where the answer is another.
-pub fn asked_for(alloc: Global, needed: &[u32], idle: u32, known: u32) -> Result<Option<u32>, AllocError> {
+pub fn asked_for(
+    alloc: Global,
+    needed: &[u32],
+    idle: u32,
+    known: u32,
+) -> Result<Option<u32>, AllocError> {
     let mut rising = Vec::from_slice(alloc, needed)?;
     sort_once(&mut rising);
     let mut question = Counting {
@@ -123,7 +130,13 @@ static QUESTIONS: [(&[u32], u32, u32, u32); 12] = [
     (&[100], 1024, 0, 1 + 8 + 3),
 ];
 
-fn expect_asked(rt: &(impl Abort + AllocGlobal), needed: &[u32], idle: u32, known: u32, asked: u32) {
+fn expect_asked(
+    rt: &(impl Abort + AllocGlobal),
+    needed: &[u32],
+    idle: u32,
+    known: u32,
+    asked: u32,
+) {
     let found = asked_for(rt.alloc(), needed, idle, known).expect(rt, "no memory");
     assert!(rt; found == Some(asked), "{needed:?}, {idle}, {known}");
 }

@@ -140,7 +140,11 @@ fn list_needed(
         group.min(u32::MAX as usize) as u32,
         &mut workspace.marks,
     )?;
-    take_marked(&described.positions, &workspace.marks, &mut workspace.needed)?;
+    take_marked(
+        &described.positions,
+        &workspace.marks,
+        &mut workspace.needed,
+    )?;
     Ok(())
 }
 

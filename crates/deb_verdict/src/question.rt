@@ -90,7 +90,15 @@ fn refute_next(
         return refute_by_formula(alloc, part, p, formula, workspace);
     }
     let base = &groundwork.base;
-    refute_part(alloc, part, p, base, &groundwork.lacking, formula, workspace)
+    refute_part(
+        alloc,
+        part,
+        p,
+        base,
+        &groundwork.lacking,
+        formula,
+        workspace,
+    )
 }
 
 /// Takes over what a refutation used, in rising order. `found` is then a buffer.

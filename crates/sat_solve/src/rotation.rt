@@ -51,13 +51,7 @@ impl<'a> Turned<'a> {
         ensures { result ≡ turned self.now.inside.now self.now.var var }
     {
         match self.inside.get(var as usize) {
-            Some(is_in) => {
-                if var == self.var {
-                    !*is_in
-                } else {
-                    *is_in
-                }
-            }
+            Some(is_in) => { if var == self.var { !*is_in } else { *is_in } }
             None => false,
         }
     }
@@ -156,11 +150,7 @@ fn push_number(lists: &mut Vec<Vec<u32>>, key: usize, number: u32) -> Result<(),
 }
 
 /// Lists a span at the variables of its literals.
-fn push_literals(
-    lists: &mut Vec<Vec<u32>>,
-    literals: &[Lit],
-    number: u32,
-) -> Result<(), AllocError>
+fn push_literals(lists: &mut Vec<Vec<u32>>, literals: &[Lit], number: u32) -> Result<(), AllocError>
     ensures on { OnOk result (ListsOn lists.old.items lists.new.items) }
     ensures here { OnOk result ((key : ℕ) → variables_of literals.now key ≡ true → HasAt lists.new.items key number) }
 {
@@ -171,11 +161,7 @@ fn push_literals(
 }
 
 /// Lists a span at all that it speaks of.
-fn push_span(
-    lists: &mut Vec<Vec<u32>>,
-    problem: &Problem,
-    number: u32,
-) -> Result<(), AllocError>
+fn push_span(lists: &mut Vec<Vec<u32>>, problem: &Problem, number: u32) -> Result<(), AllocError>
     requires problem { IsProblem problem.now }
     requires number { number < length problem.now.spans.now }
     ensures on { OnOk result (ListsOn lists.old.items lists.new.items) }
@@ -302,7 +288,10 @@ impl Rotation {
         let Some(span) = problem.spans.get(number as usize).copied() else {
             return Ok(());
         };
-        if self.turned(problem.vars).satisfies_span(problem.literals, span) {
+        if self
+            .turned(problem.vars)
+            .satisfies_span(problem.literals, span)
+        {
             return Ok(());
         }
         if let Some(owner) = span.owner {

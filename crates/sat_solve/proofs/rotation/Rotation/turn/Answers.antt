@@ -13,7 +13,7 @@ returns-clause-after c =
     let here = c.turned-set.result in
     let Meets : List ℕ → Type 0 = λ numbers. (k : ℕ) → members_of numbers k ≡ true → MeetsBut problem (turned inside c.args.var) c.args.group k in
     let met : (numbers : List ℕ) → ((k : ℕ) → members_of numbers k ≡ true → MeetsBut problem (turned here.inside.now here.var) c.args.group k) → Meets numbers =
-      λ numbers. same_turned problem here.inside.now inside here.var c.args.var c.args.group (λ k. members_of numbers k ≡ true) c.turned-set.ensures.inside c.turned-set.ensures.var in
+    λ numbers. same_turned problem here.inside.now inside here.var c.args.var c.args.group (λ k. members_of numbers k ≡ true) c.turned-set.ensures.inside c.turned-set.ensures.var in
     subst (λ (was : Bool). BreaksAlone problem (set inside c.args.var (not was)) c.args.group)
     (get_or_default inside c.args.var true c.index.result.now (omega (arith, c.requires.before.sized, c.if-var-problem-2.false)) ∙ sym c.index.ensures)
     (turned_breaks problem inside c.args.var c.args.self.now.group c.args.group lists c.in-Some.spoken.now c.in-Some-get.broken.now c.requires.before c.if-var-problem.false c.if-var-problem-2.false

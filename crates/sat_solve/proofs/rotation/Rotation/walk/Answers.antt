@@ -1,4 +1,4 @@
-use Rattle.std.proofs.Common.{◌≡◌, ℕ, ◌<◌, false, length, Vec, Global, Bool, refl, sym, subst, arith, ◌∙◌}
+use Rattle.std.proofs.Common.{ℕ, false, Vec, Global, Bool, refl, sym, subst, arith, ◌∙◌}
 use Rattle.sat_solve.specs.Rotation.{BreaksAlone, IsListed}
 use Rattle.sat_solve.proofs.RotationLemmas.{marked_more, none_marked}
 use Rattle.sat_solve.proofs.rotation.Rotation.walk.Goals as goal
@@ -17,7 +17,7 @@ loop-init c =
           subst (λ (group : ℕ). BreaksAlone problem c.push_turns.new.self.inside.items group) (sym (c.in_ok-push_turns.ensures.2 ∙ c.in_ok-start.ensures.group))
           (subst (λ (inside : Vec Bool Global). BreaksAlone problem inside.items c.args.group) (sym c.in_ok-push_turns.ensures.1) alone);
       needed = marked_more problem c.start.new.self.inside.items c.resize.new.self.items c.mark.new.marks.items c.args.group alone (λ group is. absurd (none_marked c.resize.new.self.items
-      (λ k below. c.in_ok-resize.ensures.by_index.1 k false refl (omega (arith, c.clear.ensures.items, c.clear.new.self.ok)) (omega (arith, c.in_ok-resize.ensures.len, c.resize.new.self.ok))) group is)) c.mark.ensures.marked;
+          (λ k below. c.in_ok-resize.ensures.by_index.1 k false refl (omega (arith, c.clear.ensures.items, c.clear.new.self.ok)) (omega (arith, c.in_ok-resize.ensures.len, c.resize.new.self.ok))) group is)) c.mark.ensures.marked;
       sized = omega (arith, c.mark.ensures.sized, c.in_ok-resize.ensures.len, c.resize.new.self.ok);
     }
 
