@@ -1,6 +1,5 @@
 -- Sets that break one group alone, and lists of the spans that speak of a variable or of a group.
 use Rattle.std.specs.Prelude.{◌≡◌, ◌≢◌, ℕ, ◌+◌, ◌<◌, ◌==◌, ◌||◌, Bool, true, false, not, Vec, Option, Some, None, List, All, length, if◌then◌else◌, slice_get, slice_range, slice_index_or}
-use Rattle.std.specs.List.{list_any}
 use Rattle.std.specs.declared.alloc.Global.{Global}
 use Rattle.number_sets.specs.Sets.{NumberSet, members_of}
 use Rattle.sat_solve.specs.Clauses.{Clause, clause_holds}

@@ -1,4 +1,4 @@
-use Rattle.std.proofs.Common.{◌≡◌, ℕ, ◌-◌, List, sym, subst}
+use Rattle.std.proofs.Common.{ℕ, ◌-◌, List, sym, subst}
 use Rattle.number_sets.specs.Sets.{members_of}
 use Rattle.core_extract.specs.Reduction.{left}
 use Rattle.deb_health.specs.Causes.{without}

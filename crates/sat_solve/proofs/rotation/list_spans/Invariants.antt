@@ -1,4 +1,4 @@
-use Rattle.std.proofs.Common.{ℕ, ◌<◌, length}
+use Rattle.std.proofs.Common.{ℕ, ◌<◌}
 use Rattle.sat_solve.specs.Rotation.{IsListed}
 use Rattle.sat_solve.proofs.rotation.list_spans.Given as goal
 

@@ -1,4 +1,3 @@
-use Rattle.std.proofs.Common.{◌≡◌}
 use Rattle.sat_solve.proofs.RotationLemmas.{on_further, listed_more, listed_all}
 use Rattle.sat_solve.proofs.rotation.push_literals.Goals as goal
 

@@ -1,4 +1,4 @@
-use Rattle.std.proofs.Common.{◌≡◌, ℕ, Vec, Global, List, get_or, refl, sym, subst}
+use Rattle.std.proofs.Common.{ℕ, Vec, Global, List, get_or, refl, sym, subst}
 use Rattle.sat_solve.specs.Rotation.{HasAt, ListsOn}
 use Rattle.sat_solve.specs.Spans.{no_span}
 use Rattle.sat_solve.specs.declared.clause.Span.{Span}

@@ -1,5 +1,4 @@
 use Rattle.std.proofs.Common.{◌≡◌, ℕ, true, List, sym, subst, ◌∙◌, arith}
-use Rattle.std.proofs.lemmas.Bool.{not-false}
 use Rattle.number_sets.specs.Sets.{members_of}
 use Rattle.core_extract.specs.Reduction.{left}
 use Rattle.deb_verdict.proofs.KnownLemmas.{known_admits}

@@ -1,5 +1,5 @@
-use Rattle.std.proofs.Common.{ℕ, List, refl}
-use Rattle.std.proofs.lemmas.Bool.{false≢true, true≢false}
+use Rattle.std.proofs.Common.{ℕ, List}
+use Rattle.std.proofs.lemmas.Bool.{true≢false}
 use Rattle.number_sets.specs.Sets.{NumberSet, members_of}
 use Rattle.core_extract.specs.Reduction.{left, listed}
 use Rattle.deb_health.specs.Causes.{without}

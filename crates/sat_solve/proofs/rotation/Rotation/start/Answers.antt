@@ -1,5 +1,5 @@
-use Rattle.std.proofs.Common.{◌≡◌, ℕ, true, Bool, List, length, sym, subst, arith, ◌∙◌}
-use Rattle.sat_solve.specs.Rotation.{MeetsBut, turned}
+use Rattle.std.proofs.Common.{◌≡◌, ℕ, true, Bool, List, length, sym, subst, arith}
+use Rattle.sat_solve.specs.Rotation.{turned}
 use Rattle.sat_solve.proofs.RotationLemmas.{untouched, same_turned}
 use Rattle.sat_solve.proofs.rotation.Rotation.start.Goals as goal
 

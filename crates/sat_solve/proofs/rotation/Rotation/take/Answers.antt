@@ -1,4 +1,4 @@
-use Rattle.std.proofs.Common.{◌≡◌, ℕ, subst}
+use Rattle.std.proofs.Common.{ℕ, subst}
 use Rattle.sat_solve.specs.Rotation.{BreaksAlone}
 use Rattle.sat_solve.proofs.RotationLemmas.{marked_more}
 use Rattle.sat_solve.proofs.rotation.Rotation.take.Goals as goal

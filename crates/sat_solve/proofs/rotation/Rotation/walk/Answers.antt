@@ -1,4 +1,4 @@
-use Rattle.std.proofs.Common.{◌≡◌, ℕ, ◌<◌, false, length, Vec, Global, Bool, refl, sym, subst, arith, ◌∙◌}
+use Rattle.std.proofs.Common.{ℕ, false, Vec, Global, Bool, refl, sym, subst, arith, ◌∙◌}
 use Rattle.sat_solve.specs.Rotation.{BreaksAlone, IsListed}
 use Rattle.sat_solve.proofs.RotationLemmas.{marked_more, none_marked}
 use Rattle.sat_solve.proofs.rotation.Rotation.walk.Goals as goal
