@@ -1,6 +1,5 @@
 -- what contracts of deb_verdict cite, too
 pub mod BaseSets
-pub mod Needed
 pub mod Parts
 -- ---- the inside
 pub mod Deriving

@@ -10,7 +10,7 @@
 //!   looked up by `check`.
 //! - Whether a part admits none with a package. `witness` sees that some set meets it: that is the `growth` of a set on the base set, by a `choice` of
 //!   one answer for each need, and `check` looks it up. `propagation` refutes it by what the package asks for with no choice; `derivation` has the
-//!   steps of such a refutation, and checks them. `needed` finds constraints without which no part admits none.
+//!   steps of such a refutation, and checks them.
 #![tactic(auto)]
 
 mod answering;
@@ -24,7 +24,6 @@ mod growth;
 mod hopeless;
 mod installable;
 mod installation;
-mod needed;
 mod part;
 mod propagation;
 mod rows;
@@ -34,7 +33,6 @@ pub use base_set::BaseSet;
 pub use groundwork::Groundwork;
 pub use growth::Witness;
 pub use installable::find_installable;
-pub use needed::find_needed;
 pub use part::{Part, is_among};
 pub use propagation::{Propagation, refute_by_forcing};
 pub use rows::{Places, has_any};

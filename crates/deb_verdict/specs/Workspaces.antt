@@ -2,7 +2,7 @@
 use Rattle.std.specs.Prelude.{◌≡◌, []}
 use Rattle.deb_verdict.specs.declared.workspace.Workspace.{Workspace}
 
--- nothing stands in the lists and sets of a workspace, among its candidates and in its way
+-- nothing stands in the lists and sets of a workspace and among its candidates
 abbrev pub IsFresh : Workspace → Type 0
-IsFresh w = (w.forced ≡ []) × (w.candidates.places ≡ []) × (w.candidates.unmet.items ≡ []) × (w.way.members ≡ []) × (w.closure ≡ [])
+IsFresh w = (w.forced ≡ []) × (w.candidates.places ≡ []) × (w.candidates.unmet.items ≡ []) × (w.closure ≡ [])
     × (w.clause.items ≡ []) × (w.found.items ≡ []) × (w.constraints.items ≡ []) × (w.keep.items ≡ []) × (w.marks.items ≡ []) × (w.used.items ≡ [])

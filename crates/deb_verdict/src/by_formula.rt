@@ -5,10 +5,9 @@ ghost use Rattle.std.specs.Prelude.{◌≡◌, ◌<◌, true, false, IfOk, OnOk,
 ghost use Rattle.std.specs.Option.{ForSome};
 ghost use Rattle.number_sets.specs.Sets.{members_of};
 ghost use Rattle.deb_health.specs.Health.{AdmitsNone};
-ghost use Rattle.deb_groundwork.specs.Needed.{AreNeeded};
 ghost use Rattle.deb_groundwork.specs.Parts.{positions_in, IsRefutedBy};
 ghost use Rattle.deb_verdict.specs.Formulas.{IsChosen, Tells};
-ghost use Rattle.deb_verdict.specs.Known.{AreKnown};
+ghost use Rattle.deb_verdict.specs.Known.{AreKnown, AreNeeded};
 
 use crate::core_formula::CoreFormula;
 use crate::first_set::count_of;

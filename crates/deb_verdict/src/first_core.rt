@@ -16,7 +16,7 @@ use crate::known::Known;
 use crate::question::Blocking;
 use crate::workspace::Workspace;
 use core_extract::first_failing;
-use deb_groundwork::{Groundwork, find_needed};
+use deb_groundwork::Groundwork;
 use deb_index::Constraint;
 use std::alloc::{AllocError, Global};
 use std::mem;
@@ -38,13 +38,12 @@ pub(crate) fn first_positions(
     ensures first { IfOk result (λ core. IsFirstWithout groundwork.now.index.now p (members_of out.now) core.items) }
     ensures within { IfOk result (λ core. All (λ k. k < length (constraints_of groundwork.now.index.now)) core.items) }
 {
-    let needed = find_needed(alloc, groundwork, p, out, &mut workspace.way)?;
     let mut question = Blocking {
         groundwork,
         p,
         out,
         known: Known {
-            needed,
+            needed: Vec::new(alloc),
             settled: Vec::new(alloc),
             from: 0,
         },

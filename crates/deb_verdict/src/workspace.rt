@@ -29,8 +29,6 @@ pub struct Workspace {
     pub(crate) solver: sat_solve::Workspace,
     pub(crate) propagation: Propagation,
     pub(crate) witness: Witness,
-    /// A way from need to need, of which each refutation needs all.
-    pub(crate) way: BaseSet,
     /// A base set of nothing.
     pub(crate) nothing: BaseSet,
     /// The closure of a broken package, and the constraints that speak of it.
@@ -64,7 +62,6 @@ impl Workspace {
             solver: sat_solve::Workspace::new(alloc),
             propagation: Propagation::new(alloc),
             witness: Witness::new(alloc),
-            way: BaseSet::empty(alloc),
             nothing: BaseSet::empty(alloc),
             closure: SparseSet::new(alloc),
             constraints: Vec::new(alloc),

@@ -1,10 +1,10 @@
-use Rattle.std.proofs.Common.{ℕ, List, refl, sym, subst, ◌∙◌, arith}
+use Rattle.std.proofs.Common.{◌≡◌, ℕ, true, List, sym, subst, ◌∙◌, arith}
+use Rattle.std.proofs.lemmas.Bool.{false≢true}
 use Rattle.std.specs.List.Sorted.{IsStrictlyIncreasing}
 use Rattle.deb_index.specs.Packages.{IndexView}
-use Rattle.number_sets.specs.Sets.{all_of, members_of}
+use Rattle.number_sets.specs.Sets.{members_of}
 use Rattle.number_sets.proofs.ListMembers.{below_members}
 use Rattle.deb_verdict.specs.Formulas.{Tells}
-use Rattle.deb_verdict.proofs.KnownLemmas.{fewer_needed}
 use Rattle.deb_verdict.proofs.Whole.{first_in_list}
 use Rattle.deb_verdict.proofs.first_core.first_positions.Goals as goal
 
@@ -23,10 +23,10 @@ invariant_of-question c =
       place = c.requires.place;
       rising = c.requires.rising;
       is_known = record {
-        rising = c.in_ok-needed.ensures.rising;
-        needed = fewer_needed c.args.groundwork.now.index.now c.args.p (members_of c.args.out.now) all_of _ c.in_ok-needed.needed.items (λ k has. refl) c.in_ok-needed.ensures.needed;
+        rising = subst Rising (sym c.new.ensures.items) (λ k never. absurd (omega (arith, never)));
+        needed = λ u has. absurd (false≢true (subst (λ (list : List ℕ). members_of list u ≡ true) c.new.ensures.items has));
       };
-      used_rising = subst Rising (sym c.new-2.ensures.items) (λ k never. absurd (omega (arith, never)));
+      used_rising = subst Rising (sym c.new-3.ensures.items) (λ k never. absurd (omega (arith, never)));
       told = λ x is. c.requires.formula x (sym c.take.ensures.value ∙ is);
     }
 
