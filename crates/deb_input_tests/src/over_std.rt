@@ -3,9 +3,10 @@
 use crate::counted::{Counted, reader_of};
 use crate::whole_texts::told_by;
 use deb_input::read_all;
-use devices::Std;
+use devices::{Recording, Std};
 use std::alloc::Global;
-use std::io::ErrorKind;
+use std::io::{ErrorKind, IsTerminal};
+use test_devices::Screen;
 
 /// Whether reading to the end comes to these bytes, or these words for the fault, in so many reads.
 fn reads(alloc: Global, mut inner: Counted<'_>, wanted: &[u8], calls: u32) -> bool {
@@ -33,5 +34,15 @@ fn each_read_fails_in_turn(rt: HostRuntime) {
             let inner = reader_of(TEXT, 5, call, kind);
             assert!(rt; reads(rt.alloc(), inner, b"failed", call));
         }
+    }
+}
+
+/// A device is a terminal where what it stands over is one, also where its beginning is kept.
+#[test]
+fn a_device_over_a_terminal_says_so(rt: HostRuntime) {
+    for is_terminal in [false, true] {
+        let screen = Screen::new(is_terminal, b"");
+        assert!(rt; Std::new(&screen).is_terminal() == is_terminal);
+        assert!(rt; Recording::new(Std::new(&screen)).is_terminal() == is_terminal);
     }
 }

@@ -5,7 +5,7 @@ use crate::counted::{Counting, writer_of};
 use command_line::LineFault;
 use deb_input::RunFault;
 use debcheck::{write_fault, write_line_fault};
-use devices::Std;
+use devices::{Sink, Std};
 use std::alloc::Global;
 use std::io::ErrorKind;
 use std::process::Abort;
@@ -76,6 +76,27 @@ fn each_write_and_the_flush_fail_in_turn(rt: HostRuntime) {
         for (step, fails_at, flush_fails, taken, calls) in FAILURES {
             let inner = writer_of(step, fails_at, flush_fails, kind);
             assert!(rt; writes_over(rt.alloc(), inner, false, taken, calls));
+        }
+    }
+}
+
+/// Whether a device says that nobody reads it any more, once writing a line to it failed.
+fn is_abandoned(alloc: Global, mut inner: Counting) -> bool {
+    let mut device = Std::new(&mut inner);
+    let _ = write_fault(alloc, &mut device, &RunFault::Memory);
+    device.is_abandoned()
+}
+
+#[test]
+fn a_broken_pipe_alone_is_abandoned(rt: HostRuntime) {
+    for (kind, wanted) in [
+        (ErrorKind::BrokenPipe, true),
+        (ErrorKind::Other, false),
+        (ErrorKind::Interrupted, false),
+    ] {
+        for (fails_at, flush_fails) in [(1, false), (0, true)] {
+            let inner = writer_of(5, fails_at, flush_fails, kind);
+            assert!(rt; is_abandoned(rt.alloc(), inner) == wanted);
         }
     }
 }
