@@ -126,8 +126,8 @@ static QUESTIONS: [(&[u32], u32, u32, u32); 12] = [
     // Of a number that is known to be needed none is asked, and a stride ends before it.
     (&[1, 2, 3, 511, 512, 1000], 0, 0, 1),
     (&[1, 2, 3, 511, 512, 1000], 0, 511, 1 + 3),
-    // 0, 1, 2 to 3, and so on, 64 to 99; 101, and then 2, 4, 8 numbers and so on, to 613 to 1023
-    (&[100], 1024, 0, 1 + 8 + 3),
+    // 0, 1, 2 to 3, and so on, 64 to 99; the strides go on growing: 101 to 228, 229 to 484, 485 to 996, 997 to 1023
+    (&[100], 1024, 0, 1 + 8 + 4),
 ];
 
 fn expect_asked(
