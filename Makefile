@@ -46,7 +46,7 @@ install-debcheck-tools:
 
 # dose's commands stand with their modules in a folder that is on no path, so that dose may be installed, too.
 dose = $(DESTDIR)$(PREFIX)/lib/debcheck/dose
-dose_modules = dose_* __init__ errors index index_files program sources tag_file
+dose_modules = dose_* __init__ errors index index_files program sources stanza tag_file
 
 install-debcheck-dose:
 	install -d -m 755 $(dose)/debcheck_tools

@@ -106,7 +106,7 @@ class Inputs:
         for sources in self.sources:
             for member, source in sources.known.items():
                 if member in known:
-                    known[member] = known[member]._replace(architecture=",".join(source.architectures.split()))
+                    known[member] = known[member]._replace(architecture=",".join(source.architecture.split()))
         return known
 
 
