@@ -1,6 +1,7 @@
 """One index of several files: its stanzas with the file that each came from, and its one text."""
 
 import functools
+import operator
 import os
 from collections import Counter
 from collections.abc import Iterable, Iterator, Sequence
@@ -172,21 +173,24 @@ def latest(indexes: Sequence[Index], arch: Optional[str] = None, count: int = 1)
 
     With an architecture only what is of it, or of `all`, is compared; other stanzas stay.
     """
-    versions: dict[str, list[str]] = {}
     compare = apt_pkg.version_compare
 
     def counts(stanza: Stanza) -> bool:
         return bool(stanza.package and stanza.version) and (arch is None or stanza.architecture in (arch, "all"))
 
-    for stanza in (stanza for index in indexes for stanza in index.stanzas if counts(stanza)):
-        known = versions.setdefault(stanza.package, [])
-        if stanza.version not in known:
-            known.append(stanza.version)
-
+    stanzas = [stanza for index in indexes for stanza in index.stanzas if counts(stanza)]
+    times = Counter(map(operator.attrgetter("package"), stanzas))
+    versions: dict[str, list[str]] = {}
+    for stanza in stanzas:
+        if times[stanza.package] > 1:
+            known = versions.setdefault(stanza.package, [])
+            if stanza.version not in known:
+                known.append(stanza.version)
     least = {name: kept(known, count) for name, known in versions.items()}
 
     def stays(stanza: Stanza) -> bool:
-        return not counts(stanza) or compare(stanza.version, least[stanza.package]) >= 0
+        bound = least.get(stanza.package)
+        return bound is None or not counts(stanza) or compare(stanza.version, bound) >= 0
 
     return [index if index.unread else Index(index.files, list(filter(stays, index.stanzas))) for index in indexes]
 

@@ -76,7 +76,7 @@ class Names:
 
     @functools.cached_property
     def sorted(self) -> list[str]:
-        return sorted(dict.fromkeys([*self.first, *self.providers]))
+        return sorted([*sorted(self.first), *sorted(self.providers.keys() - self.first.keys())])
 
     def called(self, name: str) -> list[Stanza]:
         """The packages of a name."""

@@ -79,9 +79,9 @@ class Sources:
 
     def groups(self, source: Stanza, field: str) -> list[str]:
         """Each dependency of a field that counts, or conflict, as the program prints it."""
+        asked = source.building[BUILD_FIELDS.index(field)]
         try:
-            parts = source.building[BUILD_FIELDS.index(field)].split(",")
-            return [text for part in parts if (text := self.printed[part])]
+            return [text for part in asked.split(",") if (text := self.printed[part])] if asked else []
         except ValueError:
             name = f"{source.file.name}: source {source.package} {source.version}"
             raise Fault(DATA, f"{name}: {field} can't be read") from None
