@@ -2,7 +2,9 @@
 # DESTDIR stands before each path, for packages.
 PREFIX = /usr/local
 DESTDIR =
-program = crates/debcheck_program/out/debcheck_program
+# The checkout's own program is built first; another one, by program=PATH, is taken as it is.
+built = crates/debcheck_program/out/debcheck_program
+program = $(built)
 
 bin = $(DESTDIR)$(PREFIX)/bin
 share = $(DESTDIR)$(PREFIX)/share
@@ -12,7 +14,7 @@ scripts = before-publishing debcheck-news
 units = debcheck-news.service debcheck-news.timer debcheck-page.toml debcheck-page.service debcheck-page.timer
 
 all:
-	./debcheck --version > /dev/null
+	[ $(program) != $(built) ] || ./debcheck --version > /dev/null
 
 # Each has a Debian package of its own.
 parts = debcheck debcheck-tools debcheck-dose
@@ -80,6 +82,6 @@ uninstall-debcheck:
 	[ ! -d $(share)/debcheck ] || rmdir --ignore-fail-on-non-empty $(share)/debcheck
 
 deb: all
-	packaging/make_deb
+	packaging/make_deb $(program)
 
 .PHONY: all install uninstall deb $(parts:%=install-%) $(parts:%=uninstall-%)
