@@ -2,7 +2,7 @@
 
 import pytest
 
-from debcheck_tools.dose_yaml import Node, items_of, lines_of
+from debcheck_tools.dose_yaml import Node, lines_of
 
 TREE: Node = {
     "output-version": "1.2",
@@ -38,9 +38,8 @@ def test_layout() -> None:
     assert "".join(line + "\n" for line in lines_of(TREE)) == TEXT
 
 
-def test_items_stand_where_they_are_led() -> None:
-    assert list(items_of([{"package": "a", "reasons": [{"missing": {"pkg": {"package": "b"}}}]}], " ")) == [
-        " -",
+def test_lines_stand_where_they_are_led() -> None:
+    assert lines_of({"package": "a", "reasons": [{"missing": {"pkg": {"package": "b"}}}]}, "  ") == [
         "  package: a",
         "  reasons:",
         "   -",
