@@ -38,8 +38,9 @@ class Building(NamedTuple):
     first_alternative: bool = False
     text_alone: bool = False
 
-    def fields(self, all_three: Sequence[str]) -> list[str]:
-        plain, indep, arch = all_three
+    def places(self, fields: Sequence[str]) -> list[int]:
+        """Where those of three fields that count stand among BUILD_FIELDS."""
+        plain, indep, arch = map(BUILD_FIELDS.index, fields)
         return [plain, *([indep] if self.indep else []), *([arch] if self.arch_only else [])]
 
 
@@ -48,7 +49,7 @@ class Sources:
 
     def __init__(self, index: Index, building: Building) -> None:
         self.building = building
-        self.needing, self.clashing = building.fields(DEPENDS), building.fields(CONFLICTS)
+        self.needing, self.clashing = building.places(DEPENDS), building.places(CONFLICTS)
         os.environ.pop("DEB_BUILD_PROFILES", None)
         apt_pkg.config.set("APT::Build-Profiles", ",".join(building.profiles))
         self.built: dict[str, bool] = {}
@@ -77,18 +78,21 @@ class Sources:
             self.built[architectures] = "all" in words or any(self.printed[f"x [{word}]"] for word in words)
         return self.built[architectures]
 
-    def groups(self, source: Stanza, field: str) -> list[str]:
-        """Each dependency of a field that counts, or conflict, as the program prints it."""
-        asked = source.building[BUILD_FIELDS.index(field)]
+    def groups(self, source: Stanza, places: Sequence[int]) -> list[str]:
+        """Each dependency of these fields that counts, or conflict, as the program prints it."""
+        printed, building = self.printed, source.building
+        asked = ",".join([building[place] for place in places if building[place]])
         try:
-            return [text for part in asked.split(",") if (text := self.printed[part])] if asked else []
+            return [text for part in asked.split(",") if (text := printed[part])] if asked else []
         except ValueError:
+            for place in places if places[1:] else ():
+                self.groups(source, [place])
             name = f"{source.file.name}: source {source.package} {source.version}"
-            raise Fault(DATA, f"{name}: {field} can't be read") from None
+            raise Fault(DATA, f"{name}: {BUILD_FIELDS[places[0]]} can't be read") from None
 
     def stanza(self, source: Stanza) -> str:
-        needs = ", ".join([IMPLIED, *(group for field in self.needing for group in self.groups(source, field))])
-        conflicts = ", ".join([group for field in self.clashing for group in self.groups(source, field)])
+        needs = ", ".join([IMPLIED, *self.groups(source, self.needing)])
+        conflicts = ", ".join(self.groups(source, self.clashing))
         text = f"Package: {PREFIX}{source.package}\nVersion: {source.version}\nArchitecture: all\nDepends: {needs}\n"
         return f"{text}Conflicts: {conflicts}\n\n" if conflicts else f"{text}\n"
 
@@ -108,7 +112,8 @@ class Sources:
 
     def field_of(self, source: Stanza, relation: str) -> str:
         """The field that asked for a relation as the program prints it."""
-        asked = (field for field in self.needing + self.clashing if relation in self.groups(source, field))
+        places = self.needing + self.clashing
+        asked = (BUILD_FIELDS[place] for place in places if relation in self.groups(source, [place]))
         return IMPLIED if relation == IMPLIED else next(asked, DEPENDS[0])
 
 
@@ -133,9 +138,9 @@ class Printed(dict[str, str]):
 
     def __missing__(self, part: str) -> str:
         atoms = [atom for group in apt_pkg.parse_src_depends(part, False, self.building.arch) for atom in group]
-        if self.building.first_alternative:
+        if self.building.first_alternative and atoms[1:]:
             atoms = [atom for atom in atoms if plain(atom) == plain(atoms[0])]
-        self[part] = text = " | ".join(map(printed, atoms))
+        self[part] = text = " | ".join(map(printed, atoms)) if atoms[1:] else printed(atoms[0]) if atoms else ""
         return text
 
 
