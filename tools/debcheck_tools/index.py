@@ -125,7 +125,7 @@ def architecture_of(indexes: Sequence[Index], named: Optional[str]) -> str:
     """
     owners: dict[str, str] = {}
     for file, counts in counted(indexes):
-        own = [arch for arch, _ in counts.most_common() if arch != "all"]
+        own = [arch for arch, _ in counts.most_common() if arch not in ("", "all")]
         if named and own and named not in counts:
             raise Fault(DATA, f"{file.name}: has packages of {' and '.join(own[:3])}, none of {named}{spelled(named)}")
         for arch in own:
