@@ -48,8 +48,8 @@ def work(options: argparse.Namespace) -> int:
     if words and not options.report:
         raise Fault(USAGE, f"{words[0]} needs --report text or --report json: the overview doesn't have it")
     see_commas(options)
-    asked = inputs.read(options)
     program = Program([*WORKERS, "--ignore-essential"] if options.ignore_essential else WORKERS)
+    asked = inputs.read(options)
     names = names_of(options, asked)
     progress.tell("asking debcheck")
     if options.report == "text":
