@@ -81,7 +81,8 @@ def called(call: Callable[[list[str]], int], words: list[str], cwd: Path | None,
     """Its status, in the process of its own, with streams as the interpreter has them at its start."""
     os.environ.update(environment)
     sys.argv[1:] = words
-    sys.stdin, sys.stdout, sys.stderr = (open(number, mode, closefd=False) for number, mode in enumerate("rww"))
+    sys.stdin = open(0, closefd=False)
+    sys.stdout, sys.stderr = open(1, "w", closefd=False), open(2, "w", closefd=False)
     try:
         os.chdir(cwd or ".")
         return call(words)
