@@ -40,6 +40,12 @@ def test_bounds_are_one_line_and_versions_that_are_there_are_near(archive: Archi
     assert lines[2:] == ["2 of 2  six (>= 1.9 .. 1.10, << 1.2)          a, b  [there: 1.5]"]
 
 
+def test_who_provides_a_name_without_a_version_is_near(archive: Archive, write: Write) -> None:
+    text = stanza("openvox", Provides="puppet") + stanza("a", Depends="puppet (>= 4) | mcollective (>= 2)")
+    lines = archive("check", write("Packages", text)).lines()
+    assert lines[2:] == ["1 of 1  puppet (>= 4) | mcollective (>= 2)    a  [there: openvox, without a version]"]
+
+
 def test_what_the_same_need_and_what_breaks_the_same_is_one_line(archive: Archive, write: Write) -> None:
     text = stanza("liba", Source="s", Depends="x, y") + stanza("b", Depends="liba") + stanza("c", Depends="z")
     lines = archive("check", write("Packages", text)).lines()
