@@ -43,7 +43,7 @@ def test_bounds_are_one_line_and_versions_that_are_there_are_near(archive: Archi
 def test_who_provides_a_name_without_a_version_is_near(archive: Archive, write: Write) -> None:
     text = stanza("openvox", Provides="puppet") + stanza("a", Depends="puppet (>= 4) | mcollective (>= 2)")
     lines = archive("check", write("Packages", text)).lines()
-    assert lines[2:] == ["1 of 1  puppet (>= 4) | mcollective (>= 2)    a  [there: openvox, without a version]"]
+    assert lines[2:] == ["1 of 1  puppet (>= 4) | mcollective (>= 2)    a  [there: openvox]"]
 
 
 def test_what_the_same_need_and_what_breaks_the_same_is_one_line(archive: Archive, write: Write) -> None:
