@@ -159,7 +159,7 @@ def read_sources(options: argparse.Namespace, inputs: Inputs) -> None:
             texts.append(opened(files, SOURCES) if files else named(options, SOURCES, []))
     binaries: dict[str, list[str]] = {}
     for stanza in (stanza for text in texts for stanza in all_of(latest([text])[0])):
-        for name in stanza.building[0].replace(",", " ").split():
+        for name in () if stanza.is_text_alone else stanza.building[0].replace(",", " ").split():
             binaries.setdefault(name, []).append(stanza.package)
     inputs.building = binaries
     if options.sources is not None:

@@ -68,7 +68,7 @@ class Sources:
     def counted(self, index: Index) -> Iterator[Stanza]:
         """The sources of an index that are built on the architecture; some are there for their text alone."""
         for stanza in all_of(index):
-            if (self.building.text_alone or stanza.building[1] != "yes") and self.is_built(stanza.architecture):
+            if (self.building.text_alone or not stanza.is_text_alone) and self.is_built(stanza.architecture):
                 yield stanza
 
     def is_built(self, architectures: str) -> bool:

@@ -43,6 +43,11 @@ class Stanza(NamedTuple):
         return self.source.partition("(")[2].rstrip(") ") or self.version
 
     @property
+    def is_text_alone(self) -> bool:
+        """Whether a source is there for its text alone, as that of a binary which took parts of it: it isn't built."""
+        return self.building[1] == "yes"
+
+    @property
     def maintainer(self) -> str:
         text = os.pread(self.file.text.fileno(), self.end - self.begin, self.begin)
         return values(section_of(text), ("Maintainer",))[0]

@@ -104,7 +104,9 @@ def test_latest_and_superseded(archive: Archive, write: Write) -> None:
 
 
 def test_leftovers(archive: Archive, write: Write) -> None:
-    sources = write("Sources", "Package: s\nBinary: new\nVersion: 2\nArchitecture: any\nFormat: 1.0\nDirectory: x\n")
+    source = "Package: {}\nBinary: {}\nVersion: 2\nArchitecture: any\nFormat: 1.0\nDirectory: x\n"
+    text_alone = source.format("t", "n") + "Extra-Source-Only: yes\n"
+    sources = write("Sources", source.format("s", "new") + "\n" + text_alone)
     packages = write("Packages", stanza("old", Source="s (1)", Depends="gone") + stanza("n", Depends="new"))
     lines = archive("check", packages, "--built-by", sources).lines()
     assert lines[2:] == [
