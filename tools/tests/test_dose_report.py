@@ -1,6 +1,7 @@
 """What dose-debcheck says of small indexes: keys, their order and their values, as dose 7.0.0 writes them."""
 
 import pytest
+import yaml
 from conftest import Write, stanza
 from dose_runs import DEBCHECK, Node, names, run
 
@@ -15,7 +16,6 @@ def report(write: Write, text: str, *words: str) -> str:
 
 def read(write: Write, text: str, *words: str) -> dict[str, Node]:
     """The packages of the report by their names, as a YAML library reads them."""
-    yaml = pytest.importorskip("yaml")
     document = yaml.load(report(write, text, NATIVE, *words), yaml.BaseLoader)
     return {package["package"]: package for package in document["report"]}
 

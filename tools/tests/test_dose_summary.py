@@ -1,6 +1,6 @@
 """--summary counts reasons, and names those that break several packages."""
 
-import pytest
+import yaml
 from conftest import Write, stanza
 from dose_runs import BUILDCHECK, DEBCHECK, names, run
 
@@ -99,7 +99,6 @@ def test_a_summary_explains_but_names_no_packages_without_the_word(write: Write)
 
 
 def test_nothing_breaks_several(write: Write) -> None:
-    yaml = pytest.importorskip("yaml")
     out = run(DEBCHECK, "-f", "-e", "--summary", write("P", stanza("a", Depends="gone"))).out
     document = yaml.safe_load(out)
     assert document["summary"] is None and document["conflict-missing-ratio"] == {"0-1": 1}

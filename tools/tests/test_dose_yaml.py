@@ -1,6 +1,6 @@
 """The layout is dose's, and YAML libraries read it back."""
 
-import pytest
+import yaml
 
 from debcheck_tools.dose_yaml import Node, lines_of
 
@@ -50,7 +50,6 @@ def test_lines_stand_where_they_are_led() -> None:
 
 
 def test_read_back() -> None:
-    yaml = pytest.importorskip("yaml")
     read = yaml.load(TEXT, yaml.BaseLoader)
     assert read["pkg"] == TREE["pkg"]
     assert [one["package"] for one in read["chains"][0]["depchain"]] == ["a", "b"]
