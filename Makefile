@@ -2,7 +2,9 @@
 # DESTDIR stands before each path, for packages.
 PREFIX = /usr/local
 DESTDIR =
-program = crates/debcheck_program/out/debcheck_program
+# The checkout's own program is built first; another one, by program=PATH, is taken as it is.
+built = crates/debcheck_program/out/debcheck_program
+program = $(built)
 
 bin = $(DESTDIR)$(PREFIX)/bin
 share = $(DESTDIR)$(PREFIX)/share
@@ -12,7 +14,7 @@ scripts = before-publishing debcheck-news
 units = debcheck-news.service debcheck-news.timer debcheck-page.toml debcheck-page.service debcheck-page.timer
 
 all:
-	./debcheck --version > /dev/null
+	[ $(program) != $(built) ] || ./debcheck --version > /dev/null
 
 # Each has a Debian package of its own.
 parts = debcheck debcheck-tools debcheck-dose
@@ -46,7 +48,7 @@ install-debcheck-tools:
 
 # dose's commands stand with their modules in a folder that is on no path, so that dose may be installed, too.
 dose = $(DESTDIR)$(PREFIX)/lib/debcheck/dose
-dose_modules = dose_* __init__ errors index index_files program sources tag_file
+dose_modules = dose_* __init__ errors index index_files program sources stanza tag_file
 
 install-debcheck-dose:
 	install -d -m 755 $(dose)/debcheck_tools
@@ -80,6 +82,6 @@ uninstall-debcheck:
 	[ ! -d $(share)/debcheck ] || rmdir --ignore-fail-on-non-empty $(share)/debcheck
 
 deb: all
-	packaging/make_deb
+	packaging/make_deb $(program)
 
 .PHONY: all install uninstall deb $(parts:%=install-%) $(parts:%=uninstall-%)

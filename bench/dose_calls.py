@@ -1,4 +1,4 @@
-"""The calls of dose's clients on one index: dose's commands beside those of tools/, as a table."""
+"""The calls of dose's clients on one index: dose's commands beside those of debcheck-dose, as a table."""
 import os
 import re
 import subprocess
@@ -6,7 +6,7 @@ import subprocess
 import measured
 from script import TOP, Failed
 
-HEAD = "\nthe calls of dose's clients, by dose and by tools/: CPU s, here the least of %d runs\n"
+HEAD = "\nthe calls of dose's clients, by dose and by debcheck-dose as its package puts it: CPU s, here the least of %d runs\n"
 ROUNDS = 5
 DEBCHECK, BUILDCHECK = "dose-debcheck", "dose-builddebcheck"
 DUMMY = "sbuild-build-depends-main-dummy"
@@ -46,6 +46,15 @@ def calls(index, sources, arch, broken, folder):
         yield Call("laniakea, sources (.xz)", BUILDCHECK, laniakea + ["--deb-emulate-sbuild", pressed, packed(sources)], most=4)
 
 
+def installed(folder):
+    """The folder of the commands, with Python's code beside them, as the package has it made."""
+    root = os.path.join(folder, "dose-root")
+    subprocess.run(["make", "-s", "-C", TOP, "install-debcheck-dose", "DESTDIR=" + root, "PREFIX=/usr"], check=True)
+    commands = os.path.join(root, "usr", "lib", "debcheck", "dose")
+    subprocess.run(["/usr/bin/python3", "-m", "compileall", "-q", commands], check=True)
+    return commands
+
+
 def run(program, call, folder, limit):
     """The run, and how many packages are broken by it."""
     out = os.path.join(folder, "call.out")
@@ -57,13 +66,14 @@ def run(program, call, folder, limit):
 
 
 def show(index, sources, arch, broken, program, folder, limit):
-    """Prints the table; `program` is the debcheck that tools/ ask."""
+    """Prints the table; `program` is the debcheck that is asked."""
     os.environ["DEBCHECK"] = program
+    commands = installed(folder)
     print(HEAD % ROUNDS)
-    print("  %-28s %9s %9s %9s %9s %9s %9s" % ("", "dose", "broken", "tools/", "broken", "at most", "ratio"), flush=True)
+    print("  %-28s %9s %9s %9s %9s %9s %9s" % ("", "dose", "broken", "here", "broken", "at most", "ratio"), flush=True)
     for call in calls(index, sources, arch, broken, folder):
         theirs, known = run("/usr/bin/" + call.command, call, folder, limit)
-        runs = [run(os.path.join(TOP, "tools", call.command), call, folder, limit) for _ in range(ROUNDS)]
+        runs = [run(os.path.join(commands, call.command), call, folder, limit) for _ in range(ROUNDS)]
         least, found = min(runs, key=lambda row: row[0].cpu)
         cells = (call.title, theirs.cpu, known, least.cpu, found, call.most, theirs.cpu / least.cpu)
         print("  %-28s %9.2f %9d %9.2f %9d %9.1f %9.1f" % cells, flush=True)

@@ -1,7 +1,8 @@
-"""Types into a shell with debcheck's completion. Started by the script `completion`.
+"""Types into a shell with the completion of debcheck and of debcheck-archive. Started by the script `completion`.
 
-Each case is what is typed and the words that the program then gets. In bash `\\e*` puts all completions in place.
+Each case is what is typed and the words that the command then gets. In bash `\\e*` puts all completions in place.
 Status 0: the words are those. 1: some aren't, or --help has other options. 2: there is no bash."""
+import argparse
 import os
 import pty
 import re
@@ -41,18 +42,35 @@ ALL_AT_ONCE = [
     ("--format \033*", ["--format", "json", "text"]),
     ("--su\033* --\033*", ["--successes", *sorted({*OPTIONS} - {"--since", "--successes", "--all-reasons", "--why"})]),
 ]
+ARCHIVE = "debcheck-archive"
+ARCHIVE_CASES = [
+    ("chec\tPack\t--rep\tj\t--bg fol\tother\t", ["check", "Packages of main", "--report", "json", "--bg", "folder/other"]),
+    ("check --form\tt\t--by m\t--late\t", ["check", "--format", "text", "--by", "maintainer", "--latest"]),
+    ("check --arch s3\t--sources --profi\tnod\t--no-i\t", ["check", "--arch", "s390x", "--sources", "--profiles", "nodoc", "--no-indep"]),
+    ("sour\tPack\t--firs\t", ["sources", "Packages of main", "--first-alternative"]),
+    ("would\tfoo --mir\tfolder --fro\tsid --t\tforky", ["would-migrate", "foo", "--mirror", "folder", "--from", "sid", "--to", "forky"]),
+    ("part\tsystemd --fro\tPack\t", ["partial-upgrade", "systemd", "--from", "Packages of main"]),
+    ("witho\tlibfoo2 --ind\tPack\t", ["without", "libfoo2", "--index", "Packages of main"]),
+    ("debf\tfol\tother\t--ap\t", ["debfile", "folder/other", "--apt"]),
+]
+ARCHIVE_AT_ONCE = [
+    ("wi\033* a --by \033*", ["without", "a", "--by", "maintainer", "source"]),
+    ("check --since\033*", ["check", "--since", "--since-bg"]),
+]
 
 
 class Shell:
-    """An interactive shell on a terminal of its own, in which debcheck only tells its words."""
+    """An interactive shell on a terminal of its own, in which a command only tells its words."""
 
-    def __init__(self, words, folder, setting):
+    def __init__(self, words, folder, setting, command="debcheck"):
+        self.command = command
         self.pid, self.end = pty.fork()
         if not self.pid:
             os.chdir(folder)
             os.environ.update(PS1="$ ", TERM="dumb", HISTFILE="", HOME=folder)
             os.execvp(words[0], words)
-        self.type(setting + "; debcheck() { printf '<<%s>>' \"$@\"; echo; }")
+        asked = f"[[ $1 == --words || $1 == --commands ]] && {{ {TOP}/tools/{ARCHIVE} \"$@\"; return; }}; " if command == ARCHIVE else ""
+        self.type(f"{setting}; {command}() {{ {asked}printf '<<%s>>' \"$@\"; echo; }}")
         self.answer("echo rea''dy", "ready")
 
     def type(self, text):
@@ -75,8 +93,8 @@ class Shell:
         return said
 
     def words(self, text):
-        """Returns the words that the program gets where this is typed behind its name."""
-        said = self.answer(f"debcheck {text}", ">>\r\n")
+        """Returns the words that the command gets where this is typed behind its name."""
+        said = self.answer(f"{self.command} {text}", ">>\r\n")
         at = said.rfind("<<", 0, said.find("<<") + 2)
         return said[at + 2:said.find(">>\r\n")].split(">><<") if at >= 0 else [said]
 
@@ -86,7 +104,7 @@ def parted(words):
     return [part for word in words for part in word.split("=", 1)]
 
 
-def tried(name, shell, cases, read=lambda it: it):
+def tried(name, shell, cases, read):
     wrong = 0
     for typed, wanted in cases:
         got = shell.words(typed)
@@ -103,11 +121,26 @@ def known_architectures():
     return said.split()
 
 
+def shells(command, folder):
+    """A bash, and a zsh where there is one, with the completion of a command."""
+    yield "bash", Shell(["bash", "--norc", "--noprofile", "-i"], folder, f"source {TOP}/completion/{command}.bash", command)
+    if shutil.which("zsh"):
+        os.makedirs(f"{folder}/functions", exist_ok=True)
+        shutil.copy(f"{TOP}/completion/{command}.zsh", f"{folder}/functions/_{command}")
+        setting = "fpath=($PWD/functions $fpath); autoload -U compinit; compinit -u -D; unsetopt beep list_beep"
+        yield "zsh", Shell(["zsh", "-f", "-i"], folder, setting, command)
+    else:
+        print("completion: zsh isn't there, so it isn't tried")
+
+
 def main():
+    parser = argparse.ArgumentParser(prog="completion", description=__doc__)
+    parser.add_argument("--program", metavar="PATH", default=f"{TOP}/debcheck", help="the debcheck whose --help is read")
+    program = parser.parse_args().program
     if not shutil.which("bash"):
         print("completion: bash is needed", file=sys.stderr)
         return 2
-    told = subprocess.run([f"{TOP}/debcheck", "--help"], capture_output=True, text=True, check=True).stdout
+    told = subprocess.run([program, "--help"], capture_output=True, text=True, check=True).stdout
     if {*re.findall(r"(?m)^ +(?:-\w, )?(--[a-z-]+)", told)} != {*OPTIONS}:
         print(f"completion: the options of --help are others than {OPTIONS}")
         return 1
@@ -118,15 +151,11 @@ def main():
         os.mkdir(f"{folder}/folder")
         for name in ("Packages of main", "folder/other"):
             open(f"{folder}/{name}", "w").close()
-        shell = Shell(["bash", "--norc", "--noprofile", "-i"], folder, f"source {TOP}/completion/debcheck.bash")
-        wrong = tried("bash", shell, cases + ALL_AT_ONCE)
-        if shutil.which("zsh"):
-            os.mkdir(f"{folder}/functions")
-            shutil.copy(f"{TOP}/completion/debcheck.zsh", f"{folder}/functions/_debcheck")
-            setting = "fpath=($PWD/functions $fpath); autoload -U compinit; compinit -u -D; unsetopt beep list_beep"
-            wrong += tried("zsh", Shell(["zsh", "-f", "-i"], folder, setting), cases, parted)
-        else:
-            print("completion: zsh isn't there, so it isn't tried")
+        wrong = 0
+        for command, lines, at_once in (("debcheck", cases, ALL_AT_ONCE), (ARCHIVE, ARCHIVE_CASES, ARCHIVE_AT_ONCE)):
+            for name, shell in shells(command, folder):
+                alone = name == "bash"
+                wrong += tried(f"{name}, {command}", shell, lines + at_once if alone else lines, list if alone else parted)
     return 1 if wrong else 0
 
 

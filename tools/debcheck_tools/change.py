@@ -106,5 +106,5 @@ def met_before(row: Row, earlier: Names, packages: Packages) -> Iterator[Member]
             for stanza, own in earlier.having(name):
                 member = Member(stanza.package, stanza.version)
                 met = not operator or bool(own) and apt_pkg.check_dep(own, operator, version)
-                if met and member not in packages.known:
+                if met and packages.stanza_of(member) is None:
                     yield member

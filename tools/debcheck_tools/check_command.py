@@ -13,6 +13,7 @@ from debcheck_tools.change_told import add_form, tell_change, write_json
 from debcheck_tools.command_line import Commands
 from debcheck_tools.errors import UNKNOWN, USAGE, Fault
 from debcheck_tools.inputs import Inputs
+from debcheck_tools.near import provided
 from debcheck_tools.overview import Packages
 from debcheck_tools.program import WORKERS, Json, Program
 from debcheck_tools.progress import progress
@@ -47,8 +48,8 @@ def work(options: argparse.Namespace) -> int:
     if words and not options.report:
         raise Fault(USAGE, f"{words[0]} needs --report text or --report json: the overview doesn't have it")
     see_commas(options)
-    asked = inputs.read(options)
     program = Program([*WORKERS, "--ignore-essential"] if options.ignore_essential else WORKERS)
+    asked = inputs.read(options)
     names = names_of(options, asked)
     progress.tell("asking debcheck")
     if options.report == "text":
@@ -91,16 +92,24 @@ def names_of(options: argparse.Namespace, asked: Inputs) -> list[str] | None:
         return None
     front = PREFIX if asked.sources else ""
     known = {stanza.package for stanza in asked.index.stanzas}
-    names = [front + name for name in options.checkonly.split(",")]
-    for name in names:
-        if name not in known:
-            near = [other.removeprefix(front) for other in difflib.get_close_matches(name, known, 3, 0.7)]
+    named: list[str] = options.checkonly.replace(",", " ").split()
+    for name in named:
+        if front + name not in known:
             files = ", ".join(file.name for file in asked.index.files)
-            hint = f"; similar: {', '.join(near)}" if near else ""
-            raise Fault(
-                UNKNOWN, f"{files}: no {'source' if front else 'package'} is called {name.removeprefix(front)!r}{hint}"
-            )
-    return names
+            what = "source" if front else "package"
+            raise Fault(UNKNOWN, f"{files}: no {what} is called {name!r}{instead(name, front, known, asked)}")
+    if not named:
+        raise Fault(USAGE, "--checkonly names nothing")
+    return [front + name for name in named]
+
+
+def instead(name: str, front: str, known: set[str], asked: Inputs) -> str:
+    """Who provides a name that isn't there, or what is like it."""
+    providers = [one.package for one in asked.index.own(asked.arch) if name in (other for other, _ in provided(one))]
+    if providers:
+        return f"; it is provided by {', '.join(providers[:3])}"
+    near = difflib.get_close_matches(front + name, known, 3, 0.7)
+    return f"; similar: {', '.join(other.removeprefix(front) for other in near)}" if near else ""
 
 
 def told(package: Json, packages: Packages) -> Json:

@@ -1,6 +1,7 @@
 """debcheck-archive: one command with a sub-command for each question."""
 
 import argparse
+import difflib
 import gc
 import importlib
 import sys
@@ -27,8 +28,16 @@ class Parser(argparse.ArgumentParser):
     """A parser that refuses a command line with the program's status."""
 
     def error(self, message: str) -> NoReturn:
-        hint = "; write --format json" if "--json" in message.split() else ""
-        raise Fault(USAGE, f"{message}{hint}\n{self.format_usage().rstrip()}")
+        raise Fault(USAGE, f"{message}; see {self.prog} --help")
+
+    def refuse(self, words: Sequence[str]) -> NoReturn:
+        """Refuses words that it doesn't know, with what is like the first."""
+        first = words[0].partition("=")[0]
+        near = ["--format json"] if first == "--json" else difflib.get_close_matches(first, self.options(), 1)
+        self.error(f"unrecognized arguments: {' '.join(words)}" + (f"; similar: {near[0]}" if near else ""))
+
+    def options(self) -> list[str]:
+        return list(self._option_string_actions)
 
 
 Commands: TypeAlias = "argparse._SubParsersAction[Parser]"
@@ -49,11 +58,10 @@ def parser(words: Sequence[str]) -> tuple[Parser, Commands]:
 
 def told_to_completion(words: Sequence[str], commands: Commands) -> bool:
     """Writes what the completion of shells asks for: the commands, or the options of one."""
-    known: dict[str, Parser] = dict(commands.choices)
     if list(words) == ["--commands"]:
-        print("\n".join(known))
+        print("\n".join(commands.choices))
     elif len(words) == 2 and words[0] == "--words":
-        print("\n".join(known[words[1]]._option_string_actions if words[1] in known else ()))
+        print("\n".join(commands.choices[words[1]].options() if words[1] in commands.choices else ()))
     else:
         return False
     return True
@@ -68,7 +76,7 @@ def main(words: Optional[Sequence[str]] = None) -> int:
         options, rest = made.parse_known_args(given)
         # Files may stand before and behind options.
         if any(word.startswith("-") for word in rest) or rest and not hasattr(options, "files"):
-            made.error(f"unrecognized arguments: {' '.join(rest)}")
+            commands.choices[given[0]].refuse(rest)
         if rest:
             options.files += rest
         progress.start()

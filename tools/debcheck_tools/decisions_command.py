@@ -10,10 +10,11 @@ from debcheck_tools import inputs
 from debcheck_tools.change_told import add_form, tell_change
 from debcheck_tools.command_line import Commands
 from debcheck_tools.errors import READ, UNKNOWN, USAGE, Fault
-from debcheck_tools.index import Index, Stanza, architecture_of
+from debcheck_tools.index import Index, architecture_of
 from debcheck_tools.index_files import PACKAGES, IndexFile, in_memory
 from debcheck_tools.inputs import Inputs
 from debcheck_tools.program import WORKERS, Program
+from debcheck_tools.stanza import Stanza
 
 
 def register(commands: Commands) -> None:

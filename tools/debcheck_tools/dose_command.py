@@ -1,6 +1,7 @@
 """dose-debcheck and dose-builddebcheck: they ask debcheck, and tell its answer as dose does."""
 
 import argparse
+import gc
 import os
 import subprocess
 import sys
@@ -81,4 +82,6 @@ def work(command: str, words: Sequence[str]) -> int:
 
 
 def main(command: str) -> int:
+    # What is made stays to the end, and has no cycle.
+    gc.disable()
     return ended(command, lambda: work(command, sys.argv[1:]))

@@ -2,9 +2,10 @@
 
 import argparse
 import mmap
+import os
 import re
-from collections.abc import Callable, Iterable, Iterator
-from typing import BinaryIO
+from collections.abc import Callable, Iterable, Iterator, Sequence
+from typing import BinaryIO, Optional, cast
 
 import apt_pkg
 
@@ -12,7 +13,7 @@ from debcheck_tools.dose_chains import Member
 from debcheck_tools.dose_report import Own
 from debcheck_tools.dose_words import BUILDCHECK
 from debcheck_tools.errors import DATA, USAGE, Fault
-from debcheck_tools.index import Index, latest
+from debcheck_tools.index import Index, kept
 from debcheck_tools.index_files import PACKAGES, SOURCES, IndexFile, open_index
 from debcheck_tools.sources import Building, Sources
 from debcheck_tools.tag_file import Section, native, tags_of, values
@@ -39,7 +40,7 @@ class Inputs:
         self.sources = self.read_sources([file for file in asked if file.kind == SOURCES], options)
         self.asked = Index(packages + [sources.index.files[0] for sources in self.sources])
         if options.latest:
-            (self.asked,) = latest([self.asked], self.arch, options.latest)
+            blank_older(self.asked.files, self.arch, options.latest)
 
     def opened(self, name: str, kind: str) -> IndexFile:
         """A file by its name, with deb:// or debsrc:// before it or without."""
@@ -71,9 +72,7 @@ class Inputs:
 
     def together(self) -> Index:
         """All of it as one index, in which each package can be asked about."""
-        if self.asked.is_whole:
-            return Index(self.asked.files + self.ground.files)
-        return Index(self.asked.files + self.ground.files, self.asked.stanzas + self.ground.stanzas)
+        return Index(self.asked.files + self.ground.files)
 
     def sections(self, file: IndexFile) -> Iterator[Section]:
         """The stanzas of a file as apt reads them."""
@@ -104,10 +103,49 @@ class Inputs:
                         member = package.decode(), version
                         known.setdefault(member, Own(architecture, essential == "yes", *needs))
         for sources in self.sources:
-            for member, source in sources.known.items():
-                if member in known:
-                    known[member] = known[member]._replace(architecture=",".join(source.architectures.split()))
+            for member, own in known.items():
+                source = sources.source_of(*member)
+                if source:
+                    known[member] = own._replace(architecture=",".join(source.architecture.split()))
         return known
+
+
+Place = tuple[IndexFile, int, int]
+
+
+def blank_older(files: Sequence[IndexFile], arch: str, count: int) -> None:
+    """Overwrites with empty lines each stanza whose version so many newer ones of its name exceed, in any of the files.
+
+    Other architectures' stanzas stay. Where apt can't read on, all stay: the program tells why.
+    """
+    first: dict[Optional[bytes], Place] = {}
+    several: dict[bytes, list[Place]] = {}
+    try:
+        for file in files:
+            tags, begin = tags_of(file.text), 0
+            while tags.step():
+                name, place = tags.section.get("Package"), (file, begin, tags.offset())
+                if first.setdefault(name, place) is not place and name:
+                    several.setdefault(name, [first[name]]).append(place)
+                begin = place[2]
+    except apt_pkg.Error:
+        return
+    for places in several.values():
+        for file, begin, end in older(places, arch, count):
+            os.pwrite(file.text.fileno(), b"\n" * (end - begin), begin)
+
+
+def older(places: Sequence[Place], arch: str, count: int) -> Iterator[Place]:
+    """Of the stanzas of a name those of the architecture that aren't among so many newest versions."""
+    versions: dict[Place, str] = {}
+    for place in places:
+        file, begin, end = place
+        section = cast(Section, apt_pkg.TagSection(os.pread(file.text.fileno(), end - begin, begin), bytes=True))
+        version, architecture = values(section, FIELDS[:2])
+        if version and architecture in (arch, "all"):
+            versions[place] = version
+    least = kept(list(versions.values()), count) if versions else ""
+    return (place for place, version in versions.items() if apt_pkg.version_compare(version, least) < 0)
 
 
 def is_architecture(text: str) -> bool:

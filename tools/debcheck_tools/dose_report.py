@@ -5,8 +5,8 @@ import re
 from collections.abc import Mapping, Sequence
 from typing import NamedTuple, Optional
 
-from debcheck_tools.dose_chains import Chains, Conflict, Json, Member, Missing, Step, member_of
-from debcheck_tools.dose_yaml import Node, Value
+from debcheck_tools.dose_chains import Chains, Conflict, Member, Missing, Step
+from debcheck_tools.dose_yaml import Node
 from debcheck_tools.errors import DATA, Fault
 from debcheck_tools.sources import PREFIX
 
@@ -28,16 +28,17 @@ class Told:
 
     def __init__(self, known: Mapping[Member, Own], native: Optional[str]) -> None:
         self.known, self.native = known, native
-        self.relation = functools.lru_cache(maxsize=None)(self.spelled)
+        self.relation = functools.cache(self.spelled)
+        self.member = functools.cache(self.made)
 
-    def member(self, member: Member) -> dict[str, Value]:
-        """A package by itself."""
+    def made(self, member: Member) -> Node:
+        """A package by itself, which is made once and not changed."""
         own = self.known.get(member)
         if own is None:
             name = " ".join(member)
             raise Fault(DATA, f"apt doesn't find {name}: there are comments, or lines of blanks, between stanzas")
         is_source = member[0].startswith(PREFIX)
-        node: dict[str, Value] = {
+        node: Node = {
             "package": member[0].removeprefix(PREFIX),
             "version": member[1],
             "architecture": own.architecture,
@@ -77,13 +78,13 @@ class Told:
         return [{"depchain": chain}]
 
     def missing(self, lack: Missing, way: Sequence[Step]) -> Node:
-        node: dict[str, Value] = {"pkg": {**self.member(lack.member), "unsat-dependency": self.relation(lack.relation)}}
+        node: Node = {"pkg": {**self.member(lack.member), "unsat-dependency": self.relation(lack.relation)}}
         if way:
             node["depchains"] = self.steps(way)
         return {"missing": node}
 
     def conflict(self, conflict: Conflict, way: Sequence[Step], other_way: Sequence[Step]) -> Node:
-        node: dict[str, Value] = {
+        node: Node = {
             "pkg1": {**self.member(conflict.member), "unsat-conflict": self.relation(conflict.relation)},
             "pkg2": self.member(conflict.other),
         }
@@ -104,15 +105,10 @@ class Told:
         ]
         return conflicts + [self.missing(lack, way(lack.member)) for lack in chains.missing()]
 
-    def package(self, package: Json, explain: bool, minimal: bool, chosen: Sequence[Member] = ()) -> Node:
-        """A package that is shown; `chosen` is its installation set."""
-        member, is_ok = member_of(package), package["status"] == "ok"
-        node = self.member(member)
+    def head(self, member: Member, status: str, minimal: bool) -> Node:
+        """A package that is shown, without its explanation."""
+        node = dict(self.member(member))
         if minimal:
-            node["success" if is_ok else "failure"] = self.selector(member)
-        node["status"] = package["status"]
-        if explain and is_ok:
-            node["installationset"] = [self.member(one) for one in chosen]
-        elif explain:
-            node["reasons"] = self.reasons(Chains(member, package["reasons"]), minimal)
+            node["success" if status == "ok" else "failure"] = self.selector(member)
+        node["status"] = status
         return node

@@ -4,9 +4,9 @@ from collections import Counter
 from collections.abc import Sequence
 from typing import Union
 
-from debcheck_tools.dose_chains import Conflict, Member, Missing
+from debcheck_tools.dose_chains import Chains, Conflict, Member, Missing
 from debcheck_tools.dose_report import Told
-from debcheck_tools.dose_yaml import Node, Value
+from debcheck_tools.dose_yaml import Node
 
 Reason = Union[Missing, Conflict]
 
@@ -17,9 +17,10 @@ class Summary:
     def __init__(self) -> None:
         self.missing = self.conflicts = 0
         self.ratio: Counter[tuple[int, int]] = Counter()
-        self.broken_by: dict[tuple[Value, ...], tuple[Reason, dict[Member, None]]] = {}
+        self.broken_by: dict[tuple[str, ...], tuple[Reason, dict[Member, None]]] = {}
 
-    def add(self, root: Member, conflicts: Sequence[Conflict], missing: Sequence[Missing]) -> None:
+    def add(self, chains: Chains) -> None:
+        root, conflicts, missing = chains.root, list(chains.conflicts()), list(chains.missing())
         self.conflicts += len(conflicts)
         self.missing += len(missing)
         self.ratio[len(conflicts), len(missing)] += 1
@@ -30,10 +31,10 @@ class Summary:
             if root not in (conflict.member, conflict.other):
                 self.count((*conflict.member, *conflict.other), conflict, root)
 
-    def count(self, what: tuple[Value, ...], reason: Reason, root: Member) -> None:
+    def count(self, what: tuple[str, ...], reason: Reason, root: Member) -> None:
         self.broken_by.setdefault(what, (reason, {}))[1][root] = None
 
-    def node(self, told: Told, with_packages: bool) -> dict[str, Value]:
+    def node(self, told: Told, with_packages: bool) -> Node:
         """The keys that stand behind those of the report."""
         kinds = [reason for reason, _ in self.broken_by.values()]
         conflicts = [reason for reason in kinds if isinstance(reason, Conflict)]
@@ -53,7 +54,7 @@ class Summary:
 def row(told: Told, reason: Reason, roots: Sequence[Member], with_packages: bool) -> Node:
     """A reason that breaks several packages."""
     if isinstance(reason, Conflict):
-        body: dict[str, Value] = {"pkg1": told.member(reason.member), "pkg2": told.member(reason.other)}
+        body: Node = {"pkg1": told.member(reason.member), "pkg2": told.member(reason.other)}
     else:
         body = {"pkg": {**told.member(reason.member), "unsat-dependency": told.relation(reason.relation)}}
     body["breaks"] = len(roots)

@@ -3,28 +3,35 @@
 dose quotes nothing, and its readers have regular expressions as often as a YAML library.
 """
 
-from collections.abc import Iterator, Mapping, Sequence
+from collections.abc import Sequence
 from typing import Union
 
-Value = Union[str, int, Sequence["Node"], "Node"]
-Node = Mapping[str, Value]
+Value = Union[str, int, "Node", Sequence["Node"]]
+Node = dict[str, Value]
 
 
-def lines_of(node: Node, lead: str = "") -> Iterator[str]:
+def lines_of(node: Node, lead: str = "") -> list[str]:
     """The lines of a mapping, without their ends."""
+    lines: list[str] = []
+    add(lines, node, lead)
+    return lines
+
+
+def add(lines: list[str], node: Node, lead: str) -> None:
+    """Adds the lines of a mapping."""
     for key, value in node.items():
-        if isinstance(value, Mapping):
-            yield f"{lead}{key}:"
-            yield from lines_of(value, lead + " ")
-        elif isinstance(value, (str, int)):
-            yield f"{lead}{key}: {value}"
+        if isinstance(value, (str, int)):
+            lines.append(f"{lead}{key}: {value}")
+        elif isinstance(value, dict):
+            lines.append(f"{lead}{key}:")
+            add(lines, value, lead + " ")
         else:
-            yield f"{lead}{key}:"
-            yield from items_of(value, lead + " ")
+            lines.append(f"{lead}{key}:")
+            add_items(lines, value, lead + " ")
 
 
-def items_of(nodes: Sequence[Node], lead: str) -> Iterator[str]:
-    """The lines of a list of mappings."""
+def add_items(lines: list[str], nodes: Sequence[Node], lead: str) -> None:
+    """Adds the lines of a list of mappings."""
     for node in nodes:
-        yield lead + "-"
-        yield from lines_of(node, lead + " ")
+        lines.append(lead + "-")
+        add(lines, node, lead + " ")

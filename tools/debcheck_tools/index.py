@@ -1,54 +1,18 @@
 """One index of several files: its stanzas with the file that each came from, and its one text."""
 
 import functools
+import operator
 import os
 from collections import Counter
 from collections.abc import Iterable, Iterator, Sequence
-from typing import BinaryIO, NamedTuple, Optional
+from typing import BinaryIO, Optional
 
 import apt_pkg
 
 from debcheck_tools.errors import DATA, USAGE, Fault
 from debcheck_tools.index_files import IndexFile, in_memory
-from debcheck_tools.tag_file import native, tags_of, values
-
-
-class Stanza(NamedTuple):
-    """A package, or a source, as its index has it; `begin` and `end` are its bytes in the file's text."""
-
-    package: str
-    version: str
-    architecture: str
-    source: str
-    maintainer: str
-    provides: str
-    binaries: str
-    file: IndexFile
-    begin: int
-    end: int
-
-    @property
-    def source_name(self) -> str:
-        """The source package that it is built from."""
-        return self.source.split(None, 1)[0] if self.source else self.package
-
-    @property
-    def source_version(self) -> str:
-        """The version of that source."""
-        return self.source.partition("(")[2].rstrip(") ") or self.version
-
-
-FIELDS = ("Package", "Version", "Architecture", "Source", "Maintainer", "Provides", "Binary")
-
-
-def stanzas_of(file: IndexFile) -> Iterator[Stanza]:
-    """The stanzas of a file as apt reads them; it raises apt_pkg.Error where apt can't read on."""
-    tags, begin = tags_of(file.text), 0
-    while tags.step():
-        end = tags.offset()
-        package, version, architecture, source, maintainer, provides, binaries = values(tags.section, FIELDS)
-        yield Stanza(package, version, architecture, source, maintainer, provides, binaries, file, begin, end)
-        begin = end
+from debcheck_tools.stanza import Stanza, stanzas_of
+from debcheck_tools.tag_file import native
 
 
 class Index:
@@ -107,10 +71,9 @@ class Index:
         whole.seek(0)
         return whole
 
-    def known(self, arch: str) -> dict[tuple[str, str], Stanza]:
-        """The stanza of each package of the architecture, by name and version."""
-        own = (arch, "all")
-        return {(one.package, one.version): one for one in reversed(self.stanzas) if one.architecture in own}
+    def own(self, arch: str) -> list[Stanza]:
+        """The stanzas of an architecture, and of `all`."""
+        return [stanza for stanza in self.stanzas if stanza.architecture in (arch, "all")]
 
     def place_of(self, number: int) -> tuple[IndexFile, list[bytes]]:
         """The file and the lines of the stanza that the program counts so, from 1, in the text."""
@@ -162,7 +125,7 @@ def architecture_of(indexes: Sequence[Index], named: Optional[str]) -> str:
     """
     owners: dict[str, str] = {}
     for file, counts in counted(indexes):
-        own = [arch for arch, _ in counts.most_common() if arch != "all"]
+        own = [arch for arch, _ in counts.most_common() if arch not in ("", "all")]
         if named and own and named not in counts:
             raise Fault(DATA, f"{file.name}: has packages of {' and '.join(own[:3])}, none of {named}{spelled(named)}")
         for arch in own:
@@ -210,21 +173,24 @@ def latest(indexes: Sequence[Index], arch: Optional[str] = None, count: int = 1)
 
     With an architecture only what is of it, or of `all`, is compared; other stanzas stay.
     """
-    versions: dict[str, list[str]] = {}
     compare = apt_pkg.version_compare
 
     def counts(stanza: Stanza) -> bool:
         return bool(stanza.package and stanza.version) and (arch is None or stanza.architecture in (arch, "all"))
 
-    for stanza in (stanza for index in indexes for stanza in index.stanzas if counts(stanza)):
-        known = versions.setdefault(stanza.package, [])
-        if stanza.version not in known:
-            known.append(stanza.version)
-
+    stanzas = [stanza for index in indexes for stanza in index.stanzas if counts(stanza)]
+    times = Counter(map(operator.attrgetter("package"), stanzas))
+    versions: dict[str, list[str]] = {}
+    for stanza in stanzas:
+        if times[stanza.package] > 1:
+            known = versions.setdefault(stanza.package, [])
+            if stanza.version not in known:
+                known.append(stanza.version)
     least = {name: kept(known, count) for name, known in versions.items()}
 
     def stays(stanza: Stanza) -> bool:
-        return not counts(stanza) or compare(stanza.version, least[stanza.package]) >= 0
+        bound = least.get(stanza.package)
+        return bound is None or not counts(stanza) or compare(stanza.version, bound) >= 0
 
     return [index if index.unread else Index(index.files, list(filter(stays, index.stanzas))) for index in indexes]
 

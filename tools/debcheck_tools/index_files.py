@@ -2,14 +2,13 @@
 
 import bz2
 import gzip
-import io
 import lzma
 import os
 import shutil
 import subprocess
 import sys
 import zlib
-from collections.abc import Callable
+from collections.abc import Callable, Iterable, Iterator
 from typing import BinaryIO, NamedTuple, NoReturn, cast
 
 import apt_pkg
@@ -71,10 +70,14 @@ def raw(name: str, shown: str) -> BinaryIO:
         raise Fault(READ, f"{shown}: {tells}") from None
 
 
-def with_program(words: list[str]) -> Callable[[BinaryIO], BinaryIO]:
+def blocks_of(source: BinaryIO) -> Iterator[bytes]:
+    return iter(lambda: source.read(1 << 20), b"")
+
+
+def with_program(words: list[str]) -> Callable[[BinaryIO], Iterable[bytes]]:
     """Unpacks by another program, for what Python doesn't read."""
 
-    def unpack(source: BinaryIO) -> BinaryIO:
+    def unpack(source: BinaryIO) -> Iterable[bytes]:
         os.lseek(source.fileno(), 0, os.SEEK_SET)
         try:
             done = subprocess.run(words, stdin=source, stdout=subprocess.PIPE, stderr=subprocess.DEVNULL, check=True)
@@ -82,19 +85,32 @@ def with_program(words: list[str]) -> Callable[[BinaryIO], BinaryIO]:
             raise Fault(
                 READ, f"it is compressed by {words[0]}, which isn't installed: apt-get install {words[0]}"
             ) from None
-        return io.BytesIO(done.stdout)
+        return [done.stdout]
 
     return unpack
 
 
-def with_library(unpack: Callable[..., object]) -> Callable[[BinaryIO], BinaryIO]:
-    return lambda source: cast(BinaryIO, unpack(source))
+def with_library(unpack: Callable[..., object]) -> Callable[[BinaryIO], Iterable[bytes]]:
+    return lambda source: blocks_of(cast(BinaryIO, unpack(source)))
+
+
+def with_lzma(source: BinaryIO) -> Iterator[bytes]:
+    """Unpacks one stream or several, in larger blocks than LZMAFile's, which take a tenth more time."""
+    stream = lzma.LZMADecompressor()
+    for block in blocks_of(source):
+        while block:
+            if stream.eof:
+                stream = lzma.LZMADecompressor()
+            yield stream.decompress(block)
+            block = stream.unused_data.lstrip(b"\0")
+    if not stream.eof:
+        raise EOFError
 
 
 # What a compressed file begins with.
-FORMS: tuple[tuple[bytes, Callable[[BinaryIO], BinaryIO]], ...] = (
-    (b"\xfd7zXZ\0", with_library(lzma.LZMAFile)),
-    (b"]\0\0", with_library(lzma.LZMAFile)),
+FORMS: tuple[tuple[bytes, Callable[[BinaryIO], Iterable[bytes]]], ...] = (
+    (b"\xfd7zXZ\0", with_lzma),
+    (b"]\0\0", with_lzma),
     (b"\x1f\x8b", with_library(gzip.open)),
     (b"BZh", with_library(bz2.BZ2File)),
     (b"\x28\xb5\x2f\xfd", with_program(["zstd", "-dcq"])),
@@ -107,12 +123,12 @@ def unpacked(shown: str, source: BinaryIO, is_in_memory: bool) -> BinaryIO:
     try:
         begin = source.read(6)
         source.seek(0)
-        unpack = next((unpack for magic, unpack in FORMS if begin.startswith(magic)), None)
-        if is_in_memory and not unpack:
+        unpack = next((unpack for magic, unpack in FORMS if begin.startswith(magic)), blocks_of)
+        if is_in_memory and unpack is blocks_of:
             return source
         with source:
             text = in_memory()
-            shutil.copyfileobj(unpack(source) if unpack else source, text, 1 << 20)
+            text.writelines(unpack(source))
             return text
     except EOFError:
         raise Fault(

@@ -10,7 +10,7 @@ from debcheck_tools.errors import USAGE, Fault
 from debcheck_tools.index import Index, architecture_of, joined, latest
 from debcheck_tools.index_files import PACKAGES, SOURCES, open_index
 from debcheck_tools.progress import progress
-from debcheck_tools.sources import Building, Sources
+from debcheck_tools.sources import Building, Sources, all_of
 from debcheck_tools.tag_file import native
 
 
@@ -158,8 +158,8 @@ def read_sources(options: argparse.Namespace, inputs: Inputs) -> None:
         if files is not None:
             texts.append(opened(files, SOURCES) if files else named(options, SOURCES, []))
     binaries: dict[str, list[str]] = {}
-    for stanza in (stanza for text in texts for stanza in latest([text])[0].stanzas):
-        for name in stanza.binaries.replace(",", " ").split():
+    for stanza in (stanza for text in texts for stanza in all_of(latest([text])[0])):
+        for name in () if stanza.is_text_alone else stanza.building[0].replace(",", " ").split():
             binaries.setdefault(name, []).append(stanza.package)
     inputs.building = binaries
     if options.sources is not None:

@@ -8,7 +8,8 @@ from typing import NamedTuple, Optional
 
 import apt_pkg
 
-from debcheck_tools.index import Index, Stanza
+from debcheck_tools.index import Index
+from debcheck_tools.stanza import Stanza
 
 MOST = 10  # of the names that are told near one
 # A number in a name, with what counts as part of it: 1.3.9d, 3t64, 2.5.
@@ -52,25 +53,41 @@ class Names:
     """All names that indexes have or provide for an architecture."""
 
     def __init__(self, indexes: Iterable[Index], arch: str, building: Optional[dict[str, list[str]]] = None) -> None:
-        self.first: dict[str, Stanza] = {}
-        self.more: dict[str, list[Stanza]] = {}
+        self.stanzas = [stanza for index in indexes for stanza in index.own(arch)]
         self.building = building or {}
-        for stanza in (stanza for index in indexes for stanza in index.stanzas if stanza.architecture in (arch, "all")):
-            names = [stanza.package]
-            if stanza.provides:
-                names += [name for name, _ in provided(stanza)]
-            for name in names:
-                if self.first.setdefault(name, stanza) is not stanza:
-                    self.more.setdefault(name, []).append(stanza)
-        self.sorted = sorted(self.first)
+        # The first of each name; few have several.
+        self.first = {stanza.package: stanza for stanza in reversed(self.stanzas)}
+        self.more: dict[str, list[Stanza]] = {}
+        if len(self.first) < len(self.stanzas):
+            for stanza in self.stanzas:
+                if self.first[stanza.package] is not stanza:
+                    self.more.setdefault(stanza.package, []).append(stanza)
+
+    @functools.cached_property
+    def providers(self) -> dict[str, list[Stanza]]:
+        """Who provides each name."""
+        found: dict[str, list[Stanza]] = {}
+        for stanza in self.stanzas:
+            for name, _ in provided(stanza) if stanza.provides else ():
+                known = found.setdefault(name, [])
+                if not known or known[-1] is not stanza:
+                    known.append(stanza)
+        return found
+
+    @functools.cached_property
+    def sorted(self) -> list[str]:
+        return sorted([*sorted(self.first), *sorted(self.providers.keys() - self.first.keys())])
+
+    def called(self, name: str) -> list[Stanza]:
+        """The packages of a name."""
+        return [self.first[name], *self.more.get(name, ())] if name in self.first else []
 
     def having(self, name: str) -> Iterator[tuple[Stanza, str]]:
         """The packages that have or provide a name, each with the version of it."""
-        first = self.first.get(name)
-        for stanza in dict.fromkeys([first, *self.more.get(name, ())] if first else ()):
-            if stanza.package == name:
-                yield stanza, stanza.version
-            else:
+        for stanza in self.called(name):
+            yield stanza, stanza.version
+        for stanza in self.providers.get(name, ()):
+            if stanza.package != name:
                 yield from ((stanza, version) for other, version in provided(stanza) if other == name)
 
     def near(self, names: Iterable[str]) -> list[Near]:
@@ -92,13 +109,9 @@ class Names:
         if not hash_sign or not begin:
             return []
         end = end.rpartition("#")[2]
-        place = bisect.bisect_left(self.sorted, begin)
-        found = []
-        while place < len(self.sorted) and self.sorted[place].startswith(begin):
-            other = self.sorted[place]
-            if other != name and other.endswith(end) and stem(other)[0] == form:
-                found.append(other)
-            place += 1
+        place, behind = (bisect.bisect_left(self.sorted, bound) for bound in (begin, begin + "\x7f"))
+        among = (other for other in self.sorted[place:behind] if other.endswith(end) and other != name)
+        found = [other for other in among if stem(other)[0] == form]
         found.sort(key=functools.cmp_to_key(names_in_order))
         newer = [other for other in found if order(numbers, stem(other)[1]) < 0]
         older = [other for other in reversed(found) if order(numbers, stem(other)[1]) >= 0]

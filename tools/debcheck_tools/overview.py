@@ -1,17 +1,16 @@
 """The overview: what is wrong, the most useful thing to mend first, with who needs it and what stands near."""
 
-import functools
 from collections.abc import Callable, Iterable, Iterator, Sequence
 from dataclasses import dataclass, field
 from typing import Optional
 
 import apt_pkg
 
-from debcheck_tools.index import Stanza
 from debcheck_tools.inputs import Inputs
 from debcheck_tools.near import Names, Near
 from debcheck_tools.program import Json
 from debcheck_tools.sources import PREFIX
+from debcheck_tools.stanza import Stanza
 from debcheck_tools.wrongs import BY, CONFLICT, LACKS, Gathered, Member, Wrong, names_of
 
 FORMAT = 1
@@ -25,11 +24,12 @@ class Packages:
     def __init__(self, inputs: Inputs) -> None:
         self.sources, self.building = inputs.sources, inputs.building
         indexes = [inputs.background] if inputs.sources else [inputs.index, inputs.background]
-        self.indexes = [index for index in indexes if index is not None]
-        self.names = Names(self.indexes, inputs.arch, inputs.building)
-        self.known: dict[tuple[str, str], Stanza] = {}
-        for index in reversed(self.indexes):
-            self.known.update(index.known(inputs.arch))
+        self.names = Names([index for index in indexes if index is not None], inputs.arch, inputs.building)
+        self.asked = Names([inputs.sources.index] if inputs.sources else [], inputs.arch)
+
+    def stanza_of(self, member: Member) -> Optional[Stanza]:
+        """The first stanza of a package."""
+        return next((one for one in self.names.called(member.package) if one.version == member.version), None)
 
     def owner_of(self, by: str) -> Callable[[Member], str]:
         """Who has to act, by source or by maintainer."""
@@ -39,35 +39,28 @@ class Packages:
         """The source package of a package; of a source itself."""
         if self.sources and member.package.startswith(PREFIX):
             return member.package.removeprefix(PREFIX)
-        stanza = self.known.get(member)
+        stanza = self.stanza_of(member)
         return stanza.source_name if stanza else member.package
 
     def maintainer_of(self, member: Member) -> str:
         source = self.sources.source_of(*member) if self.sources else None
-        stanza = self.known.get(member)
+        stanza = self.stanza_of(member)
         return source.maintainer if source else stanza.maintainer if stanza else ""
 
     def file_of(self, member: Member) -> str:
         """The file that a package, or a source, stands in."""
         found = self.sources.source_of(*member) if self.sources else None
-        stanza = found or self.known.get(member)
+        stanza = found or self.stanza_of(member)
         return stanza.file.name if stanza else ""
 
-    @functools.cached_property
-    def newest(self) -> dict[str, str]:
-        found: dict[str, str] = {}
-        for package, version in [*self.known, *(self.sources.known if self.sources else ())]:
-            if package not in found or apt_pkg.version_compare(version, found[package]) > 0:
-                found[package] = version
-        return found
-
     def is_superseded(self, member: Member) -> bool:
-        """Whether a newer version of the name is there."""
-        return apt_pkg.version_compare(member.version, self.newest.get(member.package, member.version)) < 0
+        """Whether a newer version of the name is there, of a package or of a source that is asked about."""
+        alike = self.asked.called(member.package) or self.names.called(member.package)
+        return any(apt_pkg.version_compare(one.version, member.version) > 0 for one in alike)
 
     def is_leftover(self, member: Member) -> bool:
         """Whether no source builds the package any more, as far as sources are given."""
-        return self.building is not None and member in self.known and member.package not in self.building
+        return self.building is not None and member.package not in self.building and self.stanza_of(member) is not None
 
     def told(self, member: Member) -> Json:
         """A package in JSON, by its own name and source; a source is told as such."""

@@ -141,6 +141,8 @@ def near_text(row: Row) -> str:
     if first.version:
         same = itertools.takewhile(lambda near: near.name == first.name and near.version, row.near)
         return f"[there: {', '.join(near.version for near in itertools.islice(same, 2))}]"
+    if first.package and any(first.name in key.names for key in row.wrong.keys):
+        return f"[there: {first.package}]"
     return f"[{near_name(first)}]"
 
 

@@ -4,7 +4,7 @@ import hashlib
 import os
 from collections.abc import Sequence
 from dataclasses import dataclass
-from functools import lru_cache
+from functools import cache
 from pathlib import Path
 
 from debcheck_tools import mirror
@@ -27,9 +27,18 @@ class Plan:
     background: tuple[str, ...] = ()
     fault: tuple[int, str] | None = None
 
-    def paths(self) -> frozenset[str]:
-        """All its files."""
-        return frozenset((*self.files, *self.background))
+    def packages(self) -> frozenset[str]:
+        """Its files of packages."""
+        return frozenset(self.background if self.cell.kind == "sources" else (*self.files, *self.background))
+
+
+@dataclass(frozen=True)
+class Asked:
+    """A cell to check, with the digest of its files, and the names that were broken at its last answer."""
+
+    plan: Plan
+    digest: str
+    before: frozenset[str]
 
 
 def of_arch(names: Sequence[str], arch: str) -> list[str]:
@@ -37,9 +46,9 @@ def of_arch(names: Sequence[str], arch: str) -> list[str]:
     return [name.replace("{arch}", arch) for name in names]
 
 
-@lru_cache
+@cache
 def suite_of(root: Path, name: str) -> mirror.Suite:
-    """A suite of the mirror."""
+    """A suite of the mirror, whose Release file is read once in a run."""
     return mirror.suite(str(root), name)
 
 
@@ -103,6 +112,8 @@ def architectures(config: Config, suite: Suite, known: Sequence[str]) -> Sequenc
 
 def plans(config: Config, known: Sequence[Cell]) -> list[Plan]:
     """All cells of a configuration, row by row, where `known` are those of earlier runs."""
+    suite_of.cache_clear()
+    digest_of_file.cache_clear()
     found: list[Plan] = []
     for suite in config.suites:
         archs = architectures(
@@ -115,26 +126,34 @@ def plans(config: Config, known: Sequence[Cell]) -> list[Plan]:
     return found
 
 
+@cache
+def digest_of_file(path: str) -> str:
+    """The digest of a file, which is read once in a run."""
+    with open(path, "rb") as file:
+        return hashlib.file_digest(file, "sha256").hexdigest()
+
+
 def digest_of(plan: Plan, program: str) -> str:
     """Of which files and words a cell's answer is."""
+    if plan.fault is not None:
+        raise Fault(*plan.fault)
     whole = hashlib.sha256()
     words = [FORM, str(plan.suite.newest), *plan.suite.profiles, plan.cell.kind, plan.cell.architecture]
     whole.update(("\n".join(words) + "\n").encode())
     for role, paths in (("program", (program,)), ("asked", plan.files), ("background", plan.background)):
         for path in paths:
             try:
-                with open(path, "rb") as file:
-                    whole.update(f"{role} {hashlib.file_digest(file, 'sha256').hexdigest()}\n".encode())
+                whole.update(f"{role} {digest_of_file(path)}\n".encode())
             except OSError as error:
                 raise Fault(PROGRAM if role == "program" else READ, f"{path}: {error.strerror}") from error
     return whole.hexdigest()
 
 
-def groups(plans_of_all: Sequence[Plan]) -> list[list[Plan]]:
-    """The cells that share files, so that one process reads these once; the largest groups first."""
-    found: list[list[Plan]] = []
-    for plan in plans_of_all:
-        sharing = [group for group in found if any(plan.paths() & other.paths() for other in group)]
-        joined = [other for group in sharing for other in group] + [plan]
+def groups(asked: Sequence[Asked]) -> list[list[Asked]]:
+    """The cells that share files of packages, so that one process reads these once; the largest groups first."""
+    found: list[list[Asked]] = []
+    for one in asked:
+        sharing = [group for group in found if any(one.plan.packages() & other.plan.packages() for other in group)]
+        joined = [other for group in sharing for other in group] + [one]
         found = [group for group in found if group not in sharing] + [joined]
     return sorted(found, key=len, reverse=True)

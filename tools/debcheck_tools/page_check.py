@@ -1,19 +1,20 @@
 """Checks cells: asks debcheck about their files, and makes of its answer what their pages show."""
 
 import json
+from collections import Counter
 from collections.abc import Sequence
-from dataclasses import dataclass
-from functools import lru_cache
+from contextlib import suppress
+from functools import cache
 
 from debcheck_tools.errors import Fault
-from debcheck_tools.index import Index, architecture_of, latest
+from debcheck_tools.index import Index, architecture_of, joined, latest
 from debcheck_tools.index_files import PACKAGES, SOURCES, open_index
 from debcheck_tools.inputs import Inputs
 from debcheck_tools.near import Near
 from debcheck_tools.overview import Packages, Row, rows
 from debcheck_tools.overview_text import marks_text, what_text
-from debcheck_tools.page_cells import Plan, digest_of
-from debcheck_tools.page_history import Answer, Json, NoAnswer, Outcome, Unchanged
+from debcheck_tools.page_cells import Asked, Plan
+from debcheck_tools.page_history import Answer, Json, NoAnswer, Outcome
 from debcheck_tools.page_walk import walked
 from debcheck_tools.program import Program
 from debcheck_tools.sources import PREFIX, Building, Sources
@@ -23,19 +24,25 @@ WORDS = ("--failures", "--all-reasons", "--why")
 SOME_NEAR = 4
 
 
-@dataclass(frozen=True)
-class Asked:
-    """A cell to check, with what the history knows: the digest of its last answer, and the names that were broken."""
-
-    plan: Plan
-    digest: str
-    before: frozenset[str]
+@cache
+def index_of_file(path: str, kind: str) -> Index:
+    """A file, which is read once for all cells of a process, and of those that it forks."""
+    return Index([open_index(path, kind)])
 
 
-@lru_cache
-def index_of(paths: tuple[str, ...], kind: str) -> Index:
-    """Files as one index, which are read once for all cells of a process."""
-    return Index([open_index(path, kind) for path in paths])
+def index_of(paths: Sequence[str], kind: str) -> Index:
+    """Files as one index."""
+    return joined([index_of_file(path, kind) for path in paths])
+
+
+def read_shared(asked: Sequence[Asked]) -> None:
+    """Reads the sources that several cells are asked about, before the processes are forked that check these."""
+    counts = Counter(path for one in asked if one.plan.cell.kind == "sources" for path in one.plan.files)
+    for path, count in counts.items():
+        if count > 1:
+            # A fault of it is told by each cell.
+            with suppress(Fault):
+                index_of_file(path, SOURCES).parsed
 
 
 def check_group(group: Sequence[Asked]) -> list[Outcome]:
@@ -47,10 +54,7 @@ def check_group(group: Sequence[Asked]) -> list[Outcome]:
 def outcome_of(asked: Asked, program: Program) -> Outcome:
     """What a run finds of a cell."""
     try:
-        if asked.plan.fault is not None:
-            raise Fault(*asked.plan.fault)
-        digest = digest_of(asked.plan, program.path)
-        return Unchanged() if digest == asked.digest else Check(asked, program).answer(digest)
+        return Check(asked, program).answer()
     except Fault as fault:
         return NoAnswer(fault.status, fault.line)
 
@@ -93,19 +97,21 @@ class Check:
     """One cell while it is checked."""
 
     def __init__(self, asked: Asked, program: Program) -> None:
-        self.before = asked.before
+        self.digest, self.before = asked.digest, asked.before
         self.inputs = inputs_of(asked.plan)
         self.report = program.check(self.inputs.arch, self.inputs.index, self.inputs.background, WORDS)
 
-    def answer(self, digest: str) -> Answer:
+    def answer(self) -> Answer:
         """What debcheck says of the cell."""
         lines, entries = self.told(self.report.read())
         causes: dict[str, set[str]] = {}
         for entry in entries:
             causes.setdefault(entry["package"], set()).update(entry["wrongs"])
-        there = {name for stanza in self.inputs.index.stanzas if (name := self.shown(stanza.package)) in self.before}
+        ended = self.before - causes.keys()
+        if ended:
+            ended -= {self.shown(stanza.package) for stanza in self.inputs.index.stanzas}
         numbers = {name: self.report.rest[name] for name in ("asked", "broken")}
-        return Answer(digest, {**numbers, "rows": lines, "packages": entries}, causes, self.before - there)
+        return Answer(self.digest, {**numbers, "rows": lines, "packages": entries}, causes, ended)
 
     def told(self, broken: Sequence[Json]) -> tuple[list[Json], list[Json]]:
         """What is wrong, and each broken package."""
@@ -145,7 +151,8 @@ class Check:
         member = Member(one["package"], one["version"])
         cores = [[self.reason(line, packages) for line in core] for core in (one["reasons"], *one["also"])]
         walks = [walked(*member, core) for core in cores]
-        told = [[line._replace(package=self.shown(line.package)) for line in walk] for walk in walks]
+        if self.inputs.sources:
+            walks = [[line._replace(package=self.shown(line.package)) for line in walk] for walk in walks]
         return {
             "package": self.shown(member.package),
             "version": member.version,
@@ -153,7 +160,7 @@ class Check:
             "maintainer": packages.maintainer_of(member),
             "marks": "superseded" if packages.is_superseded(member) else "",
             "wrongs": sorted(set(wrongs)),
-            "walks": json.dumps(told, separators=(",", ":")),
+            "walks": json.dumps(walks, separators=(",", ":")),
         }
 
     def reason(self, line: Json, packages: Packages) -> Json:

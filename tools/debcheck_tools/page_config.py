@@ -143,10 +143,8 @@ class Reader:
         """A path, which is that of the configuration's folder where it is relative."""
         return self.path.absolute().parent / value
 
-    def row(self, number: int, tree: dict[str, Any], newest: bool, mirror: bool) -> Suite:
-        """One suite."""
-        where: Where = ("suite", number)
-        self.table(tree, where, ROW)
+    def refuse(self, tree: dict[str, Any], where: Where, mirror: bool) -> None:
+        """Raises the fault of a suite whose keys don't go together."""
         if "name" not in tree:
             raise self.fault(where, "name: each suite has one")
         has_files = "files" in tree
@@ -165,6 +163,11 @@ class Reader:
         if has_files and tree.get("sources") and "source-files" not in tree:
             raise self.fault((*where, "sources"), "sources: a suite of files names them by source-files")
 
+    def row(self, number: int, tree: dict[str, Any], newest: bool, mirror: bool) -> Suite:
+        """One suite."""
+        where: Where = ("suite", number)
+        self.table(tree, where, ROW)
+        self.refuse(tree, where, mirror)
         sources = tree.get("sources", "source-files" in tree)
 
         def listed(key: str) -> tuple[str, ...]:

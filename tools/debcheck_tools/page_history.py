@@ -76,6 +76,7 @@ class History:
         try:
             self.db = sqlite3.connect(path, isolation_level=None, timeout=30)
             self.db.execute("PRAGMA foreign_keys = ON")
+            self.ids: dict[str, int] = {}
             self._bring_up(path)
         except sqlite3.Error as error:
             raise Fault(WRITE, f"{path}: no history can be kept there: {error}") from error
@@ -123,6 +124,7 @@ class History:
         with self.db:
             self.db.execute("BEGIN IMMEDIATE")
             (run,) = self.db.execute("INSERT INTO run (began) VALUES (?) RETURNING id", (began,)).fetchone()
+            self.ids = dict(self.db.execute("SELECT text, id FROM name"))
             for cell, outcome in outcomes.items():
                 self._record(run, cell, outcome)
             self._forget(began, days)
@@ -151,13 +153,9 @@ class History:
 
     def _record_broken(self, run: int, cell: int, answer: Answer) -> None:
         """Opens and ends what began and what ended with an answer."""
-        names = {text for package, wrongs in answer.causes.items() for text in (package, *wrongs)}
-        self.db.executemany("INSERT OR IGNORE INTO name (text) VALUES (?)", ((text,) for text in sorted(names)))
-        ids = {
-            text: number
-            for number, text in self.db.execute("SELECT id, text FROM name")
-            if text in names or text in answer.gone
-        }
+        ids = self.ids
+        for text in sorted((answer.causes.keys() | set().union(*answer.causes.values())) - ids.keys()):
+            (ids[text],) = self.db.execute("INSERT INTO name (text) VALUES (?) RETURNING id", (text,)).fetchone()
         gone = {ids[text] for text in answer.gone if text in ids}
         now = {ids[package] for package in answer.causes}
         before = {

@@ -9,6 +9,8 @@ from markupsafe import Markup, escape
 Point = tuple[datetime, int]
 WIDTH, HEIGHT = 640, 240
 LEFT, RIGHT, TOP, BOTTOM = 64, 16, 16, 48
+# How a text is put beside an edge, so that it doesn't stand beyond that.
+EDGES: dict[float, str] = {LEFT: "start", WIDTH - RIGHT: "end"}
 
 
 def step_of(span: float) -> int:
@@ -21,9 +23,10 @@ def step_of(span: float) -> int:
 
 def marks(low: int, high: int) -> list[int]:
     """The marks of the axis of counts, which begin below the lowest and end above the highest count."""
-    step = step_of(max(high - low, 1))
-    first, last = floor(low / step) * step, ceil(high / step) * step
-    return list(range(first, max(last, first + step) + 1, step))
+    if low == high:
+        low, high = max(low - 1, 0), high + 1
+    step = step_of(high - low)
+    return list(range(floor(low / step) * step, ceil(high / step) * step + 1, step))
 
 
 def days(first: datetime, last: datetime) -> list[datetime]:
@@ -31,6 +34,17 @@ def days(first: datetime, last: datetime) -> list[datetime]:
     span = last - first
     parts = min(3, span.days)
     return [first + span * part / parts for part in range(parts + 1)] if parts else [last]
+
+
+def axes(what: str) -> list[str]:
+    """The axes, and what they are called."""
+    across, down = (LEFT + WIDTH - RIGHT) / 2, (TOP + HEIGHT - BOTTOM) / 2
+    turned = f'transform="translate(14 {down}) rotate(-90)"'
+    return [
+        f'<path class="axis" d="M{LEFT} {TOP}V{HEIGHT - BOTTOM}H{WIDTH - RIGHT}"/>',
+        f'<text class="name" {turned} text-anchor="middle">{escape(what)}</text>',
+        f'<text class="name" x="{across}" y="{HEIGHT - 8}" text-anchor="middle">day (UTC)</text>',
+    ]
 
 
 def plot(points: Sequence[Point], title: str, what: str) -> Markup:
@@ -58,16 +72,10 @@ def plot(points: Sequence[Point], title: str, what: str) -> Markup:
     for mark in scale:
         lines.append(f'<line class="grid" x1="{LEFT}" y1="{y(mark)}" x2="{WIDTH - RIGHT}" y2="{y(mark)}"/>')
         lines.append(f'<text x="{LEFT - 6}" y="{y(mark) + 4}" text-anchor="end">{mark}</text>')
-    for place, day in enumerate(moments := days(first, last)):
-        anchor = "middle" if 0 < place < len(moments) - 1 else "end" if place else "start"
+    for day in days(first, last):
+        anchor = EDGES.get(x(day), "middle")
         lines.append(f'<text x="{x(day)}" y="{HEIGHT - BOTTOM + 18}" text-anchor="{anchor}">{day:%Y-%m-%d}</text>')
-    lines.append(f'<path class="axis" d="M{LEFT} {TOP}V{HEIGHT - BOTTOM}H{WIDTH - RIGHT}"/>')
-    middle = (TOP + HEIGHT - BOTTOM) / 2
-    turned = f'transform="translate(14 {middle}) rotate(-90)"'
-    lines.append(f'<text class="name" {turned} text-anchor="middle">{escape(what)}</text>')
-    lines.append(
-        f'<text class="name" x="{(LEFT + WIDTH - RIGHT) / 2}" y="{HEIGHT - 8}" text-anchor="middle">day (UTC)</text>'
-    )
+    lines += axes(what)
     path = f"M{x(first)} {y(points[0][1])}" + "".join(f"H{x(moment)}V{y(count)}" for moment, count in points[1:])
     lines.append(f'<path class="line" d="{path}"/>')
     lines.append(f'<circle class="last" cx="{x(last)}" cy="{y(points[-1][1])}" r="3"/>')

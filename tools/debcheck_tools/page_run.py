@@ -11,8 +11,8 @@ from datetime import datetime, timezone
 from pathlib import Path
 
 from debcheck_tools.errors import OK, PROGRAM, WRITE, Fault
-from debcheck_tools.page_cells import Plan, groups, plans
-from debcheck_tools.page_check import Asked, check_group
+from debcheck_tools.page_cells import Asked, digest_of, groups, plans
+from debcheck_tools.page_check import check_group, index_of_file, read_shared
 from debcheck_tools.page_config import Config, read
 from debcheck_tools.page_history import Cell, History, NoAnswer, Outcome, Unchanged
 from debcheck_tools.page_names import cell_name
@@ -61,8 +61,9 @@ def now() -> str:
 
 def run(config: Config) -> int:
     """One run, alone with the history."""
-    version = version_of(find())
-    outcomes = check(config)
+    program = find()
+    version = version_of(program)
+    outcomes = check(config, program)
     history = History(config.history)
     history.record(now(), outcomes, config.days)
     views = Views(history, list(outcomes))
@@ -85,17 +86,28 @@ def version_of(program: str) -> str:
         raise Fault(PROGRAM, f"{program} can't be run: {error}") from error
 
 
-def check(config: Config) -> Mapping[Cell, Outcome]:
+def check(config: Config, program: str) -> Mapping[Cell, Outcome]:
     """The outcome of each cell, in the order of the matrix."""
     history = History(config.history)
     named = plans(config, history.cells())
-    asked = {one: Asked(one, history.digest(one.cell), history.broken_names(one.cell)) for one in named}
+    found: dict[Cell, Outcome] = {}
+    asked: list[Asked] = []
+    for plan in named:
+        try:
+            digest = digest_of(plan, program)
+        except Fault as fault:
+            found[plan.cell] = NoAnswer(fault.status, fault.line)
+            continue
+        if digest == history.digest(plan.cell):
+            found[plan.cell] = Unchanged()
+        else:
+            asked.append(Asked(plan, digest, history.broken_names(plan.cell)))
     # No process that is forked below has a part of the history's file.
     history.close()
-    found: dict[Plan, Outcome] = {}
-    jobs = [[asked[one] for one in group] for group in groups(named)]
-    for job, outcomes in side_by_side(check_group, jobs, processors()):
+    read_shared(asked)
+    for job, outcomes in side_by_side(check_group, groups(asked), processors()):
         fallen = NoAnswer(PROGRAM, "its check was killed: there may be too little memory")
         for number, one in enumerate(job):
-            found[one.plan] = outcomes[number] if outcomes else fallen
-    return {one.cell: found[one] for one in named}
+            found[one.plan.cell] = outcomes[number] if outcomes else fallen
+    index_of_file.cache_clear()
+    return {plan.cell: found[plan.cell] for plan in named}

@@ -1,9 +1,11 @@
 """What the pages show: cells, packages, wrongs and sources, as the history has them after a run."""
 
 import json
+from collections import Counter
 from collections.abc import Sequence
 from dataclasses import dataclass, field
 from datetime import datetime
+from functools import cached_property
 from operator import itemgetter
 from typing import Any
 
@@ -44,22 +46,22 @@ class CellView:
         """Packages or sources."""
         return self.cell.kind
 
-    @property
+    @cached_property
     def row(self) -> str:
         """The name of its row."""
         return row_name(self.cell)
 
-    @property
+    @cached_property
     def label(self) -> str:
         """What links to it are called."""
         return cell_name(self.cell)
 
-    @property
+    @cached_property
     def file(self) -> str:
         """The file of its page."""
         return cell_file(self.cell)
 
-    @property
+    @cached_property
     def address(self) -> str:
         """Its page, as a link says it."""
         return address_of(self.file)
@@ -107,6 +109,7 @@ class Views:
         self.before, self.before_began = before
         self.cells = [self.cell(one) for one in cells]
         self.by_cell = {one.cell: one for one in self.cells}
+        self.counts = Counter(one.row for one in self.cells)
 
     def cell(self, cell: Cell) -> CellView:
         """One cell."""
@@ -165,9 +168,8 @@ class Views:
             archs = told.setdefault(one.row, [])
             if one.cell.architecture not in archs:
                 archs.append(one.cell.architecture)
-        count = {row: sum(one.row == row for one in self.cells) for row in told}
         return "; ".join(
-            f"{row}: {'all' if 1 < len(archs) == count[row] else ', '.join(archs)}" for row, archs in told.items()
+            f"{row}: {'all' if 1 < len(archs) == self.counts[row] else ', '.join(archs)}" for row, archs in told.items()
         )
 
     def packages(self) -> list[Json]:
@@ -200,13 +202,17 @@ class Views:
         """The walks of a package's entries, alike ones once with all their cells."""
         found: dict[tuple[str, str], Json] = {}
         for cell, entry in places:
-            group = found.setdefault((entry["version"], entry["walks"]), {"cells": [], "names": set()})
+            group = found.setdefault((entry["version"], entry["walks"]), {"cells": [], "broken": []})
             group["cells"].append(cell)
-            sister = self.by_cell.get(Cell(cell.cell.suite, "packages", cell.cell.architecture))
-            group["names"] |= sister.names if sister else frozenset[str]()
+            group["broken"].append(self.broken_packages(cell.cell))
         for (version, walks), group in found.items():
             group.update(version=version, walks=[[Line(*line) for line in walk] for walk in json.loads(walks)])
         return list(found.values())
+
+    def broken_packages(self, cell: Cell) -> frozenset[str]:
+        """The names that are broken as packages where a cell is."""
+        sister = self.by_cell.get(Cell(cell.suite, "packages", cell.architecture))
+        return sister.names if sister else frozenset()
 
     def wrongs(self) -> list[Json]:
         """Each thing that is wrong with the cells and packages that it breaks, those that break the most first."""
@@ -230,10 +236,11 @@ class Views:
         found: dict[str, Json] = {}
         for cell in self.cells:
             for row in cell.rows:
+                broken = [(package, cell.kind) for package in row["broken"]]
                 for name in row["sources"]:
                     one = found.setdefault(name, {"name": name, "wrongs": {}, "broken": set(), "cells": []})
                     one["wrongs"].update(dict.fromkeys(row["wrongs"]))
-                    one["broken"].update((package, cell.kind) for package in row["broken"])
+                    one["broken"].update(broken)
                     one["cells"].append(cell)
         for one in found.values():
             one.update(breaks=len(one["broken"]), wrongs=list(one["wrongs"]), where=self.where(one["cells"]))

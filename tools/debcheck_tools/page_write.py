@@ -4,23 +4,26 @@ import os
 import shutil
 import tempfile
 import uuid
-from collections.abc import Iterator, Sequence
-from functools import partial
+from collections.abc import Iterable, Iterator, Mapping, Sequence
+from functools import cache
 from importlib import resources
 from pathlib import Path
 from typing import NamedTuple
 
 from jinja2 import Environment, PackageLoader, StrictUndefined
 
-from debcheck_tools.errors import PROGRAM, WRITE, Fault
+from debcheck_tools.errors import WRITE, Fault
 from debcheck_tools.page_config import Config
 from debcheck_tools.page_feed import entries
 from debcheck_tools.page_history import History, Json
-from debcheck_tools.page_names import address_of, package_file, wrong_file
-from debcheck_tools.page_parallel import processors, side_by_side
-from debcheck_tools.page_views import Views, moment_of
+from debcheck_tools.page_names import package_file, wrong_file
+from debcheck_tools.page_parts import FILTERS
+from debcheck_tools.page_views import Views
 
 AS_THEY_ARE = ("style.css", "filter.js", "icon.svg")
+# No page has it.
+HOLE = "\0"
+FOLDERS = ("build", "cell", "package", "wrong")
 
 
 class Page(NamedTuple):
@@ -31,6 +34,7 @@ class Page(NamedTuple):
     shown: Json
 
 
+@cache
 def environment() -> Environment:
     """The templates, with all that they show escaped."""
     made = Environment(
@@ -40,10 +44,7 @@ def environment() -> Environment:
         trim_blocks=False,
         auto_reload=False,
     )
-    made.filters["moment"] = lambda text: f"{moment_of(text):%Y-%m-%d %H:%M} UTC"
-    made.filters["day"] = lambda text: text[:10]
-    made.filters["package_address"] = lambda name, kind: address_of(package_file(name, kind))
-    made.filters["wrong_address"] = lambda wrong: address_of(wrong_file(wrong))
+    made.filters.update(FILTERS)
     return made
 
 
@@ -83,32 +84,34 @@ def pages(config: Config, history: History, views: Views, site: Json) -> Iterato
     yield Page("feed.atom", "feed.atom", {"entries": days})
 
 
-def write_part(folder: Path, site: Json, part: Sequence[Page]) -> str:
-    """Writes some of the pages; gives what kept it from that, or nothing."""
-    made = environment()
-    try:
-        for page in part:
-            root = "../" * page.file.count("/")
-            text = made.get_template(page.template).render(site=site, root=root, **page.shown)
-            folder.joinpath(page.file).write_text(text, encoding="utf-8", errors="replace")
-    except OSError as error:
-        return f"{error.filename}: {error.strerror}"
-    return ""
+def frame(site: Json, root: str) -> list[str]:
+    """What stands before, between and behind the title, the title as heading, and the content of each page."""
+    return environment().get_template("base.html").render(site=site, root=root, hole=HOLE).split(HOLE)
 
 
-def write_all(folder: Path, site: Json, all_pages: Sequence[Page]) -> None:
-    """Writes all pages to a folder, side by side."""
-    for name in {os.path.dirname(page.file) for page in all_pages}:
-        folder.joinpath(name).mkdir(exist_ok=True)
-    for file in AS_THEY_ARE:
-        folder.joinpath(file).write_bytes(resources.files("debcheck_tools").joinpath("templates", file).read_bytes())
-    width = processors()
-    parts = [all_pages[start::width] for start in range(width)]
-    for _, fault in side_by_side(partial(write_part, folder, site), parts, width):
-        if fault is None:
-            raise Fault(PROGRAM, f"{folder}: what writes the pages was killed: there may be too little memory")
-        if fault:
-            raise Fault(WRITE, f"{fault}: the pages can't be written")
+def rendered(page: Page, site: Json, frames: Mapping[str, Sequence[str]]) -> str:
+    """The text of a page."""
+    template = environment().get_template(page.template)
+    if not page.file.endswith(".html"):
+        return template.render(site=site, **page.shown)
+    context = template.new_context({"site": site, **page.shown})
+    title, content = ("".join(template.blocks[name](context)) for name in ("title", "content"))
+    before, between, above, behind = frames["../" * page.file.count("/")]
+    return "".join((before, title, between, title, above, content, behind))
+
+
+def write_all(folder: Path, site: Json, all_pages: Iterable[Page]) -> int:
+    """Writes all pages to a folder; gives how many there are."""
+    for name in FOLDERS:
+        folder.joinpath(name).mkdir()
+    for name in AS_THEY_ARE:
+        folder.joinpath(name).write_bytes(resources.files("debcheck_tools").joinpath("templates", name).read_bytes())
+    frames = {root: frame(site, root) for root in ("", "../")}
+    count = 0
+    for count, page in enumerate(all_pages, 1):
+        with open(f"{folder}/{page.file}", "wb") as file:
+            file.write(rendered(page, site, frames).encode("utf-8", "replace"))
+    return count
 
 
 def write(config: Config, history: History, views: Views, program: str) -> int:
@@ -116,20 +119,19 @@ def write(config: Config, history: History, views: Views, program: str) -> int:
     output = config.output
     check_place(output)
     site = site_of(config, views, program)
-    all_pages = list(pages(config, history, views, site))
     try:
         output.parent.mkdir(parents=True, exist_ok=True)
         fresh = Path(tempfile.mkdtemp(prefix=beside(output), dir=output.parent))
         fresh.chmod(0o755)
         try:
-            write_all(fresh, site, all_pages)
+            count = write_all(fresh, site, pages(config, history, views, site))
         except BaseException:
             shutil.rmtree(fresh, ignore_errors=True)
             raise
         put_in_place(output, fresh)
     except OSError as error:
         raise Fault(WRITE, f"{error.filename or output}: the pages can't be written: {error.strerror}") from error
-    return len(all_pages)
+    return count
 
 
 def beside(output: Path) -> str:

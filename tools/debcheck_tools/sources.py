@@ -3,23 +3,22 @@
 Debian Policy 4.2 (build-essential), 7.1 (architectures and profiles in brackets), 7.7 (Build-Depends and its kin).
 """
 
+import itertools
 import os
 import re
-from collections.abc import Iterable, Iterator, Sequence
+from collections.abc import Iterator, Sequence
 from typing import NamedTuple, Optional
 
 import apt_pkg
 
 from debcheck_tools.errors import DATA, Fault
-from debcheck_tools.index import Index, Stanza
+from debcheck_tools.index import Index
 from debcheck_tools.index_files import SOURCES, IndexFile, in_memory
-from debcheck_tools.tag_file import tags_of, values
+from debcheck_tools.stanza import BUILD_FIELDS, Stanza
 
 # No name of Debian's has "_", so a package of this name can only be a source.
 PREFIX = "src_"
-DEPENDS = ("Build-Depends", "Build-Depends-Indep", "Build-Depends-Arch")
-CONFLICTS = ("Build-Conflicts", "Build-Conflicts-Indep", "Build-Conflicts-Arch")
-FIELDS = ("Package", "Version", "Maintainer", "Binary", "Architecture", "Extra-Source-Only", *DEPENDS, *CONFLICTS)
+DEPENDS, CONFLICTS = BUILD_FIELDS[2:5], BUILD_FIELDS[5:]
 # The field of a dependency that each source has without saying so.
 IMPLIED = "build-essential"
 OPERATORS = {"<": "<<", ">": ">>"}
@@ -39,21 +38,10 @@ class Building(NamedTuple):
     first_alternative: bool = False
     text_alone: bool = False
 
-    def fields(self, all_three: tuple[str, str, str]) -> tuple[str, ...]:
-        plain, indep, arch = all_three
-        return (plain, *([indep] if self.indep else []), *([arch] if self.arch_only else []))
-
-
-class Source(NamedTuple):
-    """A source that counts, and its fields by their names, in the order of DEPENDS and CONFLICTS."""
-
-    name: str
-    version: str
-    maintainer: str
-    binaries: str
-    architectures: str
-    file: IndexFile
-    fields: dict[str, str]
+    def places(self, fields: Sequence[str]) -> list[int]:
+        """Where those of three fields that count stand among BUILD_FIELDS."""
+        plain, indep, arch = map(BUILD_FIELDS.index, fields)
+        return [plain, *([indep] if self.indep else []), *([arch] if self.arch_only else [])]
 
 
 class Sources:
@@ -61,80 +49,54 @@ class Sources:
 
     def __init__(self, index: Index, building: Building) -> None:
         self.building = building
+        self.needing, self.clashing = building.places(DEPENDS), building.places(CONFLICTS)
         os.environ.pop("DEB_BUILD_PROFILES", None)
         apt_pkg.config.set("APT::Build-Profiles", ",".join(building.profiles))
         self.built: dict[str, bool] = {}
-        self.known: dict[tuple[str, str], Source] = {}
-        texts: list[bytes] = []
-        stanzas: list[tuple[Source, int, int]] = []
-        size = 0
-        for source in self.counted(index):
-            self.known.setdefault((PREFIX + source.name, source.version), source)
-            texts.append(self.stanza(source).encode())
-            stanzas.append((source, size, size + len(texts[-1])))
-            size += len(texts[-1])
-        file = IndexFile(", ".join(file.name for file in index.files), in_memory(b"".join(texts)), size, SOURCES)
-        self.index = Index([file], [self.as_package(*place, file) for place in stanzas])
+        self.printed = Printed(building)
+        sources = list(self.counted(index))
+        texts = [self.stanza(source).encode() for source in sources]
+        ends = list(itertools.accumulate(map(len, texts), initial=0))
+        file = IndexFile(", ".join(file.name for file in index.files), in_memory(b"".join(texts)), ends[-1], SOURCES)
+        stanzas = [
+            Stanza(PREFIX + source.package, source.version, "all", file, begin, end, source.package)
+            for source, begin, end in zip(sources, ends, ends[1:])
+        ]
+        self.known = {(PREFIX + source.package, source.version): source for source in reversed(sources)}
+        self.index = Index([file], stanzas)
 
-    @staticmethod
-    def as_package(source: Source, begin: int, end: int, file: IndexFile) -> Stanza:
-        return Stanza(
-            PREFIX + source.name, source.version, "all", source.name, source.maintainer, "", "", file, begin, end
-        )
-
-    def counted(self, index: Index) -> Iterator[Source]:
+    def counted(self, index: Index) -> Iterator[Stanza]:
         """The sources of an index that are built on the architecture; some are there for their text alone."""
-        for file, begin, end in index.pieces():
-            file.text.seek(begin)
-            tags = tags_of(in_memory(file.text.read(end - begin)))
-            while tags.step():
-                name, version, maintainer, binaries, architectures, text_alone, *rest = values(tags.section, FIELDS)
-                if (self.building.text_alone or text_alone != "yes") and self.is_built(architectures):
-                    fields = {field: value for field, value in zip(DEPENDS + CONFLICTS, rest) if value}
-                    yield Source(name, version, maintainer, binaries, architectures, file, fields)
+        for stanza in all_of(index):
+            if (self.building.text_alone or not stanza.is_text_alone) and self.is_built(stanza.architecture):
+                yield stanza
 
     def is_built(self, architectures: str) -> bool:
         """Whether an Architecture field has `all`, the architecture, or a wildcard that stands for it."""
         if architectures not in self.built:
             words = architectures.split()
-            self.built[architectures] = "all" in words or any(self.parsed(f"x [{word}]") for word in words)
+            self.built[architectures] = "all" in words or any(self.printed[f"x [{word}]"] for word in words)
         return self.built[architectures]
 
-    def parsed(self, text: str) -> list[list[tuple[str, str, str]]]:
-        return apt_pkg.parse_src_depends(text, False, self.building.arch)
+    def groups(self, source: Stanza, places: Sequence[int]) -> list[str]:
+        """Each dependency of these fields that counts, or conflict, as the program prints it."""
+        printed, building = self.printed, source.building
+        asked = ",".join([building[place] for place in places if building[place]])
+        try:
+            return [text for part in asked.split(",") if (text := printed[part])] if asked else []
+        except ValueError:
+            for place in places if places[1:] else ():
+                self.groups(source, [place])
+            name = f"{source.file.name}: source {source.package} {source.version}"
+            raise Fault(DATA, f"{name}: {BUILD_FIELDS[places[0]]} can't be read") from None
 
-    def groups(self, source: Source, fields: Iterable[str]) -> Iterator[tuple[str, str]]:
-        """Each dependency that counts, or conflict, as the program prints it, behind the field that has it."""
-        for field in fields:
-            if field not in source.fields:
-                continue
-            try:
-                parsed = self.parsed(source.fields[field])
-            except ValueError:
-                raise Fault(
-                    DATA, f"{source.file.name}: source {source.name} {source.version}: {field} can't be read"
-                ) from None
-            for group in parsed:
-                if self.building.first_alternative:
-                    group = [atom for atom in group if atom[0].partition(":")[0] == group[0][0].partition(":")[0]]
-                yield field, " | ".join(map(printed, group))
+    def stanza(self, source: Stanza) -> str:
+        needs = ", ".join([IMPLIED, *self.groups(source, self.needing)])
+        conflicts = ", ".join(self.groups(source, self.clashing))
+        text = f"Package: {PREFIX}{source.package}\nVersion: {source.version}\nArchitecture: all\nDepends: {needs}\n"
+        return f"{text}Conflicts: {conflicts}\n\n" if conflicts else f"{text}\n"
 
-    def needs(self, source: Source) -> list[tuple[str, str]]:
-        """What has to be there to build a source."""
-        return [(IMPLIED, "build-essential"), *self.groups(source, self.building.fields(DEPENDS))]
-
-    def stanza(self, source: Source) -> str:
-        needs = ", ".join(group for _, group in self.needs(source))
-        conflicts = ", ".join(group for _, group in self.groups(source, self.building.fields(CONFLICTS)))
-        lines = [
-            f"Package: {PREFIX}{source.name}",
-            f"Version: {source.version}",
-            "Architecture: all",
-            f"Depends: {needs}",
-        ]
-        return "\n".join([*lines, *([f"Conflicts: {conflicts}"] if conflicts else []), "", ""])
-
-    def source_of(self, package: str, version: str) -> Optional[Source]:
+    def source_of(self, package: str, version: str) -> Optional[Stanza]:
         """The source that a package of this index stands for."""
         return self.known.get((package, version))
 
@@ -148,10 +110,43 @@ class Sources:
         text = LINE.sub(asked, report.decode())
         return re.sub(rf"^((?:   - |  package: | +- )){PREFIX}", r"\1src:", text, flags=re.M).encode()
 
-    def field_of(self, source: Source, relation: str) -> str:
+    def field_of(self, source: Stanza, relation: str) -> str:
         """The field that asked for a relation as the program prints it."""
-        asked = [*self.needs(source), *self.groups(source, self.building.fields(CONFLICTS))]
-        return next((field for field, group in asked if group == relation), DEPENDS[0])
+        places = self.needing + self.clashing
+        asked = (BUILD_FIELDS[place] for place in places if relation in self.groups(source, [place]))
+        return IMPLIED if relation == IMPLIED else next(asked, DEPENDS[0])
+
+
+def all_of(index: Index) -> list[Stanza]:
+    """The sources of an index, which apt has to be able to read to its end."""
+    if index.unread:
+        last = next((f"behind source {one.package}" for one in reversed(index.stanzas) if one.file is index.unread), "")
+        fault = f"{index.unread.name}: {last or 'there'} stands what is no source; it was cut off, or is damaged"
+        raise Fault(DATA, f"{fault}: fetch it again")
+    return index.stanzas
+
+
+class Printed(dict[str, str]):
+    """Groups of alternatives, by what stands between two commas: as the program prints them, empty where none counts.
+
+    Most stand in many sources.
+    """
+
+    def __init__(self, building: Building) -> None:
+        super().__init__()
+        self.building = building
+
+    def __missing__(self, part: str) -> str:
+        atoms = [atom for group in apt_pkg.parse_src_depends(part, False, self.building.arch) for atom in group]
+        if self.building.first_alternative and atoms[1:]:
+            atoms = [atom for atom in atoms if plain(atom) == plain(atoms[0])]
+        self[part] = text = " | ".join(map(printed, atoms)) if atoms[1:] else printed(atoms[0]) if atoms else ""
+        return text
+
+
+def plain(atom: tuple[str, str, str]) -> str:
+    """The name without its qualifier."""
+    return atom[0].partition(":")[0]
 
 
 def printed(atom: tuple[str, str, str]) -> str:

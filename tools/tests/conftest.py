@@ -1,9 +1,12 @@
 """What the tests share: the real program has to be there, and small indexes are written by a call."""
 
+import importlib
 import os
 import subprocess
 import sys
-from collections.abc import Callable
+import tempfile
+import traceback
+from collections.abc import Callable, Mapping
 from pathlib import Path
 
 import pytest
@@ -12,7 +15,10 @@ TOOLS = Path(__file__).resolve().parent.parent
 sys.path.insert(0, str(TOOLS))
 sys.dont_write_bytecode = True
 
-from debcheck_tools import program  # noqa: E402
+from debcheck_tools import command_line, program  # noqa: E402
+
+for module in command_line.COMMANDS.values():
+    importlib.import_module(f"debcheck_tools.{module}")
 
 Write = Callable[..., str]
 
@@ -53,21 +59,49 @@ class Answer:
         return self.out.splitlines()
 
 
+def forked(
+    call: Callable[[list[str]], int], words: list[str], stdin: bytes, cwd: Path | None, environment: Mapping[str, str]
+) -> Answer:
+    """Calls a command in a process of its own, which needn't read Python's modules and ours anew."""
+    with tempfile.TemporaryFile() as given, tempfile.TemporaryFile() as out, tempfile.TemporaryFile() as err:
+        given.write(stdin)
+        given.seek(0)
+        process = os.fork()
+        if not process:
+            for number, file in enumerate((given, out, err)):
+                os.dup2(file.fileno(), number)
+            os._exit(called(call, words, cwd, environment))
+        status = os.waitstatus_to_exitcode(os.waitpid(process, 0)[1])
+        out.seek(0)
+        err.seek(0)
+        return Answer(subprocess.CompletedProcess(words, status, out.read().decode(), err.read().decode()))
+
+
+def called(call: Callable[[list[str]], int], words: list[str], cwd: Path | None, environment: Mapping[str, str]) -> int:
+    """Its status, in the process of its own, with streams as the interpreter has them at its start."""
+    os.environ.update(environment)
+    sys.argv[1:] = words
+    sys.stdin = open(0, closefd=False)
+    sys.stdout, sys.stderr = open(1, "w", closefd=False), open(2, "w", closefd=False)
+    try:
+        os.chdir(cwd or ".")
+        return call(words)
+    except SystemExit as ends:
+        return int(ends.code or 0)
+    except BaseException:
+        traceback.print_exc()
+        return 120
+    finally:
+        sys.stdout.flush()
+        sys.stderr.flush()
+
+
 @pytest.fixture
 def archive(tmp_path: Path) -> Callable[..., Answer]:
-    """Runs debcheck-archive with these words, as a user would."""
+    """Runs debcheck-archive with these words."""
 
     def run(*words: str, stdin: str | bytes = "", **environment: str) -> Answer:
         given = stdin.encode() if isinstance(stdin, str) else stdin
-        done = subprocess.run(
-            [str(TOOLS / "debcheck-archive"), *words],
-            input=given,
-            stdout=subprocess.PIPE,
-            stderr=subprocess.PIPE,
-            env={**os.environ, **environment},
-            cwd=tmp_path,
-        )
-        out, err = done.stdout.decode(), done.stderr.decode()
-        return Answer(subprocess.CompletedProcess(done.args, done.returncode, out, err))
+        return forked(command_line.main, list(words), given, tmp_path, environment)
 
     return run

@@ -1,28 +1,18 @@
-"""Runs dose's commands as a user would, for the tests of test_dose_*.py."""
+"""Runs dose's commands for the tests of test_dose_*.py."""
 
-import os
-import subprocess
 from collections.abc import Mapping
 from pathlib import Path
 from typing import Any
 
-from conftest import TOOLS, Answer
+from conftest import Answer, forked
+from debcheck_tools import dose_command
 
 Node = dict[str, Any]
 DEBCHECK, BUILDCHECK = "dose-debcheck", "dose-builddebcheck"
 
 
 def run(command: str, *words: str, stdin: bytes = b"", cwd: Path | None = None, env: Mapping[str, str] = {}) -> Answer:
-    done = subprocess.run(
-        [str(TOOLS / command), *words],
-        input=stdin,
-        stdout=subprocess.PIPE,
-        stderr=subprocess.PIPE,
-        env={**os.environ, **env},
-        cwd=cwd,
-    )
-    out, err = done.stdout.decode(), done.stderr.decode()
-    return Answer(subprocess.CompletedProcess(done.args, done.returncode, out, err))
+    return forked(lambda _: dose_command.main(command), list(words), stdin, cwd, env)
 
 
 def names(answer: Answer) -> list[str]:

@@ -1,10 +1,16 @@
 """A small archive of four cells for the tests of the pages, and runs over it on days that the tests name."""
 
-from collections.abc import Callable
+import contextlib
+import gc
+import io
+import os
+import subprocess
+from pathlib import Path
+from unittest import mock
 
 from conftest import Answer, Write, stanza
 
-Archive = Callable[..., Answer]
+from debcheck_tools.command_line import main
 
 CONFIG = """title = "Small & <b>new</b>"
 history = "history.sqlite"
@@ -41,7 +47,12 @@ def put(write: Write, amd64: str = MAIN, arm64: str = WELL) -> str:
     return write("page.toml", CONFIG)
 
 
-def run(archive: Archive, day: int, status: int = 0) -> Answer:
-    answer = archive("page", "page.toml", SOURCE_DATE_EPOCH=str(FIRST + day * DAY))
-    assert answer.status == status, answer.err
-    return answer
+def run(folder: Path, day: int, status: int = 0) -> Answer:
+    """The command on page.toml of a folder, in this process, which has all modules already."""
+    out, err = io.StringIO(), io.StringIO()
+    with contextlib.chdir(folder), contextlib.redirect_stdout(out), contextlib.redirect_stderr(err):
+        with mock.patch.dict(os.environ, SOURCE_DATE_EPOCH=str(FIRST + day * DAY)):
+            ended = main(["page", "page.toml"])
+    gc.enable()
+    assert ended == status, err.getvalue()
+    return Answer(subprocess.CompletedProcess([], ended, out.getvalue(), err.getvalue()))

@@ -40,6 +40,12 @@ def test_bounds_are_one_line_and_versions_that_are_there_are_near(archive: Archi
     assert lines[2:] == ["2 of 2  six (>= 1.9 .. 1.10, << 1.2)          a, b  [there: 1.5]"]
 
 
+def test_who_provides_a_name_without_a_version_is_near(archive: Archive, write: Write) -> None:
+    text = stanza("openvox", Provides="puppet") + stanza("a", Depends="puppet (>= 4) | mcollective (>= 2)")
+    lines = archive("check", write("Packages", text)).lines()
+    assert lines[2:] == ["1 of 1  puppet (>= 4) | mcollective (>= 2)    a  [there: openvox]"]
+
+
 def test_what_the_same_need_and_what_breaks_the_same_is_one_line(archive: Archive, write: Write) -> None:
     text = stanza("liba", Source="s", Depends="x, y") + stanza("b", Depends="liba") + stanza("c", Depends="z")
     lines = archive("check", write("Packages", text)).lines()
@@ -98,7 +104,9 @@ def test_latest_and_superseded(archive: Archive, write: Write) -> None:
 
 
 def test_leftovers(archive: Archive, write: Write) -> None:
-    sources = write("Sources", "Package: s\nBinary: new\nVersion: 2\nArchitecture: any\nFormat: 1.0\nDirectory: x\n")
+    source = "Package: {}\nBinary: {}\nVersion: 2\nArchitecture: any\nFormat: 1.0\nDirectory: x\n"
+    text_alone = source.format("t", "n") + "Extra-Source-Only: yes\n"
+    sources = write("Sources", source.format("s", "new") + "\n" + text_alone)
     packages = write("Packages", stanza("old", Source="s (1)", Depends="gone") + stanza("n", Depends="new"))
     lines = archive("check", packages, "--built-by", sources).lines()
     assert lines[2:] == [
@@ -152,6 +160,7 @@ def test_the_report_in_text(archive: Archive, write: Write) -> None:
 def test_checkonly(archive: Archive, write: Write) -> None:
     path = write("Packages", ZIP + USER)
     assert archive("check", path, "--checkonly", "user").lines()[0].startswith("1 of 1 packages")
+    assert archive("check", path, "--checkonly", "librust-zip-dev user").lines()[0].startswith("2 of 2 packages")
     answer = archive("check", path, "--checkonly", "uesr")
     assert (answer.status, answer.out) == (66, "")
     assert answer.err == f"debcheck-archive: {path}: no package is called 'uesr'; similar: user\n"
@@ -173,7 +182,21 @@ SLIPS: dict[str, tuple[list[str], int, str]] = {
     "two": (["GOOD", "ARM"], 64, "name one by --arch: "),
     "bg": (["GOOD", "--bg", "ARM", "--arch", "amd64"], 65, "has packages of arm64, none of amd64"),
     "word": (["GOOD", "--explain"], 64, "--explain needs --report"),
-    "unknown": (["GOOD", "--json"], 64, "unrecognized arguments: --json; write --format json"),
+    "json": (
+        ["GOOD", "--json"],
+        64,
+        "unrecognized arguments: --json; similar: --format json; see debcheck-archive check --help",
+    ),
+    "misspelled": (["GOOD", "--lastest"], 64, "unrecognized arguments: --lastest; similar: --latest; see"),
+    "one hyphen": (["-arch", "amd64", "GOOD"], 64, "; similar: --arch; see"),
+    "no choice": (
+        ["GOOD", "--by", "sources"],
+        64,
+        "argument --by: invalid choice: 'sources' (choose from 'source', 'main",
+    ),
+    "no name": (["GOOD", "--checkonly", ","], 64, "--checkonly names nothing"),
+    "provided": (["GOOD", "--checkonly", "mta"], 66, "no package is called 'mta'; it is provided by a"),
+    "cut": (["CUT"], 65, "CUT: package b: missing field; the file ends there: it was cut off; fetch it again"),
     "blanks": (["GOOD", "--checkonly", "a", "b"], 64, "b: there is no such file; put commas between the names"),
     "sources": (["SOURCES"], 65, "name it by --sources"),
 }
@@ -183,13 +206,14 @@ SLIPS: dict[str, tuple[list[str], int, str]] = {
 def test_slips(archive: Archive, write: Write, name: str) -> None:
     words, status, says = SLIPS[name]
     files = {
-        "GOOD": stanza("a"),
+        "GOOD": stanza("a", Provides="mta, gui (= 2)"),
+        "CUT": stanza("a") + "Package: b\nVersion: 1",
         "ARM": stanza("a", architecture="arm64"),
         "SOURCES": "Package: a\nBinary: a\nFormat: 1.0\n",
     }
     answer = archive("check", *(write(word, files[word]) if word in files else word for word in words))
     assert (answer.status, answer.out) == (status, "")
-    assert answer.err.startswith("debcheck-archive: ") and says in answer.err
+    assert answer.err.startswith("debcheck-archive: ") and says in answer.err and answer.err.count("\n") == 1
 
 
 def test_what_cannot_be_written(write: Write) -> None:

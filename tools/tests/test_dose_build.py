@@ -38,12 +38,7 @@ def build(write: Write, *words: str, sources: str = SOURCES, packages: str = PAC
     return run(BUILDCHECK, "--deb-native-arch=amd64", *words, *files, env={"DEB_BUILD_PROFILES": profiles})
 
 
-def test_report(write: Write) -> None:
-    sources = source("plain", "any all", Build_Depends="gone (>= 1) | c (>> 2)")
-    sources += source("deep", "linux-any", Build_Depends="n:native")
-    assert (
-        build(write, "-e", "-f", sources=sources).out
-        == """\
+REPORT = """\
 output-version: 1.2
 native-architecture: amd64
 host-architecture: amd64
@@ -91,9 +86,14 @@ binary-packages: 6
 source-packages: 2
 broken-packages: 2
 """.replace(
-            "@", " "
-        )
-    )
+    "@", " "
+)
+
+
+def test_report(write: Write) -> None:
+    sources = source("plain", "any all", Build_Depends="gone (>= 1) | c (>> 2)")
+    sources += source("deep", "linux-any", Build_Depends="n:native")
+    assert build(write, "-e", "-f", sources=sources).out == REPORT
 
 
 @pytest.mark.parametrize(

@@ -69,13 +69,22 @@ def test_latest(write: Write) -> None:
     text = "".join(stanza("a", version, Depends="gone") for version in versions) + stanza("b", "3")
 
     def shown(*words: str) -> list[str]:
-        lines = run(DEBCHECK, "-fs", *words, write("P", text)).lines()
+        path = write("P", text)
+        lines = run(DEBCHECK, "-fs", *words, path).lines()
+        assert Path(path).read_text() == text
         return [line.removeprefix("  version: ") for line in lines if line.startswith("  version: ")]
 
     assert shown("--latest=1") == ["1:0", "3"]
     assert shown("--latest", "2") == ["10", "1:0", "3"]
     assert shown("--latest=3") == ["10", "1:0", "2", "3"]
     assert shown("--latest=9") == [*versions, "3"] == shown()
+
+
+def test_latest_leaves_other_architectures_as_they_are(write: Write) -> None:
+    text = stanza("a", "3", architecture="i386") + stanza("a", "2") + stanza("a", "1", architecture="all")
+    answer = run(DEBCHECK, "-s", "--latest=1", "--deb-native-arch=amd64", write("P", text))
+    assert "  version: 2\n" in answer.out and "Ignoring 1 packages" in answer.err
+    assert counts(answer) == {"total-packages": 1, "broken-packages": 0}
 
 
 def test_latest_leaves_the_background_as_it_is(write: Write) -> None:

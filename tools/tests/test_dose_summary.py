@@ -1,6 +1,6 @@
 """--summary counts reasons, and names those that break several packages."""
 
-import pytest
+import yaml
 from conftest import Write, stanza
 from dose_runs import BUILDCHECK, DEBCHECK, names, run
 
@@ -17,12 +17,7 @@ TEXT = (
 )
 
 
-def test_rows_and_counts(write: Write) -> None:
-    out = run(DEBCHECK, "-f", "-e", "--summary", "--deb-native-arch=amd64", write("P", TEXT)).out
-    begin = out.index("total-packages")
-    assert (
-        out[begin:]
-        == """\
+SUMMARY = """\
 total-packages: 9
 broken-packages: 7
 missing-packages: 4
@@ -85,7 +80,12 @@ summary:
      version: 1
      architecture: amd64
 """
-    )
+
+
+def test_rows_and_counts(write: Write) -> None:
+    out = run(DEBCHECK, "-f", "-e", "--summary", "--deb-native-arch=amd64", write("P", TEXT)).out
+    begin = out.index("total-packages")
+    assert out[begin:] == SUMMARY
 
 
 def test_a_summary_explains_but_names_no_packages_without_the_word(write: Write) -> None:
@@ -99,7 +99,6 @@ def test_a_summary_explains_but_names_no_packages_without_the_word(write: Write)
 
 
 def test_nothing_breaks_several(write: Write) -> None:
-    yaml = pytest.importorskip("yaml")
     out = run(DEBCHECK, "-f", "-e", "--summary", write("P", stanza("a", Depends="gone"))).out
     document = yaml.safe_load(out)
     assert document["summary"] is None and document["conflict-missing-ratio"] == {"0-1": 1}

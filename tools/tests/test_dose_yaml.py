@@ -1,8 +1,8 @@
 """The layout is dose's, and YAML libraries read it back."""
 
-import pytest
+import yaml
 
-from debcheck_tools.dose_yaml import Node, items_of, lines_of
+from debcheck_tools.dose_yaml import Node, lines_of
 
 TREE: Node = {
     "output-version": "1.2",
@@ -38,9 +38,8 @@ def test_layout() -> None:
     assert "".join(line + "\n" for line in lines_of(TREE)) == TEXT
 
 
-def test_items_stand_where_they_are_led() -> None:
-    assert list(items_of([{"package": "a", "reasons": [{"missing": {"pkg": {"package": "b"}}}]}], " ")) == [
-        " -",
+def test_lines_stand_where_they_are_led() -> None:
+    assert lines_of({"package": "a", "reasons": [{"missing": {"pkg": {"package": "b"}}}]}, "  ") == [
         "  package: a",
         "  reasons:",
         "   -",
@@ -51,7 +50,6 @@ def test_items_stand_where_they_are_led() -> None:
 
 
 def test_read_back() -> None:
-    yaml = pytest.importorskip("yaml")
     read = yaml.load(TEXT, yaml.BaseLoader)
     assert read["pkg"] == TREE["pkg"]
     assert [one["package"] for one in read["chains"][0]["depchain"]] == ["a", "b"]

@@ -28,8 +28,10 @@ def by(*words: str) -> bytes:
         bz2.compress(TEXT.encode()),
         by("zstd"),
         by("lz4"),
+        lzma.compress(TEXT[:60].encode()) + b"\0" * 8 + lzma.compress(TEXT[60:].encode()) + b"\0" * 4,
+        lzma.compress(TEXT.encode(), lzma.FORMAT_ALONE),
     ],
-    ids=["plain", "xz", "gz", "bz2", "zst", "lz4"],
+    ids=["plain", "xz", "gz", "bz2", "zst", "lz4", "two-xz", "lzma"],
 )
 def test_each_form_is_unpacked_whatever_its_name(write: Write, packed: bytes) -> None:
     file = open_index(write("Packages", packed))
@@ -49,6 +51,8 @@ BAD = {
     "a.deb": (b"!<arch>\ndebian-binary", DATA, "debcheck-archive debfile"),
     "Sources": ("Package: a\nBinary: a\nVersion: 1\nFormat: 1.0\nDirectory: x\n", DATA, "--sources"),
     "cut.xz": (lzma.compress(TEXT.encode())[:-20], READ, "cut off"),
+    "between.xz": (lzma.compress(TEXT.encode()) + lzma.compress(b"")[:9], READ, "cut off"),
+    "behind.xz": (lzma.compress(TEXT.encode()) + b"nonsense of twelve", READ, "damaged"),
     "cut.gz": (gzip.compress(TEXT.encode())[:-12], READ, "cut off"),
     "damaged.gz": (gzip.compress(TEXT.encode())[:20] + b"xxxxxxxxxxxxxx", READ, "damaged"),
     "cut.zst": (by("zstd")[:-9], READ, "damaged"),

@@ -5,13 +5,13 @@ from pathlib import Path
 
 from conftest import Write, stanza
 from page_html import Page, all_pages, broken_links
-from page_small import MAIN, SOURCES, WELL, Archive, put, run
+from page_small import MAIN, SOURCES, WELL, put, run
 
 
-def test_each_kind_of_page(archive: Archive, write: Write, tmp_path: Path) -> None:
+def test_each_kind_of_page(write: Write, tmp_path: Path) -> None:
     pages = tmp_path / "pages"
     put(write)
-    answer = run(archive, 0)
+    answer = run(tmp_path, 0)
     assert answer.out.startswith("4 cells, 0 of them unchanged, 0 without an answer; 0 newly broken; ")
     assert not answer.err
     files = sorted(str(path.relative_to(pages)) for path in pages.rglob("*") if path.is_file())
@@ -55,12 +55,12 @@ def test_each_kind_of_page(archive: Archive, write: Write, tmp_path: Path) -> No
     assert wrong.row("tool") == ["tool", "local: amd64"]
 
 
-def test_pages_are_whole(archive: Archive, write: Write, tmp_path: Path) -> None:
+def test_pages_are_whole(write: Write, tmp_path: Path) -> None:
     pages = tmp_path / "pages"
     put(write)
-    run(archive, 0)
+    run(tmp_path, 0)
     put(write, MAIN + stanza("late", Depends="lib (>= 7)"))
-    run(archive, 1)
+    run(tmp_path, 1)
     assert broken_links(pages) == []
     for path, page in all_pages(pages).items():
         tags = [tag for tag, _ in page.tags]
@@ -76,36 +76,36 @@ def test_pages_are_whole(archive: Archive, write: Write, tmp_path: Path) -> None
     assert "cell/local-amd64.html" in matrix
 
 
-def test_an_archive_in_which_nothing_is_broken(archive: Archive, write: Write, tmp_path: Path) -> None:
+def test_an_archive_in_which_nothing_is_broken(write: Write, tmp_path: Path) -> None:
     pages = tmp_path / "pages"
     put(write, WELL)
     write("extra/Packages", stanza("more"))
     write("extra/Sources", SOURCES.replace("gone", "base"))
-    run(archive, 0)
+    run(tmp_path, 0)
     assert Page(pages / "index.html").row("local") == ["local", "amd640 ✓ first", "arm640 ✓ first"]
     assert "What is wrong, the most" not in Page(pages / "cell/local-amd64.html").text()
     assert broken_links(pages) == []
 
 
-def test_change_is_told(archive: Archive, write: Write, tmp_path: Path) -> None:
+def test_change_is_told(write: Write, tmp_path: Path) -> None:
     pages = tmp_path / "pages"
     put(write)
-    run(archive, 0)
-    run(archive, 1)
+    run(tmp_path, 0)
+    run(tmp_path, 1)
     assert Page(pages / "index.html").row("local") == ["local", "amd642 = no change", "arm640 ✓ no change"]
     put(write, MAIN.replace("Package: tool", "Package: tools") + stanza("other", Depends="gone"))
-    answer = run(archive, 2)
+    answer = run(tmp_path, 2)
     assert "4 cells, 1 of them unchanged" in answer.out and "; 2 newly broken; " in answer.out
     assert Page(pages / "index.html").row("local")[1] == "amd643 ▲ +2 −1"
     cell = Page(pages / "cell/local-amd64.html")
     assert cell.text("h2").startswith("Newly broken Gone Over time What is wrong")
     assert cell.row("other")[3] == "2026-11-20" and cell.row("app")[3] == "2026-11-18 or before"
     put(write, MAIN.replace("lib (>= 2)", "lib (>= 1)"))
-    run(archive, 3)
+    run(tmp_path, 3)
     assert Page(pages / "index.html").row("local")[1] == "amd640 ✓ −3"
     assert "Mended" in Page(pages / "cell/local-amd64.html").text("h2")
     put(write, MAIN)
-    run(archive, 4)
+    run(tmp_path, 4)
     assert Page(pages / "cell/local-amd64.html").row("app")[3] == "2026-11-22"
     feed = ElementTree.parse(pages / "feed.atom").getroot()
     atom = "{http://www.w3.org/2005/Atom}"

@@ -39,6 +39,20 @@ def test_few_and_alike_counts(counts: tuple[int, ...]) -> None:
     assert all(float(one.get("y2", "0")) <= 240 for one in svg.iter("line"))
 
 
+def test_days_stand_within_the_plot() -> None:
+    one, alike, several = drawn(7), plot([(FIRST, 7), (FIRST + timedelta(hours=1), 9)], "", ""), drawn(*range(9))
+    for svg, anchors in ((one, ["start"]), (ElementTree.fromstring(alike), ["end"])):
+        days = [one for one in svg.iter("text") if str(one.text).startswith("2026-")]
+        assert [day.get("text-anchor") for day in days] == anchors
+        assert [day.get("x") for day in days] == [{"start": "64.0", "end": "624.0"}[name] for name in anchors]
+    days = [one for one in several.iter("text") if str(one.text).startswith("2026-")]
+    assert [day.get("text-anchor") for day in days] == ["start", "middle", "middle", "end"]
+
+
+def test_a_line_of_one_count_stands_above_the_axis() -> None:
+    assert texts(drawn(745, 745))[:3] == ["744", "745", "746"]
+
+
 def test_no_counts() -> None:
     assert plot([], "title", "what") == ""
 

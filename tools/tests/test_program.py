@@ -103,7 +103,8 @@ OTHERS = {
         "echo \"error: unexpected argument '--all-reasons' found\" >&2; exit 64",
         "is another release than these tools",
     ),
-    "half": ('printf \'{"architecture":"amd64","report":[\\n{"package":"a"},\\n\'', "isn't whole"),
+    "newer": ('echo \'{"format":2,"report":[\'', "its format is 2, and these tools read 1"),
+    "half": ('printf \'{"format":1,"architecture":"amd64","report":[\\n{"package":"a"},\\n\'', "isn't whole"),
     "another": ("echo hello", "isn't whole, or of another form"),
 }
 
@@ -116,4 +117,4 @@ def test_another_program(monkeypatch: pytest.MonkeyPatch, tmp_path: Path, write:
     with pytest.raises(Fault, match=says) as fault:
         Program().check("amd64", index(write, stanza("a")), None, ["--all-reasons"]).read()
     assert fault.value.status == PROGRAM
-    assert os.environ["DEBCHECK"] in fault.value.line or name in ("half", "another")
+    assert os.environ["DEBCHECK"] in fault.value.line or name in ("newer", "half", "another")

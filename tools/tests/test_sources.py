@@ -109,7 +109,7 @@ def test_the_field_that_asked(write: Write) -> None:
         write, source("a", Build_Depends="b", Build_Depends_Indep="c (>= 1) | d <!nocheck>", Build_Conflicts_Arch="e")
     )
     one = found.source_of("src_a", "1-1")
-    assert one is not None and one.name == "a"
+    assert one is not None and one.package == "a"
     relations = ["b", "c (>= 1) | d", "e", "build-essential"]
     assert [found.field_of(one, text) for text in relations] == [
         "Build-Depends",
@@ -117,6 +117,13 @@ def test_the_field_that_asked(write: Write) -> None:
         "Build-Conflicts-Arch",
         "build-essential",
     ]
+
+
+def test_what_is_cut_off_is_refused(write: Write) -> None:
+    with pytest.raises(
+        Fault, match="Sources: behind source a stands what is no source; it was cut off, or is damaged: fetch"
+    ):
+        sources(write, source("a") + source("b").removesuffix(": x\n\n"))
 
 
 def test_a_field_that_cannot_be_read(write: Write) -> None:

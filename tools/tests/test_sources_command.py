@@ -111,3 +111,12 @@ def test_a_field_that_cannot_be_read(archive: Archive, write: Write) -> None:
     name = write("odd", source("s", Build_Depends="b=1"))
     answer = archive("check", write("Packages", PACKAGES), "--sources", name)
     assert answer.status == 65 and f"{name}: source s" in answer.err
+
+
+def test_what_is_cut_off(archive: Archive, write: Write) -> None:
+    """Sources that end in the midst of a line are refused, whatever they are named for."""
+    path, packages = write("Sources", SOURCES[: SOURCES.rindex("Directory") + 5]), write("Packages", PACKAGES)
+    for words in (["check", packages, "--sources"], ["check", packages, "--built-by"], ["sources", "--arch", "amd64"]):
+        answer = archive(*words, path)
+        assert (answer.status, answer.out) == (65, "")
+        assert answer.err.startswith(f"debcheck-archive: {path}: ") and "it was cut off" in answer.err
