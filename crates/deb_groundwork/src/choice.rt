@@ -37,10 +37,11 @@ fn is_fit(part: &Part<'_>, set: &OnBase<'_>, lacking: &SparseSet, place: u32) ->
     true
 }
 
-/// The first place of a row that nothing is seen to speak against, or else the first.
+/// The first place of a row that nothing is seen to speak against, or else the first that isn't known to lead nowhere.
 pub(crate) fn choose(
     part: &Part<'_>,
     set: &OnBase<'_>,
+    unfit: &SparseSet,
     lacking: &SparseSet,
     row: &[u32],
 ) -> Option<u32>
@@ -48,15 +49,21 @@ pub(crate) fn choose(
     ensures { IfSome result (λ q. q < length part.now.index.now.packages) }
 {
     if let [only] = row {
-        return Some(*only);
+        return if unfit.contains(*only) {
+            None
+        } else {
+            Some(*only)
+        };
     }
     for place in row {
-        if is_fit(part, set, lacking, *place) {
+        if !unfit.contains(*place) && is_fit(part, set, lacking, *place) {
             return Some(*place);
         }
     }
-    match row {
-        [first, ..] => Some(*first),
-        [] => None,
+    for place in row {
+        if !unfit.contains(*place) {
+            return Some(*place);
+        }
     }
+    None
 }

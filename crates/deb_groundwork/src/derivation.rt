@@ -73,7 +73,7 @@ pub(crate) fn name_outcome(index: &Index, name: u32) -> Option<Outcome>
 }
 
 /// Whether the index has a group.
-fn has_need(index: &Index, place: u32, number: u32) -> bool
+pub(crate) fn has_need(index: &Index, place: u32, number: u32) -> bool
     ensures { result ≡ true → (place < length index.now.packages) × (number < length (needs_at index.now place)) }
 {
     place < index.len() && number < index.need_count(place)

@@ -1,29 +1,50 @@
 //! A set of packages that grows on a base set without a search: each need takes what is in, or else one of its answers. No claim rests on
 //! how it grows, so for want of memory it grows no further.
 
-ghost use Rattle.std.specs.Prelude.{◌≡◌, ◌<◌, true, All, length};
+ghost use Rattle.std.specs.Prelude.{◌≡◌, ◌<◌, true, All, IfNone, length};
 ghost use Rattle.deb_index.specs.Packages.{needs_at};
 ghost use Rattle.number_sets.specs.SparseSets.{AreNumbers, Grows, with_number};
 
 use crate::base_set::{BaseSet, OnBase};
 use crate::choice::choose;
+use crate::derivation::has_need;
 use crate::part::Part;
-use crate::rows::has_any;
+use crate::rows::{has_all, has_any};
+use deb_index::Index;
 use number_sets::SparseSet;
 use std::alloc::Global;
 
-/// What grows on a base set: the places beside it, in the order in which they came.
+/// What a place of a set came for: a need of an earlier place.
+#[derive(Clone, Copy)]
+struct Cause {
+    place: u32,
+    number: u32,
+}
+
+/// What grows on a base set, and what was seen on the way.
 #[derive(Drop)]
 pub struct Witness {
+    /// The places beside the base set, in the order in which they came.
     pub set: SparseSet,
+    /// What each of them came for; none for the first one, and for those of essential names.
+    causes: Vec<Option<Cause>>,
+    /// What was seen to lead nowhere.
+    unfit: SparseSet,
 }
 
 impl Witness {
-    /// No places, and no room yet.
+    /// Buffers with no room yet.
     pub fn new(alloc: Global) -> Witness {
         Witness {
             set: SparseSet::new(alloc),
+            causes: Vec::new(alloc),
+            unfit: SparseSet::new(alloc),
         }
+    }
+
+    /// Nothing is known to lead nowhere.
+    pub(crate) fn start(&mut self) {
+        self.unfit.clear();
     }
 
     /// Whether a place of the row is in.
@@ -31,20 +52,24 @@ impl Witness {
         has_any(&base.members, row) || has_any(&self.set, row)
     }
 
-    /// Puts in a place. `false` for want of memory.
-    fn take(&mut self, place: u32) -> bool
+    /// Puts in a place.
+    fn take(&mut self, place: u32, cause: Option<Cause>) -> bool
         ensures { result ≡ true → self.new.set ≡ with_number self.old.set place }
     {
-        self.set.insert(place).is_ok()
+        let Ok(()) = self.set.insert(place) else {
+            return false;
+        };
+        self.causes.push(cause).is_ok()
     }
 
-    /// Puts in a place of the row. `false` where it has none.
+    /// Puts in a place of the row. `false` where it has none that may lead somewhere.
     fn take_one(
         &mut self,
         part: &Part<'_>,
         base: &BaseSet,
         lacking: &SparseSet,
         row: &[u32],
+        cause: Option<Cause>,
     ) -> bool
         requires { All (λ q. q < length part.now.index.now.packages) row.now }
         ensures { result ≡ true → Grows (length part.now.index.now.packages) self.old.set self.new.set }
@@ -53,8 +78,8 @@ impl Witness {
             base,
             more: &self.set,
         };
-        match choose(part, &set, lacking, row) {
-            Some(place) => self.take(place),
+        match choose(part, &set, &self.unfit, lacking, row) {
+            Some(place) => self.take(place, cause),
             None => false,
         }
     }
@@ -75,7 +100,7 @@ impl Witness {
         let position = part.index.need_position(place, number);
         match part.index.answer_row(place, number) {
             Some(row) if !self.has_any(base, row) && part.has(position) => {
-                self.take_one(part, base, lacking, row)
+                self.take_one(part, base, lacking, row, Some(Cause { place, number }))
             }
             Some(_) => true,
             None => !part.has(position),
@@ -111,7 +136,7 @@ impl Witness {
         for (position, name) in index.essential_names().iter().enumerate() {
             let row = index.places_named(*name);
             if part.has(position as u32) && !self.has_any(base, row) {
-                if !self.take_one(part, base, lacking, row) {
+                if !self.take_one(part, base, lacking, row, None) {
                     return false;
                 }
             }
@@ -119,37 +144,74 @@ impl Witness {
         true
     }
 
-    /// Puts in what the places of the set need, as long as places come. `false` where a need isn't answered.
-    fn take_needs(&mut self, part: &Part<'_>, base: &BaseSet, lacking: &SparseSet) -> bool
+    /// Puts in what the places of the set need, as long as places come. Where a need isn't answered, the place that has it.
+    fn take_needs(&mut self, part: &Part<'_>, base: &BaseSet, lacking: &SparseSet) -> Option<u32>
         requires { AreNumbers (length part.now.index.now.packages) self.old.set }
-        ensures { result ≡ true → Grows (length part.now.index.now.packages) self.old.set self.new.set }
+        ensures { IfNone result (Grows (length part.now.index.now.packages) self.old.set self.new.set) }
     {
         let mut visited = 0;
         while visited < self.set.as_slice().len() {
             let place = self.set.as_slice()[visited];
             if !self.take_answers(part, base, lacking, place) {
-                return false;
+                return Some(place);
             }
             visited += 1;
         }
-        true
+        None
     }
 
-    /// Makes a set of the package at a place and what the part asks for with it. `false` where something wasn't found.
+    /// Makes a set of the package at a place and what the part asks for with it. Where something wasn't found, the place that needs it.
     pub(crate) fn grow(
         &mut self,
         part: &Part<'_>,
         base: &BaseSet,
         lacking: &SparseSet,
         p: u32,
-    ) -> bool
+    ) -> Option<u32>
         requires { p < length part.now.index.now.packages }
-        ensures { result ≡ true → AreNumbers (length part.now.index.now.packages) self.new.set }
+        ensures { IfNone result (AreNumbers (length part.now.index.now.packages) self.new.set) }
     {
         self.set.clear();
-        if !self.take(p) || !self.take_essentials(part, base, lacking) {
-            return false;
+        self.causes.clear();
+        if !self.take(p, None) || !self.take_essentials(part, base, lacking) {
+            return Some(p);
         }
         self.take_needs(part, base, lacking)
+    }
+
+    /// Whether what a place came for has another answer that may lead somewhere.
+    fn has_another(&self, index: &Index, cause: Cause) -> bool {
+        if !has_need(index, cause.place, cause.number) {
+            return false;
+        }
+        match index.answer_row(cause.place, cause.number) {
+            Some(row) => !has_all(&self.unfit, row),
+            None => false,
+        }
+    }
+
+    /// What a place came for.
+    fn cause_of(&self, place: u32) -> Option<Cause> {
+        let number = self.set.position_of(place)?;
+        *self.causes.get(number)?
+    }
+
+    /// Rules out a place, and what it came for, as long as that has no other answer. `false` where all of the way to the first place is ruled
+    /// out.
+    pub(crate) fn rule_out(&mut self, index: &Index, place: u32) -> bool {
+        let mut place = place;
+        for _ in 0..self.causes.len() {
+            if self.unfit.insert(place).is_err() {
+                return false;
+            }
+            let Some(cause) = self.cause_of(place) else {
+                return false;
+            };
+            if self.has_another(index, cause) {
+                return true;
+            }
+            place = cause.place;
+        }
+        false
     }
 }

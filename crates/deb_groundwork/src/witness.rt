@@ -1,7 +1,7 @@
 //! A set of packages that meets a part of the constraints, found without a search. Whether the set that grew meets the part is looked up, and
 //! no claim rests on how it grew.
 
-ghost use Rattle.std.specs.Prelude.{◌≡◌, ℕ, ◌<◌, true, All, length};
+ghost use Rattle.std.specs.Prelude.{◌≡◌, ℕ, ◌<◌, true, All, IfNone, length};
 ghost use Rattle.number_sets.specs.Sets.{members_of};
 ghost use Rattle.deb_health.specs.Causes.{either};
 ghost use Rattle.deb_health.specs.Health.{Admits, IsInstallable};
@@ -15,23 +15,27 @@ use crate::growth::Witness;
 use crate::part::Part;
 use number_sets::SparseSet;
 
-/// Whether places have room on a base set and meet what the part asks of them.
-fn have_room(part: &Part<'_>, base: &BaseSet, more: &SparseSet) -> bool
+/// How many sets are tried at most.
+const TRIES: u32 = 16;
+
+/// A place that has no room on a base set, or doesn't meet what the part asks of it.
+fn place_amiss(part: &Part<'_>, base: &BaseSet, more: &SparseSet) -> Option<u32>
     requires { All (λ q. q < length part.now.index.now.packages) more.now }
-    ensures room { result ≡ true → (q : ℕ) → members_of more.now q ≡ true → HasRoom part.now.index.now base.now q }
-    ensures meets { result ≡ true → (q : ℕ) → members_of more.now q ≡ true
-        → MeetsAskedOf part.now (either (members_of base.now.members) (members_of more.now)) q }
+    ensures room { IfNone result ((q : ℕ) → members_of more.now q ≡ true → HasRoom part.now.index.now base.now q) }
+    ensures meets { IfNone result ((q : ℕ) → members_of more.now q ≡ true
+        → MeetsAskedOf part.now (either (members_of base.now.members) (members_of more.now)) q) }
 {
     let set = OnBase { base, more };
     for place in more.as_slice() {
         if !base.has_room(part.index, *place) || !meets_place(part, &set, *place) {
-            return false;
+            return Some(*place);
         }
     }
-    true
+    None
 }
 
-/// Whether places that have room on a base set are the package at a place and others, and have the essential names that the part asks for.
+/// Whether places on a base set, with which nothing is amiss, are the package at a place and others, and have the essential names that the part
+/// asks for.
 fn is_witness(part: &Part<'_>, p: u32, base: &BaseSet, more: &SparseSet) -> bool
     requires base { IsBase part.now.index.now base.now }
     requires room { (q : ℕ) → members_of more.now q ≡ true → HasRoom part.now.index.now base.now q }
@@ -44,7 +48,8 @@ fn is_witness(part: &Part<'_>, p: u32, base: &BaseSet, more: &SparseSet) -> bool
 
 /// Whether a set with the package at a place is seen to meet a part of the constraints.
 ///
-/// A set that is found without a search is enough: on the base set each need takes what is in, or else one of its answers.
+/// A set that is found without a search is enough: on the base set each need takes what is in, or else one of its answers. Where that leads
+/// nowhere, the next try goes without what led there.
 pub fn is_seen_to_admit(
     part: &Part<'_>,
     p: u32,
@@ -56,10 +61,23 @@ pub fn is_seen_to_admit(
     requires base { IsBase part.now.index.now base.now }
     ensures { result ≡ true → Admits part.now.index.now p (positions_in part.now) }
 {
-    if !base.has_room(part.index, p) || !witness.grow(part, base, lacking, p) {
+    witness.start();
+    if !base.has_room(part.index, p) {
         return false;
     }
-    have_room(part, base, &witness.set) && is_witness(part, p, base, &witness.set)
+    for _ in 0..TRIES {
+        let place = match witness.grow(part, base, lacking, p) {
+            Some(place) => place,
+            None => match place_amiss(part, base, &witness.set) {
+                Some(place) => place,
+                None => return is_witness(part, p, base, &witness.set),
+            },
+        };
+        if !witness.rule_out(part.index, place) {
+            return false;
+        }
+    }
+    false
 }
 
 /// Whether the package at a place is seen to be installable, without a search: by a set that grows for it on the base set.

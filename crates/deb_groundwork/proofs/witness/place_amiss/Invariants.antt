@@ -3,7 +3,7 @@ use Rattle.number_sets.specs.Sets.{members_of}
 use Rattle.deb_health.specs.Causes.{either}
 use Rattle.deb_groundwork.specs.BaseSets.{HasRoom}
 use Rattle.deb_groundwork.specs.Parts.{MeetsAskedOf}
-use Rattle.deb_groundwork.proofs.witness.have_room.Given as goal
+use Rattle.deb_groundwork.proofs.witness.place_amiss.Given as goal
 
 abbrev pub invariant-loop-place : goal.invariant-loop-place
 invariant-loop-place l = record {

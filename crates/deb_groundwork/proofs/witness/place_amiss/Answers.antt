@@ -5,7 +5,7 @@ use Rattle.deb_groundwork.specs.BaseSets.{HasRoom}
 use Rattle.deb_groundwork.specs.Parts.{MeetsAskedOf}
 use Rattle.deb_groundwork.proofs.RowLemmas.{more_below, place_at}
 use Rattle.deb_groundwork.proofs.WitnessLemmas.{of_members}
-use Rattle.deb_groundwork.proofs.witness.have_room.Goals as goal
+use Rattle.deb_groundwork.proofs.witness.place_amiss.Goals as goal
 
 pub loop-place-preserved : goal.loop-place-preserved
 loop-place-preserved c =
@@ -19,13 +19,13 @@ loop-place-preserved c =
     }
 
 pub returns-clause-room : goal.returns-clause-room
-returns-clause-room c = λ _.
+returns-clause-room c =
     let Room : List ℕ → Type 0 = λ list. (q : ℕ) → members_of list q ≡ true → HasRoom c.args.part.now.index.now c.args.base.now q in
     subst Room c.as_slice-place-items.ensures
     (of_members (HasRoom c.args.part.now.index.now c.args.base.now) c.as_slice-place-items.result.now c.loop-place.place-index c.loop-place-test.false c.loop-place.invariant.room)
 
 pub returns-clause-meets : goal.returns-clause-meets
-returns-clause-meets c = λ _.
+returns-clause-meets c =
     let set : NumberSet = either (members_of c.args.base.now.members) (members_of c.args.more.now) in
     let Meets : List ℕ → Type 0 = λ list. (q : ℕ) → members_of list q ≡ true → MeetsAskedOf c.args.part.now set q in
     subst Meets c.as_slice-place-items.ensures
