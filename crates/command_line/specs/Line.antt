@@ -17,7 +17,7 @@ use Rattle.run_settings.specs.declared.config.Config.{Config}
 use Rattle.run_settings.specs.declared.config.Format.{Format}
 use Rattle.run_settings.specs.declared.config.Format.TheVariants as form
 use Rattle.command_line.specs.declared.line.TheConstants.{VERSION_LINE}
-use Rattle.command_line.specs.declared.line.Values.{Values}
+use Rattle.command_line.specs.declared.checked.Values.{Values}
 use Rattle.command_line.specs.declared.options.LineOption.{LineOption}
 use Rattle.run_settings.specs.declared.config.Show.{Show}
 use Rattle.run_settings.specs.declared.config.Show.TheVariants.{All, Failures, Successes}

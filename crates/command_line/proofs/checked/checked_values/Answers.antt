@@ -1,5 +1,5 @@
 use Rattle.std.proofs.lemmas.Bool.{and_from}
-use Rattle.command_line.proofs.line.checked_values.Goals as goal
+use Rattle.command_line.proofs.checked.checked_values.Goals as goal
 
 pub returns : goal.returns
 returns c =
