@@ -3,7 +3,7 @@ use Rattle.std.specs.Prelude.{◌≡◌, ◌≢◌, ℕ, ◌+◌, ◌<◌, ◌==
 use Rattle.std.specs.declared.alloc.Global.{Global}
 use Rattle.number_sets.specs.Sets.{NumberSet, members_of}
 use Rattle.sat_solve.specs.Clauses.{Clause, clause_holds}
-use Rattle.sat_solve.specs.Spans.{MeetsSpan, no_span}
+use Rattle.sat_solve.specs.Spans.{MeetsSpan, clauses_of, no_span}
 use Rattle.sat_solve.specs.Reasons.{variables_of}
 use Rattle.sat_solve.specs.declared.clause.Span.{Span}
 use Rattle.sat_solve.specs.declared.problem.Problem.{Problem}
@@ -17,6 +17,10 @@ pub record IsTrueBut (vars : ℕ) (clauses : List Clause) (keep : List Bool) (mu
 -- each marked group is needed: without its clauses there is a set
 abbrev pub AreNeeded : ℕ → List Clause → List Bool → ℕ → List Bool → Type 0
 AreNeeded vars clauses keep must marks = (group : ℕ) → slice_get marks group ≡ Some true → (set : NumberSet) × IsTrueBut vars clauses keep must group set
+
+-- the same of a problem's clauses
+abbrev pub MarksNeeded : Problem → List Bool → Type 0
+MarksNeeded problem marks = AreNeeded problem.vars (clauses_of problem.literals.now problem.spans.now) problem.keep.now problem.must marks
 
 -- the variables that are in, with one of them turned
 abbrev pub turned : List Bool → ℕ → NumberSet

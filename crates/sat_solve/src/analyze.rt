@@ -3,7 +3,8 @@
 //! The clause has one literal of the newest level that the conflict rests on, that of the first unique implication point (J. Marques-Silva
 //! and K. Sakallah, "GRASP: a search algorithm for propositional satisfiability", 1999), and else what older levels say.
 
-ghost use Rattle.std.specs.Prelude.{◌≡◌, ℕ, ◌<◌, ◌≤◌, true, false, Some, List, [], All, length, slice_get, slice_index_or, slice_set, IfOk, IfSome, IfNone};
+ghost use Rattle.std.specs.Prelude.{◌≡◌, ℕ, ◌<◌, true, false, IfOk};
+ghost use Rattle.std.specs.Prelude.{Some, List, [], All, length, slice_get, slice_index_or, slice_set};
 ghost use Rattle.number_sets.specs.Sets.{NumberSet};
 ghost use Rattle.sat_solve.specs.Clauses.{AreWithin};
 ghost use Rattle.sat_solve.specs.Trail.{steps_of, IsSound, IsTrail};
@@ -240,7 +241,8 @@ impl Analysis {
         requires reasoned { AreReasoned (Backs problem.now used.old.items) (named_by problem.now arena.now) (steps_of trail.now) }
         requires conflict { FailsOn (Backs problem.now used.old.items conflict) (steps_of trail.now) (named_by problem.now arena.now conflict) }
         ensures used { IfOk result (λ _. IsUsed problem.now used.new.items) }
-        ensures fewer { IfOk result (λ _. (set : NumberSet) → IsMarkedSolution problem.now used.new.items set → IsMarkedSolution problem.now used.old.items set) }
+        ensures fewer { IfOk result (λ _. (set : NumberSet) → IsMarkedSolution problem.now used.new.items set
+            → IsMarkedSolution problem.now used.old.items set) }
         ensures ranged { IfOk result (λ _. All (λ literal. literal.var < problem.now.vars) self.new.clause.items) }
         ensures implied { IfOk result (λ _. Implied problem.now used.new.items self.new.clause.items) }
         ensures jump { IfOk result (λ _. IsJump trail.now.steps.items 0 self.new.target self.new.clause.items) }

@@ -4,16 +4,13 @@
 //! Each group that a set breaks alone is needed: without its clauses there is a set. How the sets are come by is claimed by nothing. What a
 //! set breaks is looked up among the clauses that speak of the turned variable, and those of the group that the set before it broke.
 
-ghost use Rattle.std.specs.Prelude.{◌≡◌, ◌≢◌, ℕ, ◌+◌, ◌<◌, ◌≤◌, ◌==◌, ◌||◌, ◌⊎◌, true, false, not, Some, length, slice_get, slice_range, slice_index_or, IfOk, IfNone, OnOk};
-ghost use Rattle.std.specs.List.{list_all};
-ghost use Rattle.number_sets.specs.Sets.{members_of};
-ghost use Rattle.sat_solve.specs.Clauses.{clause_holds};
-ghost use Rattle.sat_solve.specs.Spans.{MeetsSpan, clauses_of};
-ghost use Rattle.sat_solve.specs.Reasons.{IsProblem, variables_of};
-ghost use Rattle.sat_solve.specs.Rotation.{AreNeeded, BreaksAlone, HasAt, IsListed, ListsOn, MeetsBut, turned};
+ghost use Rattle.std.specs.Prelude.{◌≡◌, ℕ, ◌<◌, ◌⊎◌, true, Some, length, slice_get, IfOk, OnOk};
+ghost use Rattle.sat_solve.specs.Reasons.{IsProblem};
+ghost use Rattle.sat_solve.specs.Rotation.{BreaksAlone, IsListed, MarksNeeded};
 
-use crate::clause::{Lit, Span};
+use crate::occurrences::{list_spans, listed_by};
 use crate::problem::Problem;
+use crate::turned::Turned;
 use std::alloc::{AllocError, Global};
 
 /// How many numbers are listed at most. Beyond it, nothing is turned.
@@ -36,158 +33,6 @@ pub struct Rotation {
     /// The group that it breaks alone.
     group: u32,
     turns: Vec<Turn>,
-}
-
-/// A set, with one variable turned.
-#[derive(Clone, Copy)]
-struct Turned<'a> {
-    inside: &'a [bool],
-    var: u32,
-}
-
-impl<'a> Turned<'a> {
-    /// Whether a variable is in.
-    fn has(&self, var: u32) -> bool
-        ensures { result ≡ turned self.now.inside.now self.now.var var }
-    {
-        match self.inside.get(var as usize) {
-            Some(is_in) => { if var == self.var { !*is_in } else { *is_in } }
-            None => false,
-        }
-    }
-
-    /// Whether a clause holds.
-    fn satisfies(&self, clause: &[Lit]) -> bool
-        ensures { result ≡ clause_holds (turned self.now.inside.now self.now.var) clause.now }
-    {
-        clause.iter().any(|literal| {
-            if literal.positive {
-                self.has(literal.var)
-            } else {
-                !self.has(literal.var)
-            }
-        })
-    }
-
-    /// Whether these literals have no variable that is in, but for this one.
-    fn has_no_other(&self, literals: &[Lit], var: u32) -> bool
-        ensures { result ≡ list_all (λ literal. literal.var == var || not (turned self.now.inside.now self.now.var literal.var)) literals.now }
-    {
-        literals
-            .iter()
-            .all(|literal| literal.var == var || !self.has(literal.var))
-    }
-
-    /// Whether each clause that a span stands for holds.
-    fn satisfies_span(&self, literals: &[Lit], span: Span) -> bool
-        requires ordered { span.start ≤ span.end }
-        requires inside { span.end ≤ length literals.now }
-        ensures { result ≡ true → MeetsSpan (turned self.now.inside.now self.now.var) literals.now span }
-    {
-        let part = &literals[span.start..span.end];
-        match span.owner {
-            None => self.satisfies(part),
-            Some(owner) => {
-                if !self.has(owner) {
-                    return true;
-                }
-                self.has_no_other(part, owner)
-            }
-        }
-    }
-
-    /// Whether a span holds, if there is one of this number, and it is kept, and not of a group.
-    fn meets(&self, problem: &Problem, number: u32, but: u32) -> bool
-        requires { IsProblem problem.now }
-        ensures { result ≡ true → MeetsBut problem.now (turned self.now.inside.now self.now.var) but number }
-    {
-        if number as usize >= problem.spans.len() {
-            return true;
-        }
-        let span = problem.spans[number as usize];
-        if span.group == but || !problem.keep[span.group as usize] {
-            return true;
-        }
-        self.satisfies_span(problem.literals, span)
-    }
-
-    /// The first of these spans that doesn't hold, though it is kept, and not of a group.
-    fn first_broken(&self, problem: &Problem, numbers: &[u32], but: u32) -> Option<u32>
-        requires { IsProblem problem.now }
-        ensures { IfNone result ((k : ℕ) → members_of numbers.now k ≡ true → MeetsBut problem.now (turned self.now.inside.now self.now.var) but k) }
-    {
-        for number in numbers {
-            if !self.meets(problem, *number, but) {
-                return Some(*number);
-            }
-        }
-        None
-    }
-
-    /// Whether all spans hold that are kept, and not of a group.
-    fn meets_all(&self, problem: &Problem, but: u32) -> bool
-        requires { IsProblem problem.now }
-        ensures { result ≡ true → (k : ℕ) → MeetsBut problem.now (turned self.now.inside.now self.now.var) but k }
-    {
-        for number in 0..problem.spans.len() {
-            if number > u32::MAX as usize || !self.meets(problem, number as u32, but) {
-                return false;
-            }
-        }
-        true
-    }
-}
-
-/// Lists a span, where there is a list.
-fn push_number(lists: &mut Vec<Vec<u32>>, key: usize, number: u32) -> Result<(), AllocError>
-    ensures on { OnOk result (ListsOn lists.old.items lists.new.items) }
-    ensures here { OnOk result (HasAt lists.new.items key number) }
-{
-    if key < lists.len() {
-        lists[key].push(number)?;
-    }
-    Ok(())
-}
-
-/// Lists a span at the variables of its literals.
-fn push_literals(lists: &mut Vec<Vec<u32>>, literals: &[Lit], number: u32) -> Result<(), AllocError>
-    ensures on { OnOk result (ListsOn lists.old.items lists.new.items) }
-    ensures here { OnOk result ((key : ℕ) → variables_of literals.now key ≡ true → HasAt lists.new.items key number) }
-{
-    for literal in literals {
-        push_number(lists, literal.var as usize, number)?;
-    }
-    Ok(())
-}
-
-/// Lists a span at all that it speaks of.
-fn push_span(lists: &mut Vec<Vec<u32>>, problem: &Problem, number: u32) -> Result<(), AllocError>
-    requires problem { IsProblem problem.now }
-    requires number { number < length problem.now.spans.now }
-    ensures on { OnOk result (ListsOn lists.old.items lists.new.items) }
-    ensures here { OnOk result (IsListed problem.now lists.new.items number) }
-{
-    let span = problem.spans[number as usize];
-    push_literals(lists, &problem.literals[span.start..span.end], number)?;
-    if let Some(owner) = span.owner {
-        push_number(lists, owner as usize, number)?;
-    }
-    push_number(lists, problem.vars as usize + span.group as usize, number)?;
-    Ok(())
-}
-
-/// Lists all spans.
-fn list_spans(lists: &mut Vec<Vec<u32>>, problem: &Problem) -> Result<(), AllocError>
-    requires { IsProblem problem.now }
-    ensures { OnOk result ((k : ℕ) → k < length problem.now.spans.now → IsListed problem.now lists.new.items k) }
-{
-    for number in 0..problem.spans.len() {
-        if number > u32::MAX as usize {
-            return Err(AllocError);
-        }
-        push_span(lists, problem, number as u32)?;
-    }
-    Ok(())
 }
 
 /// Marks a group.
@@ -346,9 +191,9 @@ impl Rotation {
         requires problem { IsProblem problem.now }
         requires listed { (k : ℕ) → k < length problem.now.spans.now → IsListed problem.now self.old.lists.items k }
         requires before { BreaksAlone problem.now self.old.inside.items self.old.group }
-        requires needed { AreNeeded problem.now.vars (clauses_of problem.now.literals.now problem.now.spans.now) problem.now.keep.now problem.now.must marks.old.items }
+        requires needed { MarksNeeded problem.now marks.old.items }
         ensures after { OnOk result (BreaksAlone problem.now self.new.inside.items self.new.group) }
-        ensures needed { OnOk result (AreNeeded problem.now.vars (clauses_of problem.now.literals.now problem.now.spans.now) problem.now.keep.now problem.now.must marks.new.items) }
+        ensures needed { OnOk result (MarksNeeded problem.now marks.new.items) }
         ensures sized { length marks.new.items ≡ length marks.old.items }
         ensures lists { self.new.lists ≡ self.old.lists }
     {
@@ -372,18 +217,6 @@ impl Rotation {
         Ok(())
     }
 
-    /// Makes a list for each variable and each group, and lists all spans.
-    fn list_all(&mut self, alloc: Global, problem: &Problem) -> Result<(), AllocError>
-        requires { IsProblem problem.now }
-        ensures { OnOk result ((k : ℕ) → k < length problem.now.spans.now → IsListed problem.now self.new.lists.items k) }
-    {
-        self.lists.clear();
-        for _ in 0..problem.vars as usize + problem.keep.len() {
-            self.lists.push(Vec::new(alloc))?;
-        }
-        list_spans(&mut self.lists, problem)
-    }
-
     /// Marks the groups that are come by from a set, if that breaks a group alone.
     pub(crate) fn walk(
         &mut self,
@@ -394,7 +227,7 @@ impl Rotation {
         marks: &mut Vec<bool>,
     ) -> Result<(), AllocError>
         requires { IsProblem problem.now }
-        ensures needed { OnOk result (AreNeeded problem.now.vars (clauses_of problem.now.literals.now problem.now.spans.now) problem.now.keep.now problem.now.must marks.new.items) }
+        ensures needed { OnOk result (MarksNeeded problem.now marks.new.items) }
         ensures sized { OnOk result (length marks.new.items ≡ length problem.now.keep.now) }
     {
         marks.clear();
@@ -402,7 +235,7 @@ impl Rotation {
         if listed_by(problem) > LISTED {
             return Ok(());
         }
-        self.list_all(alloc, problem)?;
+        list_spans(alloc, &mut self.lists, problem)?;
         if !self.start(problem, set, group)? {
             return Ok(());
         }
@@ -417,15 +250,6 @@ impl Rotation {
         }
         Ok(())
     }
-}
-
-/// How many numbers the lists of all spans have.
-fn listed_by(problem: &Problem) -> usize {
-    let mut count: usize = 0;
-    for span in problem.spans {
-        count = count.saturating_add(span.end.saturating_sub(span.start).saturating_add(2));
-    }
-    count
 }
 
 /// Puts in the variables of a set.

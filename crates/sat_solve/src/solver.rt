@@ -205,7 +205,8 @@ impl Solver {
     fn undo_to(&mut self, place: usize)
         requires { IsTrail self.old.trail }
         ensures used { self.new.used ≡ self.old.used }
-        ensures undone { (decision : Step) → IsAt self.old.trail.steps.items place decision → is_decided decision ≡ true → UndoesTo place self.old self.new }
+        ensures undone { (decision : Step) → IsAt self.old.trail.steps.items place decision → is_decided decision ≡ true
+            → UndoesTo place self.old self.new }
     {
         'steps: while self.trail.steps.len() > place {
             let Some(_) = self.undo() else {
@@ -234,7 +235,8 @@ impl Solver {
     pub(crate) fn learn(&mut self, clause: Vec<Lit>) -> Result<(), AllocError>
         ensures trail { self.new.trail ≡ self.old.trail }
         ensures used { self.new.used ≡ self.old.used }
-        ensures keeps { IfOk result (λ _. (problem : Problem) → IsSolver problem self.old → IsLearnt problem self.old.used.items clause → IsSolver problem self.new) }
+        ensures keeps { IfOk result (λ _. (problem : Problem) → IsSolver problem self.old
+            → IsLearnt problem self.old.used.items clause → IsSolver problem self.new) }
     {
         self.size = self.size.saturating_add(clause.len());
         self.learnt.push(clause)?;

@@ -1,6 +1,6 @@
 //! The trail: which variables are set, in which order they were, and what their values rest on.
 
-ghost use Rattle.std.specs.Prelude.{◌≡◌, ◌≢◌, ℕ, Bool, true, false, Some, None, ◌+◌, ◌<◌, ◌≤◌, [], ◌∷◌, length, reverse, IfOk, IfSome, IfNone, List};
+ghost use Rattle.std.specs.Prelude.{◌≡◌, ℕ, true, Some, None, ◌<◌, [], ◌∷◌, IfOk, IfSome, IfNone};
 ghost use Rattle.std.specs.List.Sorted.{IsStrictlyIncreasing};
 ghost use Rattle.std.specs.Prelude.{All, not, ◌||◌, ◌==◌};
 ghost use Rattle.std.specs.List.{list_all};

@@ -1,9 +1,10 @@
-//! Drawn formulas: each solve of one gives the first set that the plain search finds, or none, and marked groups admit no set.
+//! Drawn formulas: each solve of one gives the first set that the plain search finds, or none, and marked groups admit no set. Without one
+//! that is marked as needed there is a set.
 
 ghost use Rattle.std.specs.Prelude.{◌≡◌, ◌<◌, ◌≤◌, length};
 
 use crate::plain::{Bits, first_set, members_of};
-use sat_solve::{Formula, Lit, Owner, Workspace};
+use sat_solve::{Formula, Lit, Owner, Rotation, Workspace};
 use std::alloc::AllocGlobal;
 use std::env::Env;
 use std::process::Abort;
@@ -139,15 +140,15 @@ fn fill(rt: &impl Abort, numbers: &mut Numbers, formula: &mut Formula, plain: &m
     }
 }
 
-/// Sees that a formula has the first set that the plain search finds, or none, and none by the marked groups, and the same with new buffers.
-fn expect_first(
+/// Whether there is a set. Sees that a formula has the first one that the plain search finds, or none, and none by the marked groups.
+fn has_first(
     rt: &(impl Abort + AllocGlobal),
     workspace: &mut Workspace,
     formula: &Formula,
     plain: &[Bits],
     keep: &[bool],
     must: u32,
-)
+) -> bool
     requires few { formula.now.vars ≤ 16 }
     requires keep { length keep.now ≡ formula.now.groups }
     requires must { must < formula.now.vars }
@@ -161,16 +162,82 @@ fn expect_first(
         Some(first) => {
             let members = members_of(rt.alloc(), first).expect(rt, "no memory");
             assert!(rt; found == Some(members));
+            true
         }
         None => {
             assert!(rt; found.is_none());
             assert!(rt; first_set(plain, formula.vars(), &marks, must).is_none());
+            false
+        }
+    }
+}
+
+/// Sees that without each group that is marked as needed there is a set.
+fn expect_marks(
+    rt: &(impl Abort + AllocGlobal),
+    vars: u32,
+    plain: &[Bits],
+    keep: &[bool; 3],
+    must: u32,
+    marks: &[bool],
+)
+    requires { vars ≤ 16 }
+{
+    for group in 0..3 {
+        if marks.get(group) == Some(&true) {
+            let mut others = *keep;
+            others[group] = false;
+            assert!(rt; first_set(plain, vars, &others, must).is_some());
+        }
+    }
+}
+
+/// Where there is no set: sees what is marked as needed, from each set that breaks one group alone.
+fn expect_needed(
+    rt: &(impl Abort + AllocGlobal),
+    workspace: &mut Workspace,
+    rotation: &mut Rotation,
+    formula: &Formula,
+    plain: &[Bits],
+    keep: &[bool; 3],
+    must: u32,
+)
+    requires few { formula.now.vars ≤ 16 }
+    requires groups { formula.now.groups ≡ 3 }
+    requires must { must < formula.now.vars }
+{
+    let mut marks = Vec::new(rt.alloc());
+    for group in 0..3 {
+        let mut others = *keep;
+        others[group] = false;
+        let found = formula
+            .solve_in(rt.alloc(), workspace, &others, must)
+            .expect(rt, "no memory");
+        if let Some(set) = found {
+            formula
+                .mark_needed(
+                    rt.alloc(),
+                    rotation,
+                    keep,
+                    must,
+                    &set,
+                    group as u32,
+                    &mut marks,
+                )
+                .expect(rt, "no memory");
+            assert!(rt; marks.get(group) == Some(&true));
+            expect_marks(rt, formula.vars(), plain, keep, must, &marks);
         }
     }
 }
 
 /// Asks the formula of this number, of at most sixteen variables, for some drawn groups and variables.
-fn expect_number(rt: &(impl Abort + AllocGlobal), workspace: &mut Workspace, number: u32) {
+fn expect_number(
+    rt: &(impl Abort + AllocGlobal),
+    workspace: &mut Workspace,
+    rotation: &mut Rotation,
+    number: u32,
+) {
     let mut numbers = Numbers { state: number };
     // There are two to the power of the variables of sets: so few formulas have more than eight.
     let most = if number % 64 == 0 { 16 } else { 8 };
@@ -185,7 +252,9 @@ fn expect_number(rt: &(impl Abort + AllocGlobal), workspace: &mut Workspace, num
             numbers.below(4) > 0,
         ];
         let must = numbers.below(vars);
-        expect_first(rt, workspace, &formula, &plain, &keep, must);
+        if !has_first(rt, workspace, &formula, &plain, &keep, must) {
+            expect_needed(rt, workspace, rotation, &formula, &plain, &keep, must);
+        }
     }
 }
 
@@ -205,8 +274,9 @@ fn count(rt: &impl Env) -> u32 {
 #[test]
 fn drawn_formulas(rt: HostRuntime) {
     let mut workspace = Workspace::new(rt.alloc());
+    let mut rotation = Rotation::new(rt.alloc());
     for number in 0..count(&rt) {
-        expect_number(&rt, &mut workspace, number);
+        expect_number(&rt, &mut workspace, &mut rotation, number);
     }
     drop(workspace);
 }

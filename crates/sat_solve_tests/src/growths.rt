@@ -1,12 +1,11 @@
 //! One test for each call that can want memory; trials/growths runs them with each growth refused in turn.
-//!
 //! Each then gives the error, once it has seen that the call left everything fit for a second try.
 
 ghost use Rattle.std.specs.Prelude.{◌≡◌, ◌<◌, All, IfOk};
 
 use crate::literals::lit;
 use crate::scripts::is_written;
-use sat_solve::{Formula, Lit, Owner, Workspace};
+use sat_solve::{Formula, Lit, Owner, Rotation, Workspace};
 use std::alloc::{AllocError, AllocGlobal};
 use std::process::Abort;
 
@@ -152,6 +151,63 @@ fn mark_twice(
     marked
 }
 
+/// Sees that the first set with variable 3 is that of 1 and 3, by a clause that a conflict of two decisions teaches.
+fn expect_learnt(
+    rt: &(impl Abort + AllocGlobal),
+    formula: &Formula,
+    workspace: &mut Workspace,
+) -> Result<(), AllocError>
+    requires vars { 3 < formula.now.vars }
+    requires groups { formula.now.groups ≡ 2 }
+{
+    let found = formula.solve_in(rt.alloc(), workspace, &BOTH, 3)?;
+    assert!(rt; is_written(&found, "1 3"));
+    Ok(())
+}
+
+/// A workspace that was refused memory for what it learnt serves the next solve.
+fn learn_twice(
+    rt: &(impl Abort + AllocGlobal),
+    formula: &mut Formula,
+    workspace: &mut Workspace,
+) -> Result<(), AllocError> {
+    formula.restart(4, 2);
+    formula.add(0, &[lit(0), lit(1), lit(2)])?;
+    formula.add(1, &[lit(0), lit(1), Lit::out(2)])?;
+    let learnt = expect_learnt(rt, formula, workspace);
+    expect_learnt(rt, formula, workspace)?;
+    learnt
+}
+
+/// Sees that both groups are needed, which a set shows that breaks the first one alone.
+fn expect_needed(
+    rt: &(impl Abort + AllocGlobal),
+    formula: &Formula,
+    rotation: &mut Rotation,
+) -> Result<(), AllocError>
+    requires vars { 0 < formula.now.vars }
+    requires groups { formula.now.groups ≡ 2 }
+{
+    let mut marks = Vec::new(rt.alloc());
+    formula.mark_needed(rt.alloc(), rotation, &BOTH, 0, &[0], 0, &mut marks)?;
+    assert!(rt; marks.as_slice() == BOTH.as_slice());
+    Ok(())
+}
+
+/// A rotation that was refused memory serves the next call.
+fn rotate_twice(
+    rt: &(impl Abort + AllocGlobal),
+    formula: &mut Formula,
+    rotation: &mut Rotation,
+) -> Result<(), AllocError> {
+    formula.restart(2, 2);
+    formula.add(0, &[Lit::out(0), lit(1)])?;
+    formula.add(1, &[Lit::out(1)])?;
+    let needed = expect_needed(rt, formula, rotation);
+    expect_needed(rt, formula, rotation)?;
+    needed
+}
+
 /// The call that wants memory.
 #[derive(Clone, Copy)]
 enum Call {
@@ -161,6 +217,8 @@ enum Call {
     Solve,
     SolveIn,
     SolveMarked,
+    Learn,
+    MarkNeeded,
 }
 
 /// Makes a call: one that isn't `Formula::new` on a formula of the two clauses.
@@ -168,6 +226,7 @@ fn make(
     rt: &(impl Abort + AllocGlobal),
     formula: &mut Formula,
     workspace: &mut Workspace,
+    rotation: &mut Rotation,
     call: Call,
 ) -> Result<(), AllocError>
     requires vars { formula.old.vars ≡ 3 }
@@ -182,6 +241,8 @@ fn make(
         Call::Exclude => exclude(rt, formula),
         Call::SolveIn => solve_twice(rt, formula, workspace),
         Call::SolveMarked => mark_twice(rt, formula, workspace),
+        Call::Learn => learn_twice(rt, formula, workspace),
+        Call::MarkNeeded => rotate_twice(rt, formula, rotation),
         Call::New | Call::Solve => expect(rt, formula, "0 1"),
     }
 }
@@ -190,7 +251,9 @@ fn make(
 fn try_call(rt: &(impl Abort + AllocGlobal), call: Call) -> Result<(), AllocError> {
     let mut formula = Formula::new(rt.alloc(), 3, 2)?;
     let mut workspace = Workspace::new(rt.alloc());
-    let made = make(rt, &mut formula, &mut workspace, call);
+    let mut rotation = Rotation::new(rt.alloc());
+    let made = make(rt, &mut formula, &mut workspace, &mut rotation, call);
+    drop(rotation);
     drop(workspace);
     made
 }
@@ -223,4 +286,14 @@ fn of_solve_in(rt: HostRuntime) -> Result<(), AllocError> {
 #[test]
 fn of_solve_marked(rt: HostRuntime) -> Result<(), AllocError> {
     try_call(&rt, Call::SolveMarked)
+}
+
+#[test]
+fn of_learn(rt: HostRuntime) -> Result<(), AllocError> {
+    try_call(&rt, Call::Learn)
+}
+
+#[test]
+fn of_mark_needed(rt: HostRuntime) -> Result<(), AllocError> {
+    try_call(&rt, Call::MarkNeeded)
 }

@@ -1,8 +1,8 @@
 //! Tests of the public calls of `sat_solve`.
 //!
 //! `scripts` reads clauses and questions from lines of text, `worked` has worked formulas, and `exclusions` worked lists of exclusions, one of
-//! them long; `literals` makes literals. `drawn` sees that many small formulas have the first sets that `plain` finds, which tries all sets in
-//! their order. `growths` has a test for each call that can want memory.
+//! them long; `needed` has groups that are needed; `literals` makes literals. `drawn` sees that many small formulas have the first sets that
+//! `plain` finds, which tries all sets in their order. `growths` has a test for each call that can want memory.
 #![tactic(auto)]
 
 #[cfg(test)]
@@ -13,6 +13,8 @@ mod exclusions;
 mod growths;
 #[cfg(test)]
 mod literals;
+#[cfg(test)]
+mod needed;
 #[cfg(test)]
 mod plain;
 #[cfg(test)]

@@ -12,7 +12,7 @@ loop-init c =
     let problem = c.args.problem.now in
     let alone : BreaksAlone c.args.problem.now c.start.new.self.inside.items c.args.group = c.in_ok-start.ensures.alone c.if-not-branch.false in
     record {
-      listed = λ k below. subst (λ (lists : Vec (Vec ℕ Global) Global). IsListed problem lists.items k) (sym (c.in_ok-push_turns.ensures.0 ∙ c.in_ok-start.ensures.lists)) (c.in_ok-list_all.ensures k below);
+      listed = λ k below. subst (λ (lists : Vec (Vec ℕ Global) Global). IsListed problem lists.items k) (sym (c.in_ok-push_turns.ensures.0 ∙ c.in_ok-start.ensures.lists)) (c.in_ok-list_spans.ensures k below);
       alone =
           subst (λ (group : ℕ). BreaksAlone problem c.push_turns.new.self.inside.items group) (sym (c.in_ok-push_turns.ensures.2 ∙ c.in_ok-start.ensures.group))
           (subst (λ (inside : Vec Bool Global). BreaksAlone problem inside.items c.args.group) (sym c.in_ok-push_turns.ensures.1) alone);

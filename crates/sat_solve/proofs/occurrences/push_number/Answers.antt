@@ -1,7 +1,7 @@
 use Rattle.std.proofs.Common.{length, refl, arith}
 use Rattle.std.proofs.lemmas.Option.{slice_get_read}
 use Rattle.sat_solve.proofs.RotationLemmas.{pushed_here, pushed_on, none_here}
-use Rattle.sat_solve.proofs.rotation.push_number.Goals as goal
+use Rattle.sat_solve.proofs.occurrences.push_number.Goals as goal
 
 pub returns-in_ok-push-clause-on : goal.returns-in_ok-push-clause-on
 returns-in_ok-push-clause-on c =

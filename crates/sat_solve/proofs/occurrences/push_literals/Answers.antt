@@ -1,5 +1,5 @@
 use Rattle.sat_solve.proofs.RotationLemmas.{on_further, listed_more, listed_all}
-use Rattle.sat_solve.proofs.rotation.push_literals.Goals as goal
+use Rattle.sat_solve.proofs.occurrences.push_literals.Goals as goal
 
 pub loop-literal-preserved : goal.loop-literal-preserved
 loop-literal-preserved c = record {

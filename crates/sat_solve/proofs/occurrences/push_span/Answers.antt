@@ -3,8 +3,8 @@ use Rattle.sat_solve.specs.Rotation.{HasAt, ListsOn}
 use Rattle.sat_solve.specs.Spans.{no_span}
 use Rattle.sat_solve.specs.declared.clause.Span.{Span}
 use Rattle.sat_solve.proofs.RotationLemmas.{on_further, listed_span, owner_key, none_owns}
-use Rattle.sat_solve.proofs.rotation.push_span.Goals as goal
-use Rattle.sat_solve.proofs.rotation.push_span.Goals.{in-Some+in_ok-push_number, in_default}
+use Rattle.sat_solve.proofs.occurrences.push_span.Goals as goal
+use Rattle.sat_solve.proofs.occurrences.push_span.Goals.{in-Some+in_ok-push_number, in_default}
 
 pub returns-clause-on : goal.returns-clause-on
 returns-clause-on c =

@@ -1,7 +1,7 @@
 use Rattle.std.proofs.Common.{◌≡◌, subst, inl, inr, arith}
 use Rattle.std.proofs.lemmas.Bool.{cases_lt}
 use Rattle.sat_solve.specs.Rotation.{IsListed}
-use Rattle.sat_solve.proofs.rotation.list_spans.Goals as goal
+use Rattle.sat_solve.proofs.occurrences.list_spans.Goals as goal
 
 pub loop-number-preserved : goal.loop-number-preserved
 loop-number-preserved c = λ k below key spoken. elim (cases_lt k c.loop-number.number) [
