@@ -278,5 +278,6 @@ fn drawn_formulas(rt: HostRuntime) {
     for number in 0..count(&rt) {
         expect_number(&rt, &mut workspace, &mut rotation, number);
     }
+    drop(rotation);
     drop(workspace);
 }

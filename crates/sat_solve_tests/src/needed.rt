@@ -1,6 +1,6 @@
 //! Groups that are needed, found from a set that breaks one group alone.
 
-ghost use Rattle.std.specs.Prelude.{◌≡◌};
+ghost use Rattle.std.specs.Prelude.{◌≡◌, IfOk};
 
 use crate::literals::lit;
 use sat_solve::{Formula, Lit, Owner, Rotation};
@@ -15,8 +15,8 @@ static WITHOUT_THE_LAST: [bool; 4] = [true, true, true, false];
 fn fill(formula: &mut Formula) -> Result<(), AllocError>
     requires vars { formula.old.vars ≡ 5 }
     requires groups { formula.old.groups ≡ 4 }
-    ensures vars { formula.new.vars ≡ 5 }
-    ensures groups { formula.new.groups ≡ 4 }
+    ensures vars { IfOk result (λ _. formula.new.vars ≡ 5) }
+    ensures groups { IfOk result (λ _. formula.new.groups ≡ 4) }
 {
     formula.add(0, &[Lit::out(0), lit(1)])?;
     formula.add(1, &[Lit::out(1), lit(2)])?;
