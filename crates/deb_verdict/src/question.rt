@@ -66,7 +66,7 @@ pub(crate) fn refute_part(
 }
 
 /// After so many questions about a package the others are put to its formula alone, which may tell of several constraints that they are needed.
-const MANY: u32 = 128;
+const MANY: u32 = 32;
 
 /// What `refute_part` says, where so many questions were asked before.
 fn refute_next(
