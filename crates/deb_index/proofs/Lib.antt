@@ -23,7 +23,6 @@ pub mod TakenLemmas
 pub mod ForeseenLemmas
 pub mod PartedLemmas
 pub mod PieceLemmas
-pub mod ReadyLemmas
 pub mod EnumerateLemmas
 pub mod NameLemmas
 pub mod NumberedLemmas

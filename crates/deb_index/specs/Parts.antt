@@ -1,10 +1,7 @@
 -- A text in parts, some of which were read before they are taken in.
-use Rattle.std.specs.Prelude.{◌≡◌, ◌+◌, ◌*◌, ◌≤◌, ◌<◌, ℕ, List, [], ◌∷◌, Option, Vec, map, length, sum_by, Ok, IfSome, is_some, true}
+use Rattle.std.specs.Prelude.{◌≡◌, ◌+◌, ◌*◌, ◌≤◌, ◌<◌, ℕ, List, [], ◌∷◌, Option, map, length, sum_by, Ok, IfSome}
 use Rattle.std.specs.List.{AllByRecursion, flat_map}
-use Rattle.std.specs.declared.alloc.Global.{Global}
-use Rattle.std.specs.Option.{option_map_or}
 use Rattle.deb_control.specs.Stanzas.{size_of, stanzas_of}
-use Rattle.deb_index.specs.declared.package.Reading.{Reading}
 use Rattle.deb_index.specs.declared.parts.Part.{Part}
 use Rattle.deb_index.specs.Packages.{IndexView, PackageView}
 use Rattle.deb_index.specs.Reading.{byte_limit, reading_view, readings, stanza_limit, with_reading}
@@ -22,19 +19,6 @@ pub record ArePartsOf (arch text : List ℕ) (parts : List Part) : Type 0 where
   pub stanzas : flat_map part_stanzas parts ≡ stanzas_of text
   pub short : AllByRecursion (λ part. length part.text.now ≤ length text) parts
   pub foreseen : AllByRecursion (IsForeseen arch) parts
-
--- what the stanzas of a part read as, where that is known beforehand
-abbrev pub found_in : Part → List (Option PackageView)
-found_in part = option_map_or (λ found. map reading_view found.items) part.found []
-
--- all parts were read beforehand, and have at most so many stanzas
-pub record AreRead (most : ℕ) (parts : List Part) : Type 0 where
-  pub found : AllByRecursion (λ part. is_some part.found ≡ true) parts
-  pub few : length (flat_map found_in parts) ≤ most
-
--- what stanzas read as, list by list
-abbrev pub in_lists : List (Vec Reading Global) → List (Option PackageView)
-in_lists lists = flat_map (λ found. map reading_view found.items) lists
 
 -- there is room for all that some stanzas may ask for: a byte of a stanza for each group and entry, and four more for each stanza
 abbrev pub HasRoomFor : IndexView → List (List (List ℕ)) → Type 0

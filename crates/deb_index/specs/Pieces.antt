@@ -1,14 +1,12 @@
 -- An index of which a front of its text was read, piece by piece.
 use Rattle.std.specs.Prelude.{◌≡◌, ◌≢◌, ◌⊎◌, ◌+◌, ◌*◌, ◌≤◌, ℕ, Bool, List, [], ◌++◌, Option, Ok, Err, length, sum_by}
-use Rattle.std.specs.List.{fold}
 use Rattle.deb_control.specs.Stanzas.{IsClosed, stanzas_of}
 use Rattle.deb_index.specs.declared.error.BothError.{BothError}
 use Rattle.deb_index.specs.declared.error.BothError.TheVariants as both
 use Rattle.deb_index.specs.declared.error.IndexError.{IndexError}
 use Rattle.deb_index.specs.declared.error.IndexError.TheVariants.{Memory}
 use Rattle.deb_index.specs.Packages.{IndexView, PackageView}
-use Rattle.deb_index.specs.Parts.{HaveRoom}
-use Rattle.deb_index.specs.Reading.{byte_limit, collected, index_of, index_of_both, readings, stanza_limit, with_reading}
+use Rattle.deb_index.specs.Reading.{byte_limit, collected, index_of, index_of_both, readings, stanza_limit}
 use Rattle.deb_index.specs.Tables.{asked_count}
 
 -- the index so far, and how many bytes of its text were read
@@ -16,9 +14,8 @@ pub record FrontView : Type 0 where
   pub index : IndexView
   pub size : ℕ
 
--- what was taken in, and behind it what was read and is not taken in yet
-abbrev pub front_of : IndexView → List (Option PackageView) → ℕ → FrontView
-front_of taken ready size = record { index = fold with_reading taken ready; size = size }
+abbrev pub front_of : IndexView → ℕ → FrontView
+front_of index size = record { index = index; size = size }
 
 -- the index so far is that of this text, which is what was read
 pub record IsFrontOf (arch : List ℕ) (with_essential : Bool) (text : List ℕ) (front : FrontView) : Type 0 where
@@ -53,8 +50,3 @@ pub record IsWithin (front : FrontView) : Type 0 where
   pub few : front.index.stanzas ≤ stanza_limit
   pub short : front.size ≤ byte_limit
   pub room : sum_by asked_count front.index.packages ≤ front.size + 4 * front.index.stanzas
-
--- there is room for what is left, and for what is not taken in yet
-pub record IsKept (taken : IndexView) (ready : List (Option PackageView)) (size : ℕ) : Type 0 where
-  pub within : IsWithin (front_of taken ready size)
-  pub room : HaveRoom taken ready

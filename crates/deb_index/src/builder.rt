@@ -1,18 +1,17 @@
 //! An index while it is read.
 ghost use Rattle.std.specs.Prelude.{◌≡◌, ◌≢◌, ◌≤◌, ◌+◌, ◌*◌, [], Ok, Err, IfOk, IfErr, length, sum_by};
-ghost use Rattle.std.specs.List.{fold, list_any};
+ghost use Rattle.std.specs.List.{list_any};
 ghost use Rattle.deb_control.specs.Stanzas.{stanzas_of};
 ghost use Rattle.deb_index.specs.Packages.{essential_names};
 ghost use Rattle.deb_index.specs.Built.{is_marked};
-ghost use Rattle.deb_index.specs.Parts.{ArePartsOf, HaveRoom, in_lists};
-ghost use Rattle.deb_index.specs.Reading.{byte_limit, collected, continued, read_behind, readings, stanza_limit, with_foreground, with_reading};
+ghost use Rattle.deb_index.specs.Parts.{ArePartsOf};
+ghost use Rattle.deb_index.specs.Reading.{byte_limit, collected, continued, read_behind, readings, stanza_limit, with_foreground};
 ghost use Rattle.deb_index.specs.Tables.{asked_count};
 
 use crate::catalog::Catalog;
 use crate::draft::Draft;
 use crate::error::IndexError;
 use crate::names::Names;
-use crate::package::Reading;
 use crate::parts::Parted;
 use crate::unlinked::Unlinked;
 use deb_control::Reader;
@@ -97,24 +96,6 @@ impl Builder {
         ensures refused { IfErr result (λ e. e ≢ IndexError.Memory → read_behind self before (stanzas_of text.entry.text.now) ≡ Err e) }
     {
         match self.draft.add_text(alloc, before, text) {
-            Ok(()) => Ok(self),
-            Err(error) => {
-                drop(self.draft);
-                Err(error)
-            }
-        }
-    }
-
-    /// Takes in what stanzas read as, one list after the other.
-    pub(crate) fn add_lists(
-        mut self,
-        alloc: Global,
-        lists: Vec<Vec<Reading>>,
-    ) -> Result<Builder, AllocError>
-        requires { HaveRoom self (in_lists lists.items) }
-        ensures { IfOk result (λ b. b ≡ fold with_reading self (in_lists lists.items)) }
-    {
-        match self.draft.add_lists(alloc, lists) {
             Ok(()) => Ok(self),
             Err(error) => {
                 drop(self.draft);

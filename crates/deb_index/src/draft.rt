@@ -6,7 +6,7 @@ ghost use Rattle.std.specs.Str.{bytes_eq};
 ghost use Rattle.deb_control.specs.Stanzas.{stanzas_of};
 ghost use Rattle.deb_index.specs.Packages.{names, package_view};
 ghost use Rattle.deb_index.specs.Built.{HasKeysOf, key_view, package_key, same_key};
-ghost use Rattle.deb_index.specs.Parts.{ArePartsOf, HasRoomFor, HaveRoom, IsForeseen, in_lists, part_stanzas};
+ghost use Rattle.deb_index.specs.Parts.{ArePartsOf, HasRoomFor, HaveRoom, IsForeseen, part_stanzas};
 ghost use Rattle.deb_index.specs.Reading.{byte_limit, read_behind, reading_view, same_package, stanza_limit, with_reading};
 ghost use Rattle.deb_index.specs.Tables.{HasRoom, asked_count};
 
@@ -109,23 +109,6 @@ impl Draft {
         }
         let reader = Reader::behind(text, u64::from(self.catalog.stanzas - before));
         self.add_stanzas(alloc, before, reader)
-    }
-
-    /// Takes in what stanzas read as, one list after the other.
-    pub(crate) fn add_lists(
-        &mut self,
-        alloc: Global,
-        lists: Vec<Vec<Reading>>,
-    ) -> Result<(), AllocError>
-        requires built { IsBuilt self.old }
-        requires room { HaveRoom (draft_view self.old) (in_lists lists.items) }
-        ensures built { OnOk result (IsBuilt self.new) }
-        ensures added { OnOk result (draft_view self.new ≡ fold with_reading (draft_view self.old) (in_lists lists.items)) }
-    {
-        for found in lists {
-            self.add_readings(alloc, found)?;
-        }
-        Ok(())
     }
 
     // Takes in what stanzas read as.

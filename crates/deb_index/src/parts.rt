@@ -1,9 +1,8 @@
 //! A text in parts, which several workers read side by side before they are taken in.
-ghost use Rattle.std.specs.Prelude.{◌≡◌, ◌<◌, ◌++◌, ℕ, List, Ok, IfOk, length, map, true};
-ghost use Rattle.std.specs.List.{flat_map};
+ghost use Rattle.std.specs.Prelude.{◌≡◌, ◌++◌, ℕ, List, Ok, IfOk, map};
 ghost use Rattle.std.specs.Thread.{IsSync};
 ghost use Rattle.deb_control.specs.Stanzas.{stanzas_of};
-ghost use Rattle.deb_index.specs.Parts.{ArePartsOf, AreRead, IsForeseen, found_in, in_lists};
+ghost use Rattle.deb_index.specs.Parts.{ArePartsOf, IsForeseen};
 ghost use Rattle.deb_index.specs.Reading.{reading_view, readings};
 
 use crate::error::IndexError;
@@ -55,33 +54,6 @@ pub(crate) fn in_many<'a, R: Threads + Sync>(
     }
     let parts = read_parts(rt, alloc, arch, text, workers, least)?;
     Ok(Parted { text, parts })
-}
-
-/// Whether all parts were read beforehand, and have at most so many stanzas.
-pub(crate) fn are_read(parts: &[Part], most: usize) -> bool
-    ensures { result ≡ true → AreRead most parts.now }
-{
-    let mut left = most;
-    for part in parts {
-        match &part.found {
-            Some(found) if found.len() <= left => left -= found.len(),
-            _ => return false,
-        }
-    }
-    true
-}
-
-/// What was read of some parts beforehand.
-pub(crate) fn found_in(alloc: Global, parts: Vec<Part>) -> Result<Vec<Vec<Reading>>, AllocError>
-    ensures { IfOk result (λ lists. in_lists lists.items ≡ flat_map found_in parts.entry.items) }
-{
-    let mut lists = Vec::new(alloc);
-    for part in parts {
-        if let Some(found) = part.found {
-            lists.push(found)?;
-        }
-    }
-    Ok(lists)
 }
 
 // What the stanzas of a part read as, with numbers from 1.

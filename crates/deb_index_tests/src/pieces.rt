@@ -10,8 +10,8 @@ use deb_index::BothError;
 use std::process::Abort;
 use std::thread::Threads;
 
-/// One worker; too few for one to take in while the others read; and as many as can be told, and as are needed at least, for that.
-static WORKERS: [u32; 4] = [1, 2, 3, 64];
+/// One worker, two, and more than a piece has parts.
+static WORKERS: [u32; 3] = [1, 2, 64];
 
 /// With each of the numbers of workers, this is seen.
 fn expect_seen<'x>(

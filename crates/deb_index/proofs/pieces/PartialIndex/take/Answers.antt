@@ -1,49 +1,56 @@
-use Rattle.std.proofs.Common.{◌≡◌, ◌∙◌, ℕ, [], List, IfOk, IfErr, ap, sym, subst, subst₂, length, arith}
-use Rattle.std.specs.List.{fold}
-use Rattle.deb_index.specs.Packages.{IndexView}
-use Rattle.deb_index.specs.Parts.{ArePartsOf, in_lists}
-use Rattle.deb_index.specs.Pieces.{Accepts, FrontView, IsWithin, Refuses, front_of}
-use Rattle.deb_index.specs.Reading.{with_reading}
-use Rattle.deb_index.proofs.ReadyLemmas.{arch-after}
+use Rattle.std.proofs.Common.{◌≡◌, ◌≢◌, ◌+◌, ◌-◌, ℕ, List, Ok, Err, ap, sym, subst, subst₂, length, refl, arith}
+use Rattle.std.proofs.lemmas.Result.{err_from_is_err_and}
+use Rattle.deb_control.specs.Stanzas.{stanzas_of}
+use Rattle.deb_index.specs.declared.error.IndexError.TheVariants.{Memory}
+use Rattle.deb_index.specs.Parts.{ArePartsOf}
+use Rattle.deb_index.specs.Pieces.{Accepts, FrontView, Refuses, front_of}
+use Rattle.deb_index.specs.Reading.{read_behind}
+use Rattle.deb_index.proofs.PieceLemmas.{front-fault, front-more, stays-within}
+use Rattle.deb_index.proofs.TakenLemmas.{Taken, taken}
 use Rattle.deb_index.proofs.pieces.PartialIndex.take.Goals as goal
 
-pub with_piece-requires-clause-parts : goal.with_piece-requires-clause-parts
-with_piece-requires-clause-parts g c =
-    let old = c.self.inside.builder in
-    let ready = in_lists c.self.inside.ready.items in
-    let parted = c.in-Ok-read.parted in
-    let taken : c.in_ok-builder.builder ≡ fold with_reading old ready = rw c.in_ok-builder.was at c.add_and_read-taken.ensures.taken in
-    let text : parted.text.now ≡ c.args.piece.now = rw c.in-Ok-read.is at c.add_and_read-taken.ensures.text in
-    let parts : ArePartsOf c.deref.result.now c.args.piece.now parted.parts.items = rw c.in-Ok-read.is at c.add_and_read-taken.ensures.parts in
-    let arch = c.deref.ensures.value ∙ c.in-Ok.ensures.items ∙ c.arch.ensures ∙ sym (ap (λ (v : IndexView). v.arch) taken ∙ arch-after old ready) in
-    subst₂ (λ (a bytes : List ℕ). ArePartsOf a bytes parted.parts.items) arch (sym text) parts
+pub add_behind-requires-clause-parts : goal.add_behind-requires-clause-parts
+add_behind-requires-clause-parts g c =
+    let parts = c.in_ok-parted.parted.parts.items in
+    subst₂ (λ (a bytes : List ℕ). ArePartsOf a bytes parts) c.arch.ensures (sym c.in_ok-parted.ensures.text) c.in_ok-parted.ensures.parts
 
-pub with_piece-requires-clause-within : goal.with_piece-requires-clause-within
-with_piece-requires-clause-within g c =
-    let old = c.self.inside.builder in
-    let ready = in_lists c.self.inside.ready.items in
-    let taken : c.in_ok-builder.builder ≡ fold with_reading old ready = rw c.in_ok-builder.was at c.add_and_read-taken.ensures.taken in
-    subst (λ (v : IndexView). IsWithin (front_of v [] c.self.inside.size)) (sym taken) c.self.invariant.within
+pub add_behind-requires-clause-short : goal.add_behind-requires-clause-short
+add_behind-requires-clause-short g c =
+    omega (arith, ap (λ (bytes : List ℕ). length bytes) c.in_ok-parted.ensures.text, ap (λ (f : FrontView). f.size) c.self.view_is, c.requires.short)
 
-pub with_piece-requires-clause-short : goal.with_piece-requires-clause-short
-with_piece-requires-clause-short g c =
-    let text : c.in-Ok-read.parted.text.now ≡ c.args.piece.now = rw c.in-Ok-read.is at c.add_and_read-taken.ensures.text in
-    omega (arith, ap (λ (bytes : List ℕ). length bytes) text, ap (λ (f : FrontView). f.size) c.self.view_is, c.requires.short)
+pub add_behind-requires-clause-room : goal.add_behind-requires-clause-room
+add_behind-requires-clause-room g c = omega (arith, c.self.invariant.room, c.self.invariant.short)
+
+pub returns-in_err-builder-clause-refused : goal.returns-in_err-builder-clause-refused
+returns-in_err-builder-clause-refused g c =
+    let v = c.self.inside.builder in
+    let piece = c.args.piece.now in
+    let e = c.in_err-builder.field-0.0 in
+    let p = err_from_is_err_and c.from_residual-in_err-builder.result c.from_residual-in_err-builder.ensures.1 in
+    let fault : e ≢ Memory → read_behind v 0 (stanzas_of piece) ≡ Err e =
+    λ other. subst (λ (bytes : List ℕ). read_behind v 0 (stanzas_of bytes) ≡ Err e) c.in_ok-parted.ensures.text (c.in_err-builder.ensures.refused other) in
+    let refuses : Refuses (front_of v c.self.inside.size) piece e =
+    λ other arch essential text more closed is ends. front-fault arch essential text (front_of v c.self.inside.size) is piece more e closed ends (fault other) in
+    rw (p.1, p.2) (subst (λ (f : FrontView). Refuses f piece e) c.self.view_is refuses)
+
+pub invariant_of-result : goal.invariant_of-result
+invariant_of-result g c =
+    let v = c.self.inside.builder in
+    let size = c.self.inside.size in
+    let new = c.in_ok-builder.builder in
+    let piece = c.args.piece.now in
+    let read = subst (λ (bytes : List ℕ). read_behind v 0 (stanzas_of bytes) ≡ Ok new) c.in_ok-parted.ensures.text c.in_ok-builder.ensures.accepted in
+    let t : Taken v (stanzas_of piece) new = taken v.arch 0 (v.stanzas - 0) (stanzas_of piece) v new read (omega arith) in
+    stays-within (front_of v size) (front_of new (size + length piece)) piece c.self.invariant t refl (omega (arith, ap (λ (f : FrontView). f.size) c.self.view_is, c.requires.short))
 
 pub returns-clause-accepted : goal.returns-clause-accepted
 returns-clause-accepted g c =
-    let old = c.self.inside.builder in
-    let ready = in_lists c.self.inside.ready.items in
-    let taken : c.in_ok-builder.builder ≡ fold with_reading old ready = rw c.in_ok-builder.was at c.add_and_read-taken.ensures.taken in
-    let text : c.in-Ok-read.parted.text.now ≡ c.args.piece.now = rw c.in-Ok-read.is at c.add_and_read-taken.ensures.text in
-    let front = ap (λ (v : IndexView). front_of v [] c.self.inside.size) taken ∙ c.self.view_is in
-    subst₂ (λ (f : FrontView) (bytes : List ℕ). IfOk c.with_piece.result (Accepts f bytes)) front text c.with_piece.ensures.accepted
-
-pub returns-clause-refused : goal.returns-clause-refused
-returns-clause-refused g c =
-    let old = c.self.inside.builder in
-    let ready = in_lists c.self.inside.ready.items in
-    let taken : c.in_ok-builder.builder ≡ fold with_reading old ready = rw c.in_ok-builder.was at c.add_and_read-taken.ensures.taken in
-    let text : c.in-Ok-read.parted.text.now ≡ c.args.piece.now = rw c.in-Ok-read.is at c.add_and_read-taken.ensures.text in
-    let front = ap (λ (v : IndexView). front_of v [] c.self.inside.size) taken ∙ c.self.view_is in
-    subst₂ (λ (f : FrontView) (bytes : List ℕ). IfErr c.with_piece.result (Refuses f bytes)) front text c.with_piece.ensures.refused
+    let v = c.self.inside.builder in
+    let size = c.self.inside.size in
+    let new = c.in_ok-builder.builder in
+    let piece = c.args.piece.now in
+    let read = subst (λ (bytes : List ℕ). read_behind v 0 (stanzas_of bytes) ≡ Ok new) c.in_ok-parted.ensures.text c.in_ok-builder.ensures.accepted in
+    let next = front_of new (size + length piece) in
+    let accepts : Accepts (front_of v size) piece next =
+    λ arch essential text closed is. front-more arch essential text (front_of v size) is piece next closed read refl in
+    subst (λ (f : FrontView). Accepts f piece next) c.self.view_is accepts
