@@ -17,9 +17,6 @@ or-second : (a b : Bool) → b ≡ true → (a || b) ≡ true
 or-second true b h = refl
 or-second false b h = h
 
-pub later-has : (byte : ℕ) (part : List ℕ) (parts : List (List ℕ)) → any_has byte parts ≡ true → any_has byte (part ∷ parts) ≡ true
-later-has byte part parts h = or-second (has_byte byte part) (any_has byte parts) h
-
 -- what one of the parts has, the text has
 pub parts-have : (byte : ℕ) (p : ℕ → Bool) (text : List ℕ) → any_has byte (slice_split p text) ≡ true → has_byte byte text ≡ true
 parts-have byte p [] h = h

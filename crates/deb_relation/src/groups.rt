@@ -7,8 +7,8 @@ ghost use Rattle.deb_relation.specs.Parts.{has_byte};
 ghost use Rattle.deb_relation.specs.Relationship.{Gives, groups_of};
 
 use crate::atom::{Atom, RelationError};
-use crate::piece;
-use crate::relation::{add_group, cut, has_bar, parse_list, room_for};
+use crate::piece::{self, has_bar};
+use crate::relation::{add_group, cut, parse_list, room_for};
 use std::alloc::Global;
 use std::marker::Model;
 
