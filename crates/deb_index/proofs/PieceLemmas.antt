@@ -1,16 +1,16 @@
 -- A text in pieces: the index of a front of it, with a piece more, with a fault, and at its end.
-use Rattle.std.proofs.Common.{◌≡◌, ◌≤◌, ◌+◌, ◌-◌, ◌⊎◌, inl, inr, ℕ, Bool, List, [], ◌∷◌, ◌++◌, length, Option, Result, Ok, Err, IfOk, IfErr, refl, sym, ap, subst, ◌∙◌, arith, length-append}
+use Rattle.std.proofs.Common.{◌≡◌, ◌≤◌, ◌+◌, ◌-◌, ◌⊎◌, inl, inr, ℕ, Bool, List, [], ◌∷◌, ◌++◌, length, Ok, Err, refl, sym, ap, subst, ◌∙◌, arith, length-append}
 use Rattle.std.specs.List.{sum_by}
 use Rattle.std.proofs.lemmas.List.{append-nil, nil_from_length}
 use Rattle.deb_control.specs.Stanzas.{IsClosed, size_of, stanzas_of}
 use Rattle.deb_control.proofs.CutLemmas.{stanzas-uncut}
 use Rattle.deb_control.proofs.SizeLemmas.{stanza-sizes}
-use Rattle.deb_index.specs.declared.error.BothError.TheVariants.{Fore, Back}
+use Rattle.deb_index.specs.declared.error.BothError.TheVariants.{Back}
 use Rattle.deb_index.specs.declared.error.IndexError.{IndexError}
-use Rattle.deb_index.specs.Packages.{IndexView, PackageView, first_of_each}
+use Rattle.deb_index.specs.Packages.{IndexView, first_of_each}
 use Rattle.deb_index.specs.Pieces.{FrontView, IsFrontOf, IsWithin}
 use Rattle.deb_index.specs.Reading.{◌>>=◌, byte_limit, collected, continued, index_of, index_of_both, read_behind, readings, with_foreground}
-use Rattle.deb_index.proofs.BothLemmas.{both-back, both-ok, then_back}
+use Rattle.deb_index.proofs.BothLemmas.{both-back, both-ok}
 use Rattle.deb_index.proofs.CollectLemmas.{collected-on, collected-stanzas, failed-of, taken-of}
 use Rattle.deb_index.proofs.TakenLemmas.{Taken, continued-on, length-read, stopped}
 
@@ -26,28 +26,6 @@ none-left : stanzas_of [] ≡ []
 none-left =
     let twice = ap (λ (stanzas : List (List (List ℕ))). length stanzas) (stanzas-uncut []) ∙ length-append (stanzas_of []) (stanzas_of []) in
     nil_from_length (stanzas_of []) (omega (arith, twice))
-
-pub none-closed : IsClosed []
-none-closed = λ more. ap (λ stanzas. stanzas ++ stanzas_of more) (sym none-left)
-
--- the fault of a text goes before all that stands behind it
-pub fault-first : (text background arch : List ℕ) (with_essential : Bool) (e : IndexError) → index_of (text ++ []) arch with_essential ≡ Err e → index_of_both text background arch with_essential ≡ Err (Fore e)
-unfolding index_of index_of_both
-fault-first text background arch with_essential e fault =
-    ap (then_back text background arch with_essential) (unread (readings arch 0 0 (stanzas_of text)) (ap (λ bytes. index_of bytes arch with_essential) (sym (append-nil text)) ∙ fault))
-  where
-    unread : (read : Result (List (Option PackageView)) IndexError) → (read >>= λ all. Ok (with_foreground (collected arch with_essential all))) ≡ Err e → read ≡ Err e
-    unread (Ok all) h = absurd cc
-    unread (Err f) h = cc
-
--- what follows of an outcome
-pub ok-of : {A E : Type 0} (P Q : A → Type 0) (r : Result A E) → ((x : A) → P x → Q x) → IfOk r P → IfOk r Q
-ok-of P Q (Ok x) follows holds = follows x holds
-ok-of P Q (Err e) follows holds = tt
-
-pub err-of : {A E : Type 0} (P Q : E → Type 0) (r : Result A E) → ((e : E) → P e → Q e) → IfErr r P → IfErr r Q
-err-of P Q (Ok x) follows holds = tt
-err-of P Q (Err e) follows holds = follows e holds
 
 -- where all stanzas that were read stood in an earlier text, a text is read from its first stanza on
 pub behind-all : (mid : IndexView) (before : ℕ) (text : List ℕ) → before ≡ mid.stanzas → read_behind mid before (stanzas_of text) ≡ continued mid (readings mid.arch mid.stanzas 0 (stanzas_of text))

@@ -45,8 +45,10 @@ impl PartialIndex {
         self.size
     }
 
-    /// Takes in the next piece of the text, which so many workers read side by side, as `Index::read_both_on` has it. What was read before
-    /// has to end where no stanza goes on, as `deb_control::cut_behind_blank` cuts.
+    /// Takes in the next piece of the text, which so many workers read side by side, each a part of its own; 0 workers count as 1. What is
+    /// answered is the same for any number of workers, and for any `least`: a piece of fewer than `2 * least` bytes is read by one worker.
+    /// `PART_SIZE` is a good `least` where time counts. What was read before has to end where no stanza goes on, as
+    /// `deb_control::cut_behind_blank` cuts.
     ///
     /// The error is the fault of the first stanza that has one, with its number in the whole text, or want of memory. Nothing behind the
     /// piece changes that fault, where the piece ends so, too.
@@ -71,7 +73,7 @@ impl PartialIndex {
         })
     }
 
-    /// The index of the text, which is the foreground, and of a background behind it: what `Index::read_both_on` answers of both.
+    /// The index of the text, which is the foreground, and of a background behind it, read by so many workers: what `Index::read_both` answers.
     pub fn finish<R: Threads + Sync>(
         self,
         rt: &R,

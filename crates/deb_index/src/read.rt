@@ -6,9 +6,7 @@ ghost use Rattle.deb_index.specs.Reading.{IsBare, byte_limit, index_of, index_of
 use crate::builder::Builder;
 use crate::error::{BothError, IndexError, in_back, in_fore};
 use crate::index::Index;
-use crate::pieces::PartialIndex;
 use std::alloc::Global;
-use std::thread::Threads;
 
 impl Index {
     /// Reads the index of a text for an architecture; without `essential` no name is essential. The error is the fault of the first
@@ -79,32 +77,5 @@ impl Index {
         let unlinked = both.finish(alloc)?;
         let index = unlinked.link(alloc)?;
         Ok(index)
-    }
-
-    /// `read_both` by so many workers side by side, each on a part of its own of the texts; 0 workers count as 1. What is answered is the
-    /// same for any number of workers, and for any `least`: a text of fewer than `2 * least` bytes is read by one worker. `PART_SIZE` is
-    /// a good `least` where time counts.
-    pub fn read_both_on<R: Threads + Sync>(
-        rt: &R,
-        alloc: Global,
-        text: &[u8],
-        background: &[u8],
-        arch: &str,
-        essential: bool,
-        workers: u32,
-        least: usize,
-    ) -> Result<Index, BothError>
-        requires fore { length text.now ≤ byte_limit }
-        requires back { length background.now ≤ byte_limit }
-        ensures accepted { IfOk result (λ index. index_of_both text.now background.now arch.now essential ≡ Ok index) }
-        ensures refused { IfErr result (λ e. e ≢ BothError.Memory → index_of_both text.now background.now arch.now essential ≡ Err e) }
-        ensures bare { IfErr result IsBare }
-    {
-        let empty = PartialIndex::new(alloc, arch, essential)?;
-        let fore = match empty.take(rt, alloc, text, workers, least) {
-            Ok(fore) => fore,
-            Err(error) => return Err(in_fore(error)),
-        };
-        fore.finish(rt, alloc, background, workers, least)
     }
 }

@@ -46,7 +46,7 @@ fn of_read_both(rt: HostRuntime) -> Result<(), Fail> {
 
 /// A thread that can't be started for want of memory is no fault: its part is read by the caller.
 #[test]
-fn of_read_both_on(rt: HostRuntime) -> Result<(), Fail> {
+fn of_read_side_by_side(rt: HostRuntime) -> Result<(), Fail> {
     let texts = Texts::Parted(NEEDING, NEEDED, 2);
     expect_read(&rt, texts, &USED, USED_SHOWN)
 }

@@ -42,18 +42,6 @@ fn read_both(
     Index::read_both(alloc, text, background, "amd64", essential)
 }
 
-fn read_parted(
-    rt: &(impl Threads + Sync + AllocGlobal),
-    text: &[u8],
-    background: &[u8],
-    workers: u32,
-) -> Result<Index, BothError> {
-    if text.len() > TEXT_LIMIT || background.len() > TEXT_LIMIT {
-        return Err(BothError::Memory);
-    }
-    Index::read_both_on(rt, rt.alloc(), text, background, "amd64", true, workers, 0)
-}
-
 fn with_piece(
     rt: &(impl Threads + Sync + AllocGlobal),
     so_far: PartialIndex,
@@ -97,7 +85,9 @@ pub fn read(rt: &(impl Threads + Sync + AllocGlobal), texts: Texts) -> Result<In
         Texts::Both(text, background, essential) => {
             read_both(rt.alloc(), text, background, essential)
         }
-        Texts::Parted(text, background, workers) => read_parted(rt, text, background, workers),
+        Texts::Parted(text, background, workers) => {
+            read_in_pieces(rt, &[text], background, workers)
+        }
         Texts::Pieces(pieces, background, workers) => {
             read_in_pieces(rt, pieces, background, workers)
         }
