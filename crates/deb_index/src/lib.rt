@@ -42,5 +42,6 @@ pub use constraint::Constraint;
 pub use error::{BothError, IndexError, RelField};
 pub use index::Index;
 pub use limits::{PART_SIZE, STANZA_LIMIT, TEXT_LIMIT};
+pub use meets::{meets_bound, provided_meets};
 pub use package::Package;
 pub use pieces::PartialIndex;

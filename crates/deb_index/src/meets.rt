@@ -19,8 +19,8 @@ pub(crate) enum Role {
     Entry,
 }
 
-// Whether a version meets the bound of an atom, if there is one.
-fn meets_bound(version: &Version, atom: &Atom) -> bool
+/// Whether a version meets the bound of an atom, if there is one.
+pub fn meets_bound(version: &Version, atom: &Atom) -> bool
     ensures { result ≡ meets_bound (Some version.now) (atom_view atom.now).bound }
 {
     match &atom.bound {
@@ -29,8 +29,9 @@ fn meets_bound(version: &Version, atom: &Atom) -> bool
     }
 }
 
-/// Whether what an entry provides is within the bound of an atom of its name.
-pub(crate) fn provided_meets(entry: &Atom, atom: &Atom) -> bool
+/// Whether what an entry of Provides provides is within the bound of an atom of its name: without a version, only where there is none (Debian Policy
+/// 7.5).
+pub fn provided_meets(entry: &Atom, atom: &Atom) -> bool
     ensures { result ≡ meets_bound (spec.provided_version (atom_view entry.now)) (atom_view atom.now).bound }
 {
     match &entry.bound {

@@ -1,11 +1,10 @@
 //! By what packages answer a need.
 
-ghost use Rattle.std.specs.Prelude.{◌≡◌, ◌<◌, All, IfOk, OnOk, Some, length, map};
+ghost use Rattle.std.specs.Prelude.{◌≡◌, ◌<◌, All, IfOk, OnOk, length, map};
 ghost use Rattle.std.specs.List.{list_any};
 ghost use Rattle.std.specs.Option.{option_map};
 ghost use Rattle.deb_relation.specs.AtomView.{atom_view};
 ghost use Rattle.deb_index.specs.Constraints.{IsOfIndex};
-ghost use Rattle.deb_index.specs.Meets.{meets_bound, provided_version};
 ghost use Rattle.deb_index.specs.Packages.{package_view};
 ghost use Rattle.deb_near.specs.Near.{alternatives, near_view};
 ghost use Rattle.deb_reasons.specs.Walk.{brought};
@@ -13,30 +12,10 @@ ghost use Rattle.deb_reasons.specs.Answers.{answer_at, answers_by, answers_itsel
 ghost use Rattle.deb_reasons.specs.JsonParts.{answers_to};
 
 use crate::walk::brought;
-use deb_index::{Constraint, Index, Package};
+use deb_index::{Constraint, Index, Package, meets_bound, provided_meets};
 use deb_near::NearMiss;
-use deb_relation::{Atom, Version, bound_holds};
+use deb_relation::Atom;
 use std::alloc::{AllocError, Global};
-
-/// Whether a version is within the bound of an atom, where it has one.
-fn meets_bound(version: &Version, atom: &Atom) -> bool
-    ensures { result ≡ meets_bound (Some version.now) (atom_view atom.now).bound }
-{
-    match &atom.bound {
-        None => true,
-        Some(bound) => bound_holds(version, bound.0, &bound.1),
-    }
-}
-
-/// Whether what an entry of Provides provides is within the bound of an atom.
-fn provided_meets(entry: &Atom, atom: &Atom) -> bool
-    ensures { result ≡ meets_bound (provided_version (atom_view entry.now)) (atom_view atom.now).bound }
-{
-    match &entry.bound {
-        None => atom.bound.is_none(),
-        Some(provided) => meets_bound(&provided.1, atom),
-    }
-}
 
 /// Whether a package may stand for an alternative, whatever it meets it by.
 fn may_answer(arch: &[u8], deb: &Package, atom: &Atom) -> bool
