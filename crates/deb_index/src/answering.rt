@@ -3,8 +3,7 @@ ghost use Rattle.std.specs.Prelude.{◌≡◌, ◌<◌, IfOk, IfSome, length, na
 ghost use Rattle.std.specs.Option.{is_some};
 ghost use Rattle.deb_relation.specs.AtomView.{atom_view};
 ghost use Rattle.deb_index.specs.Packages.{apart_at, aparts_at, need_at, needs_at};
-ghost use Rattle.deb_index.specs.Meets.{group_satisfiers, meets_at, meets_need_at, need_satisfiers, satisfiers};
-ghost use Rattle.deb_index.specs.Roles.{satisfiers_as};
+ghost use Rattle.deb_index.specs.Meets.{group_satisfiers, meets_at, meets_need_at, satisfiers};
 ghost use Rattle.deb_index.specs.Rows.{candidate_count, group_candidates, row_limit};
 
 use crate::index::Index;
@@ -93,14 +92,6 @@ impl Index {
         self.links.entries.get(first as usize + number as usize)
     }
 
-    /// The places of all packages that meet an atom as an alternative of Pre-Depends or Depends, rising. The error is want
-    /// of memory.
-    pub fn need_satisfiers(&self, alloc: Global, atom: &Atom) -> Result<Vec<u32>, AllocError>
-        ensures { IfOk result (λ v. v.items ≡ need_satisfiers self.now (atom_view atom.now)) }
-    {
-        self.find_all(alloc, Role::Alternative, atom)
-    }
-
     /// The places of all packages that meet an atom, rising, as an entry of Conflicts or Breaks asks for them. The error is
     /// want of memory.
     ///
@@ -108,17 +99,10 @@ impl Index {
     pub fn satisfiers(&self, alloc: Global, atom: &Atom) -> Result<Vec<u32>, AllocError>
         ensures { IfOk result (λ v. v.items ≡ satisfiers self.now (atom_view atom.now)) }
     {
-        self.find_all(alloc, Role::Entry, atom)
-    }
-
-    // The places of all packages that meet an atom in its role, rising.
-    fn find_all(&self, alloc: Global, role: Role, atom: &Atom) -> Result<Vec<u32>, AllocError>
-        ensures { IfOk result (λ v. v.items ≡ satisfiers_as role self.now (atom_view atom.now)) }
-    {
         let mut found = Vec::new(alloc);
         let lookup = self.lookup();
         let candidates = lookup.candidates(atom.name.as_slice());
-        lookup.find(role, atom, candidates, &mut found)?;
+        lookup.find(Role::Entry, atom, candidates, &mut found)?;
         Ok(found)
     }
 }

@@ -1,7 +1,6 @@
 //! One test for each call that can want memory; trials/growths runs them with each growth refused in turn.
 
 use crate::backgrounds::{NEEDED, NEEDING, USED, USED_SHOWN};
-use crate::needs::MARKED;
 use crate::reading::{Texts, read};
 use crate::rows::{SHARED, providers};
 use crate::showing::{Part, expect_text, shown};
@@ -65,18 +64,14 @@ fn ended(refused: bool) -> Result<(), Fail> {
     Ok(())
 }
 
-fn met(alloc: Global, index: &Index, text: &[u8], as_need: bool) -> Result<Vec<u32>, AllocError> {
+fn met(alloc: Global, index: &Index, text: &[u8]) -> Result<Vec<u32>, AllocError> {
     let Ok(atoms) = parse_list(alloc, text) else {
         return Err(AllocError);
     };
     let [atom] = atoms.as_slice() else {
         return Ok(Vec::new(alloc));
     };
-    if as_need {
-        index.need_satisfiers(alloc, atom)
-    } else {
-        index.satisfiers(alloc, atom)
-    }
+    index.satisfiers(alloc, atom)
 }
 
 /// These places meet an atom. The call that was refused memory may be made again; whether it was.
@@ -84,15 +79,11 @@ fn was_refused(
     rt: &(impl Abort + AllocGlobal),
     index: &Index,
     atom: &[u8],
-    as_need: bool,
     places: &[u32],
 ) -> bool {
-    let (found, refused) = match met(rt.alloc(), index, atom, as_need) {
+    let (found, refused) = match met(rt.alloc(), index, atom) {
         Ok(found) => (found, false),
-        Err(AllocError) => (
-            met(rt.alloc(), index, atom, as_need).expect(rt, "no memory"),
-            true,
-        ),
+        Err(AllocError) => (met(rt.alloc(), index, atom).expect(rt, "no memory"), true),
     };
     assert!(rt; found.as_slice() == places);
     refused
@@ -101,18 +92,10 @@ fn was_refused(
 #[test]
 fn of_satisfiers(rt: HostRuntime) -> Result<(), Fail> {
     let index = read(&rt, Texts::One(VERSIONED, true))?;
-    let bounded = was_refused(&rt, &index, b"bar (>= 1.0)", false, &[2]);
-    let refused = was_refused(&rt, &index, b"bar", false, &[1, 2]);
+    let bounded = was_refused(&rt, &index, b"bar (>= 1.0)", &[2]);
+    let refused = was_refused(&rt, &index, b"bar", &[1, 2]);
     drop(index);
     ended(bounded || refused)
-}
-
-#[test]
-fn of_need_satisfiers(rt: HostRuntime) -> Result<(), Fail> {
-    let index = read(&rt, Texts::One(MARKED, true))?;
-    let refused = was_refused(&rt, &index, b"python3:any", true, &[2]);
-    drop(index);
-    ended(refused)
 }
 
 /// The list that was lent to a call that was refused memory may be lent again; whether it was.

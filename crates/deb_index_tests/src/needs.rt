@@ -22,7 +22,7 @@ Version: 1
 Architecture: all
 ";
 
-pub const MARKED: &[u8] = b"Package: a
+const MARKED: &[u8] = b"Package: a
 Version: 1
 Architecture: all
 Depends: python3:any

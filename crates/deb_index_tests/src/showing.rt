@@ -207,18 +207,24 @@ fn append_answers(out: &mut String, index: &Index) -> Result<(), AllocError> {
 }
 
 /// Whether exactly those packages meet an atom that are at these places.
-fn are_met(index: &Index, atom: &Atom, as_need: bool, places: &[u32]) -> bool {
+fn are_met(index: &Index, atom: &Atom, places: &[u32]) -> bool {
     for place in 0..index.len() {
-        let meets = if as_need {
-            index.meets_need(place, atom)
-        } else {
-            index.meets(place, atom)
-        };
-        if meets != places.contains(&place) {
+        if index.meets(place, atom) != places.contains(&place) {
             return false;
         }
     }
     true
+}
+
+/// The places of the packages that meet an atom as an alternative.
+fn met_in_a_group(alloc: Global, index: &Index, atom: &Atom) -> Result<Vec<u32>, AllocError> {
+    let mut found = Vec::new(alloc);
+    for place in 0..index.len() {
+        if index.meets_need(place, atom) {
+            found.push(place)?;
+        }
+    }
+    Ok(found)
 }
 
 fn append_met_atom(
@@ -227,12 +233,12 @@ fn append_met_atom(
     atom: &Atom,
     as_need: bool,
 ) -> Result<(), AllocError> {
-    let found = if as_need {
-        index.need_satisfiers(*out.allocator(), atom)?
-    } else {
-        index.satisfiers(*out.allocator(), atom)?
-    };
-    if are_met(index, atom, as_need, &found) {
+    if as_need {
+        let found = met_in_a_group(*out.allocator(), index, atom)?;
+        return append_places(out, &found);
+    }
+    let found = index.satisfiers(*out.allocator(), atom)?;
+    if are_met(index, atom, &found) {
         append_places(out, &found)
     } else {
         out.push_str(" others\n")
