@@ -9,16 +9,11 @@ ghost use Rattle.deb_index.specs.Meets.{group_satisfiers, need_satisfiers};
 ghost use Rattle.number_sets.specs.Sets.{members_of};
 ghost use Rattle.deb_groundwork.specs.Groundwork.{HasAnswers};
 
+use crate::limits::{ALTERNATIVES, BEARERS};
 use crate::rows::{Places, has_any};
 use deb_index::Index;
 use deb_relation::Atom;
 use number_sets::SparseSet;
-
-/// Of a need so many alternatives are looked at.
-pub(crate) const ALTERNATIVES: usize = 64;
-
-/// Of an alternative's name so many bearers are looked at: as many as a row is made from.
-pub(crate) const BEARERS: usize = 256;
 
 /// A bearer of a name: a place that has it or, behind these, one that provides it.
 pub(crate) fn bearer(named: &[u32], provided: &[(u32, u32)], number: usize) -> Option<u32>

@@ -8,13 +8,11 @@ ghost use Rattle.deb_groundwork.specs.BaseSets.{HasRoom, IsBase};
 use crate::answering::are_answered;
 use crate::check::has_no_earlier;
 use crate::installation::{Installation, weight_of_all};
+use crate::limits::BASE_SET_TIMES;
 use crate::rows::{Places, has_free_name, stands_apart, take_hits};
 use deb_index::Index;
 use number_sets::SparseSet;
 use std::alloc::Global;
-
-/// How often at most, in all, as much as the whole index comes to the set, or is taken out again.
-const TIMES: u64 = 2;
 
 /// Places, of which each has what its package asks for among them.
 #[derive(Drop)]
@@ -82,7 +80,7 @@ impl BaseSet {
     pub(crate) fn find(alloc: Global, index: &Index, hopeless: &SparseSet) -> BaseSet
         ensures { IsBase index.now result }
     {
-        let spare = weight_of_all(index).saturating_mul(TIMES);
+        let spare = weight_of_all(index).saturating_mul(BASE_SET_TIMES);
         let mut installation = Installation::new(alloc, spare);
         installation.add_essentials(index, hopeless);
         for place in 0..index.len() {

@@ -8,8 +8,9 @@ ghost use Rattle.deb_health.specs.Health.{MeetsAt};
 ghost use Rattle.deb_groundwork.specs.Parts.{HasNoEarlier, positions_in, MeetsAsked, MeetsAskedOf, StandsOnce};
 
 use crate::answering::is_answered;
+use crate::limits::FEW;
 use crate::part::Part;
-use crate::rows::{FEW, Places, has_any, hits_no_other};
+use crate::rows::{Places, has_any, hits_no_other};
 use deb_index::{Constraint, Index};
 use number_sets::SparseSet;
 

@@ -4,8 +4,9 @@ ghost use Rattle.std.specs.Prelude.{◌<◌, All, IfSome, length};
 ghost use Rattle.deb_index.specs.Packages.{needs_at};
 
 use crate::base_set::OnBase;
+use crate::limits::FEW;
 use crate::part::Part;
-use crate::rows::{FEW, has_all, has_free_name};
+use crate::rows::{has_all, has_free_name};
 use deb_index::Index;
 use number_sets::SparseSet;
 

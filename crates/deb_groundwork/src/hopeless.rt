@@ -7,13 +7,11 @@ ghost use Rattle.number_sets.specs.Sets.{members_of, IsWithin};
 ghost use Rattle.deb_health.specs.Health.{IsHopeless};
 ghost use Rattle.deb_groundwork.specs.Hopeless.{AreHopeless};
 
+use crate::limits::PASSES;
 use crate::rows::has_all;
 use deb_index::Index;
 use number_sets::SparseSet;
 use std::alloc::AllocError;
-
-/// How often at most all places are gone through, in rising order and in falling order by turns.
-const PASSES: u32 = 32;
 
 /// Whether hopeless places alone answer a need, or none. `false` where the answers are too many for a row.
 fn is_unanswered(index: &Index, hopeless: &SparseSet, place: u32, number: u32) -> bool

@@ -7,16 +7,11 @@ ghost use Rattle.deb_health.specs.Health.{IsHealthy, IsInstallable};
 use crate::check::meets_part;
 use crate::groundwork::Groundwork;
 use crate::installation::{Installation, Lead, weight_of_all};
+use crate::limits::{LARGE_SETS, LARGE_SETS_TIMES};
 use crate::part::Part;
 use deb_index::Index;
 use number_sets::SparseSet;
 use std::alloc::{AllocError, Global};
-
-/// How many sets are found at most.
-const SETS: u32 = 64;
-
-/// How often at most, in all, as much as the whole index comes to them, or is taken out again.
-const TIMES: u64 = 8;
 
 /// Whether a set is seen to be healthy. `false` where it isn't, or where there is too much to look at.
 fn is_healthy(index: &Index, set: &SparseSet) -> bool
@@ -100,7 +95,7 @@ fn mark_sets(
 {
     let mut sets = 0;
     for place in asked {
-        if sets >= SETS {
+        if sets >= LARGE_SETS {
             return;
         }
         if marks[*place as usize] {
@@ -139,7 +134,10 @@ pub fn find_installable(
     let index = groundwork.index;
     let mut marks = vec![in alloc; false; index.len() as usize]?;
     mark_healthy(index, &groundwork.base.members, &mut marks);
-    let mut installation = Installation::new(alloc, weight_of_all(index).saturating_mul(TIMES));
+    let mut installation = Installation::new(
+        alloc,
+        weight_of_all(index).saturating_mul(LARGE_SETS_TIMES),
+    );
     mark_sets(groundwork, asked, &mut installation, &mut marks);
     drop(installation);
     Ok(marks)

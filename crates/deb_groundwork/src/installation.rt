@@ -4,15 +4,13 @@
 ghost use Rattle.std.specs.Prelude.{◌≡◌, [], ◌<◌, All, length, take};
 ghost use Rattle.deb_index.specs.Packages.{needs_at};
 
-use crate::answering::{ALTERNATIVES, BEARERS, bearer, has_answer};
+use crate::answering::{bearer, has_answer};
+use crate::limits::{ALTERNATIVES, BEARERS, PACKAGE_TRIES};
 use crate::rows::{has_any, has_free_name, stands_apart, take_hits};
 use deb_index::Index;
 use deb_relation::Atom;
 use number_sets::SparseSet;
 use std::alloc::Global;
-
-/// How often at most a package is tried in one set.
-const TRIES: u32 = 8;
 
 /// Which answer of a need is tried first.
 #[derive(Clone, Copy)]
@@ -320,7 +318,7 @@ impl Installation {
         if self.members.contains(place) {
             return true;
         }
-        for _ in 0..TRIES {
+        for _ in 0..PACKAGE_TRIES {
             if self.spare == 0 || !self.fits(index, hopeless, place) {
                 return false;
             }

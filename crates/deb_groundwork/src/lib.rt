@@ -2,8 +2,8 @@
 //!
 //! `deb_verdict` searches for what is left. `specs/Lib` names first the definitions that its contracts cite, then those of the inside. The modules:
 //!
-//! - Common to all: `rows` tells what a set has of a row of places, `answering` whether it answers a need, be there a row or not; a `part` is some of
-//!   the constraints of an index, by their positions.
+//! - Common to all: `limits` has how far is looked, where that decides on time alone; `rows` tells what a set has of a row of places, `answering`
+//!   whether it answers a need, be there a row or not; a `part` is some of the constraints of an index, by their positions.
 //! - The `groundwork` knows what all verdicts of an index have in common: `forced` finds places that are in every healthy set, `hopeless` places that
 //!   no healthy set has, and a `base_set` has many packages, each with what it asks for.
 //! - `installable` finds many packages that some healthy set has, for which no set need be shown: an `installation` grows without a search, and is
@@ -24,6 +24,7 @@ mod growth;
 mod hopeless;
 mod installable;
 mod installation;
+mod limits;
 mod part;
 mod propagation;
 mod rows;

@@ -7,11 +7,9 @@ ghost use Rattle.deb_index.specs.Constraints.{Holds};
 ghost use Rattle.number_sets.specs.Sets.{NumberSet, members_of, IsWithin};
 ghost use Rattle.deb_groundwork.specs.BaseSets.{HasHits};
 
+use crate::limits::FEW;
 use deb_index::{Constraint, Index};
 use number_sets::SparseSet;
-
-/// Of a package at most so many versions, needs and entries are looked at, where that is no more than a hint.
-pub(crate) const FEW: u32 = 64;
 
 /// Places that are in.
 pub trait Places {

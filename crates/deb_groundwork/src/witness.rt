@@ -12,11 +12,9 @@ use crate::base_set::{BaseSet, OnBase};
 use crate::check::{meets_essentials, meets_place};
 use crate::groundwork::Groundwork;
 use crate::growth::Witness;
+use crate::limits::WITNESS_TRIES;
 use crate::part::Part;
 use number_sets::SparseSet;
-
-/// How many sets are tried at most.
-const TRIES: u32 = 16;
 
 /// A place that has no room on a base set, or doesn't meet what the part asks of it.
 fn place_amiss(part: &Part<'_>, base: &BaseSet, more: &SparseSet) -> Option<u32>
@@ -65,7 +63,7 @@ pub fn is_seen_to_admit(
     if !base.has_room(part.index, p) {
         return false;
     }
-    for _ in 0..TRIES {
+    for _ in 0..WITNESS_TRIES {
         let place = match witness.grow(part, base, lacking, p) {
             Some(place) => place,
             None => match place_amiss(part, base, &witness.set) {

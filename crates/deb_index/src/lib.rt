@@ -2,7 +2,7 @@
 //!
 //! The modules, in reading order:
 //!
-//! - `limits`: how large an index may be; `error`: why one is refused.
+//! - `limits`: how large an index may be, and what decides on time alone; `error`: why one is refused.
 //! - `package`: one stanza, read as a package; `meets`: what it asks for, and which atoms it meets.
 //! - `name_table`: names with their numbers; `names`: those that packages have or provide, with where each is found.
 //! - `lookup`: all places that meet an atom, found by the names.

@@ -4,13 +4,9 @@ ghost use Rattle.std.specs.Option.{option_map};
 ghost use Rattle.deb_relation.specs.AtomView.{atom_view};
 ghost use Rattle.deb_index.specs.Packages.{IndexView};
 
+use crate::limits::{LEAST_SLOTS, MOST_SLOTS};
 use deb_relation::{Atom, Op, SmallText, Version};
 use std::alloc::{AllocError, Global};
-
-// How many atoms are remembered: a power of two near the number of packages that ask, within these bounds.
-const LEAST_SLOTS: usize = 8192;
-
-const MOST_SLOTS: usize = 131_072;
 
 // Multiplied with it, each bit of a word changes about half of those above it (2^64 by the golden ratio).
 const SPREAD: usize = 0x9e37_79b9_7f4a_7c15;

@@ -7,15 +7,13 @@ ghost use Rattle.deb_index.specs.Tables.{asked_count, asked_limit};
 
 use crate::catalog::Catalog;
 use crate::index::Index;
+use crate::limits::RANGE_SIZE;
 use crate::links::Links;
 use crate::lookup::Lookup;
 use std::alloc::{AllocError, Global};
 use std::marker::Model;
 use std::thread;
 use std::thread::Threads;
-
-// The least packages whose rows are worth a worker of their own.
-const RANGE_SIZE: u32 = 1024;
 
 /// The packages of an index, with all their names: all but its rows, which are made last.
 #[derive(Drop)]
