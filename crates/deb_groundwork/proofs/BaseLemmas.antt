@@ -143,3 +143,17 @@ module _ (part : Part) (base : BaseSet) (is_base : IsBase part.index.now base) (
           | inl based ↦ stays q based
           | inr more ↦ each q more
         ])
+
+-- a base set that has the essential names meets what is asked of all places
+pub base_meets : (part : Part) (base : BaseSet) → IsBase part.index.now base
+    → ((number : ℕ) → MeetsAsked part (members_of base.members) (Essential number)) → MeetsAt part.index.now (members_of base.members) (positions_in part)
+base_meets part base is_base essentials =
+    let index = part.index.now in
+    part_held part (members_of base.members) essentials
+    (λ q based.
+    let at = numbered index q (is_place part base is_base [] q based) in
+    record {
+      needs = λ j inside asked is_in. answered_by_row index (members_of base.members) q j (group_satisfiers index (need_at index q j)) refl (is_base.needs q based j inside);
+      aparts = λ j inside asked. is_base.aparts q j based inside;
+      once = (at.0, at.1, at.2, λ asked. is_base.once q based);
+    })

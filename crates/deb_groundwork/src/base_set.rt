@@ -3,12 +3,15 @@
 ghost use Rattle.std.specs.Prelude.{◌≡◌, [], ◌<◌, true, All, length};
 ghost use Rattle.number_sets.specs.Sets.{members_of};
 ghost use Rattle.deb_health.specs.Causes.{either};
+ghost use Rattle.deb_health.specs.Health.{IsHealthy, MeetsAt};
 ghost use Rattle.deb_groundwork.specs.BaseSets.{HasRoom, IsBase};
+ghost use Rattle.deb_groundwork.specs.Parts.{positions_in};
 
 use crate::answering::are_answered;
-use crate::check::has_no_earlier;
+use crate::check::{has_no_earlier, meets_essentials};
 use crate::installation::{Installation, weight_of_all};
 use crate::limits::BASE_SET_TIMES;
+use crate::part::Part;
 use crate::rows::{Places, has_free_name, stands_apart, take_hits};
 use deb_index::Index;
 use number_sets::SparseSet;
@@ -87,6 +90,28 @@ impl BaseSet {
             installation.add(index, hopeless, place);
         }
         BaseSet::of(alloc, index, installation.members)
+    }
+
+    /// Whether it is seen to meet a part: it may lack essential names, and nothing else.
+    fn meets(&self, part: &Part<'_>) -> bool
+        requires { IsBase part.now.index.now self.now }
+        ensures { result ≡ true → MeetsAt part.now.index.now (members_of self.now.members) (positions_in part.now) }
+    {
+        meets_essentials(part, &self.members)
+    }
+
+    /// Whether it is seen to be healthy.
+    pub(crate) fn is_healthy(&self, index: &Index) -> bool
+        requires { IsBase index.now self.now }
+        ensures { result ≡ true → IsHealthy index.now (members_of self.now.members) }
+    {
+        let all = Part {
+            index,
+            kept: &[],
+            rest: 0,
+            out: &[],
+        };
+        self.meets(&all)
     }
 
     /// Whether nothing of the set is in the way of a package: no entry of a member hits it, and no member has its name. `false` where very many

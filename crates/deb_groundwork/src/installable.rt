@@ -57,14 +57,15 @@ fn grow(
 }
 
 /// Marks the places of a set where it is seen to be healthy.
-fn mark_healthy(index: &Index, set: &SparseSet, marks: &mut [bool])
+fn mark_healthy(index: &Index, set: &SparseSet, is_seen: bool, marks: &mut [bool])
     requires set { All (λ q. q < length index.now.packages) set.now }
     requires count { length marks.old ≡ length index.now.packages }
     requires marks { MarksOnly (IsInstallable index.now) marks.old }
+    requires seen { is_seen ≡ true → IsHealthy index.now (members_of set.now) }
     ensures count { length marks.new ≡ length index.now.packages }
     ensures marks { MarksOnly (IsInstallable index.now) marks.new }
 {
-    if is_healthy(index, set) {
+    if is_seen {
         for place in set.as_slice() {
             marks[*place as usize] = true;
         }
@@ -109,7 +110,8 @@ fn mark_sets(
             lead_of(sets),
             installation,
         ) {
-            mark_healthy(groundwork.index, &installation.members, marks);
+            let is_seen = is_healthy(groundwork.index, &installation.members);
+            mark_healthy(groundwork.index, &installation.members, is_seen, marks);
             sets += 1;
         }
     }
@@ -133,7 +135,8 @@ pub fn find_installable(
 {
     let index = groundwork.index;
     let mut marks = vec![in alloc; false; index.len() as usize]?;
-    mark_healthy(index, &groundwork.base.members, &mut marks);
+    let is_seen = groundwork.base.is_healthy(index);
+    mark_healthy(index, &groundwork.base.members, is_seen, &mut marks);
     let mut installation = Installation::new(
         alloc,
         weight_of_all(index).saturating_mul(LARGE_SETS_TIMES),
