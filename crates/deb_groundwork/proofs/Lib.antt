@@ -7,7 +7,6 @@ pub mod Healthy
 pub mod HopelessLemmas
 pub mod InstallableLemmas
 pub mod Names
-pub mod Propagated
 pub mod RowLemmas
 pub mod Searched
 pub mod Standing

@@ -24,10 +24,6 @@ pub if_none : (P : Type 0) (found : Option ℕ) (none : Bool) → is_some found 
 if_none P None none said holds it = it
 if_none P (Some q) none said holds it = absurd (false≢true (sym (said ∙ ap not holds)))
 
-pub none_then : (P Q : Type 0) (found : Option ℕ) → (P → Q) → IfNone found P → IfNone found Q
-none_then P Q None then it = then it
-none_then P Q (Some q) then it = it
-
 -- what each number of a list has, up to its end, each member has
 pub of_members : (P : ℕ → Type 0) (xs : List ℕ) (count : ℕ) → length xs ≤ count → ((k : ℕ) → k < count → P (get_or xs k 0)) → (q : ℕ) → members_of xs q ≡ true → P q
 of_members P xs count past each q is_in =

@@ -47,10 +47,14 @@ pub(crate) fn meets_need<P: Places>(part: &Part<'_>, set: &P, place: u32, number
     ensures { result ≡ true → MeetsAsked part.now (P.members set.now) (Constraint.Need place number) }
 {
     let index = part.index;
+    let position = index.need_position(place, number);
+    if part.passes_over(position) {
+        return true;
+    }
     if is_answered(index, set, place, number) {
         return true;
     }
-    !part.has(index.need_position(place, number))
+    !part.has(position)
 }
 
 /// Whether the set answers each need of a place that the part asks for.

@@ -1,6 +1,6 @@
 //! Which answer of a need comes into a set that grows: one that nothing is seen to speak against, if there is one.
 
-ghost use Rattle.std.specs.Prelude.{◌<◌, All, IfSome, length};
+ghost use Rattle.std.specs.Prelude.{◌<◌, length};
 ghost use Rattle.deb_index.specs.Packages.{needs_at};
 
 use crate::base_set::OnBase;
@@ -23,10 +23,11 @@ fn is_unanswerable(part: &Part<'_>, lacking: &SparseSet, place: u32, number: u32
 }
 
 /// Whether nothing is seen to speak against a package: there is room for it, and no need that the part asks for lacks an answer that may be had.
-fn is_fit(part: &Part<'_>, set: &OnBase<'_>, lacking: &SparseSet, place: u32) -> bool
-    requires { place < length part.now.index.now.packages }
-{
+fn is_fit(part: &Part<'_>, set: &OnBase<'_>, lacking: &SparseSet, place: u32) -> bool {
     let index = part.index;
+    if place >= index.len() {
+        return false;
+    }
     if !set.base.has_room(index, place) || !has_free_name(index, set.more, place) {
         return false;
     }
@@ -45,10 +46,7 @@ pub(crate) fn choose(
     unfit: &SparseSet,
     lacking: &SparseSet,
     row: &[u32],
-) -> Option<u32>
-    requires { All (λ q. q < length part.now.index.now.packages) row.now }
-    ensures { IfSome result (λ q. q < length part.now.index.now.packages) }
-{
+) -> Option<u32> {
     if let [only] = row {
         return if unfit.contains(*only) {
             None

@@ -1,9 +1,8 @@
 //! A set of packages that grows on a base set without a search: each need takes what is in, or else one of its answers. No claim rests on
 //! how it grows, so for want of memory it grows no further.
 
-ghost use Rattle.std.specs.Prelude.{◌≡◌, ◌<◌, true, All, IfNone, length};
+ghost use Rattle.std.specs.Prelude.{◌<◌, length};
 ghost use Rattle.deb_index.specs.Packages.{needs_at};
-ghost use Rattle.number_sets.specs.SparseSets.{AreNumbers, Grows, with_number};
 
 use crate::base_set::{BaseSet, OnBase};
 use crate::choice::choose;
@@ -30,6 +29,9 @@ pub struct Witness {
     causes: Vec<Option<Cause>>,
     /// What was seen to lead nowhere.
     unfit: SparseSet,
+    /// How much of the set stays for the next try, and from which place on it goes through the needs.
+    kept: usize,
+    from: usize,
 }
 
 impl Witness {
@@ -39,12 +41,15 @@ impl Witness {
             set: SparseSet::new(alloc),
             causes: Vec::new(alloc),
             unfit: SparseSet::new(alloc),
+            kept: 0,
+            from: 0,
         }
     }
 
     /// Nothing is known to lead nowhere.
     pub(crate) fn start(&mut self) {
         self.unfit.clear();
+        self.kept = 0;
     }
 
     /// Whether a place of the row is in.
@@ -53,9 +58,7 @@ impl Witness {
     }
 
     /// Puts in a place.
-    fn take(&mut self, place: u32, cause: Option<Cause>) -> bool
-        ensures { result ≡ true → self.new.set ≡ with_number self.old.set place }
-    {
+    fn take(&mut self, place: u32, cause: Option<Cause>) -> bool {
         let Ok(()) = self.set.insert(place) else {
             return false;
         };
@@ -70,10 +73,7 @@ impl Witness {
         lacking: &SparseSet,
         row: &[u32],
         cause: Option<Cause>,
-    ) -> bool
-        requires { All (λ q. q < length part.now.index.now.packages) row.now }
-        ensures { result ≡ true → Grows (length part.now.index.now.packages) self.old.set self.new.set }
-    {
+    ) -> bool {
         let set = OnBase {
             base,
             more: &self.set,
@@ -95,9 +95,11 @@ impl Witness {
     ) -> bool
         requires place { place < length part.now.index.now.packages }
         requires number { number < length (needs_at part.now.index.now place) }
-        ensures { result ≡ true → Grows (length part.now.index.now.packages) self.old.set self.new.set }
     {
         let position = part.index.need_position(place, number);
+        if part.passes_over(position) {
+            return true;
+        }
         match part.index.answer_row(place, number) {
             Some(row) if !self.has_any(base, row) && part.has(position) => {
                 self.take_one(part, base, lacking, row, Some(Cause { place, number }))
@@ -116,7 +118,6 @@ impl Witness {
         place: u32,
     ) -> bool
         requires { place < length part.now.index.now.packages }
-        ensures { result ≡ true → Grows (length part.now.index.now.packages) self.old.set self.new.set }
     {
         for number in 0..part.index.need_count(place) {
             if !self.take_answer(part, base, lacking, place, number) {
@@ -127,9 +128,7 @@ impl Witness {
     }
 
     /// Puts in a package of each essential name that the part asks for.
-    fn take_essentials(&mut self, part: &Part<'_>, base: &BaseSet, lacking: &SparseSet) -> bool
-        ensures { result ≡ true → Grows (length part.now.index.now.packages) self.old.set self.new.set }
-    {
+    fn take_essentials(&mut self, part: &Part<'_>, base: &BaseSet, lacking: &SparseSet) -> bool {
         let index = part.index;
         // An essential name is a name, so its number fits 32 bits.
         let _names = index.name_count();
@@ -144,39 +143,47 @@ impl Witness {
         true
     }
 
-    /// Puts in what the places of the set need, as long as places come. Where a need isn't answered, the place that has it.
-    fn take_needs(&mut self, part: &Part<'_>, base: &BaseSet, lacking: &SparseSet) -> Option<u32>
-        requires { AreNumbers (length part.now.index.now.packages) self.old.set }
-        ensures { IfNone result (Grows (length part.now.index.now.packages) self.old.set self.new.set) }
-    {
-        let mut visited = 0;
-        while visited < self.set.as_slice().len() {
-            let place = self.set.as_slice()[visited];
+    /// Puts in what the places of the set need, from this one on, as long as places come. Where a need isn't answered, the place that has it.
+    fn take_needs(
+        &mut self,
+        part: &Part<'_>,
+        base: &BaseSet,
+        lacking: &SparseSet,
+        from: usize,
+    ) -> Option<u32> {
+        for visited in from..part.index.len() as usize {
+            let Some(place) = self.set.as_slice().get(visited).copied() else {
+                return None;
+            };
+            if place >= part.index.len() {
+                return Some(place);
+            }
             if !self.take_answers(part, base, lacking, place) {
                 return Some(place);
             }
-            visited += 1;
         }
         None
     }
 
-    /// Makes a set of the package at a place and what the part asks for with it. Where something wasn't found, the place that needs it.
+    /// Makes a set of the package at a place and what the part asks for with it. Where something wasn't found, the place that needs it. What came
+    /// before the place that was ruled out last stays as it is.
     pub(crate) fn grow(
         &mut self,
         part: &Part<'_>,
         base: &BaseSet,
         lacking: &SparseSet,
         p: u32,
-    ) -> Option<u32>
-        requires { p < length part.now.index.now.packages }
-        ensures { IfNone result (AreNumbers (length part.now.index.now.packages) self.new.set) }
-    {
-        self.set.clear();
-        self.causes.clear();
+    ) -> Option<u32> {
+        self.set.truncate(self.kept);
+        self.causes.truncate(self.kept);
+        if self.kept > 0 {
+            let from = self.from;
+            return self.take_needs(part, base, lacking, from);
+        }
         if !self.take(p, None) || !self.take_essentials(part, base, lacking) {
             return Some(p);
         }
-        self.take_needs(part, base, lacking)
+        self.take_needs(part, base, lacking, 0)
     }
 
     /// Whether what a place came for has another answer that may lead somewhere.
@@ -188,6 +195,12 @@ impl Witness {
             Some(row) => !has_all(&self.unfit, row),
             None => false,
         }
+    }
+
+    /// Has the next try go on with the needs of a place, before another place came for one of them.
+    fn go_back(&mut self, place: u32, other: u32) {
+        self.from = self.set.position_of(place).unwrap_or(0);
+        self.kept = self.set.position_of(other).unwrap_or(0);
     }
 
     /// What a place came for.
@@ -208,6 +221,7 @@ impl Witness {
                 return false;
             };
             if self.has_another(index, cause) {
+                self.go_back(cause.place, place);
                 return true;
             }
             place = cause.place;

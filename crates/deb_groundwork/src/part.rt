@@ -1,6 +1,6 @@
 //! A part of the constraints of an index.
 
-ghost use Rattle.std.specs.Prelude.{◌≡◌};
+ghost use Rattle.std.specs.Prelude.{◌≡◌, false, true};
 ghost use Rattle.std.specs.List.Sorted.{IsStrictlyIncreasing};
 ghost use Rattle.number_sets.specs.Sets.{members_of};
 
@@ -33,6 +33,16 @@ impl<'a> Part<'a> {
         ensures { result ≡ positions_in self.now position }
     {
         (position >= self.rest || is_among(self.kept, position)) && !is_among(self.out, position)
+    }
+
+    /// Whether it lacks the constraint at a position before the rest: few of these are kept, so this is seen sooner than an answer.
+    pub(crate) fn passes_over(&self, position: u32) -> bool
+        ensures { result ≡ true → positions_in self.now position ≡ false }
+    {
+        if position >= self.rest {
+            return false;
+        }
+        !self.has(position)
     }
 
     /// Whether it may lack a constraint.

@@ -1,10 +1,8 @@
 //! Refutes a part of the constraints by forcing alone: what the package asks for with no choice, down to a contradiction. Members of a base set are
 //! passed over, since each has what it asks for. Where memory is wanting no contradiction is seen.
 
-ghost use Rattle.std.specs.Prelude.{◌≡◌, ℕ, ◌<◌, true, false, All, IfSome, length};
+ghost use Rattle.std.specs.Prelude.{◌≡◌, ◌<◌, true, false, length};
 ghost use Rattle.deb_index.specs.Packages.{aparts_at};
-ghost use Rattle.number_sets.specs.SparseSets.{AreNumbers};
-ghost use Rattle.deb_groundwork.specs.Deriving.{row_of};
 ghost use Rattle.deb_groundwork.specs.Parts.{IsRefutedBy};
 
 use crate::base_set::BaseSet;
@@ -31,6 +29,10 @@ pub struct Propagation {
     checked: SparseSet,
     /// The positions of their constraints.
     positions: Vec<u32>,
+    /// How many of the forced places were visited without a contradiction.
+    visited: usize,
+    /// The package for which they are, if they are forced by all constraints that aren't taken out.
+    whole: Option<u32>,
 }
 
 /// Another place that is in and that an entry hits. `None` where what it hits is too much for a row.
@@ -75,10 +77,11 @@ fn conflict_of(part: &Part<'_>, place: u32, forced: &SparseSet) -> Option<Step>
 }
 
 /// A constraint of the part that keeps two places apart that are in.
-fn conflict_in(part: &Part<'_>, forced: &SparseSet) -> Option<Step>
-    requires { AreNumbers (length part.now.index.now.packages) forced.now }
-{
+fn conflict_in(part: &Part<'_>, forced: &SparseSet) -> Option<Step> {
     for place in forced.as_slice() {
+        if *place >= part.index.len() {
+            return None;
+        }
         if let Some(step) = conflict_of(part, *place, forced) {
             return Some(step);
         }
@@ -137,14 +140,13 @@ impl Propagation {
             steps: Vec::new(alloc),
             checked: SparseSet::new(alloc),
             positions: Vec::new(alloc),
+            visited: 0,
+            whole: None,
         }
     }
 
     /// Takes in what a step gives: a place, unless an earlier step forced it, or it is in the base set. `true`: the step contradicts.
-    fn take(&mut self, base: &BaseSet, outcome: Option<Outcome>, step: Step) -> bool
-        ensures { (count : ℕ) → IfSome outcome (λ gives. All (λ place. place < count) (row_of gives)) → AreNumbers count self.old.forced
-            → AreNumbers count self.new.forced }
-    {
+    fn take(&mut self, base: &BaseSet, outcome: Option<Outcome>, step: Step) -> bool {
         let Some(gives) = outcome else {
             return false;
         };
@@ -155,20 +157,16 @@ impl Propagation {
         if base.members.contains(place) || self.forced.contains(place) {
             return false;
         }
-        let Ok(()) = self.forced.insert(place) else {
-            self.forced.clear();
-            return false;
-        };
-        let _noted = self.causes.push(step);
+        if self.forced.insert(place).is_ok() {
+            let _noted = self.causes.push(step);
+        }
         false
     }
 
     /// Forces what alone answers a need of a place. A need that nothing answers is a contradiction. Last needs go first, since the first core lacks
     /// early constraints.
     fn visit(&mut self, part: &Part<'_>, base: &BaseSet, place: u32) -> Option<Step>
-        requires place { place < length part.now.index.now.packages }
-        requires forced { AreNumbers (length part.now.index.now.packages) self.old.forced }
-        ensures { AreNumbers (length part.now.index.now.packages) self.new.forced }
+        requires { place < length part.now.index.now.packages }
     {
         for number in (0..part.index.need_count(place)).rev() {
             if !part.has(part.index.need_position(place, number)) {
@@ -182,27 +180,25 @@ impl Propagation {
         None
     }
 
-    /// Forces from the first places on that are not visited, and looks for a contradiction.
-    fn propagate(&mut self, part: &Part<'_>, base: &BaseSet, start: usize) -> Option<Step>
-        requires { AreNumbers (length part.now.index.now.packages) self.old.forced }
-        ensures { AreNumbers (length part.now.index.now.packages) self.new.forced }
-    {
-        let mut visited = start;
-        while visited < self.forced.as_slice().len() {
-            let place = self.forced.as_slice()[visited];
+    /// Forces from the first place on that isn't visited, and looks for a contradiction.
+    fn propagate(&mut self, part: &Part<'_>, base: &BaseSet) -> Option<Step> {
+        for visited in self.visited..part.index.len() as usize {
+            self.visited = visited;
+            let Some(place) = self.forced.as_slice().get(visited).copied() else {
+                break;
+            };
+            if place >= part.index.len() {
+                return None;
+            }
             if let Some(step) = self.visit(part, base, place) {
                 return Some(step);
             }
-            visited += 1;
         }
         conflict_in(part, &self.forced)
     }
 
     /// Forces the packages of essential names that have one only.
-    fn force_essential(&mut self, part: &Part<'_>, base: &BaseSet)
-        requires { AreNumbers (length part.now.index.now.packages) self.old.forced }
-        ensures { AreNumbers (length part.now.index.now.packages) self.new.forced }
-    {
+    fn force_essential(&mut self, part: &Part<'_>, base: &BaseSet) {
         let index = part.index;
         let _names = index.name_count();
         for (number, name) in index.essential_names().iter().enumerate() {
@@ -214,18 +210,26 @@ impl Propagation {
         }
     }
 
-    /// The step that contradicts, where forcing leads to one. What the package itself asks for goes first.
-    fn find(&mut self, part: &Part<'_>, base: &BaseSet, p: u32) -> Option<Step>
-        requires { p < length part.now.index.now.packages }
-        ensures { AreNumbers (length part.now.index.now.packages) self.new.forced }
-    {
+    /// Begins with the package at a place. Where only constraints that force nothing were taken out since, it goes on where the last contradiction was
+    /// seen. `false` for want of memory.
+    fn begin(&mut self, part: &Part<'_>, base: &BaseSet, p: u32) -> bool {
+        let is_whole = part.rest == 0 && !base.members.as_slice().is_empty();
+        if is_whole && !part.out.is_empty() && self.whole == Some(p) {
+            return true;
+        }
+        self.whole = if is_whole { Some(p) } else { None };
+        self.visited = 0;
         self.forced.clear();
         self.causes.clear();
-        let Ok(()) = self.forced.insert(p) else {
-            self.forced.clear();
+        self.forced.insert(p).is_ok()
+    }
+
+    /// The step that contradicts, where forcing leads to one. What the package itself asks for goes first.
+    fn find(&mut self, part: &Part<'_>, base: &BaseSet, p: u32) -> Option<Step> {
+        if !self.begin(part, base, p) {
             return None;
-        };
-        if let Some(step) = self.propagate(part, base, 0) {
+        }
+        if let Some(step) = self.propagate(part, base) {
             return Some(step);
         }
         let visited = self.forced.as_slice().len();
@@ -233,15 +237,13 @@ impl Propagation {
         if self.forced.as_slice().len() == visited {
             return None;
         }
-        self.propagate(part, base, visited)
+        self.propagate(part, base)
     }
 
     /// Whether a base set has no room for something that was forced last.
-    pub fn lacks_room(&self, index: &Index, base: &BaseSet) -> bool
-        requires { AreNumbers (length index.now.packages) self.now.forced }
-    {
+    pub fn lacks_room(&self, index: &Index, base: &BaseSet) -> bool {
         for place in self.forced.as_slice() {
-            if !base.has_room(index, *place) {
+            if *place < index.len() && !base.has_room(index, *place) {
                 return true;
             }
         }
@@ -249,9 +251,7 @@ impl Propagation {
     }
 
     /// Writes down the steps that a contradiction rests on. `false` for want of memory.
-    fn derive(&mut self, conflict: Step) -> bool
-        ensures { self.new.forced ≡ self.old.forced }
-    {
+    fn derive(&mut self, conflict: Step) -> bool {
         self.needed.clear();
         let Ok(()) = self.needed.resize(self.causes.len(), false) else {
             return false;
@@ -280,7 +280,6 @@ pub fn refute_by_forcing(
     requires { p < length part.now.index.now.packages }
     ensures refuted { result ≡ true → IsRefutedBy used.new.items part.now p }
     ensures still { result ≡ false → used.new.items ≡ used.old.items }
-    ensures forced { AreNumbers (length part.now.index.now.packages) buffers.new.forced }
 {
     let Some(conflict) = buffers.find(part, base, p) else {
         return false;

@@ -1,7 +1,7 @@
 //! A set of packages that meets a part of the constraints, found without a search. Whether the set that grew meets the part is looked up, and
 //! no claim rests on how it grew.
 
-ghost use Rattle.std.specs.Prelude.{◌≡◌, ℕ, ◌<◌, true, All, IfNone, length};
+ghost use Rattle.std.specs.Prelude.{◌≡◌, ℕ, ◌<◌, true, IfNone, length};
 ghost use Rattle.number_sets.specs.Sets.{members_of};
 ghost use Rattle.deb_health.specs.Causes.{either};
 ghost use Rattle.deb_health.specs.Health.{Admits, IsInstallable};
@@ -18,13 +18,15 @@ use number_sets::SparseSet;
 
 /// A place that has no room on a base set, or doesn't meet what the part asks of it.
 fn place_amiss(part: &Part<'_>, base: &BaseSet, more: &SparseSet) -> Option<u32>
-    requires { All (λ q. q < length part.now.index.now.packages) more.now }
     ensures room { IfNone result ((q : ℕ) → members_of more.now q ≡ true → HasRoom part.now.index.now base.now q) }
     ensures meets { IfNone result ((q : ℕ) → members_of more.now q ≡ true
         → MeetsAskedOf part.now (either (members_of base.now.members) (members_of more.now)) q) }
 {
     let set = OnBase { base, more };
     for place in more.as_slice() {
+        if *place >= part.index.len() {
+            return Some(*place);
+        }
         if !base.has_room(part.index, *place) || !meets_place(part, &set, *place) {
             return Some(*place);
         }

@@ -1,9 +1,9 @@
-use Rattle.std.proofs.Common.{◌≡◌, ℕ, List, true, get_or, subst, length, arith}
+use Rattle.std.proofs.Common.{◌≡◌, ℕ, List, true, get_or, subst, arith}
 use Rattle.number_sets.specs.Sets.{NumberSet, members_of}
 use Rattle.deb_health.specs.Causes.{either}
 use Rattle.deb_groundwork.specs.BaseSets.{HasRoom}
 use Rattle.deb_groundwork.specs.Parts.{MeetsAskedOf}
-use Rattle.deb_groundwork.proofs.RowLemmas.{more_below, place_at}
+use Rattle.deb_groundwork.proofs.RowLemmas.{more_below}
 use Rattle.deb_groundwork.proofs.WitnessLemmas.{of_members}
 use Rattle.deb_groundwork.proofs.witness.place_amiss.Goals as goal
 
@@ -33,8 +33,3 @@ returns-clause-meets c =
 
 pub loop-place-init : goal.loop-place-init
 loop-place-init c = record { room = λ k below. absurd (omega arith); meets = λ k below. absurd (omega arith) }
-
-pub meets_place-requires : goal.meets_place-requires
-meets_place-requires c =
-    place_at (length c.args.part.now.index.now.packages) c.as_slice-place-items.result.now _ c.loop-place.place-index
-    c.as_slice-place-items.ensures c.requires c.loop-place-test.true
