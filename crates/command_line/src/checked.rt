@@ -30,6 +30,14 @@ pub(crate) struct Values<'a> {
     pub(crate) format: Format,
 }
 
+// What is allowed in the place of a value that is no architecture.
+fn allowed_architectures(value: &str) -> &'static str {
+    match value {
+        "x86_64" => "Debian calls it amd64",
+        _ => "one or more letters, digits and -, neither all nor any",
+    }
+}
+
 fn architecture<'a>(matches: &ArgMatches<'a>) -> Result<&'a str, Refusal<'a>>
     ensures { IsReadIf (is_architecture (value_of (codes "arch") (rows_in matches.now))) result
         (λ arch. arch.now ≡ value_of (codes "arch") (rows_in matches.now)) }
@@ -41,7 +49,7 @@ fn architecture<'a>(matches: &ArgMatches<'a>) -> Result<&'a str, Refusal<'a>>
     Err(Refusal::Value {
         option: "--arch <A>",
         value,
-        allowed: "one or more letters, digits and -, neither all nor any",
+        allowed: allowed_architectures(value),
     })
 }
 
@@ -69,6 +77,14 @@ fn chunk<'a>(matches: &ArgMatches<'a>) -> Result<u32, Refusal<'a>>
     })
 }
 
+// What is allowed in the place of a part of a list that is no name.
+fn allowed_names(part: &str) -> &'static str {
+    if part.starts_with(' ') {
+        return "package names with commas between them, and no spaces";
+    }
+    "package names with commas between them, or @ and the name of a file"
+}
+
 // What is wrong with a list that is neither names with commas between them nor the name of a file behind an `@`.
 fn wrong_list(list: &str) -> Option<Refusal<'_>>
     ensures { is_none result ≡ is_good_list list.now }
@@ -76,10 +92,10 @@ fn wrong_list(list: &str) -> Option<Refusal<'_>>
     let (value, allowed) = match file_in(list) {
         Some("") => (list, "the name of a file behind @"),
         Some(_) => return None,
-        None => (
-            wrong_part(list)?,
-            "package names with commas between them, or @ and the name of a file",
-        ),
+        None => {
+            let part = wrong_part(list)?;
+            (part, allowed_names(part))
+        }
     };
     Some(Refusal::Value {
         option: "--checkonly <N1,N2,..>",

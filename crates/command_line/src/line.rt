@@ -63,17 +63,21 @@ pub fn line_status(fault: &LineFault) -> u8
     }
 }
 
-// The text of a refused word, with what stands for it here where it is one of other programs.
-fn unknown_text(alloc: Global, error: &clap::Error) -> Result<String, AllocError> {
+// The text of a refusal, with what to write here where that is known.
+fn refused_text(
+    alloc: Global,
+    error: &clap::Error,
+    words: &[String],
+) -> Result<String, AllocError> {
     let text = error.to_string(alloc)?;
-    match advice_in(text.as_str()) {
+    match advice_in(text.as_str(), words) {
         Some(advice) => format!(in alloc; "{text}hint: {advice}\n"),
         None => Ok(text),
     }
 }
 
 // What a parse that gives no matches comes to.
-fn fault_from(alloc: Global, error: &clap::Error) -> Result<LineFault, AllocError>
+fn fault_from(alloc: Global, error: &clap::Error, words: &[String]) -> Result<LineFault, AllocError>
     ensures { IfOk result (IsFaultOf (kind_of error.now)) }
 {
     Ok(match error.kind() {
@@ -84,11 +88,8 @@ fn fault_from(alloc: Global, error: &clap::Error) -> Result<LineFault, AllocErro
         ErrorKind::DisplayVersion => LineFault::Help {
             text: String::from_str(alloc, VERSION_LINE)?,
         },
-        ErrorKind::UnknownArgument => LineFault::Refused {
-            text: unknown_text(alloc, error)?,
-        },
         _ => LineFault::Refused {
-            text: error.to_string(alloc)?,
+            text: refused_text(alloc, error, words)?,
         },
     })
 }
@@ -177,7 +178,7 @@ fn read_words(alloc: Global, words: &[String]) -> Result<Config, LineFault>
     }
     match command(alloc)?.try_get_matches_from(words) {
         Ok(matches) => config_of(alloc, &matches),
-        Err(error) => Err(fault_from(alloc, &error)?),
+        Err(error) => Err(fault_from(alloc, &error, words)?),
     }
 }
 

@@ -10,7 +10,7 @@ const NO_SUCH: &str =
 const NONE_AT_ALL: &str = "debcheck has no such option";
 
 // The words of those programs, each with what to write in its place, or that there is nothing.
-static OTHER_WORDS: [(&str, &str); 36] = [
+static OTHER_WORDS: [(&str, &str); 37] = [
     ("-a", "write --arch A"),
     ("--deb-native-arch", "write --arch A"),
     ("-e", "write --explain"),
@@ -24,6 +24,7 @@ static OTHER_WORDS: [(&str, &str); 36] = [
         "the report goes to standard output, write > FILE",
     ),
     ("--fg", FROM_INPUT),
+    ("--json", "write --format json"),
     ("--nocheck", "write --bg FILE"),
     (
         "--progress",
@@ -69,9 +70,30 @@ pub(crate) fn advice_on(word: &str) -> Option<&'static str> {
     }
 }
 
-/// The same of the word that the text of a refusal names as one that no option takes.
-pub(crate) fn advice_in(refusal: &str) -> Option<&'static str> {
+// Whether a word stands behind one that ends with a comma.
+fn follows_a_comma(word: &str, words: &[String]) -> bool {
+    let mut before = "";
+    for next in words {
+        if before.ends_with(',') && next.as_str() == word {
+            return true;
+        }
+        before = next.as_str();
+    }
+    false
+}
+
+/// The same of the word that the text of a refusal of these words names as one that no option takes; or of a background that is given twice.
+pub(crate) fn advice_in(refusal: &str, words: &[String]) -> Option<&'static str> {
+    if refusal
+        .split_once("'--bg <FILE>' cannot be used multiple times")
+        .is_some()
+    {
+        return Some("one background is read, write --bg <(cat FILE FILE)");
+    }
     let (_, behind) = refusal.split_once("unexpected argument '")?;
     let (word, _) = behind.split_once("' found")?;
+    if follows_a_comma(word, words) {
+        return Some("write names with commas between them, and no spaces");
+    }
     advice_on(word)
 }

@@ -11,6 +11,11 @@ const WORDS_OF_OTHERS: &str = "|--arch|amd64|-e => |'-e'|hint: write --explain
 |--deb-native-arch=amd64 => |'--deb-native-arch'|hint: write --arch A
 |--arch|amd64|--summary => |'--summary'|hint: write --causes
 |--arch|amd64|--deb-ignore-essential => |'--deb-ignore-essential'|hint: write --ignore-essential
+|--arch|amd64|--json => |'--json'|hint: write --format json
+|--arch|amd64|--checkonly|a,|b => |'b'|hint: write names with commas between them, and no spaces
+|--arch|amd64|--checkonly|a, b => |invalid value|and no spaces
+|--arch|amd64|--bg|a|--bg|b => |'--bg <FILE>'|hint: one background is read, write --bg <(cat FILE FILE)
+|--arch|x86_64 => |x86_64|Debian calls it amd64
 |--arch|amd64|--nocheck|others => |'--nocheck'|hint: write --bg FILE
 |--arch|amd64|--progress => |'--progress'|hint: leave it out, progress is shown where standard error is a terminal
 |--arch|amd64|-o|report => |'-o'|hint: the report goes to standard output, write > FILE

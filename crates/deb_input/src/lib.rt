@@ -19,4 +19,4 @@ pub use fault::{RunFault, fault_line, memory_line};
 pub use input::read_all;
 pub use names::read_names;
 pub use pieces::{TextRead, finish, read_pieces, read_text};
-pub use strict::{Slip, hint_of, slip_of};
+pub use strict::{Slip, slip_in, slip_of};

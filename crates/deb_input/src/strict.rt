@@ -2,10 +2,9 @@
 
 ghost use Rattle.std.specs.Prelude.{◌≡◌, ◌<◌, ◌^◌, length};
 ghost use Rattle.run_settings.specs.Settings.{settings_of};
-ghost use Rattle.deb_input.specs.Strict.{hint_of, slip_by, slip_of};
+ghost use Rattle.deb_input.specs.Strict.{slip_in, slip_of};
 
 use deb_index::Index;
-use input_hints::{RunHint, run_hint};
 use run_settings::Config;
 
 /// Why nothing is asked of an index, or nothing that is in it.
@@ -19,28 +18,21 @@ pub enum Slip {
     NothingAsked,
 }
 
-// The fault that a run which looks like this has, where it has one.
-fn slip_by(hint: Option<RunHint>) -> Option<Slip>
-    ensures { result ≡ slip_by hint }
+/// The first of what `Slip` lists that holds of a run over so many stanzas, of which so many are of other architectures, that asks so many packages.
+#[tactic(auto, unfolding(crate::specs::Strict::slip_in))]
+pub fn slip_in(stanzas: u32, skipped: u32, asked: u32) -> Option<Slip>
+    ensures { result ≡ slip_in stanzas skipped asked }
 {
-    match hint {
-        Some(RunHint::NoStanza) => Some(Slip::NoStanza),
-        Some(RunHint::OtherArchitectures) => Some(Slip::OtherArchitectures),
-        Some(RunHint::NothingAsked) => Some(Slip::NothingAsked),
-        Some(RunHint::MostElsewhere) => None,
-        None => None,
+    if stanzas == 0 {
+        return Some(Slip::NoStanza);
     }
-}
-
-/// What a run looks like that has this fault.
-pub fn hint_of(slip: Slip) -> RunHint
-    ensures { result ≡ hint_of slip }
-{
-    match slip {
-        Slip::NoStanza => RunHint::NoStanza,
-        Slip::OtherArchitectures => RunHint::OtherArchitectures,
-        Slip::NothingAsked => RunHint::NothingAsked,
+    if skipped == stanzas {
+        return Some(Slip::OtherArchitectures);
     }
+    if asked == 0 {
+        return Some(Slip::NothingAsked);
+    }
+    None
 }
 
 // Whether a slip is a fault.
@@ -59,5 +51,5 @@ pub fn slip_of(config: &Config, index: &Index, asked: &[u32]) -> Option<Slip>
     if !is_strict(config) {
         return None;
     }
-    slip_by(run_hint(index.stanzas(), index.skipped(), asked.len() as u32))
+    slip_in(index.stanzas(), index.skipped(), asked.len() as u32)
 }

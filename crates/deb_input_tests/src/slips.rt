@@ -2,8 +2,7 @@
 
 use crate::pieces::TEXT;
 use deb_index::Index;
-use deb_input::{Slip, hint_of, slip_of};
-use input_hints::RunHint;
+use deb_input::{Slip, slip_of};
 use run_settings::Config;
 use std::alloc::{AllocError, Global};
 use std::process::Abort;
@@ -60,16 +59,4 @@ fn a_strict_run_slips_where_nothing_is_asked(rt: HostRuntime) {
             Err(_) => panic!(rt; "no memory"),
         }
     }
-}
-
-#[test]
-fn each_slip_looks_like_its_hint(rt: HostRuntime) {
-    assert!(rt; matches!(hint_of(Slip::NoStanza), RunHint::NoStanza));
-    assert!(rt;
-        matches!(
-            hint_of(Slip::OtherArchitectures),
-            RunHint::OtherArchitectures
-        )
-    );
-    assert!(rt; matches!(hint_of(Slip::NothingAsked), RunHint::NothingAsked));
 }

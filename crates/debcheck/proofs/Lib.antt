@@ -1,5 +1,4 @@
 mod BackgroundLemmas
-mod ClueLemmas
 mod LaterLemmas
 mod MergeLemmas
 mod NewsLemmas

@@ -6,8 +6,6 @@ ghost use Rattle.run_settings.specs.Settings.{settings_of};
 ghost use Rattle.debcheck.specs.Run.{FailsToReport};
 ghost use Rattle.deb_input.specs.Strict.{slip_of};
 
-use crate::clues::note_unknown;
-use crate::hints::Clue;
 use deb_index::Index;
 use deb_input::{RunFault, slip_of};
 use deb_report::AskedFault;
@@ -34,22 +32,4 @@ pub fn asked_places(alloc: Global, index: &Index, config: &Config) -> Result<Vec
         Err(AskedFault::Unknown { name }) => Err(RunFault::UnknownAsked { name }),
         Err(AskedFault::Memory) => Err(RunFault::Memory),
     }
-}
-
-/// The same. Where a name is asked in vain, it is noted what that is.
-pub(crate) fn ask_noting(
-    alloc: Global,
-    index: &Index,
-    config: &Config,
-    clue: &mut Option<Clue>,
-) -> Result<Vec<u32>, RunFault>
-    ensures asked { IfOk result (λ asked. asked_places index.now (settings_of config.now).only ≡ Ok asked.items) }
-    ensures no_slip { IfOk result (λ asked. slip_of (settings_of config.now) index.now asked.items ≡ None) }
-    ensures few { IfOk result (λ asked. length asked.items < 2 ^ 32) }
-    ensures within { IfOk result (λ asked. All (λ place. place < length index.now.packages) asked.items) }
-    ensures refused { IfErr result (FailsToReport (settings_of config.now) index.now) }
-{
-    let outcome = asked_places(alloc, index, config);
-    note_unknown(alloc, clue, index, &outcome);
-    outcome
 }

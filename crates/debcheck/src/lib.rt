@@ -6,9 +6,7 @@
 //!
 //! - `phases`: a run, from bytes to bytes; `since`: one that tells what became of an earlier index; `asked`: the places that are asked in it;
 //!   `verdicts`: what is found of them for the report, with all cores by `later`.
-//! - `hints`: what was seen of an input, or of a name that is asked in vain, that looks like a slip, and the line that tells it on a screen; what such
-//!   a line says is in `input_hints`. `clues`: the lines that are seen while a run has its texts: on the stanza of a fault, on a name, on the
-//!   architecture of most stanzas.
+//! - `hints`: what is guessed of inputs and of a run is noted, and told on a screen; what that is, is in `input_hints`.
 //! - `exit_status`: the status of a run; `output`: the lines of faults, written.
 //! - `laws`: what holds of runs and of reports.
 //! - `program`: a program, from its words to its exit status, on the files that are opened by their names, one of which may have the names that are
@@ -17,7 +15,6 @@
 #![tactic(auto)]
 
 mod asked;
-mod clues;
 mod exit_status;
 mod hints;
 mod later;

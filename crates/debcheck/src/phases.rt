@@ -7,14 +7,14 @@ ghost use Rattle.run_settings.specs.Settings.{settings_of};
 ghost use Rattle.deb_input.specs.Inputs.{FailsToAccept, IsReadAs, input, is_unread};
 ghost use Rattle.debcheck.specs.Run.{Fails, FailsToIndex, FailsToReadBehind, FailsToReport, IsReportOn, Leaves, ReadsAs, TellsReport, WritesReport, behind};
 
-use crate::asked::ask_noting;
-use crate::clues::{note_read, stanzas_before};
-use crate::hints::Clue;
+use crate::asked::asked_places;
+use crate::hints::{note, note_unknown};
 use crate::verdicts::{find_told, wanted_of};
 use deb_index::{BothError, Index, PART_SIZE, TEXT_LIMIT};
 use deb_input::{RunFault, TextRead, finish, read_all, read_text};
 use deb_report::{Summary, report_told, summary_of};
 use devices::{Sink, Source, write_all};
+use input_hints::{Input, reading_text};
 use run_settings::Config;
 use std::alloc::Global;
 use std::mem::forget;
@@ -122,14 +122,14 @@ pub(crate) fn index_both<R: Threads + Sync>(
     }
 }
 
-// The same, of texts that are dropped at the end. What is seen of them is noted.
-pub(crate) fn index_from<R: Threads + Sync>(
+// The same, of texts that are dropped at the end. What is guessed of them is noted on the reader.
+pub(crate) fn index_from<S: Source, R: Threads + Sync>(
     rt: &R,
     alloc: Global,
     config: &Config,
+    reader: &S,
     text: Vec<u8>,
     behind: Vec<u8>,
-    clue: &mut Option<Clue>,
 ) -> Result<Index, RunFault>
     requires text { length text.items ≤ byte_limit }
     requires behind { length behind.items ≤ byte_limit }
@@ -138,18 +138,21 @@ pub(crate) fn index_from<R: Threads + Sync>(
     ensures refused { IfErr result (FailsToAccept (settings_of config.now) text.items behind.items) }
 {
     let outcome = index_both(rt, alloc, config, text.as_slice(), behind.as_slice());
-    note_read(alloc, clue, &outcome, 0, text.as_slice(), behind.as_slice());
+    let (text, behind) = (text.as_slice(), behind.as_slice());
+    note(
+        reader,
+        reading_text(alloc, config, Input::Index, &outcome, text, behind),
+    );
     outcome
 }
 
-// Reads the index, piece by piece, and what stands behind it. What is seen of them is noted.
+// Reads the index, piece by piece, and what stands behind it.
 fn read_index<S: Source, B: Source, R: Threads + Sync>(
     rt: &R,
     alloc: Global,
     config: &Config,
     reader: &mut S,
     background: &mut B,
-    clue: &mut Option<Clue>,
 ) -> Result<Index, RunFault>
     requires reader { S.failed reader.old ≡ false }
     requires background { B.failed background.old ≡ false }
@@ -175,9 +178,10 @@ fn read_index<S: Source, B: Source, R: Threads + Sync>(
     };
     let index = finish(rt, alloc, config, outcome, more.as_slice());
     let (piece, more) = (last.as_slice(), more.as_slice());
-    if let Ok(before) = stanzas_before(alloc, config, &index, piece) {
-        note_read(alloc, clue, &index, before, piece, more);
-    }
+    note(
+        reader,
+        reading_text(alloc, config, Input::Index, &index, piece, more),
+    );
     index
 }
 
@@ -188,14 +192,13 @@ fn check_and_report<G: Gate + Sync, R: Threads + Sync>(
     config: &Config,
     index: &Index,
     gate: &G,
-    clue: &mut Option<Clue>,
 ) -> Result<(Vec<u8>, Summary), RunFault>
     requires workers { (0 < config.now.workers) × (config.now.workers ≤ 64) }
     requires chunk { 0 < config.now.chunk }
     ensures report { IfOk result (λ r. IsReportOn (settings_of config.now) index.now r.0.items r.1) }
     ensures refused { IfErr result (FailsToReport (settings_of config.now) index.now) }
 {
-    let asked = ask_noting(alloc, index, config, clue)?;
+    let asked = asked_places(alloc, index, config)?;
     let asked = asked.as_slice();
     let wanted = wanted_of(config);
     let found = find_told(rt, alloc, config, wanted, index, asked, &[], gate)?;
@@ -213,7 +216,6 @@ fn read_and_report<S: Source, B: Source, G: Gate + Sync, R: Threads + Sync>(
     reader: &mut S,
     background: &mut B,
     gate: &G,
-    clue: &mut Option<Clue>,
     after: After,
 ) -> Result<(Vec<u8>, Summary), RunFault>
     requires workers { (0 < config.now.workers) × (config.now.workers ≤ 64) }
@@ -231,13 +233,14 @@ fn read_and_report<S: Source, B: Source, G: Gate + Sync, R: Threads + Sync>(
         (input (S.remaining reader.old) (S.failed reader.new)) (input (B.remaining background.old) (B.failed background.new)) false) }
     ensures may_fail { IfErr result (λ fault. fault ≡ RunFault.BackgroundRead → B.may_fail background.old ≡ true) }
 {
-    let index = read_index(rt, alloc, config, reader, background, clue)?;
-    let told = check_and_report(rt, alloc, config, &index, gate, clue);
+    let index = read_index(rt, alloc, config, reader, background)?;
+    let told = check_and_report(rt, alloc, config, &index, gate);
+    note_unknown(alloc, reader, &index, &told);
     let_go(index, after);
     told
 }
 
-/// `run`, of which is noted what was seen of a text or of a name that it couldn't use, and which ends as `after` says. Its faults are those of `run`.
+/// `run`, which ends as `after` says. Its faults are those of `run`.
 pub(crate) fn run_noting<S: Source, B: Source, K: Sink, G: Gate + Sync, R: Threads + Sync>(
     rt: &R,
     alloc: Global,
@@ -246,7 +249,6 @@ pub(crate) fn run_noting<S: Source, B: Source, K: Sink, G: Gate + Sync, R: Threa
     background: &mut B,
     writer: &mut K,
     gate: &G,
-    clue: &mut Option<Clue>,
     after: After,
 ) -> Result<Summary, RunFault>
     requires workers { (0 < config.now.workers) × (config.now.workers ≤ 64) }
@@ -272,9 +274,7 @@ pub(crate) fn run_noting<S: Source, B: Source, K: Sink, G: Gate + Sync, R: Threa
         (K.contents writer.old) (K.contents writer.new)) }
     ensures may_fail { IfErr result (λ fault. fault ≡ RunFault.BackgroundRead → B.may_fail background.old ≡ true) }
 {
-    let (output, summary) = read_and_report(
-        rt, alloc, config, reader, background, gate, clue, after,
-    )?;
+    let (output, summary) = read_and_report(rt, alloc, config, reader, background, gate, after)?;
     match write_all(writer, output.as_slice()) {
         Ok(()) => Ok(summary),
         Err(_) => Err(RunFault::Write),
@@ -324,7 +324,6 @@ pub fn run<S: Source, B: Source, K: Sink, G: Gate + Sync, R: Threads + Sync>(
         (input (S.remaining reader.old) (S.failed reader.new)) (input (B.remaining background.old) (B.failed background.new))
         (K.contents writer.old) (K.contents writer.new)) }
 {
-    let mut clue = None;
     run_noting(
         rt,
         alloc,
@@ -333,7 +332,6 @@ pub fn run<S: Source, B: Source, K: Sink, G: Gate + Sync, R: Threads + Sync>(
         background,
         writer,
         gate,
-        &mut clue,
         After::Caller,
     )
 }

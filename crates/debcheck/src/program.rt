@@ -9,7 +9,7 @@ ghost use Rattle.debcheck.specs.Program.{Asks, Ends, EndsSomehow, FailsToTake, R
 ghost use Rattle.debcheck.specs.Program.{TellsOutcome, TellsUnless, is_silent, written};
 
 use crate::exit_status::status;
-use crate::hints::{Clue, note, tell_hint};
+use crate::hints::{note_input, tell_hint};
 use crate::output::{write_fault, write_line_fault};
 use crate::phases::{After, run_noting};
 use crate::since::run_since_noting;
@@ -94,7 +94,6 @@ fn run_behind<
     background: &mut B,
     output: &mut K,
     gate: &G,
-    clue: &mut Option<Clue>,
 ) -> Result<Summary, RunFault>
     requires workers { (0 < config.now.workers) × (config.now.workers ≤ 64) }
     requires chunk { 0 < config.now.chunk }
@@ -116,7 +115,6 @@ fn run_behind<
             background,
             output,
             gate,
-            clue,
             After::End,
         );
     };
@@ -131,10 +129,9 @@ fn run_behind<
                 &mut earlier,
                 output,
                 gate,
-                clue,
                 After::End,
             );
-            note(clue, &outcome, Input::Earlier, earlier.front());
+            note_input(alloc, reader, &outcome, Input::Earlier, &earlier);
             outcome
         }
         Err(OpenFault::Memory) => Err(RunFault::Memory),
@@ -150,7 +147,6 @@ fn open_and_run<O: Opener, S: Source, K: Sink, G: Gate + Sync, R: Threads + Sync
     reader: &mut S,
     output: &mut K,
     gate: &G,
-    clue: &mut Option<Clue>,
 ) -> Result<Summary, RunFault>
     requires workers { (0 < config.now.workers) × (config.now.workers ≤ 64) }
     requires chunk { 0 < config.now.chunk }
@@ -162,21 +158,12 @@ fn open_and_run<O: Opener, S: Source, K: Sink, G: Gate + Sync, R: Threads + Sync
 {
     let Some(name) = &config.bg else {
         let mut nothing = Std::new([].as_slice());
-        return run_behind(rt, config, files, reader, &mut nothing, output, gate, clue);
+        return run_behind(rt, config, files, reader, &mut nothing, output, gate);
     };
     match files.open(name.as_str()) {
         Ok(mut background) => {
-            let outcome = run_behind(
-                rt,
-                config,
-                files,
-                reader,
-                &mut background,
-                output,
-                gate,
-                clue,
-            );
-            note(clue, &outcome, Input::Background, background.front());
+            let outcome = run_behind(rt, config, files, reader, &mut background, output, gate);
+            note_input(rt.alloc(), reader, &outcome, Input::Background, &background);
             outcome
         }
         Err(OpenFault::Memory) => Err(RunFault::Memory),
@@ -215,7 +202,6 @@ fn name_and_run<O: Opener, S: Source, K: Sink, G: Gate + Sync, R: Threads + Sync
     reader: &mut S,
     output: &mut K,
     gate: &G,
-    clue: &mut Option<Clue>,
 ) -> Result<Summary, RunFault>
     requires workers { (0 < config.old.workers) × (config.old.workers ≤ 64) }
     requires chunk { 0 < config.old.chunk }
@@ -227,7 +213,7 @@ fn name_and_run<O: Opener, S: Source, K: Sink, G: Gate + Sync, R: Threads + Sync
         (written (K.contents output.old) (K.contents output.new) (K.failed output.new) (K.flushed output.new) (K.abandoned output.new)) result }
 {
     match take_names(rt.alloc(), files, config) {
-        Ok(()) => open_and_run(rt, config, files, reader, output, gate, clue),
+        Ok(()) => open_and_run(rt, config, files, reader, output, gate),
         Err(fault) => Err(fault),
     }
 }
@@ -276,21 +262,11 @@ fn run_asked<
     let mut config = config;
     let progress = Progress::new(rt, screen, &config);
     let mut output = Wiping::new(&progress, output);
-    let mut clue = None;
     progress.tell_reading(reader.is_terminal());
-    let outcome = name_and_run(
-        rt,
-        &mut config,
-        files,
-        reader,
-        &mut output,
-        &progress,
-        &mut clue,
-    );
+    let outcome = name_and_run(rt, &mut config, files, reader, &mut output, &progress);
     progress.wipe();
     tell_outcome(rt.alloc(), errors, &outcome, output.is_abandoned());
-    note(&mut clue, &outcome, Input::Index, reader.front());
-    tell_hint(rt.alloc(), screen, &config, files, &outcome, clue);
+    tell_hint(rt.alloc(), screen, &config, files, reader, &outcome);
     Ended {
         status: status(&outcome),
         output: output.into_inner(),

@@ -9,9 +9,8 @@ ghost use Rattle.deb_input.specs.Inputs.{Input, IsReadAs, input, is_unread};
 ghost use Rattle.debcheck.specs.Run.{FailsToIndex, FailsToReport, HasAsked, IfIndexed, IsAsked, ReadsAs, behind};
 ghost use Rattle.debcheck.specs.Since.{FailsEarlier, FailsSince, IsReportAfter, LeavesSince, TellsReportSince, WereBroken, WritesReportSince, earlier_fault, is_unread_behind, wanted_since};
 
-use crate::asked::ask_noting;
-use crate::clues::{note_earlier, note_seen, stanzas_before};
-use crate::hints::Clue;
+use crate::asked::asked_places;
+use crate::hints::{note, note_unknown};
 use crate::phases::{After, index_from, let_go, read_texts};
 use crate::verdicts::{find_told, find_verdicts};
 use deb_index::Index;
@@ -19,6 +18,7 @@ use deb_input::{RunFault, TextRead, finish, read_text};
 use deb_report::{BrokenPackage, Summary, broken_packages, earlier_places, report_since};
 use deb_verdict::Wanted;
 use devices::{Sink, Source, write_all};
+use input_hints::{Input, reading_text};
 use run_settings::Config;
 use std::alloc::{AllocError, Global};
 use std::thread::Threads;
@@ -59,14 +59,13 @@ fn broken_in<G: Gate + Sync, R: Threads + Sync>(
     Ok(broken_packages(alloc, index, asked, verdicts.as_slice())?)
 }
 
-// The earlier index, of all that is left in the reader and of what stands behind it. What is seen of it is noted.
+// The earlier index, of all that is left in the reader and of what stands behind it. What is guessed of it is noted on its reader.
 fn read_earlier<E: Source, R: Threads + Sync>(
     rt: &R,
     alloc: Global,
     config: &Config,
     earlier: &mut E,
     more: &[u8],
-    seen: &mut Option<Clue>,
 ) -> Result<Index, RunFault>
     requires earlier { E.failed earlier.old ≡ false }
     requires more { length more.now ≤ byte_limit }
@@ -83,9 +82,10 @@ fn read_earlier<E: Source, R: Threads + Sync>(
     let TextRead { outcome, last } = read_text(rt, alloc, config, earlier, size)?;
     let index = finish(rt, alloc, config, outcome, more);
     let piece = last.as_slice();
-    if let Ok(before) = stanzas_before(alloc, config, &index, piece) {
-        note_earlier(alloc, seen, &index, before, piece);
-    }
+    note(
+        earlier,
+        reading_text(alloc, config, Input::Earlier, &index, piece, more),
+    );
     index
 }
 
@@ -97,7 +97,6 @@ fn read_before<E: Source, G: Gate + Sync, R: Threads + Sync>(
     earlier: &mut E,
     more: &[u8],
     gate: &G,
-    seen: &mut Option<Clue>,
 ) -> Result<Vec<BrokenPackage>, RunFault>
     requires workers { (0 < config.now.workers) × (config.now.workers ≤ 64) }
     requires chunk { 0 < config.now.chunk }
@@ -112,7 +111,7 @@ fn read_before<E: Source, G: Gate + Sync, R: Threads + Sync>(
         → FailsEarlier (settings_of config.now) (input (E.remaining earlier.old) (E.failed earlier.new)) background fault) }
     ensures may_fail { IfErr result (λ fault. fault ≡ RunFault.EarlierRead → E.may_fail earlier.old ≡ true) }
 {
-    match read_earlier(rt, alloc, config, earlier, more, seen) {
+    match read_earlier(rt, alloc, config, earlier, more) {
         Ok(index) => {
             let broken = broken_in(rt, alloc, config, &index, gate);
             drop(index);
@@ -158,16 +157,14 @@ fn report_news<G: Gate + Sync, R: Threads + Sync>(
 }
 
 // Checks the asked places, and makes the report since these packages were broken; where it isn't known which were, the fault of that is told behind
-// those of the asked names. What was seen of the earlier index is noted.
+// those of the asked names.
 fn report_after<G: Gate + Sync, R: Threads + Sync>(
     rt: &R,
     alloc: Global,
     config: &Config,
     index: &Index,
     before: Result<Vec<BrokenPackage>, RunFault>,
-    seen: Option<Clue>,
     gate: &G,
-    clue: &mut Option<Clue>,
 ) -> Result<(Vec<u8>, Summary), RunFault>
     requires workers { (0 < config.now.workers) × (config.now.workers ≤ 64) }
     requires chunk { 0 < config.now.chunk }
@@ -176,8 +173,7 @@ fn report_after<G: Gate + Sync, R: Threads + Sync>(
     ensures refused { IfErr result (λ fault.
         FailsToReport (settings_of config.now) index.now fault ⊎ (HasAsked (settings_of config.now) index.now × (before ≡ Err fault))) }
 {
-    let asked = ask_noting(alloc, index, config, clue)?;
-    note_seen(clue, seen);
+    let asked = asked_places(alloc, index, config)?;
     let broken = before?;
     let (asked, before) = (asked.as_slice(), broken.as_slice());
     report_news(rt, alloc, config, index, asked, before, gate)
@@ -193,7 +189,6 @@ fn read_since<S: Source, B: Source, E: Source, G: Gate + Sync, R: Threads + Sync
     background: &mut B,
     earlier: &mut E,
     gate: &G,
-    clue: &mut Option<Clue>,
     after: After,
 ) -> Result<(Vec<u8>, Summary), RunFault>
     requires workers { (0 < config.now.workers) × (config.now.workers ≤ 64) }
@@ -218,17 +213,16 @@ fn read_since<S: Source, B: Source, E: Source, G: Gate + Sync, R: Threads + Sync
     ensures earlier_may_fail { IfErr result (λ fault. fault ≡ RunFault.EarlierRead → E.may_fail earlier.old ≡ true) }
 {
     let (text, behind) = read_texts(alloc, config, reader, background)?;
-    let mut seen = None;
     let more = behind.as_slice();
-    let before = read_before(rt, alloc, config, earlier, more, gate, &mut seen);
-    let index = index_from(rt, alloc, config, text, behind, clue)?;
-    let told = report_after(rt, alloc, config, &index, before, seen, gate, clue);
+    let before = read_before(rt, alloc, config, earlier, more, gate);
+    let index = index_from(rt, alloc, config, reader, text, behind)?;
+    let told = report_after(rt, alloc, config, &index, before, gate);
+    note_unknown(alloc, reader, &index, &told);
     let_go(index, after);
     told
 }
 
-/// `run_since`, of which is noted what was seen of a text or of a name that it couldn't use, and which ends as `after` says. Its faults are those of
-/// `run_since`.
+/// `run_since`, which ends as `after` says. Its faults are those of `run_since`.
 pub(crate) fn run_since_noting<
     S: Source,
     B: Source,
@@ -245,7 +239,6 @@ pub(crate) fn run_since_noting<
     earlier: &mut E,
     writer: &mut K,
     gate: &G,
-    clue: &mut Option<Clue>,
     after: After,
 ) -> Result<Summary, RunFault>
     requires workers { (0 < config.now.workers) × (config.now.workers ≤ 64) }
@@ -277,7 +270,7 @@ pub(crate) fn run_since_noting<
     ensures earlier_may_fail { IfErr result (λ fault. fault ≡ RunFault.EarlierRead → E.may_fail earlier.old ≡ true) }
 {
     let (output, summary) = read_since(
-        rt, alloc, config, reader, background, earlier, gate, clue, after,
+        rt, alloc, config, reader, background, earlier, gate, after,
     )?;
     match write_all(writer, output.as_slice()) {
         Ok(()) => Ok(summary),
@@ -334,7 +327,6 @@ pub fn run_since<S: Source, B: Source, E: Source, K: Sink, G: Gate + Sync, R: Th
         (input (S.remaining reader.old) (S.failed reader.new)) (input (B.remaining background.old) (B.failed background.new))
         (input (E.remaining earlier.old) (E.failed earlier.new)) (K.contents writer.old) (K.contents writer.new)) }
 {
-    let mut clue = None;
     run_since_noting(
         rt,
         alloc,
@@ -344,7 +336,6 @@ pub fn run_since<S: Source, B: Source, E: Source, K: Sink, G: Gate + Sync, R: Th
         earlier,
         writer,
         gate,
-        &mut clue,
         After::Caller,
     )
 }

@@ -39,6 +39,19 @@ pub trait Source {
         &[]
     }
 
+    /// Notes a text on it, in the place of what was noted before; a source need not keep any.
+    fn note(&self, _text: Vec<u8>) {}
+
+    /// Takes the text that was noted on it last.
+    fn take_note(&self) -> Option<Vec<u8>> {
+        None
+    }
+
+    /// Whether a read failed since it is a folder, as far as that can be told.
+    fn is_folder(&self) -> bool {
+        false
+    }
+
     /// How many of its bytes are read at least before some of them are taken into an index.
     fn piece(&self) -> usize
         ensures { 0 < result }

@@ -1,4 +1,4 @@
-//! A source that keeps its beginning.
+//! A source that keeps its beginning, and a text that is noted on it.
 
 ghost use Rattle.std.specs.Prelude.{◌≡◌, ◌++◌, ◌≤◌, [], IfOk, OnErr, OnOk, length, take, true};
 ghost use Rattle.std.specs.Io.KnownBytes.{ReadConsumes};
@@ -6,16 +6,18 @@ ghost use Rattle.devices.specs.Devices.{KeepsFront, front_limit};
 
 use crate::device::{DeviceFault, Source};
 use arrayvec::ArrayVec;
+use std::cell::Cell;
 use std::io::IsTerminal;
 
 // How many bytes are kept.
 const FRONT_LIMIT: usize = 4_096;
 
-/// A source that keeps the first 4,096 bytes that are read through it. It takes no memory but its own.
+/// A source that keeps the first 4,096 bytes that are read through it, and a text that is noted on it. It takes no memory but its own.
 #[derive(Drop)]
 pub struct Recording<S> {
     inner: S,
     front: ArrayVec<u8, FRONT_LIMIT>,
+    noted: Cell<Option<Vec<u8>>>,
 }
 
 impl<S> Recording<S> {
@@ -27,6 +29,7 @@ impl<S> Recording<S> {
         Recording {
             inner,
             front: ArrayVec::new(),
+            noted: Cell::new(None),
         }
     }
 }
@@ -68,6 +71,18 @@ impl<S: Source> Source for Recording<S> {
         ensures { result.now ≡ self.now.front.items }
     {
         self.front.as_slice()
+    }
+
+    fn note(&self, text: Vec<u8>) {
+        self.noted.set(Some(text));
+    }
+
+    fn take_note(&self) -> Option<Vec<u8>> {
+        self.noted.replace(None)
+    }
+
+    fn is_folder(&self) -> bool {
+        self.inner.is_folder()
     }
 
     fn piece(&self) -> usize {

@@ -12,6 +12,7 @@ pub struct Std<T> {
     failed: bool,
     flushed: bool,
     abandoned: bool,
+    folder: bool,
 }
 
 impl<T> Std<T> {
@@ -26,6 +27,7 @@ impl<T> Std<T> {
             failed: false,
             flushed: false,
             abandoned: false,
+            folder: false,
         }
     }
 }
@@ -45,11 +47,16 @@ impl<T: Read> Source for Std<T> {
         let read = self.inner.read(buf);
         match read {
             Ok(count) => Ok(count),
-            Err(_) => {
+            Err(error) => {
+                self.folder |= error.kind() == ErrorKind::IsADirectory;
                 self.failed = true;
                 Err(DeviceFault)
             }
         }
+    }
+
+    fn is_folder(&self) -> bool {
+        self.folder
     }
 }
 

@@ -1,94 +1,128 @@
 //! What the first bytes of an input tell of it.
 
-ghost use Rattle.std.specs.Prelude.{◌≡◌};
-ghost use Rattle.input_hints.specs.Beginnings.{compression_of, hint_of, hint_of_lines, hint_of_start, is_release, is_sources};
+use crate::input::{Input, name_of, text_of};
+use crate::lines::has_field;
+use std::alloc::Global;
 
-use crate::hint::{Compression, Hint};
-use crate::lines::{has_field, is_returned};
+// What to do about an input.
+#[derive(Clone, Copy)]
+enum Remedy {
+    // This command makes an index of its file FILE.
+    Command(&'static [u8]),
+    Advice(&'static [u8]),
+}
 
-// What compressed a file, by its first bytes.
-#[tactic(auto, unfolding(crate::specs::Beginnings::compression_of))]
-fn compression_of(beginning: &[u8]) -> Option<Compression>
-    ensures { result ≡ compression_of beginning.now }
-{
-    if beginning.starts_with(b"\x1f\x8b") {
-        return Some(Compression::Gzip);
+// What is likely wrong with an input, and what to do.
+type Likely = (&'static [u8], Remedy);
+
+const TAKE_PACKAGES: Remedy = Remedy::Advice(b"take a file Packages");
+
+// How files begin that are no index as they stand (RFC 1952 for gzip, RFC 8878 for zstd, else the format's own description).
+static MARKS: [(&[u8], &[u8], Remedy); 8] = [
+    (
+        b"\x1f\x8b",
+        b"is compressed by gzip",
+        Remedy::Command(b"zcat FILE"),
+    ),
+    (
+        b"\xfd7zXZ\0",
+        b"is compressed by xz",
+        Remedy::Command(b"xzcat FILE"),
+    ),
+    (
+        b"BZh",
+        b"is compressed by bzip2",
+        Remedy::Command(b"bzcat FILE"),
+    ),
+    (
+        b"\x28\xb5\x2f\xfd",
+        b"is compressed by zstd",
+        Remedy::Command(b"zstdcat FILE"),
+    ),
+    (
+        b"\x04\x22\x4d\x18",
+        b"is compressed by lz4",
+        Remedy::Command(b"lz4cat FILE"),
+    ),
+    (
+        b"\xef\xbb\xbf",
+        b"begins with a byte order mark",
+        Remedy::Command(b"tail -c +4 FILE"),
+    ),
+    (
+        b"<",
+        b"begins with <, as a web page does",
+        Remedy::Advice(b"see what was fetched"),
+    ),
+    (
+        b"-----BEGIN",
+        b"is a signed text, as InRelease",
+        TAKE_PACKAGES,
+    ),
+];
+
+// Whether the first line ends with a carriage return and a line feed.
+fn is_returned(front: &[u8]) -> bool {
+    let mut lines = front.split(|b| *b == b'\n');
+    match (lines.next(), lines.next()) {
+        (Some(line), Some(_)) => line.ends_with(b"\r"),
+        _ => false,
     }
-    if beginning.starts_with(b"\xfd7zXZ\0") {
-        return Some(Compression::Xz);
-    }
-    if beginning.starts_with(b"BZh") {
-        return Some(Compression::Bzip2);
-    }
-    if beginning.starts_with(b"\x28\xb5\x2f\xfd") {
-        return Some(Compression::Zstd);
-    }
-    if beginning.starts_with(b"\x04\x22\x4d\x18") {
-        return Some(Compression::Lz4);
-    }
-    None
 }
 
 // Whether the first stanza is that of a Release file.
-fn is_release(beginning: &[u8]) -> bool
-    ensures { result ≡ is_release beginning.now }
-{
-    (has_field(beginning, b"Suite:")
-        || has_field(beginning, b"Codename:")
-        || has_field(beginning, b"SHA256:"))
-        && !has_field(beginning, b"Package:")
+fn is_release(front: &[u8]) -> bool {
+    (has_field(front, b"Suite:") || has_field(front, b"Codename:") || has_field(front, b"SHA256:"))
+        && !has_field(front, b"Package:")
 }
 
 // Whether the first stanza is one of source packages.
-fn is_sources(beginning: &[u8]) -> bool
-    ensures { result ≡ is_sources beginning.now }
-{
-    (has_field(beginning, b"Directory:") || has_field(beginning, b"Binary:"))
-        && !has_field(beginning, b"Filename:")
+fn is_sources(front: &[u8]) -> bool {
+    (has_field(front, b"Directory:") || has_field(front, b"Binary:"))
+        && !has_field(front, b"Filename:")
 }
 
-// What the lines tell.
-#[tactic(auto, unfolding(crate::specs::Beginnings::hint_of_lines))]
-fn hint_of_lines(beginning: &[u8]) -> Option<Hint>
-    ensures { result ≡ hint_of_lines beginning.now }
-{
-    if is_returned(beginning) {
-        return Some(Hint::CarriageReturns);
+// What is likely wrong with an input that begins so: the first of these that holds.
+fn likely(front: &[u8]) -> Option<Likely> {
+    for (mark, what, remedy) in &MARKS {
+        if front.starts_with(mark) {
+            return Some((*what, *remedy));
+        }
     }
-    if is_release(beginning) {
-        return Some(Hint::ReleaseFile);
+    if is_returned(front) {
+        return Some((
+            b"has lines that end with CR LF",
+            Remedy::Command(b"tr -d '\\r' < FILE"),
+        ));
     }
-    if is_sources(beginning) {
-        return Some(Hint::SourcesFile);
+    if is_release(front) {
+        return Some((b"is a Release file", TAKE_PACKAGES));
+    }
+    if is_sources(front) {
+        return Some((b"describes source packages", TAKE_PACKAGES));
     }
     None
 }
 
-// What an input that isn't compressed begins with.
-#[tactic(auto, unfolding(crate::specs::Beginnings::hint_of_start))]
-fn hint_of_start(beginning: &[u8]) -> Option<Hint>
-    ensures { result ≡ hint_of_start beginning.now }
-{
-    if beginning.starts_with(b"\xef\xbb\xbf") {
-        return Some(Hint::ByteOrderMark);
+// What stands before and behind a command, so that the program reads what it writes.
+fn around(input: Input) -> (&'static [u8], &'static [u8]) {
+    match input {
+        Input::Index => (b"", b" | debcheck .."),
+        Input::Background => (b"--bg <(", b")"),
+        Input::Earlier => (b"--since <(", b")"),
+        Input::Names => (b"--checkonly @<(", b")"),
     }
-    if beginning.starts_with(b"<") {
-        return Some(Hint::Markup);
-    }
-    if beginning.starts_with(b"-----BEGIN") {
-        return Some(Hint::Signed);
-    }
-    hint_of_lines(beginning)
 }
 
-/// What is likely wrong with an input that begins so: the first of what `Hint` lists that holds of these bytes. Nothing of an index of packages,
-/// as archives have it, and nothing of a text that has no such mark.
-#[tactic(auto, unfolding(crate::specs::Beginnings::hint_of))]
-pub fn hint_of(beginning: &[u8]) -> Option<Hint>
-    ensures { result ≡ hint_of beginning.now }
-{
-    match compression_of(beginning) {
-        Some(compression) => Some(Hint::Compressed(compression)),
-        None => hint_of_start(beginning),
+/// What is likely wrong with an input that begins so, and what to do. Nothing of an index of packages, as archives have it.
+pub fn beginning_text(alloc: Global, input: Input, front: &[u8]) -> Option<Vec<u8>> {
+    let (what, remedy) = likely(front)?;
+    let name = name_of(input);
+    match remedy {
+        Remedy::Command(command) => {
+            let (before, behind) = around(input);
+            text_of(alloc, &[name, b" ", what, b": ", before, command, behind])
+        }
+        Remedy::Advice(advice) => text_of(alloc, &[name, b" ", what, b": ", advice]),
     }
 }

@@ -1,105 +1,111 @@
-//! The package of one stanza of a text, and the line that tells it.
+//! Of which package a stanza is.
 
-ghost use Rattle.std.specs.Prelude.{◌≡◌, ◌++◌, IfOk, codes, option_map};
-ghost use Rattle.std.specs.Option.{option_copied};
-ghost use Rattle.input_hints.specs.Stanzas.{has_second_package, stanza_package};
-ghost use Rattle.input_hints.specs.Texts.{package_line, stanza_end, stanza_hint_line};
+use crate::input::{Input, name_of, text_of};
+use crate::lines::{is_blank, is_line_of, shown, value_in};
+use deb_index::{Index, IndexError, TEXT_LIMIT};
+use run_settings::Config;
+use std::alloc::Global;
 
-use crate::field::{field_line, shown, value_in};
-use crate::line::{Input, input_name, line_of};
-use std::alloc::{AllocError, Global};
+const FIELD: &[u8] = b"Package:";
 
-// The package of the stanza with a number, by its first line that begins with `Package:`.
-#[tactic(auto, unfolding(crate::specs::Stanzas::stanza_package))]
-fn stanza_package(text: &[u8], number: u64) -> Option<&[u8]>
-    ensures { option_copied result ≡ stanza_package number text.now }
-{
-    match field_line(text, number, b"Package:", 0) {
-        Some(line) => shown(value_in(line, b"Package:")),
-        None => None,
+// What is seen of a stanza.
+#[derive(Drop)]
+struct Seen<'t> {
+    // The package of its first line that begins so.
+    package: Option<&'t [u8]>,
+    // It has another such line.
+    has_second: bool,
+    // The text ends in a line of it.
+    is_cut: bool,
+}
+
+// What is seen of the stanza with a number, counted from 1. A comment neither opens nor ends one.
+fn look_at(text: &[u8], number: u64) -> Seen<'_> {
+    let mut seen = Seen {
+        package: None,
+        has_second: false,
+        is_cut: false,
+    };
+    let mut left = number;
+    let mut open = false;
+    for line in text.split(|b| *b == b'\n') {
+        if is_blank(line) {
+            if open && left == 0 {
+                return seen;
+            }
+            open = false;
+        } else if !line.starts_with(b"#") {
+            if !open {
+                left = left.saturating_sub(1);
+                open = true;
+            }
+            if left == 0 && is_line_of(line, FIELD) {
+                seen.has_second = seen.package.is_some();
+                seen.package = seen.package.or(Some(value_in(line, FIELD)));
+            }
+        }
+    }
+    seen.is_cut = true;
+    seen
+}
+
+// The stanza that a fault is of.
+fn stanza_of(fault: &IndexError) -> Option<u64> {
+    match fault {
+        IndexError::BadLine { stanza }
+        | IndexError::RepeatedField { stanza }
+        | IndexError::MissingField { stanza }
+        | IndexError::BadName { stanza }
+        | IndexError::BadVersion { stanza }
+        | IndexError::BadRelation { stanza, .. } => Some(*stanza),
+        IndexError::TooManyStanzas { .. } | IndexError::Memory => None,
     }
 }
 
-// Whether it has a second line that begins so.
-#[tactic(auto, unfolding(crate::specs::Stanzas::has_second_package))]
-fn has_second_package(text: &[u8], number: u64) -> bool
-    ensures { result ≡ has_second_package number text.now }
-{
-    field_line(text, number, b"Package:", 1).is_some()
+// The number that the first stanza with a fault has in a piece, which is read by itself for that.
+fn own_number(alloc: Global, config: &Config, piece: &[u8]) -> Option<u64> {
+    if piece.len() > TEXT_LIMIT {
+        return None;
+    }
+    stanza_of(&Index::fault_of(alloc, piece, config.arch.as_str(), config.essential)?)
 }
 
-// What ends the line.
-#[tactic(auto, unfolding(crate::specs::Texts::stanza_end))]
-fn stanza_end(second: bool) -> &'static [u8]
-    ensures { result.now ≡ stanza_end second }
-{
-    if second {
-        b", and has a second Package: is there no empty line between two indexes?\n"
+// What may be wrong beside.
+fn suspicion(seen: &Seen<'_>) -> &'static [u8] {
+    if seen.has_second {
+        b", and has a second Package: is there no empty line between two indexes?"
+    } else if seen.is_cut {
+        b", and its last line has no end: was the file cut off?"
     } else {
-        b"\n"
+        b""
     }
 }
 
-// The line on a stanza whose number has these digits, of an input that is called so.
-fn stanza_line<'t>(
+/// Of which package the stanza is for whose fault an input is refused, by the piece of it that has the fault.
+pub fn stanza_text(
+    alloc: Global,
+    config: &Config,
+    input: Input,
+    fault: &IndexError,
+    piece: &[u8],
+) -> Option<Vec<u8>> {
+    let number = stanza_of(fault)?.to_string(alloc).ok()?;
+    let seen = look_at(piece, own_number(alloc, config, piece)?);
+    let package = shown(seen.package?)?;
+    let digits = number.as_str().as_bytes();
+    line_of(alloc, digits, name_of(input), package, suspicion(&seen))
+}
+
+fn line_of<'t>(
     alloc: Global,
     digits: &'t [u8],
-    input: &'t [u8],
     name: &'t [u8],
-    end: &'t [u8],
-) -> Result<Vec<u8>, AllocError>
-    ensures { IfOk result (λ line. line.items ≡ codes "hint: stanza " ++ digits.now ++ codes " of " ++ input.now
-        ++ codes " is of the package " ++ name.now ++ end.now) }
-{
-    let package = b" is of the package ";
-    line_of(
+    package: &'t [u8],
+    more: &'t [u8],
+) -> Option<Vec<u8>> {
+    let is = b" is of the package ";
+    text_of(
         alloc,
-        &[b"hint: stanza ", digits, b" of ", input, package, name, end],
+        &[b"stanza ", digits, b" of ", name, is, package, more],
     )
-}
-
-#[tactic(auto, unfolding(crate::specs::Texts::package_line))]
-fn package_line(
-    alloc: Global,
-    input: Input,
-    number: u64,
-    name: &[u8],
-    second: bool,
-) -> Result<Vec<u8>, AllocError>
-    ensures { IfOk result (λ line. line.items ≡ package_line input number name.now second) }
-{
-    let digits = number.to_string(alloc)?;
-    let input = input_name(input);
-    stanza_line(
-        alloc,
-        digits.as_str().as_bytes(),
-        input,
-        name,
-        stanza_end(second),
-    )
-}
-
-/// The line that tells of which package an input's stanza is, with LF, and whether it has a second line that begins with `Package:`. Stanzas count
-/// from 1, as in the faults of an index; the text is what stands of the input behind so many of them.
-///
-/// The package is what the first such line has, cut behind 60 bytes. None where there is no such stanza or line, or some byte there is no printable
-/// ASCII. `AllocError` where there is no memory for it.
-#[tactic(auto, unfolding(crate::specs::Texts::stanza_hint_line))]
-pub fn stanza_hint_line(
-    alloc: Global,
-    input: Input,
-    before: u64,
-    number: u64,
-    text: &[u8],
-) -> Result<Option<Vec<u8>>, AllocError>
-    ensures { IfOk result (λ line. option_map (λ said. said.items) line ≡ stanza_hint_line input before number text.now) }
-{
-    let own = number.saturating_sub(before);
-    match stanza_package(text, own) {
-        Some(name) => {
-            let second = has_second_package(text, own);
-            Ok(Some(package_line(alloc, input, number, name, second)?))
-        }
-        None => Ok(None),
-    }
 }

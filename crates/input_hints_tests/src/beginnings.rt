@@ -1,191 +1,97 @@
 //! The first bytes of inputs, and what they tell.
 
-use input_hints::{Compression, Hint, hint_of};
+use crate::text::expect_text;
+use input_hints::{Input, beginning_text};
 
-/// A text, and what its first bytes tell.
-type Case<'a> = (&'a [u8], Option<Hint>);
-
-/// As an index of packages begins.
-const PACKAGES: &[u8] = b"Package: 0ad
-Version: 0.0.26-3
-Installed-Size: 28591
-Maintainer: Games Team <games@example.org>
-Architecture: amd64
-Depends: 0ad-data (>= 0.0.26), libc6 (>= 2.29)
-Description: Real-time strategy game of ancient warfare
-Section: games
-Priority: optional
-Filename: pool/main/0/0ad/0ad_0.0.26-3_amd64.deb
-Size: 7891488
-SHA256: 3a2118df47bf3f04285649f0455c2fc6fe2dc7f0b237073038aa00af41f0d5f2
-
-Package: second
-Directory: pool
-";
-
-/// As an index of source packages begins.
-const SOURCES: &[u8] = b"Package: 0ad
-Binary: 0ad, 0ad-dbg
-Version: 0.0.26-3
-Format: 3.0 (quilt)
-Files:
- 4cb1fd5dd1ff4dd3a5eb4b3b0a0e5bd5 2477 0ad_0.0.26-3.dsc
-Directory: pool/main/0/0ad
-
-Package: second
-Filename: pool
-";
-
-/// As a Release file begins.
-const RELEASE: &[u8] = b"Origin: Debian
-Label: Debian
-Suite: stable
-Codename: bookworm
-Components: main
-SHA256:
- e3b0c44298fc1c149afbf4c8996fb92427ae41e4649b934ca495991b7852b855 0 main/binary-amd64/Packages
-";
-
-const COMPRESSED_FILES: &[Case] = &[
+/// How inputs begin, and what is told of an index that does.
+static BEGINNINGS: &[(&[u8], &str)] = &[
     (
-        b"\x1f\x8b\x08\0\0\0\0\0\x02\x03",
-        Some(Hint::Compressed(Compression::Gzip)),
+        b"\x1f\x8b\x08\0",
+        "the index is compressed by gzip: zcat FILE | debcheck ..",
     ),
     (
-        b"\xfd7zXZ\0\0\x04\xe6\xd6\xb4\x46",
-        Some(Hint::Compressed(Compression::Xz)),
+        b"\xfd7zXZ\0\0\x04",
+        "the index is compressed by xz: xzcat FILE | debcheck ..",
     ),
-    (b"BZh91AY&SY", Some(Hint::Compressed(Compression::Bzip2))),
+    (
+        b"BZh91AY&SY",
+        "the index is compressed by bzip2: bzcat FILE | debcheck ..",
+    ),
     (
         b"\x28\xb5\x2f\xfd\x24\x05",
-        Some(Hint::Compressed(Compression::Zstd)),
+        "the index is compressed by zstd: zstdcat FILE | debcheck ..",
     ),
     (
         b"\x04\x22\x4d\x18\x64\x40",
-        Some(Hint::Compressed(Compression::Lz4)),
+        "the index is compressed by lz4: lz4cat FILE | debcheck ..",
     ),
-];
-
-/// The marks alone are enough; one byte less isn't, nor are they without their first byte.
-const MARKS: &[Case] = &[
-    (b"\x1f\x8b", Some(Hint::Compressed(Compression::Gzip))),
-    (b"\x8b", None),
-    (b"\x1f", None),
-    (b"\xfd7zXZ\0", Some(Hint::Compressed(Compression::Xz))),
-    (b"7zXZ\0", None),
-    (b"\xfd7zXZ", None),
-    (b"BZh", Some(Hint::Compressed(Compression::Bzip2))),
-    (b"Zh", None),
-    (b"BZ", None),
     (
-        b"\x28\xb5\x2f\xfd",
-        Some(Hint::Compressed(Compression::Zstd)),
+        b"\xef\xbb\xbf<html>",
+        "the index begins with a byte order mark: tail -c +4 FILE | debcheck ..",
     ),
-    (b"\xb5\x2f\xfd", None),
-    (b"\x28\xb5\x2f", None),
     (
-        b"\x04\x22\x4d\x18",
-        Some(Hint::Compressed(Compression::Lz4)),
+        b"<!DOCTYPE html>\r\n",
+        "the index begins with <, as a web page does: see what was fetched",
     ),
-    (b"\x22\x4d\x18", None),
-    (b"\x04\x22\x4d", None),
-    (b"\xef\xbb\xbf", Some(Hint::ByteOrderMark)),
-    (b"\xbb\xbf", None),
-    (b"\xef\xbb", None),
-    (b"<", Some(Hint::Markup)),
-    (b"", None),
-    (b"-----BEGIN", Some(Hint::Signed)),
-    (b"----BEGIN", None),
-    (b"-----BEGI", None),
-];
-
-const MARKS_FURTHER_IN: &[Case] = &[
-    (b"P\x1f\x8b", None),
-    (b"Package: a\n\xfd7zXZ\0", None),
-    (b" BZh", None),
-    (b"\n\x28\xb5\x2f\xfd", None),
-    (b"\0\x04\x22\x4d\x18", None),
-    (b"a\xef\xbb\xbf", None),
-    (b" <html>", None),
-    (b"----- BEGIN\n-----BEGIN", None),
-];
-
-const TEXTS_THAT_BEGIN_AS_NONE_DOES: &[Case] = &[
-    (b"\xef\xbb\xbfPackage: a\n", Some(Hint::ByteOrderMark)),
-    (b"\xef\xbb\xbf<html>", Some(Hint::ByteOrderMark)),
-    (b"<!DOCTYPE html>\r\n", Some(Hint::Markup)),
     (
-        b"-----BEGIN PGP SIGNED MESSAGE-----\nHash: SHA512\n",
-        Some(Hint::Signed),
+        b"-----BEGIN PGP SIGNED MESSAGE-----\n",
+        "the index is a signed text, as InRelease: take a file Packages",
     ),
-];
-
-const LINE_ENDS: &[Case] = &[
-    (b"Package: a\r\nVersion: 1\r\n", Some(Hint::CarriageReturns)),
-    (b"\r\n", Some(Hint::CarriageReturns)),
-    (b"Suite: a\r\n", Some(Hint::CarriageReturns)),
-    (b"Package: a\r", None),
-    (b"Package: a\nVersion: 1\r\n", None),
-    (b"Package: a\r \n", None),
-    (b"\n\r\n", None),
-    (b"\r", None),
-];
-
-const RELEASE_FILES: &[Case] = &[
-    (RELEASE, Some(Hint::ReleaseFile)),
-    (b"Suite: sid", Some(Hint::ReleaseFile)),
-    (b"Origin: o\nCodename: sid\n", Some(Hint::ReleaseFile)),
-    (b"SHA256:\n", Some(Hint::ReleaseFile)),
-    (b"suite:sid\n\nPackage: a\n", Some(Hint::ReleaseFile)),
-    (b"Package: a\nSHA256: 0\n", None),
-    (b"SHA256: 0\npackage: a\n", None),
-    (b"Origin: o\n \t\nSuite: sid\n", None),
-    (b" Suite: sid\n", None),
-    (b"Suite : sid\nSHA256-History:\n", None),
-];
-
-const SOURCE_PACKAGES: &[Case] = &[
-    (SOURCES, Some(Hint::SourcesFile)),
-    (b"Package: a\nBinary: a\n", Some(Hint::SourcesFile)),
+    (
+        b"Suite: a\r\n",
+        "the index has lines that end with CR LF: tr -d '\\r' < FILE | debcheck ..",
+    ),
+    (
+        b"Origin: o\ncodename:sid\n\nPackage: a\n",
+        "the index is a Release file: take a file Packages",
+    ),
     (
         b"Package: a\nDirectory: pool\n\nFilename: a\n",
-        Some(Hint::SourcesFile),
+        "the index describes source packages: take a file Packages",
     ),
-    (b"directory:", Some(Hint::SourcesFile)),
-    (b"Package: a\nDirectory: pool\nFilename: a\n", None),
-    (b"Package: a\n\nBinary: a\n", None),
-    (b"Package: a\nDescription: d\n Binary: a\nDirectory\n", None),
-];
-
-const WHAT_AN_INDEX_IS: &[Case] = &[
-    (PACKAGES, None),
-    (b"", None),
-    (b"P", None),
-    (b"\n", None),
-    (b"\x1f", None),
-    (b"Package: a\nStatus: install ok installed\n", None),
-    (b"# a comment\nPackage: a\nVersion: 1\n", None),
-];
-
-const TOPICS: &[(&str, &[Case])] = &[
-    ("compressed files", COMPRESSED_FILES),
-    ("marks", MARKS),
-    ("marks further in", MARKS_FURTHER_IN),
-    (
-        "texts that begin as none does",
-        TEXTS_THAT_BEGIN_AS_NONE_DOES,
-    ),
-    ("line ends", LINE_ENDS),
-    ("release files", RELEASE_FILES),
-    ("source packages", SOURCE_PACKAGES),
-    ("what an index is", WHAT_AN_INDEX_IS),
+    (b"", ""),
+    (b"\x1f", ""),
+    (b"7zXZ\0", ""),
+    (b"P\x1f\x8b", ""),
+    (b" <html>", ""),
+    (b"Package: a\r", ""),
+    (b"\n\r\n", ""),
+    (b"Package: a\nSHA256: 0\n", ""),
+    (b"Origin: o\n \t\nSuite: sid\n", ""),
+    (b" Suite: sid\n", ""),
+    (b"Suite : sid\nSHA256-History:\n", ""),
+    (b"Package: a\nDirectory: pool\nFilename: a\n", ""),
+    (b"Package: a\n\nBinary: a\n", ""),
+    (b"# a comment\nPackage: a\nVersion: 1\n", ""),
 ];
 
 #[test]
-fn of_first_bytes(rt: HostRuntime) {
-    for (topic, cases) in TOPICS {
-        for (text, hint) in *cases {
-            assert!(rt; hint_of(text) == *hint, "{topic}: another hint of {text:?}");
-        }
+fn of_an_index(rt: HostRuntime) {
+    for (front, wanted) in BEGINNINGS {
+        let text = beginning_text(rt.alloc(), Input::Index, front);
+        expect_text(&rt, "a beginning", text, *wanted);
+    }
+}
+
+static INPUTS: &[(Input, &str)] = &[
+    (
+        Input::Background,
+        "the background is compressed by xz: --bg <(xzcat FILE)",
+    ),
+    (
+        Input::Earlier,
+        "the earlier index is compressed by xz: --since <(xzcat FILE)",
+    ),
+    (
+        Input::Names,
+        "the file of names is compressed by xz: --checkonly @<(xzcat FILE)",
+    ),
+];
+
+#[test]
+fn of_other_inputs(rt: HostRuntime) {
+    for (input, wanted) in INPUTS {
+        let text = beginning_text(rt.alloc(), *input, b"\xfd7zXZ\0");
+        expect_text(&rt, "a beginning", text, *wanted);
     }
 }

@@ -1,18 +1,12 @@
-//! Tests of the public calls of `input_hints`.
-//!
-//! `beginnings` has the first bytes of inputs of each kind, and of near cases; `told` the lines that are told of them, of runs and of files; `stanzas` and
-//! `architectures` those that a text gives; `growths` a test of each call that can want memory; `line` compares a line with the wanted one.
+//! Tests of the public calls of `input_hints`: `beginnings` of what first bytes tell, `inputs` of what indexes tell, and `outcomes` of what runs do. The
+//! hints of whole programs are in `screen_tests`.
 #![tactic(auto)]
 
 #[cfg(test)]
-mod architectures;
-#[cfg(test)]
 mod beginnings;
 #[cfg(test)]
-mod growths;
+mod inputs;
 #[cfg(test)]
-mod line;
+mod outcomes;
 #[cfg(test)]
-mod stanzas;
-#[cfg(test)]
-mod told;
+mod text;

@@ -208,6 +208,12 @@ static NAMES: &[Case] = &[
         hint: b"hint: b is a package of the background: names are asked of the index alone\n",
     },
     Case {
+        words: "|--arch|amd64|--checkonly|postifx",
+        index: PROVIDED,
+        file: b"",
+        hint: b"hint: no package is called postifx, but one is called postfix\n",
+    },
+    Case {
         words: "|--arch|amd64|--checkonly|mta|--bg|others",
         index: INDEX,
         file: PROVIDED,
@@ -265,7 +271,19 @@ static REPORTS: &[Case] = &[
         words: "|--arch|i386|--bg|others",
         index: b"",
         file: MOST,
-        hint: b"hint: no stanza is of this architecture or of all: give another by --arch\n",
+        hint: b"hint: the background is of arm64, and not of i386\n",
+    },
+    Case {
+        words: "|--arch|amd64|--since|others",
+        index: BACKGROUND,
+        file: b"Package: a\nVersion: 1\nArchitecture: arm64\n",
+        hint: b"hint: the earlier index is of arm64, and not of amd64\n",
+    },
+    Case {
+        words: "|--arch|amd46",
+        index: b"Package: a\nVersion: 1\nArchitecture: all\n\nPackage: b\nVersion: 1\nArchitecture: amd64\n",
+        file: b"",
+        hint: b"hint: no stanza is of this architecture, and most others than of all are of amd64: give another by --arch\n",
     },
     Case {
         words: "|--arch|amd64|--bg|others",

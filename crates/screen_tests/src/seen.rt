@@ -1,7 +1,7 @@
 //! Hints of texts that come in small pieces, and of files that are kept from being read.
 
 use crate::runs::run_line;
-use debcheck::OpenFault;
+use debcheck::{OpenFault, Recording};
 use std::io::ErrorKind;
 use std::process::Abort;
 use std::thread::Threads;
@@ -16,8 +16,9 @@ fn expect_hint(
     hint: &[u8],
 ) {
     let screen = Screen::new(true, hint);
-    let mut reader = source_of(index, 11);
-    reader.piece = files.piece;
+    let mut feed = source_of(index, 11);
+    feed.piece = files.piece;
+    let mut reader = Recording::new(feed);
     let left = run_line(
         &clock_of(rt, 0),
         line,

@@ -1,5 +1,0 @@
-pub mod Beginnings
-pub mod Stanzas
-pub mod Texts
-pub mod Architectures
-pub mod Runs
