@@ -1,5 +1,5 @@
 -- Lemmas on a background that is not asked for.
-use Rattle.std.proofs.Common.{◌≡◌, ◌∙◌, ℕ, Bool, true, false, List, [], Some, Result, Ok, Err, if◌then◌else◌, ap, arith, inl, inr, refl, subst, sym}
+use Rattle.std.proofs.Common.{◌≡◌, ◌∙◌, ℕ, Bool, true, false, List, [], Option, Some, None, Result, Ok, Err, if◌then◌else◌, ap, arith, inl, inr, refl, subst, sym}
 use Rattle.std.proofs.lemmas.Bool.{cases_Bool}
 use Rattle.deb_index.specs.declared.error.BothError.TheVariants.{Back}
 use Rattle.deb_index.specs.declared.error.IndexError.{IndexError}
@@ -9,9 +9,10 @@ use Rattle.deb_index.proofs.BackgroundLemmas.{both-empty}
 use Rattle.deb_input.specs.declared.fault.RunFault.{RunFault}
 use Rattle.deb_input.specs.declared.fault.RunFault.TheVariants.{Read, TooLong, BackgroundRead, BackgroundTooLong, EarlierRead, EarlierTooLong, NamesRead, NamesTooLong, BadNameLine, Index, Background, Earlier, UnknownAsked, Slipped, Memory, Write}
 use Rattle.deb_outcome.specs.declared.summary.Summary.{Summary}
+use Rattle.deb_outcome.specs.Since.{BrokenView}
 use Rattle.run_settings.specs.Settings.{Settings}
 use Rattle.deb_input.specs.Inputs.{Input, IsReadAs, input}
-use Rattle.debcheck.specs.Run.{Fails, IsReport, IsReportOn, behind, is_of_background}
+use Rattle.debcheck.specs.Run.{FailsAlone, IsReport, IsReportOn, behind, is_of_background}
 
 -- no bytes have no fault
 fore-alone : (read : Result IndexView IndexError) (fault : IndexError) → in_fore read ≡ Err (Back fault) → ⊥
@@ -42,20 +43,22 @@ same-alone (Err e) both fore h k = absurd cc
 
 -- without a background the report is that on the index of the text alone
 pub report-alone : (settings : Settings) (text background output : List ℕ) (summary : Summary) (index : IndexView) → settings.background ≡ false → index_of text settings.arch settings.essential ≡ Ok index
-    → IsReport settings text background output summary → IsReportOn settings index output summary
+    → IsReport settings None text background output summary → IsReportOn None settings index output summary
 report-alone settings text background output summary index none is report =
-    let P : List ℕ → Type 0 = λ m. index_of_both text m settings.arch settings.essential ≡ Ok report.index in
-    let both = subst P (report.no_background none) report.is_index in
-    let same : report.index ≡ index = same-alone (index_of text settings.arch settings.essential) report.index index (sym (both-empty text settings.arch settings.essential) ∙ both) is in
-    let Q : IndexView → Type 0 = λ view. IsReportOn settings view output summary in
-    subst Q same report.holds
+    let has = report.has in
+    let P : List ℕ → Type 0 = λ m. index_of_both text m settings.arch settings.essential ≡ Ok has.index in
+    let both = subst P (has.no_background none) has.is_index in
+    let same : has.index ≡ index = same-alone (index_of text settings.arch settings.essential) has.index index (sym (both-empty text settings.arch settings.essential) ∙ both) is in
+    let Q : IndexView → Type 0 = λ view. IsReportOn report.before settings view output summary in
+    let R : Option (List BrokenView) → Type 0 = λ before. IsReportOn before settings index output summary in
+    subst R report.was (subst Q same has.holds)
 
 no-input : (asked : Bool) (background : Input) → asked ≡ false → (if asked then background else input (Some []) false) ≡ input (Some []) false
 no-input true background none = absurd cc
 no-input false background none = refl
 
 -- nor is any fault told of one
-pub fails-alone : (settings : Settings) (text background : Input) (write_failed : Bool) (fault : RunFault) → settings.background ≡ false → Fails settings text background write_failed fault → is_of_background fault ≡ false
+pub fails-alone : (settings : Settings) (text background : Input) (write_failed : Bool) (fault : RunFault) → settings.background ≡ false → FailsAlone settings text background write_failed fault → is_of_background fault ≡ false
 fails-alone settings text background w Read none h = refl
 fails-alone settings text background w TooLong none h = refl
 fails-alone settings text background w BackgroundRead none h =

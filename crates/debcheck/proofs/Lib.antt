@@ -8,3 +8,4 @@ mod ProgramLemmas
 mod RunLemmas
 mod SinceLemmas
 mod StandingLemmas
+mod TellingLemmas

@@ -1,5 +1,5 @@
 -- Texts have one report, since a package has one verdict.
-use Rattle.std.proofs.Common.{◌≡◌, ℕ, suc, ◌==◌, Bool, true, false, List, [], ◌∷◌, drop, length, refl, sym, ap, ap₂, arith, inl, inr, subst, ◌∙◌}
+use Rattle.std.proofs.Common.{◌≡◌, Option, Some, None, ℕ, suc, ◌==◌, Bool, true, false, List, [], ◌∷◌, drop, length, refl, sym, ap, ap₂, arith, inl, inr, subst, ◌∙◌}
 use Rattle.std.proofs.lemmas.Bool.{cases_Bool, eqb-true, false≢true, or_cases}
 use Rattle.deb_index.specs.declared.constraint.Constraint.{Constraint}
 use Rattle.deb_index.specs.Packages.{IndexView}
@@ -8,15 +8,12 @@ use Rattle.deb_health.proofs.CoreLemmas.{one_list}
 use Rattle.number_sets.specs.Sets.{members_of}
 use Rattle.work_draw.specs.Checks.{AnswersEach}
 use Rattle.deb_outcome.specs.declared.summary.Summary.{Summary}
-use Rattle.deb_outcome.specs.Outcome.{summary_of}
 use Rattle.deb_causes.specs.Later.{later_at}
 use Rattle.run_settings.specs.Settings.{Settings, tells_all_causes}
-use Rattle.deb_report.specs.Written.{written_since, written_told}
 use Rattle.deb_outcome.specs.Asked.{listed_places}
-use Rattle.deb_outcome.specs.Since.{BrokenView, broken_of, summary_since}
-use Rattle.debcheck.specs.Run.{HasIndex, IsReport, IsReportBy, IsReportOn, Writing}
+use Rattle.deb_outcome.specs.Since.{BrokenView, broken_of}
+use Rattle.debcheck.specs.Run.{HasIndex, IsBefore, IsReport, IsReportBy, IsReportOn, WereBroken, Writing, counted_by, written_by}
 use Rattle.debcheck.specs.Later.{AreAllLater, AreLater, AreLaterCores, AreLaterIf}
-use Rattle.debcheck.specs.Since.{IsReportAfter, IsReportSince, WereBroken}
 
 -- a package has one first healthy set and one first core
 abbrev OneInstallation : Type 0
@@ -114,13 +111,6 @@ same-index settings text background P Q first second =
     let read_second = second.is_index in
     cc
 
-pub one_report : OneInstallation → OneCore → (settings : Settings) (text background a b : List ℕ) (m n : Summary)
-    → IsReport settings text background a m → IsReport settings text background b n → (a ≡ b) × (m ≡ n)
-one_report sets cores settings text background a b m n first second =
-    let P : IndexView → Type 0 = λ view. IsReportOn settings view a m in
-    let Q : IndexView → Type 0 = λ view. IsReportOn settings view b n in
-    one_report_by sets cores (written_told settings) summary_of settings second.index a b m n (subst P (same-index settings text background P Q first second) first.holds) second.holds
-
 -- and the earlier text has one list of broken packages
 pub one_before : OneInstallation → OneCore → (settings : Settings) (text background : List ℕ) (a b : List BrokenView)
     → HasIndex settings text background (WereBroken settings a) → HasIndex settings text background (WereBroken settings b) → a ≡ b
@@ -130,13 +120,19 @@ one_before sets cores settings text background a b first second =
     let verdicts : there.verdicts ≡ second.holds.verdicts = one_each sets cores second.index places there.verdicts second.holds.verdicts there.are_verdicts second.holds.are_verdicts in
     there.are_broken ∙ ap (λ found. broken_of second.index places found) verdicts ∙ sym second.holds.are_broken
 
-pub one_report_since : OneInstallation → OneCore → (settings : Settings) (earlier text background a b : List ℕ) (m n : Summary)
-    → IsReportSince settings earlier text background a m → IsReportSince settings earlier text background b n → (a ≡ b) × (m ≡ n)
-one_report_since sets cores settings earlier text background a b m n first second =
-    let before = one_before sets cores settings earlier background first.before second.before first.was second.was in
-    let P : IndexView → Type 0 = λ view. IsReportAfter first.before settings view a m in
-    let Q : IndexView → Type 0 = λ view. IsReportAfter second.before settings view b n in
-    let R : List BrokenView → Type 0 = λ list. IsReportAfter list settings second.has.index a m in
+-- what is known from before is one
+one_known : OneInstallation → OneCore → (settings : Settings) (earlier : Option (List ℕ)) (background : List ℕ) (a b : Option (List BrokenView))
+    → IsBefore settings earlier background a → IsBefore settings earlier background b → a ≡ b
+one_known sets cores settings None background a b first second = first ∙ sym second
+one_known sets cores settings (Some earlier) background a b first second =
+    first.1 ∙ ap (λ (list : List BrokenView). Some list) (one_before sets cores settings earlier background first.0 second.0 first.2 second.2) ∙ sym second.1
+
+pub one_report : OneInstallation → OneCore → (settings : Settings) (earlier : Option (List ℕ)) (text background a b : List ℕ) (m n : Summary)
+    → IsReport settings earlier text background a m → IsReport settings earlier text background b n → (a ≡ b) × (m ≡ n)
+one_report sets cores settings earlier text background a b m n first second =
+    let before = one_known sets cores settings earlier background first.before second.before first.was second.was in
+    let P : IndexView → Type 0 = λ view. IsReportOn first.before settings view a m in
+    let Q : IndexView → Type 0 = λ view. IsReportOn second.before settings view b n in
+    let R : Option (List BrokenView) → Type 0 = λ known. IsReportOn known settings second.has.index a m in
     let there : R first.before = subst P (same-index settings text background P Q first.has second.has) first.has.holds in
-    one_report_by sets cores (λ index asked verdicts later. written_since settings index asked verdicts later second.before) (λ index asked verdicts. summary_since index asked verdicts second.before)
-    settings second.has.index a b m n (subst R before there) second.has.holds
+    one_report_by sets cores (written_by second.before settings) (counted_by second.before) settings second.has.index a b m n (subst R before there) second.has.holds

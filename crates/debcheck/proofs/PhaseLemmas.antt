@@ -1,5 +1,5 @@
 -- From the phases of a run to the whole run.
-use Rattle.std.proofs.Common.{◌≡◌, ◌∙◌, ℕ, ◌≤◌, Bool, true, false, List, [], Option, Some, None, Ok, Err, IfSome, if◌then◌else◌, ◌++◌, append-nil, ap, length, refl, sym, subst}
+use Rattle.std.proofs.Common.{◌≡◌, ◌⊎◌, ◌∙◌, ℕ, ◌≤◌, Bool, true, false, List, [], Option, Some, None, Result, Ok, Err, IfSome, if◌then◌else◌, ◌++◌, append-nil, ap, inl, inr, length, refl, sym, subst}
 use Rattle.std.specs.Io.KnownBytes.{Appends, Consumes, IsAtEnd, Keeps}
 use Rattle.deb_index.specs.Packages.{IndexView}
 use Rattle.deb_index.specs.Reading.{byte_limit, index_of, index_of_both}
@@ -7,10 +7,10 @@ use Rattle.deb_index.specs.declared.error.BothError.TheVariants.{Back}
 use Rattle.deb_input.specs.declared.fault.RunFault.{RunFault}
 use Rattle.deb_input.specs.declared.fault.RunFault.TheVariants.{Read, TooLong, BackgroundRead, BackgroundTooLong, EarlierRead, EarlierTooLong, NamesRead, NamesTooLong, BadNameLine, Index, Background, Earlier, UnknownAsked, Slipped, Memory, Write}
 use Rattle.deb_outcome.specs.declared.summary.Summary.{Summary}
-use Rattle.devices.specs.Devices.{AppendsPart}
+use Rattle.deb_outcome.specs.Since.{BrokenView}
 use Rattle.run_settings.specs.Settings.{Settings}
 use Rattle.deb_input.specs.Inputs.{FailsToAccept, FailsToRead, Input, IsRead, IsReadAs, input, is_unread}
-use Rattle.debcheck.specs.Run.{Fails, FailsToIndex, FailsToReadBehind, FailsToReport, HasAsked, HasIndex, IfIndexed, IfTold, IsReport, IsReportOn, Leaves, ReadsAs, Reports, TellsReport, WritesBy, WritesFrontBy, behind}
+use Rattle.debcheck.specs.Run.{Fails, FailsAlone, FailsEarlier, FailsToIndex, FailsToReadBehind, FailsToReport, FailsToWrite, HasAsked, HasIndex, IfAllTold, IfIndexed, IfTold, IsReport, IsReportOn, ReadsAs, RunsOn, Tells, WereBroken, Written, behind, earlier_fault}
 use Rattle.debcheck.proofs.BackgroundLemmas.{back-asked}
 use Rattle.deb_input.proofs.IndexLemmas.{both-fore}
 
@@ -102,24 +102,24 @@ accepted-as settings text background bytes more index first second is = (
 
 -- ---- failing
 
--- where there is no index, the run fails, with nothing written
-pub indexing-fails : (settings : Settings) (text background : Input) (fault : RunFault) → FailsToIndex settings text background fault → Fails settings text background false fault
-indexing-fails settings text background Read h = h
-indexing-fails settings text background TooLong h = h
-indexing-fails settings text background BackgroundRead h = h
-indexing-fails settings text background BackgroundTooLong h = h
-indexing-fails settings text background EarlierRead h = absurd h
-indexing-fails settings text background EarlierTooLong h = absurd h
-indexing-fails settings text background NamesRead h = absurd h
-indexing-fails settings text background NamesTooLong h = absurd h
-indexing-fails settings text background (BadNameLine line) h = absurd h
-indexing-fails settings text background (Index fault) h = h
-indexing-fails settings text background (Background fault) h = h
-indexing-fails settings text background (Earlier fault) h = absurd h
-indexing-fails settings text background (UnknownAsked name) h = absurd h
-indexing-fails settings text background (Slipped slip) h = absurd h
-indexing-fails settings text background Memory h = h
-indexing-fails settings text background Write h = absurd h
+-- where there is no index, the run fails
+indexing-fails : (settings : Settings) (text background : Input) (w : Bool) (fault : RunFault) → FailsToIndex settings text background fault → FailsAlone settings text background w fault
+indexing-fails settings text background w Read h = h
+indexing-fails settings text background w TooLong h = h
+indexing-fails settings text background w BackgroundRead h = h
+indexing-fails settings text background w BackgroundTooLong h = h
+indexing-fails settings text background w EarlierRead h = absurd h
+indexing-fails settings text background w EarlierTooLong h = absurd h
+indexing-fails settings text background w NamesRead h = absurd h
+indexing-fails settings text background w NamesTooLong h = absurd h
+indexing-fails settings text background w (BadNameLine line) h = absurd h
+indexing-fails settings text background w (Index fault) h = h
+indexing-fails settings text background w (Background fault) h = h
+indexing-fails settings text background w (Earlier fault) h = absurd h
+indexing-fails settings text background w (UnknownAsked name) h = absurd h
+indexing-fails settings text background w (Slipped slip) h = absurd h
+indexing-fails settings text background w Memory h = h
+indexing-fails settings text background w Write h = absurd h
 
 pub kept-itself : (held : Option (List ℕ)) → Keeps held held
 kept-itself None = tt
@@ -140,66 +140,31 @@ as-indexed settings text background index P reads h = (
 )
 
 -- what fails once the index is there, fails as a run
-pub report-fails : (settings : Settings) (text background : Input) (index : IndexView) (fault : RunFault) → ReadsAs settings text background index → FailsToReport settings index fault
-    → Fails settings text background false fault
-report-fails settings text background index Read reads h = absurd h
-report-fails settings text background index TooLong reads h = absurd h
-report-fails settings text background index BackgroundRead reads h = absurd h
-report-fails settings text background index BackgroundTooLong reads h = absurd h
-report-fails settings text background index EarlierRead reads h = absurd h
-report-fails settings text background index EarlierTooLong reads h = absurd h
-report-fails settings text background index NamesRead reads h = absurd h
-report-fails settings text background index NamesTooLong reads h = absurd h
-report-fails settings text background index (BadNameLine line) reads h = absurd h
-report-fails settings text background index (Index fault) reads h = absurd h
-report-fails settings text background index (Background fault) reads h = absurd h
-report-fails settings text background index (Earlier fault) reads h = absurd h
-report-fails settings text background index (UnknownAsked name) reads h = as-indexed settings text background index (λ view. FailsToReport settings view (UnknownAsked name)) reads h
-report-fails settings text background index (Slipped slip) reads h = as-indexed settings text background index (λ view. FailsToReport settings view (Slipped slip)) reads h
-report-fails settings text background index Memory reads h = (reads.0.0.0, reads.0.1.0)
-report-fails settings text background index Write reads h = absurd h
+report-fails : (settings : Settings) (text background : Input) (index : IndexView) (w : Bool) (fault : RunFault) → ReadsAs settings text background index → FailsToReport settings index fault
+    → FailsAlone settings text background w fault
+report-fails settings text background index w Read reads h = absurd h
+report-fails settings text background index w TooLong reads h = absurd h
+report-fails settings text background index w BackgroundRead reads h = absurd h
+report-fails settings text background index w BackgroundTooLong reads h = absurd h
+report-fails settings text background index w EarlierRead reads h = absurd h
+report-fails settings text background index w EarlierTooLong reads h = absurd h
+report-fails settings text background index w NamesRead reads h = absurd h
+report-fails settings text background index w NamesTooLong reads h = absurd h
+report-fails settings text background index w (BadNameLine line) reads h = absurd h
+report-fails settings text background index w (Index fault) reads h = absurd h
+report-fails settings text background index w (Background fault) reads h = absurd h
+report-fails settings text background index w (Earlier fault) reads h = absurd h
+report-fails settings text background index w (UnknownAsked name) reads h = as-indexed settings text background index (λ view. FailsToReport settings view (UnknownAsked name)) reads h
+report-fails settings text background index w (Slipped slip) reads h = as-indexed settings text background index (λ view. FailsToReport settings view (Slipped slip)) reads h
+report-fails settings text background index w Memory reads h = (reads.0.0.0, reads.0.1.0)
+report-fails settings text background index w Write reads h = absurd h
 
--- a run that fails before anything is written, fails so whatever becomes of the writer
-pub fails-unwritten : (settings : Settings) (text background : Input) (write_failed : Bool) (fault : RunFault) → Fails settings text background false fault → Fails settings text background write_failed fault
-fails-unwritten settings text background w Read h = h
-fails-unwritten settings text background w TooLong h = h
-fails-unwritten settings text background w BackgroundRead h = h
-fails-unwritten settings text background w BackgroundTooLong h = h
-fails-unwritten settings text background w EarlierRead h = h
-fails-unwritten settings text background w EarlierTooLong h = h
-fails-unwritten settings text background w NamesRead h = h
-fails-unwritten settings text background w NamesTooLong h = h
-fails-unwritten settings text background w (BadNameLine line) h = h
-fails-unwritten settings text background w (Index fault) h = h
-fails-unwritten settings text background w (Background fault) h = h
-fails-unwritten settings text background w (Earlier fault) h = h
-fails-unwritten settings text background w (UnknownAsked name) h = h
-fails-unwritten settings text background w (Slipped slip) h = h
-fails-unwritten settings text background w Memory h = h
-fails-unwritten settings text background w Write h =
-    let failed = h.0 in
-    absurd cc
-
--- and it leaves nothing written
-pub leaves-unwritten : (settings : Settings) (text background : Input) (held : Option (List ℕ)) (fault : RunFault) → Fails settings text background false fault → Leaves settings text background held held fault
-leaves-unwritten settings text background held Read h = kept-itself held
-leaves-unwritten settings text background held TooLong h = kept-itself held
-leaves-unwritten settings text background held BackgroundRead h = kept-itself held
-leaves-unwritten settings text background held BackgroundTooLong h = kept-itself held
-leaves-unwritten settings text background held EarlierRead h = kept-itself held
-leaves-unwritten settings text background held EarlierTooLong h = kept-itself held
-leaves-unwritten settings text background held NamesRead h = kept-itself held
-leaves-unwritten settings text background held NamesTooLong h = kept-itself held
-leaves-unwritten settings text background held (BadNameLine line) h = kept-itself held
-leaves-unwritten settings text background held (Index fault) h = kept-itself held
-leaves-unwritten settings text background held (Background fault) h = kept-itself held
-leaves-unwritten settings text background held (Earlier fault) h = kept-itself held
-leaves-unwritten settings text background held (UnknownAsked name) h = kept-itself held
-leaves-unwritten settings text background held (Slipped slip) h = kept-itself held
-leaves-unwritten settings text background held Memory h = kept-itself held
-leaves-unwritten settings text background held Write h =
-    let failed = h.0 in
-    absurd cc
+write-fails : (settings : Settings) (text background : Input) (index : IndexView) (w : Bool) (fault : RunFault) → ReadsAs settings text background index → FailsToWrite settings index w fault
+    → FailsAlone settings text background w fault
+write-fails settings text background index w fault reads (inl h) = report-fails settings text background index w fault reads h
+write-fails settings text background index w fault reads (inr h) =
+    let P : RunFault → Type 0 = λ f. FailsAlone settings text background w f in
+    subst P (sym h.0) (h.1, as-indexed settings text background index (HasAsked settings) reads h.2)
 
 -- ---- writing
 
@@ -226,39 +191,219 @@ pub told_index : (settings : Settings) (text background : Input) (P : IndexView 
 told_index settings text background P indexed =
     has_index settings text.text (behind settings background).text P indexed.0.0.1 indexed.0.1.1 (unread_if settings.background background) indexed.1
 
-pub report-told : (settings : Settings) (text background : Input) (index : IndexView) (output : List ℕ) (summary : Summary) → ReadsAs settings text background index → IsReportOn settings index output summary
-    → TellsReport settings text background output summary
-report-told settings text background index output summary reads on =
-    (reads.0, told_index settings text background (λ view. IsReportOn settings view output summary) (as-indexed settings text background index (λ view. IsReportOn settings view output summary) reads on))
+-- ---- the report
 
--- a report that is told was added, or its front
-pub report-added : (Is : Reports) (settings : Settings) (text background : Input) (old new : Option (List ℕ)) (output : List ℕ) (summary : Summary)
-    → IfTold settings text background (λ bytes more. Is bytes more output summary) → Appends old new output → WritesBy Is settings text background old new summary
-report-added Is settings text background old new output summary tells h =
-    told_weaker text.text (behind settings background).text (λ (a b : List ℕ). Is a b output summary)
-    (λ (a b : List ℕ). (output : List ℕ) × Is a b output summary × Appends old new output) (λ a b report. (output, report, h)) tells
+-- no report is made
+pub tells-none : (before : Option (List BrokenView)) (settings : Settings) (index : IndexView) (writer : Written) (fault : RunFault) → FailsToReport settings index fault → Keeps writer.held writer.now
+    → Tells before settings index writer (Err fault)
+tells-none before settings index writer fault h kept = record {
+  report = tt;
+  flushed = tt;
+  unfailed = tt;
+  refused = inl h;
+  kept = λ other. kept;
+  front = λ is. absurd (subst (λ (f : RunFault). FailsToReport settings index f) is h);
+}
 
-pub front-added : (Is : Reports) (settings : Settings) (text background : Input) (old new : Option (List ℕ)) (output : List ℕ) (summary : Summary)
-    → IfTold settings text background (λ bytes more. Is bytes more output summary) → AppendsPart old new output → WritesFrontBy Is settings text background old new
-front-added Is settings text background old new output summary tells h =
-    told_weaker text.text (behind settings background).text (λ (a b : List ℕ). Is a b output summary)
-    (λ (a b : List ℕ). (output : List ℕ) × (summary : Summary) × Is a b output summary × AppendsPart old new output) (λ a b report. (output, summary, report, h)) tells
+report-read : (settings : Settings) (index : IndexView) (fault : RunFault) → FailsToReport settings index fault → is_unread fault ≡ false
+report-read settings index Read h = absurd h
+report-read settings index TooLong h = absurd h
+report-read settings index BackgroundRead h = refl
+report-read settings index BackgroundTooLong h = refl
+report-read settings index EarlierRead h = refl
+report-read settings index EarlierTooLong h = refl
+report-read settings index NamesRead h = refl
+report-read settings index NamesTooLong h = refl
+report-read settings index (BadNameLine line) h = refl
+report-read settings index (Index fault) h = refl
+report-read settings index (Background fault) h = refl
+report-read settings index (Earlier fault) h = refl
+report-read settings index (UnknownAsked name) h = refl
+report-read settings index (Slipped slip) h = refl
+report-read settings index Memory h = refl
+report-read settings index Write h = refl
 
--- where the report is there, a failed write is why the run fails
-pub writing-fails : (settings : Settings) (text background : Input) (write_failed : Bool) (output : List ℕ) (summary : Summary) → TellsReport settings text background output summary → write_failed ≡ true
-    → Fails settings text background write_failed Write
-writing-fails settings text background w output summary tells failed = (
-  failed,
+-- where a report is not made or written, all was read
+pub all-read : (settings : Settings) (index : IndexView) (w : Bool) (fault : RunFault) → FailsToWrite settings index w fault
+    → (is_unread fault ≡ false) × (fault ≡ BackgroundRead → ⊥) × (fault ≡ EarlierRead → ⊥)
+all-read settings index w fault (inl h) =
+    let P : RunFault → Type 0 = λ f. FailsToReport settings index f in
+    (report-read settings index fault h, (λ e. subst P e h), (λ e. subst P e h))
+all-read settings index w fault (inr h) =
+    let is = h.0 in
+    (ap is_unread is, (λ e. absurd cc), (λ e. absurd cc))
+
+-- ---- an earlier index
+
+-- what is known from before: the broken packages of the earlier index, where there is one
+abbrev pub Knows : Settings → Option Input → Input → Option (List BrokenView) → Type 0
+Knows settings None background before = before ≡ None
+Knows settings (Some earlier) background before = (broken : List BrokenView) × (before ≡ Some broken) × IfIndexed settings earlier background (WereBroken settings broken)
+
+fails-behind : (settings : Settings) (earlier : Option Input) (text background : Input) (before : Option (List BrokenView)) (w : Bool) (fault : RunFault) → Knows settings earlier background before
+    → FailsAlone settings text background w fault → Fails settings earlier text background w fault
+fails-behind settings None text background before w fault known h = h
+fails-behind settings (Some earlier) text background before w fault known h = inr (
   (
-    tells.0,
-    told_weaker text.text (behind settings background).text (λ (a b : List ℕ). IsReport settings a b output summary)
-        (λ (a b : List ℕ). (index : IndexView) × (index_of_both a b settings.arch settings.essential ≡ Ok index) × HasAsked settings index)
-        (λ a b report. (report.index, report.is_index, (report.holds.asked, report.holds.is_asked))) tells.1,
+    known.2.0,
+    told_weaker earlier.text (behind settings background).text
+        (λ (a b : List ℕ). (view : IndexView) × (index_of_both a b settings.arch settings.essential ≡ Ok view) × WereBroken settings known.0 view)
+        (λ (a b : List ℕ). (view : IndexView) × (index_of_both a b settings.arch settings.essential ≡ Ok view) × Unit {0}) (λ a b h. (h.0, h.1, tt)) known.2.1,
   ),
+  h,
 )
+
+-- what follows of each text that is told
+each_told : (told : Option (List ℕ)) (P Q : List ℕ → Type 0) → ((bytes : List ℕ) → P bytes → Q bytes) → IfSome told P → IfSome told Q
+each_told None P Q f h = tt
+each_told (Some bytes) P Q f h = f bytes h
+
+all_weaker : (settings : Settings) (earlier : Option Input) (text background : Input) (P Q : Option (List ℕ) → List ℕ → List ℕ → Type 0)
+    → ((was : Option (List ℕ)) (a b : List ℕ) → P was a b → Q was a b) → IfAllTold settings earlier text background P → IfAllTold settings earlier text background Q
+all_weaker settings None text background P Q f h = told_weaker text.text (behind settings background).text (P None) (Q None) (f None) h
+all_weaker settings (Some earlier) text background P Q f h =
+    each_told earlier.text (λ (was : List ℕ). IfTold settings text background (P (Some was))) (λ (was : List ℕ). IfTold settings text background (Q (Some was)))
+    (λ was told. told_weaker text.text (behind settings background).text (P (Some was)) (Q (Some was)) (f (Some was)) told) h
+
+since_told : (settings : Settings) (before : Option (List BrokenView)) (broken : List BrokenView) (output : List ℕ) (summary : Summary) (was text more : Option (List ℕ)) → before ≡ Some broken
+    → IfSome was (λ a. IfSome more (λ b. HasIndex settings a b (WereBroken settings broken)))
+    → IfSome text (λ a. IfSome more (λ b. HasIndex settings a b (λ index. IsReportOn before settings index output summary)))
+    → IfSome was (λ w. IfSome text (λ a. IfSome more (λ b. IsReport settings (Some w) a b output summary)))
+since_told settings before broken output summary None text more is there has = tt
+since_told settings before broken output summary (Some w) None more is there has = tt
+since_told settings before broken output summary (Some w) (Some a) None is there has = tt
+since_told settings before broken output summary (Some w) (Some a) (Some b) is there has = record { before = before; was = (broken, is, there); has = has }
+
+-- the report on an index that was read
+report_told : (settings : Settings) (earlier : Option Input) (text background : Input) (before : Option (List BrokenView)) (index : IndexView) (output : List ℕ) (summary : Summary)
+    → Knows settings earlier background before → ReadsAs settings text background index → IsReportOn before settings index output summary
+    → IfAllTold settings earlier text background (λ was bytes more. IsReport settings was bytes more output summary)
+report_told settings None text background before index output summary known reads on =
+    told_weaker text.text (behind settings background).text (λ (a b : List ℕ). HasIndex settings a b (λ view. IsReportOn before settings view output summary))
+    (λ (a b : List ℕ). IsReport settings None a b output summary) (λ a b has. record { before = before; was = known; has = has })
+    (told_index settings text background (λ view. IsReportOn before settings view output summary)
+    (as-indexed settings text background index (λ view. IsReportOn before settings view output summary) reads on))
+report_told settings (Some earlier) text background before index output summary known reads on =
+    since_told settings before known.0 output summary earlier.text text.text (behind settings background).text known.1
+    (told_index settings earlier background (WereBroken settings known.0) known.2)
+    (told_index settings text background (λ view. IsReportOn before settings view output summary)
+    (as-indexed settings text background index (λ view. IsReportOn before settings view output summary) reads on))
+
+-- ---- the run
+
+-- a fault of an index is none of writing
+unwritten : (settings : Settings) (text background : Input) (fault : RunFault) → FailsToIndex settings text background fault → fault ≡ Write → ⊥
+unwritten settings text background fault h e = subst (λ (f : RunFault). FailsToIndex settings text background f) e h
+
+-- there is no index
+pub runs-unindexed : (settings : Settings) (earlier : Option Input) (text background : Input) (before : Option (List BrokenView)) (writer : Written) (fault : RunFault) → Knows settings earlier background before
+    → FailsToIndex settings text background fault → Keeps writer.held writer.now → RunsOn settings earlier text background writer (Err fault)
+runs-unindexed settings earlier text background before writer fault known h kept = record {
+  report = tt;
+  flushed = tt;
+  unfailed = tt;
+  refused = fails-behind settings earlier text background before writer.failed fault known (indexing-fails settings text background writer.failed fault h);
+  left = (λ other. kept, λ is. absurd (unwritten settings text background fault h is));
+}
+
+-- there is one
+pub runs-indexed : (settings : Settings) (earlier : Option Input) (text background : Input) (before : Option (List BrokenView)) (index : IndexView) (writer : Written) (outcome : Result Summary RunFault)
+    → Knows settings earlier background before → ReadsAs settings text background index → background.failed ≡ false → IfSome earlier (λ source. source.failed ≡ false)
+    → Tells before settings index writer outcome → RunsOn settings earlier text background writer outcome
+runs-indexed settings earlier text background before index writer (Ok summary) known reads unfailed unmarked tells = record {
+  report =
+      let P : Option (List ℕ) → List ℕ → List ℕ → Type 0 = λ was bytes more. IsReport settings was bytes more tells.report.0 summary in
+      all_weaker settings earlier text background P _ (λ was a b is. (tells.report.0, is, tells.report.2))
+      (report_told settings earlier text background before index tells.report.0 summary known reads tells.report.1);
+  flushed = tells.flushed;
+  unfailed = (reads.0.0.0, unfailed, unmarked, tells.unfailed);
+  refused = tt;
+  left = tt;
+}
+runs-indexed settings earlier text background before index writer (Err fault) known reads unfailed unmarked tells = record {
+  report = tt;
+  flushed = tt;
+  unfailed = tt;
+  refused = fails-behind settings earlier text background before writer.failed fault known (write-fails settings text background index writer.failed fault reads tells.refused);
+  left = (
+    tells.kept,
+    λ is.
+        let front = tells.front is in
+        let P : Option (List ℕ) → List ℕ → List ℕ → Type 0 = λ was bytes more. IsReport settings was bytes more front.0 front.1 in
+        all_weaker settings earlier text background P _ (λ was a b has. (front.0, front.1, has, front.3))
+        (report_told settings earlier text background before index front.0 front.1 known reads front.2),
+  );
+}
+
+-- ---- faults of an earlier index
+
+earlier-unwritten : (settings : Settings) (earlier background : Input) (cause : RunFault) → FailsToIndex settings earlier background cause → earlier_fault cause ≡ Write → ⊥
+earlier-unwritten settings earlier background Read h is = absurd cc
+earlier-unwritten settings earlier background TooLong h is = absurd cc
+earlier-unwritten settings earlier background BackgroundRead h is = absurd cc
+earlier-unwritten settings earlier background BackgroundTooLong h is = absurd cc
+earlier-unwritten settings earlier background EarlierRead h is = h
+earlier-unwritten settings earlier background EarlierTooLong h is = h
+earlier-unwritten settings earlier background NamesRead h is = h
+earlier-unwritten settings earlier background NamesTooLong h is = h
+earlier-unwritten settings earlier background (BadNameLine line) h is = h
+earlier-unwritten settings earlier background (Index fault) h is = absurd cc
+earlier-unwritten settings earlier background (Background fault) h is = absurd cc
+earlier-unwritten settings earlier background (Earlier fault) h is = h
+earlier-unwritten settings earlier background (UnknownAsked name) h is = h
+earlier-unwritten settings earlier background (Slipped slip) h is = h
+earlier-unwritten settings earlier background Memory h is = absurd cc
+earlier-unwritten settings earlier background Write h is = h
+
+-- there is no earlier index
+pub runs-behind : (settings : Settings) (earlier text background : Input) (writer : Written) (fault : RunFault) → text.failed ≡ false → FailsEarlier settings earlier background fault
+    → Keeps writer.held writer.now → RunsOn settings (Some earlier) text background writer (Err fault)
+runs-behind settings earlier text background writer fault unmarked h kept = record {
+  report = tt;
+  flushed = tt;
+  unfailed = tt;
+  refused = inl (unmarked, h);
+  left = (λ other. kept, λ is. absurd (earlier-unwritten settings earlier background h.0 h.2 (sym h.1 ∙ is)));
+}
 
 -- ---- reads that may fail
 
--- where reading a text fails, no read of what stands behind it did
-pub reads-before : (text : Option (List ℕ)) (before failed : Bool) (limit : ℕ) (fault : RunFault) → FailsToRead text before failed limit fault → fault ≡ BackgroundRead → ⊥
-reads-before text before failed limit fault h e = subst (λ (f : RunFault). FailsToRead text before failed limit f) e h
+-- where a failed read of the earlier index is told, one may fail
+pub earlier-honest : (settings : Settings) (earlier background : Input) (may : Bool) (cause : RunFault) → FailsToIndex settings earlier background cause → (cause ≡ Read → may ≡ true)
+    → earlier_fault cause ≡ EarlierRead → may ≡ true
+earlier-honest settings earlier background may Read h honest e = honest refl
+earlier-honest settings earlier background may TooLong h honest e = absurd cc
+earlier-honest settings earlier background may BackgroundRead h honest e = absurd cc
+earlier-honest settings earlier background may BackgroundTooLong h honest e = absurd cc
+earlier-honest settings earlier background may EarlierRead h honest e = absurd h
+earlier-honest settings earlier background may EarlierTooLong h honest e = absurd h
+earlier-honest settings earlier background may NamesRead h honest e = absurd h
+earlier-honest settings earlier background may NamesTooLong h honest e = absurd h
+earlier-honest settings earlier background may (BadNameLine line) h honest e = absurd h
+earlier-honest settings earlier background may (Index fault) h honest e = absurd cc
+earlier-honest settings earlier background may (Background fault) h honest e = absurd cc
+earlier-honest settings earlier background may (Earlier fault) h honest e = absurd h
+earlier-honest settings earlier background may (UnknownAsked name) h honest e = absurd h
+earlier-honest settings earlier background may (Slipped slip) h honest e = absurd h
+earlier-honest settings earlier background may Memory h honest e = absurd cc
+earlier-honest settings earlier background may Write h honest e = absurd h
+
+-- and so it is with one of the background
+pub background-honest : (settings : Settings) (earlier background : Input) (may : Bool) (cause : RunFault) → FailsToIndex settings earlier background cause
+    → (cause ≡ BackgroundRead → may ≡ true) → earlier_fault cause ≡ BackgroundRead → may ≡ true
+background-honest settings earlier background may Read h honest e = absurd cc
+background-honest settings earlier background may TooLong h honest e = absurd cc
+background-honest settings earlier background may BackgroundRead h honest e = honest refl
+background-honest settings earlier background may BackgroundTooLong h honest e = absurd cc
+background-honest settings earlier background may EarlierRead h honest e = absurd h
+background-honest settings earlier background may EarlierTooLong h honest e = absurd h
+background-honest settings earlier background may NamesRead h honest e = absurd h
+background-honest settings earlier background may NamesTooLong h honest e = absurd h
+background-honest settings earlier background may (BadNameLine line) h honest e = absurd h
+background-honest settings earlier background may (Index fault) h honest e = absurd cc
+background-honest settings earlier background may (Background fault) h honest e = absurd cc
+background-honest settings earlier background may (Earlier fault) h honest e = absurd h
+background-honest settings earlier background may (UnknownAsked name) h honest e = absurd h
+background-honest settings earlier background may (Slipped slip) h honest e = absurd h
+background-honest settings earlier background may Memory h honest e = absurd cc
+background-honest settings earlier background may Write h honest e = absurd h

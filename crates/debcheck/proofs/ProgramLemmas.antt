@@ -15,10 +15,9 @@ use Rattle.debcheck.specs.Statuses.{status_of}
 use Rattle.command_line.specs.Line.{Accepts, RefusesLine, line_status_of}
 use Rattle.debcheck.specs.LineFaults.{KeepsOther, TellsFront, TellsLine, mark_of}
 use Rattle.deb_input.specs.Names.{FailsToName, ReadsNames}
-use Rattle.debcheck.specs.Program.{Asks, Ends, EndsSomehow, FailsToTake, IsEarlier, IsNamed, IsUnbegun, MayFail, Named, Refuses, Runs, RunsBehind, RunsNamed, RunsTo, TakesNames, TellsFault, TellsOutcome, TellsUnless, Text, Written, is_silent, written}
+use Rattle.debcheck.specs.Program.{Asks, Ends, EndsSomehow, FailsToTake, IsEarlier, IsNamed, IsUnbegun, MayFail, Named, Refuses, Runs, RunsBehind, RunsNamed, RunsTo, TakesNames, TellsFault, TellsOutcome, TellsUnless, Text, is_silent}
 use Rattle.deb_input.specs.Inputs.{Input, input}
-use Rattle.debcheck.specs.Run.{Fails, Leaves, WritesReport}
-use Rattle.debcheck.specs.Since.{FailsSince, LeavesSince, WritesReportSince}
+use Rattle.debcheck.specs.Run.{RunsOn, Written, written}
 
 -- ---- what is told
 
@@ -110,31 +109,31 @@ may_behind files name told said may (Err fault) is same stands fails outcome =
     let e : fault ≡ run_fault.BackgroundRead = cc in
     may_by files name told said may is same stands (fails e)
 
+may_earlier : (files : Named) (name : Option Text) (told said : Text) (may : Bool) (r : Result Summary RunFault) → name ≡ Some said → told ≡ said → may ≡ (files told).may_fail
+    → IfErr r (λ fault. fault ≡ run_fault.EarlierRead → may ≡ true) → r ≡ Err run_fault.EarlierRead → MayFail files name
+may_earlier files name told said may (Ok summary) is same stands fails outcome = absurd cc
+may_earlier files name told said may (Err fault) is same stands fails outcome =
+    let e : fault ≡ run_fault.EarlierRead = cc in
+    may_by files name told said may is same stands (fails e)
+
 pub may_none : (files : Named) (name : Option Text) → name ≡ None → MayFail files name
 may_none files None is = tt
 may_none files (Some found) is = absurd cc
 
 -- a run without an earlier index
 pub runs_alone : (settings : Settings) (files : Named) (since : Option Text) (text background : Input) (rest : Option (List ℕ)) (output : Written) (r : Result Summary RunFault) → since ≡ None
-    → IfErr r (Fails settings text background output.failed) → OnOk r ((text.failed ≡ false) × (background.failed ≡ false) × (output.failed ≡ false))
-    → OnOk r (output.flushed ≡ true) → IfOk r (WritesReport settings text background output.held output.now) → IfErr r (Leaves settings text background output.held output.now)
-    → RunsBehind settings files since text background rest output r
+    → RunsOn settings None text background output r → RunsBehind settings files since text background rest output r
 unfolding RunsBehind
-runs_alone settings files None text background rest output (Ok summary) none fails unfailed flushed report leaves = (unfailed.0, unfailed.2, flushed, (None, refl, report))
-runs_alone settings files None text background rest output (Err fault) none fails unfailed flushed report leaves = inr (None, refl, (λ is. tt), fails, leaves)
-runs_alone settings files (Some name) text background rest output r none fails unfailed flushed report leaves = absurd cc
+runs_alone settings files None text background rest output r none runs = inr (None, refl, (λ is. tt), runs)
+runs_alone settings files (Some name) text background rest output r none runs = absurd cc
 
 -- a run on an earlier index
 pub runs_since : (settings : Settings) (files : Named) (since : Option Text) (told said : Text) (may : Bool) (text background earlier : Input) (rest : Option (List ℕ)) (output : Written) (r : Result Summary RunFault)
-    → since ≡ Some said → told ≡ said → IsHeld (files told) earlier.text → may ≡ (files told).may_fail → IfErr r (λ fault. fault ≡ run_fault.EarlierRead → may ≡ true) → IfErr r (FailsSince settings text background earlier output.failed)
-    → OnOk r ((text.failed ≡ false) × (background.failed ≡ false) × (earlier.failed ≡ false) × (output.failed ≡ false)) → OnOk r (output.flushed ≡ true)
-    → IfOk r (WritesReportSince settings text background earlier output.held output.now) → IfErr r (LeavesSince settings text background earlier output.held output.now)
-    → RunsBehind settings files since text background rest output r
+    → since ≡ Some said → told ≡ said → IsHeld (files told) earlier.text → may ≡ (files told).may_fail → IfErr r (λ fault. fault ≡ run_fault.EarlierRead → may ≡ true)
+    → RunsOn settings (Some earlier) text background output r → RunsBehind settings files since text background rest output r
 unfolding RunsBehind
-runs_since settings files since told said may text background earlier rest output (Ok summary) is same held stands honest fails unfailed flushed report leaves =
-    (unfailed.0, unfailed.3, flushed, (Some earlier, earlier_by files since told said earlier is same held, report))
-runs_since settings files since told said may text background earlier rest output (Err fault) is same held stands honest fails unfailed flushed report leaves =
-    inr (Some earlier, earlier_by files since told said earlier is same held, (λ e. may_by files since told said may is same stands (honest e)), fails, leaves)
+runs_since settings files since told said may text background earlier rest output r is same held stands honest runs =
+    inr (Some earlier, earlier_by files since told said earlier is same held, may_earlier files since told said may r is same stands honest, runs)
 
 pub runs_named : (settings : Settings) (files : Named) (bg since : Option Text) (text background : Input) (rest : Option (List ℕ)) (output : Written) (r : Result Summary RunFault)
     → IsNamed files bg background → (r ≡ Err run_fault.BackgroundRead → MayFail files bg) → RunsBehind settings files since text background rest output r
@@ -159,7 +158,7 @@ unopened_memory files (Some found) fault said rest held read write flushed aband
 pub unbegun_earlier : (settings : Settings) (files : Named) (since : Option Text) (text background : Input) (rest : Option (List ℕ)) (output : Written) (fault : RunFault)
     → IsUnbegun files since run_fault.EarlierRead text rest output fault → RunsBehind settings files since text background rest output (Err fault)
 unfolding RunsBehind
-unbegun_earlier settings files since text background rest output fault h = inl h
+unbegun_earlier settings files since text background rest output fault h = inl (fault, refl, h)
 
 pub unbegun_background : (settings : Settings) (files : Named) (bg since : Option Text) (text : Input) (rest : Option (List ℕ)) (output : Written) (fault : RunFault)
     → IsUnbegun files bg run_fault.BackgroundRead text rest output fault → Runs settings files bg since text rest output (Err fault)

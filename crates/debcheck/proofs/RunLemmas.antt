@@ -1,5 +1,5 @@
 -- Lemmas on what a run answers.
-use Rattle.std.proofs.Common.{◌≡◌, ◌∙◌, ℕ, false, List, [], Some, Ok, Err, refl, ap, sym, subst, arith, inl, inr}
+use Rattle.std.proofs.Common.{◌≡◌, ◌∙◌, ℕ, ◌⊎◌, false, List, [], Option, Some, None, Ok, Err, option_map, refl, ap, sym, subst, arith, inl, inr}
 use Rattle.std.proofs.lemmas.Bool.{cases_Bool}
 use Rattle.deb_index.specs.Packages.{IndexView}
 use Rattle.deb_input.specs.declared.fault.RunFault.{RunFault}
@@ -8,8 +8,7 @@ use Rattle.deb_outcome.specs.declared.summary.Summary.{Summary}
 use Rattle.deb_outcome.specs.Asked.{asked_places}
 use Rattle.run_settings.specs.Settings.{Settings}
 use Rattle.deb_input.specs.Inputs.{Input, input}
-use Rattle.debcheck.specs.Run.{Fails, FailsToIndex, HasAsked, HasIndex, IsReport, behind}
-use Rattle.debcheck.specs.Since.{FailsSince, IsReportSince, earlier_fault}
+use Rattle.debcheck.specs.Run.{Fails, FailsAlone, FailsToIndex, HasAsked, HasIndex, IsReport, behind, earlier_fault}
 use Rattle.deb_input.specs.Strict.{slip_of}
 use Rattle.deb_input.proofs.IndexLemmas.{fore-of-both}
 
@@ -57,7 +56,7 @@ indexed-behind settings text background P Write is has fails = absurd fails
 
 -- the same of a run, where what is asked is known, too
 asked-behind : (settings : Settings) (text background : List ℕ) (fault : RunFault) → behind settings (input (Some background) false) ≡ input (Some background) false
-    → HasIndex settings text background (HasAsked settings) → Fails settings (input (Some text) false) (input (Some background) false) false fault → fault ≡ Memory
+    → HasIndex settings text background (HasAsked settings) → FailsAlone settings (input (Some text) false) (input (Some background) false) false fault → fault ≡ Memory
 asked-behind settings text background Read is has fails = indexed-behind settings text background (HasAsked settings) Read is has fails
 asked-behind settings text background TooLong is has fails = indexed-behind settings text background (HasAsked settings) TooLong is has fails
 asked-behind settings text background BackgroundRead is has fails = indexed-behind settings text background (HasAsked settings) BackgroundRead is has fails
@@ -98,34 +97,30 @@ asked-behind settings text background Write is has fails =
     let failed = fails.0 in
     cc
 
-pub refused-memory : (settings : Settings) (text background output : List ℕ) (summary : Summary) (fault : RunFault)
-    → IsReport settings text background output summary → Fails settings (input (Some text) false) (input (Some background) false) false fault → fault ≡ Memory
-refused-memory settings text background output summary fault report fails =
-    let has : HasIndex settings text background (HasAsked settings) = record {
-      index = report.index;
-      within = report.within;
-      background_within = report.background_within;
-      no_background = report.no_background;
-      is_index = report.is_index;
-      holds = (report.holds.asked, report.holds.is_asked);
-    } in
-    asked-behind settings text background fault (told_behind settings background report.no_background) has fails
+-- a report is on an index of which something is asked
+has-asked : (settings : Settings) (earlier : Option (List ℕ)) (text background output : List ℕ) (summary : Summary) → IsReport settings earlier text background output summary
+    → HasIndex settings text background (HasAsked settings)
+has-asked settings earlier text background output summary report =
+    let has = report.has in
+    record {
+      index = has.index;
+      within = has.within;
+      background_within = has.background_within;
+      no_background = has.no_background;
+      is_index = has.is_index;
+      holds = (has.holds.asked, has.holds.is_asked);
+    }
 
-pub refused-memory-since : (settings : Settings) (earlier text background output : List ℕ) (summary : Summary) (fault : RunFault) → IsReportSince settings earlier text background output summary
-    → FailsSince settings (input (Some text) false) (input (Some background) false) (input (Some earlier) false) false fault → fault ≡ Memory
-refused-memory-since settings earlier text background output summary fault report (inl h) =
-    let now = report.has in
-    let has : HasIndex settings text background (HasAsked settings) = record {
-      index = now.index;
-      within = now.within;
-      background_within = now.background_within;
-      no_background = now.no_background;
-      is_index = now.is_index;
-      holds = (now.holds.asked, now.holds.is_asked);
-    } in
-    asked-behind settings text background fault (told_behind settings background now.no_background) has h.0
-refused-memory-since settings earlier text background output summary fault report (inr h) =
+pub refused-memory : (settings : Settings) (earlier : Option (List ℕ)) (text background output : List ℕ) (summary : Summary) (fault : RunFault) → IsReport settings earlier text background output summary
+    → Fails settings (option_map (λ was. input (Some was) false) earlier) (input (Some text) false) (input (Some background) false) false fault → fault ≡ Memory
+refused-memory settings None text background output summary fault report fails =
+    let has = has-asked settings None text background output summary report in
+    asked-behind settings text background fault (told_behind settings background has.no_background) has fails
+refused-memory settings (Some earlier) text background output summary fault report (inl h) =
     let why = h.1 in
-    let was = report.was in
-    let cause : why.0 ≡ Memory = indexed-behind settings earlier background _ why.0 (told_behind settings background was.no_background) was why.3 in
+    let was = report.was.2 in
+    let cause : why.0 ≡ Memory = indexed-behind settings earlier background _ why.0 (told_behind settings background was.no_background) was why.2 in
     why.1 ∙ ap earlier_fault cause
+refused-memory settings (Some earlier) text background output summary fault report (inr h) =
+    let has = has-asked settings (Some earlier) text background output summary report in
+    asked-behind settings text background fault (told_behind settings background has.no_background) has h.1

@@ -1,5 +1,5 @@
 -- What is told of the asked places stands for their verdicts, and the report on it is theirs.
-use Rattle.std.proofs.Common.{◌≡◌, ◌∙◌, ℕ, suc, ◌<◌, ◌≤◌, Bool, true, false, ◌&&◌, ◌||◌, if◌then◌else◌, List, [], ◌∷◌, Some, All, get_or, length, map, slice_get, ap, ap₂, refl, subst, sym, arith, inl, inr}
+use Rattle.std.proofs.Common.{◌≡◌, ◌∙◌, ℕ, suc, ◌<◌, ◌≤◌, Bool, true, false, ◌&&◌, ◌||◌, if◌then◌else◌, List, [], ◌∷◌, None, Some, All, get_or, length, map, slice_get, ap, ap₂, refl, subst, sym, arith, inl, inr}
 use Rattle.std.specs.List.{filter, zip}
 use Rattle.std.proofs.lemmas.Bool.{cases_Bool, false≢true, or_right}
 use Rattle.std.proofs.lemmas.List.Elements.{All-cons, All-filter, All-nil, All-same}
@@ -213,7 +213,7 @@ module _ (settings : Settings) (index : IndexView) (asked : List ℕ) (told : Li
       ∙ summary_unchanged settings (as_told (wanted_by settings)) (leaves_told settings) index asked found.verdicts
 
   pub reported-told : (output : List ℕ) (summary : Summary) → IsAsked settings index asked → output ≡ written_told settings index asked told later
-      → summary ≡ summary_of index asked told → IsReportOn settings index output summary
+      → summary ≡ summary_of index asked told → IsReportOn None settings index output summary
   reported-told output summary is written counted = record {
     asked = asked;
     verdicts = found.verdicts;

@@ -14,7 +14,7 @@ use Rattle.debcheck.specs.Statuses.{status_of}
 use Rattle.command_line.specs.Line.{Accepts, RefusesLine}
 use Rattle.deb_input.specs.Names.{FailsToName, ReadsNames}
 use Rattle.deb_input.specs.Inputs.{Input}
-use Rattle.debcheck.specs.Since.{FailsAny, LeavesAny, WritesAny}
+use Rattle.debcheck.specs.Run.{RunsOn, Written}
 
 -- ---- files
 
@@ -41,18 +41,6 @@ abbrev pub MayFail : Named → Option Text → Type 0
 MayFail files name = IfSome name (λ name. (files name).may_fail ≡ true)
 
 -- ---- what is written
-
--- what is known of a device that was written to: what it held at the call, where it tells that, and what it holds now, whether a call of it has failed,
--- whether all is flushed, and whether a call failed because nobody reads any more what is written
-pub record Written : Type 0 where
-  pub held : Option (List ℕ)
-  pub now : Option (List ℕ)
-  pub failed : Bool
-  pub flushed : Bool
-  pub abandoned : Bool
-
-abbrev pub written : Option (List ℕ) → Option (List ℕ) → Bool → Bool → Bool → Written
-written held now failed flushed abandoned = record { held = held; now = now; failed = failed; flushed = flushed; abandoned = abandoned }
 
 -- a text was added and flushed
 abbrev pub Adds : Written → List ℕ → Type 0
@@ -110,14 +98,13 @@ IsUnbegun files None unopened text rest output fault = ⊥
 IsUnbegun files (Some name) unopened text rest output fault = (text.failed ≡ false) × (rest ≡ text.text) × (output.now ≡ output.held)
     × (((fault ≡ unopened) × IsUnopened (files name)) ⊎ (fault ≡ run_fault.Memory))
 
--- a run on the text, on the background, and on the earlier index under the name, where there is one:
--- the report was written and flushed, or there is a reason why it was not, and what was written until then. A failed read is told where one may fail
+-- a run on the text, on the background, and on the earlier index under the name, where there is one, which is opened before anything is read.
+-- A failed read is told where one may fail
 unfoldable pub RunsBehind : Settings → Named → Option Text → Input → Input → Option (List ℕ) → Written → Result Summary RunFault → Type 0
-RunsBehind settings files since text background rest output (Ok summary) = (text.failed ≡ false) × (output.failed ≡ false) × (output.flushed ≡ true)
-    × ((earlier : Option Input) × IsEarlier files since earlier × WritesAny settings text background earlier output.held output.now summary)
-RunsBehind settings files since text background rest output (Err fault) = IsUnbegun files since run_fault.EarlierRead text rest output fault
-    ⊎ ((earlier : Option Input) × IsEarlier files since earlier × (fault ≡ run_fault.EarlierRead → MayFail files since)
-    × FailsAny settings text background earlier output.failed fault × LeavesAny settings text background earlier output.held output.now fault)
+RunsBehind settings files since text background rest output outcome = ((fault : RunFault) × (outcome ≡ Err fault)
+    × IsUnbegun files since run_fault.EarlierRead text rest output fault)
+    ⊎ ((earlier : Option Input) × IsEarlier files since earlier × (outcome ≡ Err run_fault.EarlierRead → MayFail files since)
+    × RunsOn settings earlier text background output outcome)
 
 -- the same, on the background under its name; it is opened before the earlier index
 unfoldable pub Runs : Settings → Named → Option Text → Option Text → Input → Option (List ℕ) → Written → Result Summary RunFault → Type 0

@@ -1,5 +1,5 @@
 -- What a run answers and writes.
-use Rattle.std.specs.Prelude.{◌≡◌, ◌≢◌, ℕ, ◌≤◌, Bool, false, true, List, [], Option, Some, None, Ok, Err, IfSome, if◌then◌else◌, length}
+use Rattle.std.specs.Prelude.{◌≡◌, ◌≢◌, ◌⊎◌, ℕ, ◌≤◌, Bool, false, true, List, [], Option, Some, None, Result, Ok, Err, IfErr, IfOk, IfSome, OnOk, if◌then◌else◌, length}
 use Rattle.std.specs.Io.KnownBytes.{Appends, Keeps}
 use Rattle.deb_index.specs.declared.constraint.Constraint.{Constraint}
 use Rattle.deb_index.specs.Packages.{IndexView}
@@ -10,15 +10,19 @@ use Rattle.deb_index.specs.declared.error.BothError.TheVariants.{Back}
 use Rattle.deb_index.specs.declared.error.IndexError.TheVariants as index_error
 use Rattle.deb_input.specs.Inputs.{Input, IsRead, IsTooLong, input}
 use Rattle.deb_input.specs.declared.fault.RunFault.{RunFault}
-use Rattle.deb_input.specs.declared.fault.RunFault.TheVariants.{Read, TooLong, BackgroundRead, BackgroundTooLong, Index, Background, UnknownAsked, Slipped, Memory, Write}
+use Rattle.deb_input.specs.declared.fault.RunFault.TheVariants.{Read, TooLong, BackgroundRead, BackgroundTooLong, EarlierRead, EarlierTooLong, Index, Background}
+use Rattle.deb_input.specs.declared.fault.RunFault.TheVariants.{Earlier, UnknownAsked, Slipped, Memory, Write}
 use Rattle.deb_outcome.specs.declared.summary.Summary.{Summary}
-use Rattle.deb_outcome.specs.Asked.{asked_places}
+use Rattle.deb_outcome.specs.Asked.{asked_places, listed_places}
+use Rattle.deb_outcome.specs.Since.{BrokenView, broken_of, summary_since}
 use Rattle.devices.specs.Devices.{AppendsPart}
 use Rattle.deb_outcome.specs.Outcome.{summary_of}
 use Rattle.run_settings.specs.Settings.{Settings}
-use Rattle.deb_report.specs.Written.{written_told}
+use Rattle.deb_report.specs.Written.{written_since, written_told}
 use Rattle.debcheck.specs.Later.{AreLater}
 use Rattle.deb_input.specs.Strict.{slip_of}
+
+-- ---- the report
 
 -- these places are asked of an index, and a strict run finds no fault in that
 pub record IsAsked (settings : Settings) (index : IndexView) (asked : List ℕ) : Type 0 where
@@ -41,9 +45,19 @@ pub record IsReportBy (written : Writing) (counted : IndexView → List ℕ → 
   pub is_output : output ≡ written index asked verdicts later
   pub is_summary : summary ≡ counted index asked verdicts
 
--- the report on an index, with its numbers
-abbrev pub IsReportOn : Settings → IndexView → List ℕ → Summary → Type 0
-IsReportOn settings index output summary = IsReportBy (written_told settings) summary_of settings index output summary
+-- what is written, by itself or since these packages were broken
+abbrev pub written_by : Option (List BrokenView) → Settings → Writing
+written_by None settings = written_told settings
+written_by (Some before) settings = λ index asked verdicts later. written_since settings index asked verdicts later before
+
+-- what is counted
+abbrev pub counted_by : Option (List BrokenView) → IndexView → List ℕ → List VerdictView → Summary
+counted_by None = summary_of
+counted_by (Some before) = λ index asked verdicts. summary_since index asked verdicts before
+
+-- the report on an index, with its numbers; since these packages were broken, where an earlier index is told of
+abbrev pub IsReportOn : Option (List BrokenView) → Settings → IndexView → List ℕ → Summary → Type 0
+IsReportOn before settings index output summary = IsReportBy (written_by before settings) (counted_by before) settings index output summary
 
 -- a text and the background behind it are within the limit, and have an index, with this property; a background that is not asked for has no bytes
 pub record HasIndex (settings : Settings) (text background : List ℕ) (P : IndexView → Type 0) : Type 0 where
@@ -54,9 +68,23 @@ pub record HasIndex (settings : Settings) (text background : List ℕ) (P : Inde
   pub is_index : index_of_both text background settings.arch settings.essential ≡ Ok index
   pub holds : P index
 
--- the report on a text and on the background behind it, with its numbers
-abbrev pub IsReport : Settings → List ℕ → List ℕ → List ℕ → Summary → Type 0
-IsReport settings text background output summary = HasIndex settings text background (λ index. IsReportOn settings index output summary)
+-- these are the broken packages of an earlier index, of those that are asked in it
+pub record WereBroken (settings : Settings) (before : List BrokenView) (index : IndexView) : Type 0 where
+  pub verdicts : List VerdictView
+  pub are_verdicts : AnswersEach (IsVerdict index) (listed_places index settings.only) verdicts
+  pub are_broken : before ≡ broken_of index (listed_places index settings.only) verdicts
+
+-- what is known from before: the broken packages of an earlier text, where there is one
+abbrev pub IsBefore : Settings → Option (List ℕ) → List ℕ → Option (List BrokenView) → Type 0
+IsBefore settings None background before = before ≡ None
+IsBefore settings (Some earlier) background before = (broken : List BrokenView) × (before ≡ Some broken)
+    × HasIndex settings earlier background (WereBroken settings broken)
+
+-- the report on a text and on the background behind it, with its numbers; since an earlier text, where there is one, with the same background behind it
+pub record IsReport (settings : Settings) (earlier : Option (List ℕ)) (text background output : List ℕ) (summary : Summary) : Type 0 where
+  pub before : Option (List BrokenView)
+  pub was : IsBefore settings earlier background before
+  pub has : HasIndex settings text background (λ index. IsReportOn before settings index output summary)
 
 -- ---- what is read
 
@@ -82,34 +110,34 @@ abbrev pub ReadsAs : Settings → Input → Input → IndexView → Type 0
 ReadsAs settings text background index = AreRead settings text background
     × IfTold settings text background (λ bytes more. index_of_both bytes more settings.arch settings.essential ≡ Ok index)
 
+-- where the bytes of all are told, and of an earlier index, where there is one, they have this property
+abbrev pub IfAllTold : Settings → Option Input → Input → Input → (Option (List ℕ) → List ℕ → List ℕ → Type 0) → Type 0
+IfAllTold settings None text background P = IfTold settings text background (P None)
+IfAllTold settings (Some earlier) text background P = IfSome earlier.text (λ was. IfTold settings text background (P (Some was)))
+
 -- ---- what is written
 
--- both were read, and where the texts are told, this is their report, with its numbers
-abbrev pub TellsReport : Settings → Input → Input → List ℕ → Summary → Type 0
-TellsReport settings text background output summary = AreRead settings text background
-    × IfTold settings text background (λ bytes more. IsReport settings bytes more output summary)
+-- what is known of a device that was written to: what it held at the call, where it tells that, and what it holds now, whether a call of it has failed,
+-- whether all is flushed, and whether a call failed because nobody reads any more what is written
+pub record Written : Type 0 where
+  pub held : Option (List ℕ)
+  pub now : Option (List ℕ)
+  pub failed : Bool
+  pub flushed : Bool
+  pub abandoned : Bool
 
--- what is a report on a text and on the background behind it, with its numbers
-abbrev pub Reports : Type 1
-Reports = List ℕ → List ℕ → List ℕ → Summary → Type 0
-
--- where the texts are told, such a report on them was added
-abbrev pub WritesBy : Reports → Settings → Input → Input → Option (List ℕ) → Option (List ℕ) → Summary → Type 0
-WritesBy Is settings text background old new summary = IfTold settings text background (λ bytes more. (output : List ℕ) × Is bytes more output summary
-    × Appends old new output)
-
--- where the texts are told, the front of such a report was added
-abbrev pub WritesFrontBy : Reports → Settings → Input → Input → Option (List ℕ) → Option (List ℕ) → Type 0
-WritesFrontBy Is settings text background old new = IfTold settings text background (λ bytes more. (output : List ℕ) × (summary : Summary)
-    × Is bytes more output summary × AppendsPart old new output)
+abbrev pub written : Option (List ℕ) → Option (List ℕ) → Bool → Bool → Bool → Written
+written held now failed flushed abandoned = record { held = held; now = now; failed = failed; flushed = flushed; abandoned = abandoned }
 
 -- where the texts are told, their report was added
-abbrev pub WritesReport : Settings → Input → Input → Option (List ℕ) → Option (List ℕ) → Summary → Type 0
-WritesReport settings text background old new summary = WritesBy (IsReport settings) settings text background old new summary
+abbrev pub WritesReport : Settings → Option Input → Input → Input → Written → Summary → Type 0
+WritesReport settings earlier text background writer summary = IfAllTold settings earlier text background
+    (λ was bytes more. (output : List ℕ) × IsReport settings was bytes more output summary × Appends writer.held writer.now output)
 
 -- where the texts are told, the front of their report was added
-abbrev pub WritesFront : Settings → Input → Input → Option (List ℕ) → Option (List ℕ) → Type 0
-WritesFront settings text background old new = WritesFrontBy (IsReport settings) settings text background old new
+abbrev pub WritesFront : Settings → Option Input → Input → Input → Written → Type 0
+WritesFront settings earlier text background writer = IfAllTold settings earlier text background
+    (λ was bytes more. (output : List ℕ) × (summary : Summary) × IsReport settings was bytes more output summary × AppendsPart writer.held writer.now output)
 
 -- ---- why there is no report
 
@@ -153,15 +181,61 @@ FailsToReport settings index _ = ⊥
 abbrev pub HasAsked : Settings → IndexView → Type 0
 HasAsked settings index = (asked : List ℕ) × IsAsked settings index asked
 
--- why a run fails: there is no index; or there is one, and an asked name is unknown; or all are known, and a strict run has a fault;
--- or it has none, and the writer failed. Where memory was wanted, no read had failed
-abbrev pub Fails : Settings → Input → Input → Bool → RunFault → Type 0
-Fails settings text background write_failed (UnknownAsked name) = IfIndexed settings text background (λ index. FailsToReport settings index (UnknownAsked name))
-Fails settings text background write_failed (Slipped slip) = IfIndexed settings text background (λ index. FailsToReport settings index (Slipped slip))
-Fails settings text background write_failed Write = (write_failed ≡ true) × IfIndexed settings text background (HasAsked settings)
-Fails settings text background write_failed fault = FailsToIndex settings text background fault
+-- why the report on an index is not written: there is none; or there is, and the writer failed
+abbrev pub FailsToWrite : Settings → IndexView → Bool → RunFault → Type 0
+FailsToWrite settings index write_failed fault = FailsToReport settings index fault ⊎ ((fault ≡ Write) × (write_failed ≡ true) × HasAsked settings index)
+
+-- why a run on an index and its background fails: there is no index; or there is one, and an asked name is unknown; or all are known, and a strict run
+-- has a fault; or it has none, and the writer failed. Where memory was wanted, no read had failed
+abbrev pub FailsAlone : Settings → Input → Input → Bool → RunFault → Type 0
+FailsAlone settings text background write_failed (UnknownAsked name) = IfIndexed settings text background (λ index. FailsToReport settings index (UnknownAsked name))
+FailsAlone settings text background write_failed (Slipped slip) = IfIndexed settings text background (λ index. FailsToReport settings index (Slipped slip))
+FailsAlone settings text background write_failed Write = (write_failed ≡ true) × IfIndexed settings text background (HasAsked settings)
+FailsAlone settings text background write_failed fault = FailsToIndex settings text background fault
+
+-- the fault that is told of an earlier index, by that of an index
+abbrev pub earlier_fault : RunFault → RunFault
+earlier_fault Read = EarlierRead
+earlier_fault TooLong = EarlierTooLong
+earlier_fault (Index fault) = Earlier fault
+earlier_fault fault = fault
+
+-- why there is no earlier index: for a reason why a text has none
+abbrev pub FailsEarlier : Settings → Input → Input → RunFault → Type 0
+FailsEarlier settings earlier background fault = (cause : RunFault) × (fault ≡ earlier_fault cause) × FailsToIndex settings earlier background cause
+
+-- why a run fails. The earlier index goes before all else, where there is one: it is none, and nothing of the index was read; or it is one, and the run fails
+-- without it
+abbrev pub Fails : Settings → Option Input → Input → Input → Bool → RunFault → Type 0
+Fails settings None text background write_failed fault = FailsAlone settings text background write_failed fault
+Fails settings (Some earlier) text background write_failed fault = ((text.failed ≡ false) × FailsEarlier settings earlier background fault)
+    ⊎ (IfIndexed settings earlier background (λ index. Unit {0}) × FailsAlone settings text background write_failed fault)
 
 -- what a failed run leaves written: the front of the report where writing failed, else nothing
-abbrev pub Leaves : Settings → Input → Input → Option (List ℕ) → Option (List ℕ) → RunFault → Type 0
-Leaves settings text background old new Write = WritesFront settings text background old new
-Leaves settings text background old new _ = Keeps old new
+abbrev pub Leaves : Settings → Option Input → Input → Input → Written → RunFault → Type 0
+Leaves settings earlier text background writer fault = (fault ≢ Write → Keeps writer.held writer.now)
+    × (fault ≡ Write → WritesFront settings earlier text background writer)
+
+-- ---- what becomes of a run
+
+-- what becomes of an index once it was read: its report was written and flushed, or there is a reason why not
+pub record Tells (before : Option (List BrokenView)) (settings : Settings) (index : IndexView) (writer : Written) (outcome : Result Summary RunFault)
+    : Type 0 where
+  pub report : IfOk outcome (λ summary. (output : List ℕ) × IsReportOn before settings index output summary × Appends writer.held writer.now output)
+  pub flushed : OnOk outcome (writer.flushed ≡ true)
+  pub unfailed : OnOk outcome (writer.failed ≡ false)
+  pub refused : IfErr outcome (FailsToWrite settings index writer.failed)
+  pub kept : IfErr outcome (λ fault. fault ≢ Write → Keeps writer.held writer.now)
+  pub front : IfErr outcome (λ fault. fault ≡ Write
+      → (output : List ℕ) × (summary : Summary) × IsReportOn before settings index output summary × AppendsPart writer.held writer.now output)
+
+-- a run on an index and its background, and since an earlier index, where there is one: the report was written and flushed, and no device has failed;
+-- or there is a reason why not, and this was written until then
+pub record RunsOn (settings : Settings) (earlier : Option Input) (text background : Input) (writer : Written) (outcome : Result Summary RunFault)
+    : Type 0 where
+  pub report : IfOk outcome (WritesReport settings earlier text background writer)
+  pub flushed : OnOk outcome (writer.flushed ≡ true)
+  pub unfailed : OnOk outcome ((text.failed ≡ false) × (background.failed ≡ false) × IfSome earlier (λ source. source.failed ≡ false)
+      × (writer.failed ≡ false))
+  pub refused : IfErr outcome (Fails settings earlier text background writer.failed)
+  pub left : IfErr outcome (Leaves settings earlier text background writer)

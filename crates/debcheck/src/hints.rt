@@ -39,7 +39,8 @@ fn is_in_question(outcome: &Result<Summary, RunFault>, input: Input) -> bool {
     }
 }
 
-/// Notes what was noted on an input, or in its place what its first bytes tell, where a run ended with a report or with a fault of it.
+/// Notes what was noted on an input, or in its place what its first bytes tell, where a run ended with a report or with a fault of it; and what was noted
+/// on it where the background has a fault, which is read behind it.
 pub(crate) fn note_input<S: Source, B: Source>(
     alloc: Global,
     reader: &S,
@@ -47,8 +48,11 @@ pub(crate) fn note_input<S: Source, B: Source>(
     input: Input,
     of: &B,
 ) {
-    if is_in_question(outcome, input) {
+    let is_of_it = is_in_question(outcome, input);
+    if is_of_it || matches!(outcome, Err(RunFault::Background(_))) {
         note(reader, of.take_note());
+    }
+    if is_of_it {
         note(reader, beginning_text(alloc, input, of.front()));
     }
 }

@@ -4,8 +4,8 @@
 //! `deb_input`; the report that it writes is `deb_report`'s; what it reads from and writes to are `devices`; how far it has come, in `run_progress`.
 //! The modules, in reading order:
 //!
-//! - `phases`: a run, from bytes to bytes; `since`: one that tells what became of an earlier index; `asked`: the places that are asked in it;
-//!   `verdicts`: what is found of them for the report, with all cores by `later`.
+//! - `phases`: a run, from bytes to bytes; `since`: one that reads an earlier index first; `asked`: the places that are asked in it; `telling`: the
+//!   report of them; `verdicts`: what is found of them for that, with all cores by `later`.
 //! - `hints`: what is guessed of inputs and of a run is noted, and told on a screen; what that is, is in `input_hints`.
 //! - `exit_status`: the status of a run; `output`: the lines of faults, written.
 //! - `laws`: what holds of runs and of reports.
@@ -23,6 +23,7 @@ mod output;
 mod phases;
 mod program;
 mod since;
+mod telling;
 mod verdicts;
 mod wiping;
 
@@ -33,7 +34,7 @@ pub use deb_report::{Summary, report};
 pub use devices::{DeviceFault, Disk, OpenFault, Opener, Recording, Sink, Source, Std};
 pub use exit_status::status;
 pub use output::{write_fault, write_line_fault};
-pub use phases::run;
+pub use phases::{After, run};
 pub use program::{Ended, run_process, run_program};
 pub use run_progress::Progress;
 pub use run_settings::{CHUNK_LIMIT, Config, Format, Show};

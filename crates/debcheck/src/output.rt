@@ -1,13 +1,17 @@
-//! The lines of faults, written.
+//! The lines of faults, written, and what is told of a run.
 
 ghost use Rattle.std.specs.Prelude.{◌≡◌, Bool, IfOk, OnOk, OnErr, true};
 ghost use Rattle.std.specs.Io.KnownBytes.{Appends};
 ghost use Rattle.devices.specs.Devices.{AppendsPart};
 ghost use Rattle.deb_input.specs.Faults.{told_line};
 ghost use Rattle.debcheck.specs.LineFaults.{KeepsOther, TellsFront, TellsLine, mark_of};
+ghost use Rattle.debcheck.specs.Program.{Refuses, TellsOutcome, TellsUnless, is_silent};
+ghost use Rattle.debcheck.specs.Run.{written};
 
-use command_line::LineFault;
+use crate::exit_status::status;
+use command_line::{LineFault, line_status};
 use deb_input::{RunFault, fault_line, memory_line};
+use deb_report::Summary;
 use devices::{DeviceFault, Sink, write_all};
 use std::alloc::Global;
 
@@ -55,5 +59,66 @@ pub fn write_line_fault<K: Sink, E: Sink>(
         LineFault::Help { text } => write_all(output, text.as_str().as_bytes()),
         LineFault::Refused { text } => write_all(errors, text.as_str().as_bytes()),
         LineFault::Memory => write_all(errors, memory_line()),
+    }
+}
+
+// Whether no line is told of a fault: where nobody reads the output any more, as in front of `head`, nobody misses it.
+fn is_silent(abandoned: bool, fault: &RunFault) -> bool
+    ensures { result ≡ is_silent abandoned fault.now }
+{
+    match fault {
+        RunFault::Write => abandoned,
+        _ => false,
+    }
+}
+
+// Tells a fault, unless nobody reads the output any more for which it stands. A line that cannot be written changes no status.
+fn tell_fault<E: Sink>(alloc: Global, errors: &mut E, fault: &RunFault, abandoned: bool)
+    ensures { TellsUnless (is_silent abandoned fault.now)
+        (written (E.contents errors.old) (E.contents errors.new) (E.failed errors.new) (E.flushed errors.new) (E.abandoned errors.new)) fault.now }
+{
+    if is_silent(abandoned, fault) {
+        return;
+    }
+    let _ = write_fault(alloc, errors, fault);
+}
+
+/// Says what there is to say of a line that gives no configuration. The answer is the exit status.
+pub(crate) fn refuse<K: Sink, E: Sink>(
+    alloc: Global,
+    output: &mut K,
+    errors: &mut E,
+    fault: &LineFault,
+) -> u8
+    ensures { Refuses fault.now (written (K.contents output.old) (K.contents output.new) (K.failed output.new) (K.flushed output.new) (K.abandoned output.new))
+        (written (E.contents errors.old) (E.contents errors.new) (E.failed errors.new) (E.flushed errors.new) (E.abandoned errors.new)) result }
+{
+    match write_line_fault(output, errors, fault) {
+        Ok(()) => line_status(fault),
+        Err(_) => match fault {
+            // Help that nobody got is no success: a script has to see it.
+            LineFault::Help { .. } => {
+                tell_fault(alloc, errors, &RunFault::Write, output.is_abandoned());
+                status(&Err(RunFault::Write))
+            }
+            LineFault::Refused { .. } => line_status(fault),
+            LineFault::Memory => line_status(fault),
+        },
+    }
+}
+
+/// Tells the fault of a run that has one.
+pub(crate) fn tell_outcome<E: Sink>(
+    alloc: Global,
+    errors: &mut E,
+    outcome: &Result<Summary, RunFault>,
+    abandoned: bool,
+)
+    ensures { TellsOutcome abandoned
+        (written (E.contents errors.old) (E.contents errors.new) (E.failed errors.new) (E.flushed errors.new) (E.abandoned errors.new)) outcome.now }
+{
+    match outcome {
+        Ok(_) => {}
+        Err(fault) => tell_fault(alloc, errors, fault, abandoned),
     }
 }

@@ -1,18 +1,18 @@
 //! A run, from bytes to bytes.
 
-ghost use Rattle.std.specs.Prelude.{◌≡◌, ◌≢◌, ◌<◌, ◌≤◌, IfErr, IfOk, Ok, OnOk, false, length, true};
+ghost use Rattle.std.specs.Prelude.{◌≡◌, ◌≢◌, ◌<◌, ◌≤◌, IfErr, IfOk, None, OnOk, false, map, option_map, true};
 ghost use Rattle.std.specs.Io.KnownBytes.{IsAtEnd};
-ghost use Rattle.deb_index.specs.Reading.{byte_limit, index_of_both};
 ghost use Rattle.run_settings.specs.Settings.{settings_of};
-ghost use Rattle.deb_input.specs.Inputs.{FailsToAccept, IsReadAs, input, is_unread};
-ghost use Rattle.debcheck.specs.Run.{Fails, FailsToIndex, FailsToReadBehind, FailsToReport, IsReportOn, Leaves, ReadsAs, TellsReport, WritesReport, behind};
+ghost use Rattle.deb_outcome.specs.Since.{broken_view};
+ghost use Rattle.deb_input.specs.Inputs.{IsReadAs, input, is_unread};
+ghost use Rattle.debcheck.specs.Run.{FailsToIndex, FailsToReadBehind, FailsToReport, IsReportOn, ReadsAs, RunsOn, Tells, behind, written};
 
 use crate::asked::asked_places;
 use crate::hints::{note, note_unknown};
-use crate::verdicts::{find_told, wanted_of};
-use deb_index::{BothError, Index, PART_SIZE, TEXT_LIMIT};
+use crate::telling::check_and_tell;
+use deb_index::{Index, TEXT_LIMIT};
 use deb_input::{RunFault, TextRead, finish, read_all, read_text};
-use deb_report::{Summary, report_told, summary_of};
+use deb_report::{BrokenPackage, Summary};
 use devices::{Sink, Source, write_all};
 use input_hints::{Input, reading_text};
 use run_settings::Config;
@@ -23,15 +23,15 @@ use work_draw::Gate;
 
 /// What comes behind a run.
 #[derive(Clone, Copy)]
-pub(crate) enum After {
+pub enum After {
     /// Its caller goes on, so the index is given back.
     Caller,
     /// The process ends, and all its memory goes back at once: an index is given back in some hundred thousand pieces.
     End,
 }
 
-/// Gives an index back, where somebody has use for its memory.
-pub(crate) fn let_go(index: Index, after: After) {
+// Gives an index back, where somebody has use for its memory.
+fn let_go(index: Index, after: After) {
     match after {
         After::Caller => drop(index),
         After::End => forget(index),
@@ -64,13 +64,15 @@ fn read_behind<B: Source>(
     }
 }
 
-// Reads a text to its end, and then what stands behind it.
-pub(crate) fn read_texts<S: Source, B: Source>(
+/// Reads an input as an index, piece by piece, and what stands behind it. What is guessed of them is noted on the reader.
+pub(crate) fn read_index<S: Source, B: Source, R: Threads + Sync>(
+    rt: &R,
     alloc: Global,
     config: &Config,
+    of: Input,
     reader: &mut S,
     background: &mut B,
-) -> Result<(Vec<u8>, Vec<u8>), RunFault>
+) -> Result<(Index, Vec<u8>), RunFault>
     requires reader { S.failed reader.old ≡ false }
     requires background { B.failed background.old ≡ false }
     ensures end { OnOk result (IsAtEnd (S.remaining reader.new)) }
@@ -78,94 +80,14 @@ pub(crate) fn read_texts<S: Source, B: Source>(
     ensures spared { (settings_of config.now).background ≡ false → background.new ≡ background.old }
     ensures unbegun { IfErr result (λ fault. is_unread fault ≡ true → background.new ≡ background.old) }
     ensures unfailed { OnOk result ((S.failed reader.new ≡ false) × (B.failed background.new ≡ false)) }
-    ensures text { IfOk result (λ texts. IsReadAs (input (S.remaining reader.old) (S.failed reader.new)) texts.0.items) }
-    ensures behind { IfOk result (λ texts.
-        IsReadAs (behind (settings_of config.now) (input (B.remaining background.old) (B.failed background.new))) texts.1.items) }
+    ensures index { IfOk result (λ r. ReadsAs (settings_of config.now)
+        (input (S.remaining reader.old) (S.failed reader.new)) (input (B.remaining background.old) (B.failed background.new)) r.0) }
+    ensures behind { IfOk result (λ r.
+        IsReadAs (behind (settings_of config.now) (input (B.remaining background.old) (B.failed background.new))) r.1.items) }
     ensures refused { IfErr result (FailsToIndex (settings_of config.now)
         (input (S.remaining reader.old) (S.failed reader.new)) (input (B.remaining background.old) (B.failed background.new))) }
     ensures may_fail { IfErr result (λ fault. fault ≡ RunFault.BackgroundRead → B.may_fail background.old ≡ true) }
-{
-    let text = read_all(alloc, reader, TEXT_LIMIT)?;
-    let behind = read_behind(alloc, config, background)?;
-    Ok((text, behind))
-}
-
-// The index of a text and of what stands behind it, read by the workers side by side.
-pub(crate) fn index_both<R: Threads + Sync>(
-    rt: &R,
-    alloc: Global,
-    config: &Config,
-    text: &[u8],
-    behind: &[u8],
-) -> Result<Index, RunFault>
-    requires text { length text.now ≤ byte_limit }
-    requires behind { length behind.now ≤ byte_limit }
-    ensures index { IfOk result (λ index.
-        index_of_both text.now behind.now (settings_of config.now).arch (settings_of config.now).essential ≡ Ok index) }
-    ensures refused { IfErr result (FailsToAccept (settings_of config.now) text.now behind.now) }
-{
-    let (arch, workers) = (config.arch.as_str(), config.workers);
-    match Index::read_both_on(
-        rt,
-        alloc,
-        text,
-        behind,
-        arch,
-        config.essential,
-        workers,
-        PART_SIZE,
-    ) {
-        Ok(index) => Ok(index),
-        Err(BothError::Memory) => Err(RunFault::Memory),
-        Err(BothError::Fore(fault)) => Err(RunFault::Index(fault)),
-        Err(BothError::Back(fault)) => Err(RunFault::Background(fault)),
-    }
-}
-
-// The same, of texts that are dropped at the end. What is guessed of them is noted on the reader.
-pub(crate) fn index_from<S: Source, R: Threads + Sync>(
-    rt: &R,
-    alloc: Global,
-    config: &Config,
-    reader: &S,
-    text: Vec<u8>,
-    behind: Vec<u8>,
-) -> Result<Index, RunFault>
-    requires text { length text.items ≤ byte_limit }
-    requires behind { length behind.items ≤ byte_limit }
-    ensures index { IfOk result (λ index.
-        index_of_both text.items behind.items (settings_of config.now).arch (settings_of config.now).essential ≡ Ok index) }
-    ensures refused { IfErr result (FailsToAccept (settings_of config.now) text.items behind.items) }
-{
-    let outcome = index_both(rt, alloc, config, text.as_slice(), behind.as_slice());
-    let (text, behind) = (text.as_slice(), behind.as_slice());
-    note(
-        reader,
-        reading_text(alloc, config, Input::Index, &outcome, text, behind),
-    );
-    outcome
-}
-
-// Reads the index, piece by piece, and what stands behind it.
-fn read_index<S: Source, B: Source, R: Threads + Sync>(
-    rt: &R,
-    alloc: Global,
-    config: &Config,
-    reader: &mut S,
-    background: &mut B,
-) -> Result<Index, RunFault>
-    requires reader { S.failed reader.old ≡ false }
-    requires background { B.failed background.old ≡ false }
-    ensures end { OnOk result (IsAtEnd (S.remaining reader.new)) }
-    ensures background_end { OnOk result ((settings_of config.now).background ≡ true → IsAtEnd (B.remaining background.new)) }
-    ensures spared { (settings_of config.now).background ≡ false → background.new ≡ background.old }
-    ensures unbegun { IfErr result (λ fault. is_unread fault ≡ true → background.new ≡ background.old) }
-    ensures unfailed { OnOk result ((S.failed reader.new ≡ false) × (B.failed background.new ≡ false)) }
-    ensures index { IfOk result (ReadsAs (settings_of config.now)
-        (input (S.remaining reader.old) (S.failed reader.new)) (input (B.remaining background.old) (B.failed background.new))) }
-    ensures refused { IfErr result (FailsToIndex (settings_of config.now)
-        (input (S.remaining reader.old) (S.failed reader.new)) (input (B.remaining background.old) (B.failed background.new))) }
-    ensures may_fail { IfErr result (λ fault. fault ≡ RunFault.BackgroundRead → B.may_fail background.old ≡ true) }
+    ensures read_may_fail { IfErr result (λ fault. fault ≡ RunFault.Read → S.may_fail reader.old ≡ true) }
 {
     let size = reader.piece();
     let TextRead { outcome, last } = read_text(rt, alloc, config, reader, size)?;
@@ -176,72 +98,64 @@ fn read_index<S: Source, B: Source, R: Threads + Sync>(
             return Err(fault);
         }
     };
-    let index = finish(rt, alloc, config, outcome, more.as_slice());
-    let (piece, more) = (last.as_slice(), more.as_slice());
-    note(
-        reader,
-        reading_text(alloc, config, Input::Index, &index, piece, more),
-    );
-    index
+    let read = finish(rt, alloc, config, outcome, more.as_slice());
+    let text = reading_text(alloc, config, of, &read, last.as_slice(), more.as_slice());
+    note(reader, text);
+    let index = read?;
+    Ok((index, more))
 }
 
-// Checks the asked places and makes the report.
+// Checks the asked places and makes the report; since these packages were broken, where an earlier index is told of.
 fn check_and_report<G: Gate + Sync, R: Threads + Sync>(
     rt: &R,
     alloc: Global,
     config: &Config,
     index: &Index,
+    before: Option<&[BrokenPackage]>,
     gate: &G,
 ) -> Result<(Vec<u8>, Summary), RunFault>
     requires workers { (0 < config.now.workers) × (config.now.workers ≤ 64) }
     requires chunk { 0 < config.now.chunk }
-    ensures report { IfOk result (λ r. IsReportOn (settings_of config.now) index.now r.0.items r.1) }
+    ensures report { IfOk result (λ r.
+        IsReportOn (option_map (λ list. map broken_view list.now) before.entry) (settings_of config.now) index.now r.0.items r.1) }
     ensures refused { IfErr result (FailsToReport (settings_of config.now) index.now) }
 {
     let asked = asked_places(alloc, index, config)?;
-    let asked = asked.as_slice();
-    let wanted = wanted_of(config);
-    let found = find_told(rt, alloc, config, wanted, index, asked, &[], gate)?;
-    let verdicts = found.verdicts.as_slice();
-    let later = found.later.as_slice();
-    let output = report_told(alloc, index, asked, verdicts, later, config)?;
-    Ok((output, summary_of(index, asked, verdicts)))
+    let told = check_and_tell(rt, alloc, config, index, asked.as_slice(), before, gate)?;
+    Ok(told)
 }
 
-// Reads the index and what stands behind it, and makes the report.
-fn read_and_report<S: Source, B: Source, G: Gate + Sync, R: Threads + Sync>(
+/// Checks the asked places of an index, writes the report and flushes. The index is let go; what a name is that is asked in vain, is noted on the reader.
+pub(crate) fn report_and_write<S: Source, K: Sink, G: Gate + Sync, R: Threads + Sync>(
     rt: &R,
     alloc: Global,
     config: &Config,
-    reader: &mut S,
-    background: &mut B,
+    reader: &S,
+    index: Index,
+    before: Option<&[BrokenPackage]>,
+    writer: &mut K,
     gate: &G,
     after: After,
-) -> Result<(Vec<u8>, Summary), RunFault>
+) -> Result<Summary, RunFault>
     requires workers { (0 < config.now.workers) × (config.now.workers ≤ 64) }
     requires chunk { 0 < config.now.chunk }
-    requires reader { S.failed reader.old ≡ false }
-    requires background { B.failed background.old ≡ false }
-    ensures end { OnOk result (IsAtEnd (S.remaining reader.new)) }
-    ensures background_end { OnOk result ((settings_of config.now).background ≡ true → IsAtEnd (B.remaining background.new)) }
-    ensures spared { (settings_of config.now).background ≡ false → background.new ≡ background.old }
-    ensures unbegun { IfErr result (λ fault. is_unread fault ≡ true → background.new ≡ background.old) }
-    ensures unfailed { OnOk result ((S.failed reader.new ≡ false) × (B.failed background.new ≡ false)) }
-    ensures report { IfOk result (λ r. TellsReport (settings_of config.now)
-        (input (S.remaining reader.old) (S.failed reader.new)) (input (B.remaining background.old) (B.failed background.new)) r.0.items r.1) }
-    ensures refused { IfErr result (Fails (settings_of config.now)
-        (input (S.remaining reader.old) (S.failed reader.new)) (input (B.remaining background.old) (B.failed background.new)) false) }
-    ensures may_fail { IfErr result (λ fault. fault ≡ RunFault.BackgroundRead → B.may_fail background.old ≡ true) }
+    requires writer { K.failed writer.old ≡ false }
+    ensures tells { Tells (option_map (λ list. map broken_view list.now) before.entry) (settings_of config.now) index
+        (written (K.contents writer.old) (K.contents writer.new) (K.failed writer.new) (K.flushed writer.new) (K.abandoned writer.new)) result }
+    ensures untouched { IfErr result (λ fault. fault ≢ RunFault.Write → writer.new ≡ writer.old) }
 {
-    let index = read_index(rt, alloc, config, reader, background)?;
-    let told = check_and_report(rt, alloc, config, &index, gate);
+    let told = check_and_report(rt, alloc, config, &index, before, gate);
     note_unknown(alloc, reader, &index, &told);
     let_go(index, after);
-    told
+    let (output, summary) = told?;
+    match write_all(writer, output.as_slice()) {
+        Ok(()) => Ok(summary),
+        Err(_) => Err(RunFault::Write),
+    }
 }
 
-/// `run`, which ends as `after` says. Its faults are those of `run`.
-pub(crate) fn run_noting<S: Source, B: Source, K: Sink, G: Gate + Sync, R: Threads + Sync>(
+/// `run`, which ends as `after` says.
+pub(crate) fn run_ending<S: Source, B: Source, K: Sink, G: Gate + Sync, R: Threads + Sync>(
     rt: &R,
     alloc: Global,
     config: &Config,
@@ -260,25 +174,15 @@ pub(crate) fn run_noting<S: Source, B: Source, K: Sink, G: Gate + Sync, R: Threa
     ensures background_end { OnOk result ((settings_of config.now).background ≡ true → IsAtEnd (B.remaining background.new)) }
     ensures spared { (settings_of config.now).background ≡ false → background.new ≡ background.old }
     ensures unbegun { IfErr result (λ fault. is_unread fault ≡ true → background.new ≡ background.old) }
-    ensures report { IfOk result (WritesReport (settings_of config.now)
-        (input (S.remaining reader.old) (S.failed reader.new)) (input (B.remaining background.old) (B.failed background.new))
-        (K.contents writer.old) (K.contents writer.new)) }
-    ensures flushed { OnOk result (K.flushed writer.new ≡ true) }
-    ensures unfailed { OnOk result ((S.failed reader.new ≡ false) × (B.failed background.new ≡ false) × (K.failed writer.new ≡ false)) }
-    ensures refused { IfErr result (Fails (settings_of config.now)
-        (input (S.remaining reader.old) (S.failed reader.new)) (input (B.remaining background.old) (B.failed background.new))
-        (K.failed writer.new)) }
     ensures untouched { IfErr result (λ fault. fault ≢ RunFault.Write → writer.new ≡ writer.old) }
-    ensures left { IfErr result (Leaves (settings_of config.now)
+    ensures runs { RunsOn (settings_of config.now) None
         (input (S.remaining reader.old) (S.failed reader.new)) (input (B.remaining background.old) (B.failed background.new))
-        (K.contents writer.old) (K.contents writer.new)) }
+        (written (K.contents writer.old) (K.contents writer.new) (K.failed writer.new) (K.flushed writer.new) (K.abandoned writer.new)) result }
     ensures may_fail { IfErr result (λ fault. fault ≡ RunFault.BackgroundRead → B.may_fail background.old ≡ true) }
 {
-    let (output, summary) = read_and_report(rt, alloc, config, reader, background, gate, after)?;
-    match write_all(writer, output.as_slice()) {
-        Ok(()) => Ok(summary),
-        Err(_) => Err(RunFault::Write),
-    }
+    let (index, more) = read_index(rt, alloc, config, Input::Index, reader, background)?;
+    drop(more);
+    report_and_write(rt, alloc, config, reader, index, None, writer, gate, after)
 }
 
 /// Reads the index to its end, and with `bg` the background; checks each asked package of the index, writes the report and flushes. It may wait
@@ -311,27 +215,11 @@ pub fn run<S: Source, B: Source, K: Sink, G: Gate + Sync, R: Threads + Sync>(
     ensures background_end { OnOk result ((settings_of config.now).background ≡ true → IsAtEnd (B.remaining background.new)) }
     ensures spared { (settings_of config.now).background ≡ false → background.new ≡ background.old }
     ensures unbegun { IfErr result (λ fault. is_unread fault ≡ true → background.new ≡ background.old) }
-    ensures report { IfOk result (WritesReport (settings_of config.now)
-        (input (S.remaining reader.old) (S.failed reader.new)) (input (B.remaining background.old) (B.failed background.new))
-        (K.contents writer.old) (K.contents writer.new)) }
-    ensures flushed { OnOk result (K.flushed writer.new ≡ true) }
-    ensures unfailed { OnOk result ((S.failed reader.new ≡ false) × (B.failed background.new ≡ false) × (K.failed writer.new ≡ false)) }
-    ensures refused { IfErr result (Fails (settings_of config.now)
-        (input (S.remaining reader.old) (S.failed reader.new)) (input (B.remaining background.old) (B.failed background.new))
-        (K.failed writer.new)) }
     ensures untouched { IfErr result (λ fault. fault ≢ RunFault.Write → writer.new ≡ writer.old) }
-    ensures left { IfErr result (Leaves (settings_of config.now)
+    ensures runs { RunsOn (settings_of config.now) None
         (input (S.remaining reader.old) (S.failed reader.new)) (input (B.remaining background.old) (B.failed background.new))
-        (K.contents writer.old) (K.contents writer.new)) }
+        (written (K.contents writer.old) (K.contents writer.new) (K.failed writer.new) (K.flushed writer.new) (K.abandoned writer.new)) result }
 {
-    run_noting(
-        rt,
-        alloc,
-        config,
-        reader,
-        background,
-        writer,
-        gate,
-        After::Caller,
-    )
+    let after = After::Caller;
+    run_ending(rt, alloc, config, reader, background, writer, gate, after)
 }

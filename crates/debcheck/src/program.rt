@@ -5,16 +5,16 @@ ghost use Rattle.std.specs.Process.{exit_status};
 ghost use Rattle.std.specs.Result.{result_map_both};
 ghost use Rattle.run_settings.specs.Settings.{settings_of};
 ghost use Rattle.deb_input.specs.Inputs.{input};
-ghost use Rattle.debcheck.specs.Program.{Asks, Ends, EndsSomehow, FailsToTake, Refuses, Runs, RunsBehind, RunsNamed, RunsTo, TakesNames};
-ghost use Rattle.debcheck.specs.Program.{TellsOutcome, TellsUnless, is_silent, written};
+ghost use Rattle.debcheck.specs.Program.{Asks, Ends, EndsSomehow, FailsToTake, Runs, RunsBehind, RunsNamed, RunsTo, TakesNames};
+ghost use Rattle.debcheck.specs.Run.{written};
 
 use crate::exit_status::status;
 use crate::hints::{note_input, tell_hint};
-use crate::output::{write_fault, write_line_fault};
-use crate::phases::{After, run_noting};
-use crate::since::run_since_noting;
+use crate::output::{refuse, tell_outcome};
+use crate::phases::{After, run_ending};
+use crate::since::run_since;
 use crate::wiping::Wiping;
-use command_line::{LineFault, line_status, read_line, words_of};
+use command_line::{LineFault, read_line, words_of};
 use deb_input::{RunFault, read_names};
 use deb_report::Summary;
 use devices::{Disk, OpenFault, Opener, Recording, Sink, Source, Std};
@@ -36,46 +36,6 @@ pub struct Ended<K> {
     pub status: u8,
     /// What it was given for its output.
     pub output: K,
-}
-
-// Whether no line is told of a fault: where nobody reads the output any more, as in front of `head`, nobody misses it.
-fn is_silent(abandoned: bool, fault: &RunFault) -> bool
-    ensures { result ≡ is_silent abandoned fault.now }
-{
-    match fault {
-        RunFault::Write => abandoned,
-        _ => false,
-    }
-}
-
-// Tells a fault, unless nobody reads the output any more for which it stands. A line that cannot be written changes no status.
-fn tell_fault<E: Sink>(alloc: Global, errors: &mut E, fault: &RunFault, abandoned: bool)
-    ensures { TellsUnless (is_silent abandoned fault.now)
-        (written (E.contents errors.old) (E.contents errors.new) (E.failed errors.new) (E.flushed errors.new) (E.abandoned errors.new)) fault.now }
-{
-    if is_silent(abandoned, fault) {
-        return;
-    }
-    let _ = write_fault(alloc, errors, fault);
-}
-
-// Says what there is to say of a line that gives no configuration. The answer is the exit status.
-fn refuse<K: Sink, E: Sink>(alloc: Global, output: &mut K, errors: &mut E, fault: &LineFault) -> u8
-    ensures { Refuses fault.now (written (K.contents output.old) (K.contents output.new) (K.failed output.new) (K.flushed output.new) (K.abandoned output.new))
-        (written (E.contents errors.old) (E.contents errors.new) (E.failed errors.new) (E.flushed errors.new) (E.abandoned errors.new)) result }
-{
-    match write_line_fault(output, errors, fault) {
-        Ok(()) => line_status(fault),
-        Err(_) => match fault {
-            // Help that nobody got is no success: a script has to see it.
-            LineFault::Help { .. } => {
-                tell_fault(alloc, errors, &RunFault::Write, output.is_abandoned());
-                status(&Err(RunFault::Write))
-            }
-            LineFault::Refused { .. } => line_status(fault),
-            LineFault::Memory => line_status(fault),
-        },
-    }
 }
 
 // The run on an opened background. The earlier index's file is opened before anything is read.
@@ -107,29 +67,15 @@ fn run_behind<
 {
     let alloc = rt.alloc();
     let Some(file) = &config.since else {
-        return run_noting(
-            rt,
-            alloc,
-            config,
-            reader,
-            background,
-            output,
-            gate,
-            After::End,
-        );
+        let after = After::End;
+        return run_ending(rt, alloc, config, reader, background, output, gate, after);
     };
     match files.open(file.as_str()) {
         Ok(mut earlier) => {
-            let outcome = run_since_noting(
-                rt,
-                alloc,
-                config,
-                reader,
-                background,
-                &mut earlier,
-                output,
-                gate,
-                After::End,
+            let from = &mut earlier;
+            let after = After::End;
+            let outcome = run_since(
+                rt, alloc, config, reader, background, from, output, gate, after,
             );
             note_input(alloc, reader, &outcome, Input::Earlier, &earlier);
             outcome
@@ -215,22 +161,6 @@ fn name_and_run<O: Opener, S: Source, K: Sink, G: Gate + Sync, R: Threads + Sync
     match take_names(rt.alloc(), files, config) {
         Ok(()) => open_and_run(rt, config, files, reader, output, gate),
         Err(fault) => Err(fault),
-    }
-}
-
-// Tells the fault of a run that has one.
-fn tell_outcome<E: Sink>(
-    alloc: Global,
-    errors: &mut E,
-    outcome: &Result<Summary, RunFault>,
-    abandoned: bool,
-)
-    ensures { TellsOutcome abandoned
-        (written (E.contents errors.old) (E.contents errors.new) (E.failed errors.new) (E.flushed errors.new) (E.abandoned errors.new)) outcome.now }
-{
-    match outcome {
-        Ok(_) => {}
-        Err(fault) => tell_fault(alloc, errors, fault, abandoned),
     }
 }
 

@@ -6,7 +6,7 @@ use crate::tally::Tally;
 use deb_index::IndexError;
 use deb_input::RunFault;
 use deb_report::Summary;
-use debcheck::{run, run_since, status};
+use debcheck::{After, run, run_since, status};
 use run_settings::{Config, Format, Show};
 use std::alloc::{AllocError, Global};
 use std::process::Abort;
@@ -237,6 +237,7 @@ fn outcome_of(
             &mut earlier,
             output,
             &OpenGate,
+            After::Caller,
         ),
     };
     let begun = index.reads.min(1) + background.reads.min(1) + earlier.reads.min(1);
@@ -249,6 +250,7 @@ fn told_by(outcome: &Result<Summary, RunFault>) -> &[u8] {
         Err(RunFault::UnknownAsked { name }) => name.as_slice(),
         Err(RunFault::Index(IndexError::BadLine { stanza: 1 })) => b"bad line in stanza 1",
         Err(RunFault::Index(_)) => b"another fault of the index",
+        Err(RunFault::Earlier(_)) => b"a fault of the earlier index",
         Err(RunFault::Read) => b"index",
         Err(RunFault::BackgroundRead) => b"background",
         Err(RunFault::EarlierRead) => b"earlier",

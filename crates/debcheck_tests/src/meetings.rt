@@ -2,7 +2,7 @@
 
 ghost use Rattle.std.specs.Prelude.{◌<◌, ◌≤◌};
 
-use debcheck::{run, run_since};
+use debcheck::{After, run, run_since};
 use run_settings::{Config, Show};
 use std::alloc::AllocError;
 use std::sync::atomic::{AtomicU32, Ordering};
@@ -104,6 +104,7 @@ fn checks_of(
             &mut earlier,
             &mut output,
             &gate,
+            After::Caller,
         );
     } else {
         let _ = run(

@@ -87,11 +87,11 @@ pub const SINCE_WITH_ALL_REASONS: Case<'static> = Case {
     ..SINCE
 };
 
-/// The index fails; nothing behind it is read.
+/// The index fails, which is read last.
 const TORN: Case<'static> = Case {
     name: "a reader of the index that fails",
     torn: Torn::Index,
-    begun: 1,
+    begun: 3,
     written: b"",
     status: 67,
     told: "index",
@@ -99,7 +99,7 @@ const TORN: Case<'static> = Case {
     ..GOES_ON
 };
 
-/// The background fails; the earlier index is not read.
+/// The background fails; the index is not read.
 const TORN_BACKGROUND: Case<'static> = Case {
     name: "a reader of the background that fails",
     torn: Torn::Background,
@@ -108,21 +108,23 @@ const TORN_BACKGROUND: Case<'static> = Case {
     ..TORN
 };
 
+/// The earlier index fails; nothing else is read.
 const TORN_EARLIER: Case<'static> = Case {
     name: "a reader of the earlier index that fails",
     torn: Torn::Earlier,
-    begun: 3,
+    begun: 1,
     told: "earlier",
     ..TORN
 };
 
-/// A fault of the index goes before it.
+/// A fault of the earlier index goes before all that the index has.
 const FAULT: Case<'static> = Case {
-    name: "a fault of the index",
-    index: b" x",
+    name: "a fault of the earlier index",
+    earlier: b" x",
+    begun: 2,
     status: 65,
-    told: "bad line in stanza 1",
-    ..TORN_EARLIER
+    told: "a fault of the earlier index",
+    ..TORN
 };
 
 static TORN_ONES: [Case<'static>; 3] = [TORN, TORN_BACKGROUND, TORN_EARLIER];

@@ -364,13 +364,19 @@ pub static FAULTS: &[Case] = &[
         told: b"debcheck: earlier index: stanza 2: bad line\n",
     },
     Case {
-        words: "|--arch|amd64|--since|cut",
+        words: "|--arch|amd64|--since|cut|--checkonly|zz",
+        index: FAULTY,
+        status: 65,
+        told: b"debcheck: earlier index: stanza 2: bad line\n",
+    },
+    Case {
+        words: "|--arch|amd64|--since|old|--checkonly|zz",
         index: FAULTY,
         status: 65,
         told: b"debcheck: stanza 1: missing field\n",
     },
     Case {
-        words: "|--arch|amd64|--since|cut|--checkonly|zz",
+        words: "|--arch|amd64|--since|old|--checkonly|zz",
         index: INDEX,
         status: 66,
         told: b"debcheck: unknown package zz\n",
@@ -378,6 +384,12 @@ pub static FAULTS: &[Case] = &[
     Case {
         words: "|--arch|amd64|--bg|cut|--since|cut",
         index: INDEX,
+        status: 65,
+        told: b"debcheck: earlier index: stanza 2: bad line\n",
+    },
+    Case {
+        words: "|--arch|amd64|--bg|cut|--since|old",
+        index: FAULTY,
         status: 65,
         told: b"debcheck: background: stanza 2: bad line\n",
     },
@@ -388,7 +400,7 @@ pub static FAULTS: &[Case] = &[
         told: EMPTY,
     },
     Case {
-        words: "|--arch|amd64|--since|cut",
+        words: "|--arch|amd64|--since|old",
         index: b"\n",
         status: 65,
         told: EMPTY,

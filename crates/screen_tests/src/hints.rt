@@ -97,7 +97,7 @@ static UNREAD: &[Case] = &[
         words: "|--arch|amd64|--since|others|--bg|others",
         index: INDEX,
         file: b"\x1f\x8b",
-        hint: b"hint: --bg others: this is a folder\n",
+        hint: b"hint: --since others: this is a folder\n",
     },
 ];
 
@@ -156,16 +156,16 @@ static STANZAS: &[Case] = &[
         hint: b"hint: stanza 2 of the earlier index is of the package foo\n",
     },
     Case {
-        words: "|--arch|amd64|--since|others",
+        words: "|--arch|amd64|--since|others|--checkonly|zz",
         index: b"Package: a\nVersion: 1\n",
         file: FAULTY,
-        hint: b"hint: stanza 1 of the index is of the package a\n",
+        hint: b"hint: stanza 2 of the earlier index is of the package foo\n",
     },
     Case {
-        words: "|--arch|amd64|--since|others|--checkonly|zz",
+        words: "|--arch|amd64|--since|old|--bg|others",
         index: INDEX,
         file: FAULTY,
-        hint: b"",
+        hint: b"hint: stanza 2 of the background is of the package foo\n",
     },
     Case {
         words: "|--arch|amd64",
@@ -361,7 +361,7 @@ fn left_by(
     line: &str,
     screen: &Screen<'_>,
 ) -> Left {
-    let files = [("others", case.file)];
+    let files = [("others", case.file), ("old", BACKGROUND)];
     let mut files = Cabinet::new(&files, OpenFault::Unopened);
     files.torn = torn;
     if torn {

@@ -1,30 +1,10 @@
-use Rattle.std.proofs.Common.{◌≡◌, ◌∙◌, List, None, Ok, [], ap, map, subst, sym, ℕ}
-use Rattle.std.proofs.lemmas.Bool.{or_left}
-use Rattle.deb_outcome.specs.Asked.{asked_places}
-use Rattle.run_settings.specs.Settings.{settings_of, tells_all_causes}
-use Rattle.deb_causes.specs.Later.{later_view}
-use Rattle.deb_health.specs.Verdicts.{verdict_view}
-use Rattle.deb_verdict.specs.declared.wanted.Wanted.{Wanted}
-use Rattle.debcheck.specs.Standing.{AreFound, wanted_by}
+use Rattle.std.proofs.Common.{◌∙◌, List, Ok, ap, sym, ℕ}
+use Rattle.run_settings.specs.Settings.{settings_of}
 use Rattle.deb_input.specs.Strict.{slip_of}
-use Rattle.debcheck.proofs.StandingLemmas.{reported-told}
 use Rattle.debcheck.proofs.phases.check_and_report.Goals as goal
 
-pub find_told-requires-clause-cores : goal.find_told-requires-clause-cores
-find_told-requires-clause-cores g c κs within tells =
-    ap (λ (wanted : Wanted). wanted.cores) c.wanted_of-wanted.ensures ∙ or_left (tells_all_causes (settings_of c.args.config.now)) _ tells
-
-pub returns-clause-report : goal.returns-clause-report
-returns-clause-report g c =
-    let settings = settings_of c.args.config.now in
-    let index = c.args.index.now in
-    let asked : List ℕ = c.as_slice-asked.result.now in
-    let told = map verdict_view c.in_ok-found.found.verdicts.items in
-    let later = later_view c.in_ok-found.found.later.items in
-    let is : asked_places index settings.only ≡ Ok asked = c.in_ok-asked.ensures.asked ∙ ap (λ (places : List ℕ). Ok places) (sym c.as_slice-asked.ensures.value) in
-    let no_slip : slip_of settings index asked ≡ None = ap (slip_of settings index) c.as_slice-asked.ensures.value ∙ c.in_ok-asked.ensures.no_slip in
-    let found : AreFound settings (wanted_by settings) [] index asked told later =
-    subst (λ (wanted : Wanted). AreFound settings wanted [] index asked told later) c.wanted_of-wanted.ensures c.in_ok-found.ensures.found in
-    let written = rw (c.as_slice-verdicts.ensures.value, c.as_slice-later.ensures.value) at c.in_ok-output.ensures in
-    let counted = rw c.as_slice-verdicts.ensures.value at c.summary_of.ensures in
-    reported-told settings index asked told later found c.in_ok-output.output.items c.summary_of.result record { are_asked = is; no_slip = no_slip } written counted
+pub check_and_tell-requires-clause-asked : goal.check_and_tell-requires-clause-asked
+check_and_tell-requires-clause-asked g c κs within = record {
+  are_asked = c.in_ok-asked.ensures.asked ∙ ap (λ (places : List ℕ). Ok places) (sym c.as_slice.ensures.value);
+  no_slip = ap (slip_of (settings_of c.args.config.now) c.args.index.now) c.as_slice.ensures.value ∙ c.in_ok-asked.ensures.no_slip;
+}

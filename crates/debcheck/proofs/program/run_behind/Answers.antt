@@ -4,13 +4,12 @@ use Rattle.debcheck.proofs.program.run_behind.Goals as goal
 
 pub returns-in_default-clause-runs : goal.returns-in_default-clause-runs
 returns-in_default-clause-runs g c =
-    runs_alone _ (g.O.Opener.named c.args.files.now) _ _ _ _ _ c.run_noting.result (rw c.in_default.is refl) c.run_noting.ensures.refused c.run_noting.ensures.unfailed c.run_noting.ensures.flushed c.run_noting.ensures.report c.run_noting.ensures.left
+    runs_alone _ (g.O.Opener.named c.args.files.now) _ _ _ _ _ c.run_ending.result (rw c.in_default.is refl) c.run_ending.ensures.runs
 
 pub returns-in-Ok-clause-runs : goal.returns-in-Ok-clause-runs
 returns-in-Ok-clause-runs g c =
-    runs_since _ (g.O.Opener.named c.args.files.now) (option_map string_bytes c.args.config.now.since) c.as_str.result.now (string_bytes c.in-Some.file) _ _ _ _ _ _ c.run_since_noting-outcome.result (rw c.in-Some.is refl) c.as_str.ensures.value c.in-Ok.ensures.opened
-    c.in-Ok.ensures.may_fail c.run_since_noting-outcome.ensures.earlier_may_fail
-    c.run_since_noting-outcome.ensures.refused c.run_since_noting-outcome.ensures.unfailed c.run_since_noting-outcome.ensures.flushed c.run_since_noting-outcome.ensures.report c.run_since_noting-outcome.ensures.left
+    runs_since _ (g.O.Opener.named c.args.files.now) (option_map string_bytes c.args.config.now.since) c.as_str.result.now (string_bytes c.in-Some.file) _ _ _ _ _ _ c.run_since-outcome.result (rw c.in-Some.is refl) c.as_str.ensures.value c.in-Ok.ensures.opened
+    c.in-Ok.ensures.may_fail c.run_since-outcome.ensures.earlier_may_fail c.run_since-outcome.ensures.runs
 
 pub returns-in-Err-Memory-clause-runs : goal.returns-in-Err-Memory-clause-runs
 returns-in-Err-Memory-clause-runs g c = unbegun_earlier _ (g.O.Opener.named c.args.files.now) _ _ _ _ _ _ (unopened_memory (g.O.Opener.named c.args.files.now) _ _ (string_bytes c.in-Some.file) _ _ _ _ _ _ (rw c.in-Some.is refl) c.requires.reader)

@@ -1,6 +1,6 @@
 use Rattle.std.proofs.Common.{refl}
 use Rattle.debcheck.proofs.ProgramLemmas.{all_told, front_told, help_told}
-use Rattle.debcheck.proofs.program.refuse.Goals as goal
+use Rattle.debcheck.proofs.output.refuse.Goals as goal
 
 pub returns-in-Ok : goal.returns-in-Ok
 returns-in-Ok g c = all_told _ _ _ _ c.line_status.ensures c.in-Ok.ensures.told c.in-Ok.ensures.flushed c.in-Ok.ensures.kept

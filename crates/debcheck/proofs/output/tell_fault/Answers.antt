@@ -1,6 +1,6 @@
 use Rattle.std.proofs.Common.{◌∙◌, refl, sym}
 use Rattle.debcheck.proofs.ProgramLemmas.{tells_fault, tells_nothing, tells_something}
-use Rattle.debcheck.proofs.program.tell_fault.Goals as goal
+use Rattle.debcheck.proofs.output.tell_fault.Goals as goal
 
 pub returns-then-is_silent : goal.returns-then-is_silent
 returns-then-is_silent g c = tells_nothing _ _ _ (sym c.is_silent.ensures ∙ c.if-is_silent.true) refl
