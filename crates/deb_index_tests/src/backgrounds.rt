@@ -33,23 +33,11 @@ Version: 1
 Architecture: all
 ";
 
-const CONFLICTING: &[u8] = b"Package: x
-Version: 1
-Architecture: all
-Conflicts: base
-";
+const CONFLICTING: &str = "x 1 {Conflicts: base}";
 
-const BASE: &[u8] = b"Package: base
-Version: 1
-Architecture: all
-Essential: yes
-";
+const BASE: &str = "base 1 {Essential: yes}";
 
-const LAST: &[u8] = b"Package: last
-Version: 1
-Architecture: all
-Depends: v
-";
+const LAST: &[u8] = b"Package: last\nVersion: 1\nArchitecture: all\nDepends: v\n";
 
 /// What is seen of `NEEDING` over `NEEDED`: behind the foreground's package those of the background that it may use.
 pub const USED: [Part; 5] = [
@@ -148,13 +136,13 @@ zz: number Some(1), places [1], provided []
     },
     Case {
         name: "an essential name of the background",
-        texts: Texts::Both(CONFLICTING, BASE, true),
+        texts: Texts::Short(CONFLICTING, BASE, true),
         parts: ESSENTIALS,
         wanted: "essential [1]\n[Essential(1), Apart(0, 0), Only(0), Only(1)]\n",
     },
     Case {
         name: "an essential name of the background that does not count",
-        texts: Texts::Both(CONFLICTING, BASE, false),
+        texts: Texts::Short(CONFLICTING, BASE, false),
         parts: ESSENTIALS,
         wanted: "essential []\n[Apart(0, 0), Only(0), Only(1)]\n",
     },

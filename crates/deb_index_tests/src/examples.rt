@@ -4,67 +4,23 @@ use crate::reading::Texts;
 use crate::showing::{Case, Part, expect_each};
 use crate::texts::SPELLED;
 
-const ESSENTIALS: &[u8] = b"Package: x
-Version: 1
-Architecture: all
+const ESSENTIALS: &str = "x 1 / base 1 {ESSENTIAL: yes} / base 2 / y 1 {Essential: Yes}";
 
-Package: base
-Version: 1
-Architecture: all
-ESSENTIAL: yes
+const MIXED: &str =
+    "p 1 {Breaks: b1 (< 1); Depends: d1 | d2; Pre-Depends: e1, e2 (> 2); Conflicts: c1}";
 
-Package: base
-Version: 2
-Architecture: all
+const LACKING: &str = "a 1 {Depends: x, y}";
 
-Package: y
-Version: 1
-Architecture: all
-Essential: Yes
-";
-
-const MIXED: &[u8] = b"Package: p
-Version: 1
-Architecture: all
-Breaks: b1 (< 1)
-Depends: d1 | d2
-Pre-Depends: e1, e2 (> 2)
-Conflicts: c1
-";
-
-const LACKING: &[u8] = b"Package: a\nVersion: 1\nArchitecture: all\nDepends: x, y\n";
-
-const BASE: &[u8] = b"Package: base
-Version: 1
-Architecture: all
-Essential: yes
-
-Package: x
-Version: 1
-Architecture: all
-Conflicts: base
-";
+const BASE: &str = "base 1 {Essential: yes} / x 1 {Conflicts: base}";
 
 /// Two names that std's hasher makes one number of, which took a search through seven billion names; and one that only some package provides.
-const ONE_HASH: &[u8] = b"Package: 78aeb984bf2f7359
-Version: 1
-Architecture: all
-Provides: v
-
-Package: 6e32b12eb57e2885
-Version: 1
-Architecture: all
-Provides: 78aeb984bf2f7359
-
-Package: 6e32b12eb57e2885
-Version: 2
-Architecture: all
-";
+const ONE_HASH: &str =
+    "78aeb984bf2f7359 1 {Provides: v} / 6e32b12eb57e2885 1 {Provides: 78aeb984bf2f7359} / 6e32b12eb57e2885 2";
 
 static CASES: [Case; 9] = [
     Case {
         name: "names of one hash",
-        texts: Texts::One(ONE_HASH, true),
+        texts: Texts::Short(ONE_HASH, "", true),
         parts: &[
             Part::Names,
             Part::Name("78aeb984bf2f7359"),
@@ -100,31 +56,31 @@ A: number None, places [], provided []
     },
     Case {
         name: "essential names that count",
-        texts: Texts::One(ESSENTIALS, true),
+        texts: Texts::Short(ESSENTIALS, "", true),
         parts: &[Part::EssentialNames, Part::Name("base")],
         wanted: "essential [1]\nbase: number Some(1), places [1, 2], provided []\n",
     },
     Case {
         name: "essential names that do not count",
-        texts: Texts::One(ESSENTIALS, false),
+        texts: Texts::Short(ESSENTIALS, "", false),
         parts: &[Part::EssentialNames, Part::Name("base")],
         wanted: "essential []\nbase: number Some(1), places [1, 2], provided []\n",
     },
     Case {
         name: "constraints of what is lacking",
-        texts: Texts::One(LACKING, true),
+        texts: Texts::Short(LACKING, "", true),
         parts: &[Part::Constraints],
         wanted: "[Need(0, 0), Need(0, 1), Only(0)]\n",
     },
     Case {
         name: "constraints with an essential name",
-        texts: Texts::One(BASE, true),
+        texts: Texts::Short(BASE, "", true),
         parts: &[Part::Constraints],
         wanted: "[Essential(0), Apart(1, 0), Only(0), Only(1)]\n",
     },
     Case {
         name: "constraints without the essential name",
-        texts: Texts::One(BASE, false),
+        texts: Texts::Short(BASE, "", false),
         parts: &[Part::Constraints],
         wanted: "[Apart(1, 0), Only(0), Only(1)]\n",
     },
@@ -136,7 +92,7 @@ A: number None, places [], provided []
     },
     Case {
         name: "fields in the order of the list",
-        texts: Texts::One(MIXED, true),
+        texts: Texts::Short(MIXED, "", true),
         parts: &[Part::Groups],
         wanted: "Pre-Depends 2, Depends 1, Conflicts 1, Breaks 1
 need 0 0: e1

@@ -1,72 +1,20 @@
 //! Alternatives with the qualifier `any`, and the mark that they ask for.
 
 use crate::reading::Texts;
-use crate::showing::{Case, Part, expect_each};
+use crate::showing::{Case, Part, expect_each, expect_shown};
+use std::alloc::AllocError;
+use std::process::Abort;
+use std::thread::Threads;
 
-const UNMARKED: &[u8] = b"Package: a
-Version: 1
-Architecture: all
-Depends: python3:any
+const UNMARKED: &str = "a 1 {Depends: python3:any} / b 1 {Depends: n:i386} / python3 3 / n 1";
 
-Package: b
-Version: 1
-Architecture: all
-Depends: n:i386
+pub const MARKED: &str =
+    "a 1 {Depends: python3:any} / b 1 {Depends: n:i386} / python3 3 {Multi-Arch: allowed} / n 1";
 
-Package: python3
-Version: 3
-Architecture: all
+const PROVIDED: &str =
+    "a 1 {Depends: v:any} / q 1 {Provides: v; Multi-Arch: allowed} / p 1 {Provides: v; Multi-Arch: foreign} / c 1 {Depends: p; Conflicts: v:any}";
 
-Package: n
-Version: 1
-Architecture: all
-";
-
-const MARKED: &[u8] = b"Package: a
-Version: 1
-Architecture: all
-Depends: python3:any
-
-Package: b
-Version: 1
-Architecture: all
-Depends: n:i386
-
-Package: python3
-Version: 3
-Architecture: all
-Multi-Arch: allowed
-
-Package: n
-Version: 1
-Architecture: all
-";
-
-const PROVIDED: &[u8] = b"Package: a
-Version: 1
-Architecture: all
-Depends: v:any
-
-Package: q
-Version: 1
-Architecture: all
-Provides: v
-Multi-Arch: allowed
-
-Package: p
-Version: 1
-Architecture: all
-Provides: v
-Multi-Arch: foreign
-
-Package: c
-Version: 1
-Architecture: all
-Depends: p
-Conflicts: v:any
-";
-
-const INTERPRETERS: &[&str] = &["python3:any", "python3", "python3:amd64", "n:i386"];
+const INTERPRETERS: &str = "python3:any, python3, python3:amd64, n:i386";
 
 const INTERPRETER_PARTS: &[Part] = &[
     Part::Counts,
@@ -74,105 +22,30 @@ const INTERPRETER_PARTS: &[Part] = &[
     Part::NeedSatisfiers(INTERPRETERS),
 ];
 
-const PROVIDERS: &[&str] = &["v:any", "v", "v:amd64"];
+const PROVIDERS: &str = "v:any, v, v:amd64";
 
-/// A package for each value of the mark.
-const VALUES: &[u8] = b"Multi-Arch: allowed
-Package: a
-Version: 1
-Architecture: all
-
-Multi-Arch: allowed\x20
-Package: b
-Version: 1
-Architecture: all
-
-MULTI-ARCH:\tallowed
-Package: c
-Version: 1
-Architecture: all
-
-Multi-Arch:
- allowed
-Package: d
-Version: 1
-Architecture: all
-
-Multi-Arch: same
-Package: e
-Version: 1
-Architecture: all
-
-Multi-Arch: foreign
-Package: f
-Version: 1
-Architecture: all
-
-Multi-Arch: Allowed
-Package: g
-Version: 1
-Architecture: all
-
-Multi-Arch: allowed, foreign
-Package: h
-Version: 1
-Architecture: all
-
-Multi-Arch: no
-Package: i
-Version: 1
-Architecture: all
-
-Multi-Arch:
-Package: j
-Version: 1
-Architecture: all
-
-Multi-Arch:\x20
-Package: k
-Version: 1
-Architecture: all
-
-MultiArch: allowed
-Package: l
-Version: 1
-Architecture: all
-";
-
-static CASES: [Case; 4] = [
+static CASES: [Case; 3] = [
     Case {
         name: "an interpreter without the mark",
-        texts: Texts::One(UNMARKED, true),
+        texts: Texts::Short(UNMARKED, "", true),
         parts: INTERPRETER_PARTS,
         wanted: "packages 4, stanzas 4, skipped 0, duplicates 0
-python3:any: [2]
-python3: [2]
-python3:amd64: [2]
-n:i386: []
-python3:any in a group: []
-python3 in a group: [2]
-python3:amd64 in a group: [2]
-n:i386 in a group: []
+met: [2] | [2] | [2] | []
+met in a group: [] | [2] | [2] | []
 ",
     },
     Case {
         name: "an interpreter of any architecture",
-        texts: Texts::One(MARKED, true),
+        texts: Texts::Short(MARKED, "", true),
         parts: INTERPRETER_PARTS,
         wanted: "packages 4, stanzas 4, skipped 0, duplicates 0
-python3:any: [2]
-python3: [2]
-python3:amd64: [2]
-n:i386: []
-python3:any in a group: [2]
-python3 in a group: [2]
-python3:amd64 in a group: [2]
-n:i386 in a group: []
+met: [2] | [2] | [2] | []
+met in a group: [2] | [2] | [2] | []
 ",
     },
     Case {
         name: "providers with and without the mark",
-        texts: Texts::One(PROVIDED, true),
+        texts: Texts::Short(PROVIDED, "", true),
         parts: &[
             Part::Counts,
             Part::Satisfiers(PROVIDERS),
@@ -181,33 +54,11 @@ n:i386 in a group: []
             Part::HitRows,
         ],
         wanted: "packages 4, stanzas 4, skipped 0, duplicates 0
-v:any: [1, 2]
-v: [1, 2]
-v:amd64: [1, 2]
-v:any in a group: [1]
-v in a group: [1, 2]
-v:amd64 in a group: [1, 2]
-need 0 0: [1]
-need 3 0: [2]
-apart 3 0: [1, 2]
-",
-    },
-    Case {
-        name: "values of the mark",
-        texts: Texts::One(VALUES, true),
-        parts: &[Part::Packages],
-        wanted: "0: a 1 all, name 0, versions [0], marked true
-1: b 1 all, name 1, versions [1], marked true
-2: c 1 all, name 2, versions [2], marked true
-3: d 1 all, name 3, versions [3], marked true
-4: e 1 all, name 4, versions [4], marked false
-5: f 1 all, name 5, versions [5], marked false
-6: g 1 all, name 6, versions [6], marked false
-7: h 1 all, name 7, versions [7], marked false
-8: i 1 all, name 8, versions [8], marked false
-9: j 1 all, name 9, versions [9], marked false
-10: k 1 all, name 10, versions [10], marked false
-11: l 1 all, name 11, versions [11], marked false
+met: [1, 2] | [1, 2] | [1, 2]
+met in a group: [1] | [1, 2] | [1, 2]
+need 0: [1]
+need 3: [2]
+apart 3: [1, 2]
 ",
     },
 ];
@@ -215,4 +66,40 @@ apart 3 0: [1, 2]
 #[test]
 fn marks_and_what_asks_for_them(rt: HostRuntime) {
     expect_each(&rt, &CASES);
+}
+
+/// Fields, and whether each is the mark.
+static FIELDS: [(&str, bool); 12] = [
+    ("Multi-Arch: allowed", true),
+    ("Multi-Arch: allowed ", true),
+    ("MULTI-ARCH:\tallowed", true),
+    ("Multi-Arch:\n allowed", true),
+    ("Multi-Arch: same", false),
+    ("Multi-Arch: foreign", false),
+    ("Multi-Arch: Allowed", false),
+    ("Multi-Arch: allowed, foreign", false),
+    ("Multi-Arch: no", false),
+    ("Multi-Arch:", false),
+    ("Multi-Arch: ", false),
+    ("MultiArch: allowed", false),
+];
+
+fn expect_mark(
+    rt: &(impl Abort + Threads + Sync + AllocGlobal),
+    field: &str,
+    is_mark: bool,
+) -> Result<(), AllocError> {
+    let alloc = rt.alloc();
+    let text = format!(in alloc; "{field}\nPackage: a\nVersion: 1\nArchitecture: all\n")?;
+    let wanted = format!(in alloc; "0: a 1 all, name 0, versions [0], marked {is_mark}\n")?;
+    let texts = Texts::One(text.as_bytes(), true);
+    expect_shown(rt, field, texts, &[Part::Packages], &wanted);
+    Ok(())
+}
+
+#[test]
+fn values_of_the_mark(rt: HostRuntime) {
+    for (field, is_mark) in &FIELDS {
+        expect_mark(&rt, *field, *is_mark).expect(&rt, "no memory");
+    }
 }

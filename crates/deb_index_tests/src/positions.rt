@@ -8,34 +8,9 @@ use crate::showing::{Part, expect_shown};
 use deb_index::{Constraint, Index};
 use std::process::Abort;
 
-const SEVERAL: &[u8] = b"Package: a
-Version: 1
-Architecture: all
-Pre-Depends: b
-Depends: c | b, d
-Conflicts: e
-
-Package: b
-Version: 1
-Architecture: all
-Essential: yes
-
-Package: c
-Version: 1
-Architecture: all
-Conflicts: a (<< 1), e
-Breaks: d
-
-Package: b
-Version: 2
-Architecture: all
-Depends: c
-
-Package: d
-Version: 1
-Architecture: all
-Essential: yes
-";
+const SEVERAL: &str =
+    "a 1 {Pre-Depends: b; Depends: c | b, d; Conflicts: e} / b 1 {Essential: yes} / c 1 {Conflicts: a (<< 1), e; Breaks: d} / b 2 {Depends: c} /
+d 1 {Essential: yes}";
 
 /// Whether a constraint's own call gives this position.
 fn is_at(index: &Index, constraint: Constraint, position: u32) -> bool {
@@ -89,7 +64,7 @@ fn expect_listed(rt: &(impl Abort + AllocGlobal), index: &Index) {
 
 #[test]
 fn each_constraint_at_its_position(rt: HostRuntime) {
-    let texts = Texts::One(SEVERAL, true);
+    let texts = Texts::Short(SEVERAL, "", true);
     expect_shown(
         &rt,
         "constraints and packages",

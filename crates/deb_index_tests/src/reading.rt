@@ -5,10 +5,13 @@ use deb_index::{BothError, Index, IndexError, PartialIndex, TEXT_LIMIT};
 use std::alloc::Global;
 use std::process::Abort;
 use std::thread::Threads;
+use test_texts::index_of;
 
 /// Texts, each with the call that reads them for amd64.
 #[derive(Clone, Copy)]
 pub enum Texts<'a> {
+    /// A text and a background, which are written shortly, and whether the essential names count.
+    Short(&'a str, &'a str, bool),
     /// One text, and whether the essential names count.
     One(&'a [u8], bool),
     /// A text and a background, and whether the essential names count.
@@ -40,6 +43,16 @@ fn read_both(
         return Err(BothError::Memory);
     }
     Index::read_both(alloc, text, background, "amd64", essential)
+}
+
+fn read_short(
+    alloc: Global,
+    text: &str,
+    background: &str,
+    essential: bool,
+) -> Result<Index, BothError> {
+    let (text, background) = (index_of(alloc, text)?, index_of(alloc, background)?);
+    read_both(alloc, text.as_bytes(), background.as_bytes(), essential)
 }
 
 fn with_piece(
@@ -81,6 +94,9 @@ fn read_in_pieces(
 /// A fault of one of the texts; for want of memory, and where a text is too long, `Memory`.
 pub fn read(rt: &(impl Threads + Sync + AllocGlobal), texts: Texts) -> Result<Index, BothError> {
     match texts {
+        Texts::Short(text, background, essential) => {
+            read_short(rt.alloc(), text, background, essential)
+        }
         Texts::One(text, essential) => read_one(rt.alloc(), text, essential),
         Texts::Both(text, background, essential) => {
             read_both(rt.alloc(), text, background, essential)

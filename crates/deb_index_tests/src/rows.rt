@@ -6,72 +6,20 @@ use std::alloc::{AllocError, Global};
 use std::process::Abort;
 use std::thread::Threads;
 
-const MIXED: &[u8] = b"Package: a
-Version: 1
-Architecture: all
-Pre-Depends: v | w (>= 2), a
-Depends: w | v, v | v, none, none | w:any (<< 2), w:i386 | v:amd64 (= 2), w:any
-Conflicts: a, v
-Breaks: w (<< 2), none
-Provides: a (= 7), v (= 2)
-
-Package: w
-Version: 1
-Architecture: amd64
-Multi-Arch: allowed
-Provides: v
-Depends: a (= 7)
-
-Package: v
-Version: 3
-Architecture: all
-
-Package: w
-Version: 2
-Architecture: all
-Conflicts: v (>> 2), w:any
-Depends: a (= 1) | a (>> 1) | w, v
-";
+const MIXED: &str =
+    "a 1 {Pre-Depends: v | w (>= 2), a; Depends: w | v, v | v, none, none | w:any (<< 2), w:i386 | v:amd64 (= 2), w:any; Conflicts: a, v; Breaks: w (<< 2), none; Provides: a (= 7), v (= 2)} /
+w 1 amd64 {Multi-Arch: allowed; Provides: v; Depends: a (= 7)} / v 3 / w 2 {Conflicts: v (>> 2), w:any; Depends: a (= 1) | a (>> 1) | w, v}";
 
 // Each atom is asked for by two packages, most of them in both roles.
-const ASKED_TWICE: &[u8] = b"Package: first
-Version: 1
-Architecture: all
-Depends: v (>= 2), w:any, v, none
-Conflicts: w:any, v (>= 2), v (<< 3)
-
-Package: v
-Version: 2
-Architecture: all
-
-Package: v
-Version: 3
-Architecture: all
-
-Package: w
-Version: 1
-Architecture: all
-Multi-Arch: allowed
-Provides: v (= 2)
-
-Package: w
-Version: 2
-Architecture: all
-Provides: none (= 1), v
-
-Package: second
-Version: 1
-Architecture: all
-Pre-Depends: v
-Depends: v (<< 3), v (>= 2), w:any, none | w (= 2)
-Breaks: v (>= 2), v (= 3), w:any
-";
+const ASKED_TWICE: &str =
+    "first 1 {Depends: v (>= 2), w:any, v, none; Conflicts: w:any, v (>= 2), v (<< 3)} / v 2 / v 3 / w 1 {Multi-Arch: allowed; Provides: v (= 2)} /
+w 2 {Provides: none (= 1), v} / second 1 {Pre-Depends: v; Depends: v (<< 3), v (>= 2), w:any, none | w (= 2); Breaks: v (>= 2), v (= 3), w:any}";
 
 // A row that comes again has the same places, and an atom that stands in both roles a row in each.
 static CASES: [Case; 2] = [
     Case {
         name: "rows and answers of one index",
-        texts: Texts::One(MIXED, true),
+        texts: Texts::Short(MIXED, "", true),
         parts: &[
             Part::AnswerRows,
             Part::Answers,
@@ -118,7 +66,7 @@ name 2: v, places [2]
     },
     Case {
         name: "rows asked for twice",
-        texts: Texts::One(ASKED_TWICE, true),
+        texts: Texts::Short(ASKED_TWICE, "", true),
         parts: &[Part::AnswerRows, Part::HitRows],
         wanted: "need 0 0: [1, 2, 3]
 need 0 1: [3]

@@ -4,63 +4,17 @@ use crate::reading::Texts;
 use crate::showing::{Case, Part, expect_each};
 use crate::texts::{TWICE, VERSIONED};
 
-const UNVERSIONED: &[u8] = b"Package: foo
-Version: 1
-Architecture: all
-Depends: bar (>= 1.0)
+const UNVERSIONED: &str = "foo 1 {Depends: bar (>= 1.0)} / bar 0.9 / bar-plus 1 {Provides: bar}";
 
-Package: bar
-Version: 0.9
-Architecture: all
+const MAIL_AGENTS: &str =
+    "m1 1 {Provides: mail-agent; Conflicts: mail-agent} / m2 1 {Provides: mail-agent; Conflicts: mail-agent} / u 1 {Depends: m1, m2}";
 
-Package: bar-plus
-Version: 1
-Architecture: all
-Provides: bar
-";
-
-const MAIL_AGENTS: &[u8] = b"Package: m1
-Version: 1
-Architecture: all
-Provides: mail-agent
-Conflicts: mail-agent
-
-Package: m2
-Version: 1
-Architecture: all
-Provides: mail-agent
-Conflicts: mail-agent
-
-Package: u
-Version: 1
-Architecture: all
-Depends: m1, m2
-";
-
-const PROVIDED: &[u8] = b"Package: v
-Version: 1
-Architecture: all
-Provides: v (= 2), v
-
-Package: w
-Version: 1
-Architecture: all
-Provides: v
-";
+const PROVIDED: &str = "v 1 {Provides: v (= 2), v} / w 1 {Provides: v}";
 
 // One package provides each of these names, some twice, some without a version, and some for another architecture.
-const MANY_NAMES: &[u8] = b"Package: p
-Version: 5
-Architecture: all
-Provides: n1 (= 1), n2, n3 (= 3), n1 (= 2), n4:i386 (= 4), n2 (= 2), n5:any, p (= 9)
-Depends: n1 (= 1), n1 (= 2), n1 (= 3), n2, n2 (= 2), n2 (= 3), n3 (>> 2), n3 (<< 3), n4, n5, n5 (= 5), p (= 9), p (= 5), p (= 1), n1:any
-Conflicts: n1:any, n3:i386
-
-Package: n1
-Version: 3
-Architecture: all
-Provides: n3
-";
+const MANY_NAMES: &str =
+    "p 5 {Provides: n1 (= 1), n2, n3 (= 3), n1 (= 2), n4:i386 (= 4), n2 (= 2), n5:any, p (= 9); Depends: n1 (= 1), n1 (= 2), n1 (= 3), n2, n2 (= 2), n2 (= 3), n3 (>> 2), n3 (<< 3), n4, n5, n5 (= 5), p (= 9), p (= 5), p (= 1), n1:any; Conflicts: n1:any, n3:i386} /
+n1 3 {Provides: n3}";
 
 const NAMES: &[&str] = &[
     "n1 (= 1)",
@@ -96,7 +50,7 @@ Bar: []
     },
     Case {
         name: "no version is provided",
-        texts: Texts::One(UNVERSIONED, true),
+        texts: Texts::Short(UNVERSIONED, "", true),
         parts: &[Part::Satisfiers(&["bar (>= 1.0)", "bar"])],
         wanted: "bar (>= 1.0): []\nbar: [1, 2]\n",
     },
@@ -135,7 +89,7 @@ V: []
     },
     Case {
         name: "a name that is provided twice",
-        texts: Texts::One(PROVIDED, true),
+        texts: Texts::Short(PROVIDED, "", true),
         parts: &[
             Part::Name("v"),
             Part::Name("w"),
@@ -152,7 +106,7 @@ v:i386: []
     },
     Case {
         name: "mail agents",
-        texts: Texts::One(MAIL_AGENTS, true),
+        texts: Texts::Short(MAIL_AGENTS, "", true),
         parts: &[
             Part::Name("mail-agent"),
             Part::Satisfiers(&["mail-agent", "mail-agent (= 1)"]),
@@ -164,7 +118,7 @@ mail-agent (= 1): []
     },
     Case {
         name: "many names of one package",
-        texts: Texts::One(MANY_NAMES, true),
+        texts: Texts::Short(MANY_NAMES, "", true),
         parts: &[
             Part::Name("n1"),
             Part::Satisfiers(NAMES),

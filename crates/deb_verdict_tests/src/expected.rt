@@ -16,12 +16,25 @@ use deb_verdict::{
 use std::alloc::{AllocError, AllocGlobal, Global};
 use std::process::Abort;
 
-/// The text of an index, and what is expected of it.
+/// The short text of an index, and what is expected of it.
 #[derive(Clone, Copy)]
 pub struct Case<'a> {
     pub name: &'a str,
     pub text: &'a str,
     pub expected: &'a str,
+}
+
+impl<'a> Case<'a> {
+    /// Reads lines: the name, the text, and a line for each answer.
+    pub fn read(told: &'a str) -> Option<Case<'a>> {
+        let (name, rest) = told.split_once('\n')?;
+        let (text, expected) = rest.split_once('\n')?;
+        Some(Case {
+            name,
+            text,
+            expected,
+        })
+    }
 }
 
 /// A call that has to give the verdict that is expected, or what is told of it.

@@ -4,14 +4,14 @@
 
 use crate::expected::{ALL, Call, Case, expect_lines};
 use crate::grounded::Grounded;
-use crate::reading::read;
-use deb_index::Index;
+use deb_index::{Index, IndexError};
 use deb_verdict::Workspace;
 use std::alloc::{AllocError, AllocGlobal};
 use std::process::Abort;
+use test_texts::index_of;
 
-/// Compares what is found in each index, by all calls and one after the other in one workspace, with what is expected.
-pub fn expect_all(rt: &(impl Abort + AllocGlobal), cases: &[Case<'_>]) {
+/// Compares what is found in each index, by all calls and one after the other in one workspace, with what is expected. An empty line stands between cases.
+pub fn expect_all(rt: &(impl Abort + AllocGlobal), cases: &str) {
     expect_each(rt, true, &ALL, cases).expect(rt, "no memory");
 }
 
@@ -20,7 +20,7 @@ pub fn expect_each(
     rt: &(impl Abort + AllocGlobal),
     essential: bool,
     calls: &[Call],
-    cases: &[Case<'_>],
+    cases: &str,
 ) -> Result<(), AllocError> {
     let mut workspace = Workspace::new(rt.alloc())?;
     let compared = in_workspace(rt, &mut workspace, essential, calls, cases);
@@ -33,12 +33,28 @@ fn in_workspace(
     workspace: &mut Workspace,
     essential: bool,
     calls: &[Call],
-    cases: &[Case<'_>],
+    cases: &str,
 ) -> Result<(), AllocError> {
-    for case in cases {
-        on_text(rt, workspace, essential, calls, case)?;
+    for told in cases.split("\n\n") {
+        let case = Case::read(told).expect(rt, "a case lacks a part");
+        on_text(rt, workspace, essential, calls, &case)?;
     }
     Ok(())
+}
+
+/// The index of a text for amd64, with the essential names where they count.
+fn index_for(
+    rt: &(impl Abort + AllocGlobal),
+    text: &str,
+    essential: bool,
+) -> Result<Index, AllocError> {
+    let text = index_of(rt.alloc(), text)?;
+    assert!(rt; text.len() < 100_000, "the text is long");
+    match Index::read(rt.alloc(), text.as_bytes(), "amd64", essential) {
+        Ok(index) => Ok(index),
+        Err(IndexError::Memory) => Err(AllocError),
+        Err(_) => panic!(rt; "the text has a fault"),
+    }
 }
 
 fn on_text(
@@ -48,7 +64,7 @@ fn on_text(
     calls: &[Call],
     case: &Case<'_>,
 ) -> Result<(), AllocError> {
-    let index = read(rt, case.text, essential)?;
+    let index = index_for(rt, case.text, essential)?;
     let compared = on_index(rt, workspace, &index, calls, case);
     drop(index);
     compared

@@ -26,7 +26,7 @@ fn expect_refusal(
 }
 
 /// The index fails, with a background that fails at once and without one.
-static NO_INDEX: [Case; 2] = [
+static NO_INDEX: [Case<'static>; 2] = [
     Case {
         words: "|--arch|amd64|--explain|--bg|others",
         index: INDEX,
@@ -42,7 +42,7 @@ static NO_INDEX: [Case; 2] = [
 ];
 
 /// A failed read of the background goes before an unknown name.
-static NO_BACKGROUND: Case = Case {
+static NO_BACKGROUND: Case<'static> = Case {
     words: "|--arch|amd64|--bg|others|--checkonly|nobody",
     index: INDEX,
     status: 67,

@@ -6,6 +6,7 @@ use std::process::Abort;
 use std::thread::Threads;
 use std::time::Clock;
 use test_devices::{Cabinet, source_of};
+use test_texts::report_of;
 
 /// The first stanza has an essential name, the third is of another architecture, the fourth repeats the second, and the last depends on the first.
 const INDEX: &[u8] = b"Package: base
@@ -33,29 +34,9 @@ Architecture: all
 Depends: base, gone
 ";
 
-const REPORT: &[u8] = b"architecture: amd64
-report:
- -
-  package: b
-  version: 2
-  architecture: all
-  status: broken
-  reasons:
-   - essential: base
-   - conflict: b 2 Conflicts: base
- -
-  package: d
-  version: 1
-  architecture: all
-  status: broken
-  reasons:
-   - missing: d 1 Depends: gone
-stanzas: 5
-skipped: 1
-duplicates: 1
-asked: 3
-broken: 2
-";
+const REPORT: &str = "b 2: broken {essential: base / conflict: b 2 Conflicts: base}
+d 1: broken {missing: d 1 Depends: gone}
+stanzas 5, skipped 1, duplicates 1, asked 3, broken 2";
 
 /// The second package of the earlier index isn't broken in it, and its third is gone.
 const EARLIER: &[u8] = b"Package: base
@@ -73,28 +54,9 @@ Architecture: all
 Depends: gone
 ";
 
-const NEWS: &[u8] = b"architecture: amd64
-report:
- -
-  package: b
-  version: 2
-  architecture: all
-  status: broken
- -
-  package: d
-  version: 1
-  architecture: all
-  status: broken
-stanzas: 5
-skipped: 1
-duplicates: 1
-asked: 3
-broken: 2
-newly-broken: 2
-mended:
-gone:
- - e 1
-";
+const NEWS: &str = "b 2: broken
+d 1: broken
+stanzas 5, skipped 1, duplicates 1, asked 3, broken 2, newly-broken 2, mended {}, gone {e 1}";
 
 /// The third stanza has a fault, and so has the fifth.
 const FAULTY: &[u8] = b"Package: a
@@ -116,31 +78,22 @@ Architecture: all
 Package: e
 ";
 
-static CASES: [Case; 4] = [
-    Case {
-        words: "|--arch|amd64|--failures|--explain",
-        index: INDEX,
-        status: 1,
-        told: REPORT,
-    },
-    Case {
-        words: "|--arch|amd64|--since|earlier",
-        index: INDEX,
-        status: 1,
-        told: NEWS,
-    },
-    Case {
-        words: "|--arch|amd64",
-        index: FAULTY,
-        status: 65,
-        told: b"debcheck: stanza 3: bad version\n",
-    },
-    Case {
-        words: "|--arch|amd64|--since|faulty",
-        index: INDEX,
-        status: 65,
-        told: b"debcheck: earlier index: stanza 3: bad version\n",
-    },
+/// Words, an index, the status, and what is told.
+static CASES: [(&str, &[u8], u8, &str); 4] = [
+    ("|--arch|amd64|--failures|--explain", INDEX, 1, REPORT),
+    ("|--arch|amd64|--since|earlier", INDEX, 1, NEWS),
+    (
+        "|--arch|amd64",
+        FAULTY,
+        65,
+        "debcheck: stanza 3: bad version",
+    ),
+    (
+        "|--arch|amd64|--since|faulty",
+        INDEX,
+        65,
+        "debcheck: earlier index: stanza 3: bad version",
+    ),
 ];
 
 /// Both texts are read in pieces of so many bytes.
@@ -160,10 +113,17 @@ fn expect_pieces(
 /// Each stanza ends with a piece of one of these sizes, and each text has several pieces of most.
 #[test]
 fn pieces_of_any_size_come_to_the_same(rt: HostRuntime) {
-    for case in &CASES {
+    for (words, index, status, told) in &CASES {
+        let told = report_of(rt.alloc(), *told).expect(&rt, "no memory");
+        let case = Case {
+            words: *words,
+            index: *index,
+            status: *status,
+            told: told.as_bytes(),
+        };
         for piece in 1..=80 {
-            expect_pieces(&rt, case, piece);
+            expect_pieces(&rt, &case, piece);
         }
-        expect_pieces(&rt, case, 4_194_304);
+        expect_pieces(&rt, &case, 4_194_304);
     }
 }

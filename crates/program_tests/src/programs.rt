@@ -1,20 +1,22 @@
 //! Whole programs: words, an index and perhaps files go in, and the status, the output and the errors are compared.
 
-use crate::more_reasons::MORE_REASONS;
-use crate::runs::{Case, expect_on, run_on};
-use crate::since_programs::{self, BACKGROUND_OF_BOTH, CUT, EARLIER, ELSEWHERE};
+use crate::more_reasons::{ALL_REASONS, EDITOR, TWO_CAUSES, WHY};
+use crate::runs::{Case, expect_each, expect_on, run_on};
+use crate::since_programs::{
+    self, ALL_OF_NEWS, BACKGROUND_OF_BOTH, CUT, EARLIER, ELSEWHERE, NEWS, TWO_NEEDS,
+};
 use debcheck::OpenFault;
 use std::str::from_utf8;
 use test_devices::{BACKED_REPORT, BACKGROUND, Cabinet, INDEX, source_of};
 
-pub const WITH_BACKGROUND: Case = Case {
+pub const WITH_BACKGROUND: Case<'static> = Case {
     words: "|--arch|amd64|--explain|--bg|others",
     index: INDEX,
     status: 1,
     told: BACKED_REPORT,
 };
 
-pub const WITHOUT_BACKGROUND: Case = Case {
+pub const WITHOUT_BACKGROUND: Case<'static> = Case {
     words: "|--arch|amd64|--failures",
     index: INDEX,
     status: 1,
@@ -38,7 +40,7 @@ broken: 2
 ",
 };
 
-const CAUSES_IN_JSON: Case = Case {
+const CAUSES_IN_JSON: Case<'static> = Case {
     words: "|--arch|amd64|--format|json|--causes|--bg=others",
     index: INDEX,
     status: 1,
@@ -51,7 +53,7 @@ const CAUSES_IN_JSON: Case = Case {
 ",
 };
 
-const NOTHING_BROKEN: Case = Case {
+const NOTHING_BROKEN: Case<'static> = Case {
     words: "|--arch|amd64|--checkonly|a|--bg|others|--quiet",
     index: INDEX,
     status: 0,
@@ -71,14 +73,14 @@ broken: 0
 ",
 };
 
-const FAULT: Case = Case {
+const FAULT: Case<'static> = Case {
     words: "|--arch|amd64",
     index: b"Package: a\nVersion: 1\nArchitecture: all\n\nPackage: b\n",
     status: 65,
     told: b"debcheck: stanza 2: missing field\n",
 };
 
-const UNKNOWN_NAME: Case = Case {
+const UNKNOWN_NAME: Case<'static> = Case {
     words: "|--arch|amd64|--bg|others|--checkonly|a,zz",
     index: INDEX,
     status: 66,
@@ -92,7 +94,7 @@ Architecture: arm64
 ";
 
 /// Those of which nothing is asked, one most of whose stanzas are of other architectures, and a run that isn't strict.
-static STRICT_RUNS: &[Case] = &[
+static STRICT_RUNS: &[Case<'static>] = &[
     Case {
         words: "|--arch|amd64|--strict",
         index: b"",
@@ -161,7 +163,7 @@ broken: 0
     },
 ];
 
-const REFUSED_VALUE: Case = Case {
+const REFUSED_VALUE: Case<'static> = Case {
     words: "|--arch|all",
     index: INDEX,
     status: 64,
@@ -171,7 +173,7 @@ For more information, try '--help'.
 ",
 };
 
-const VERSION: Case = Case {
+const VERSION: Case<'static> = Case {
     words: "|--version",
     index: INDEX,
     status: 0,
@@ -188,7 +190,7 @@ static FILES: [(&str, &[u8]); 6] = [
     ("cut", CUT),
 ];
 
-static REPORTS: &[Case] = &[
+static REPORTS: &[Case<'static>] = &[
     WITH_BACKGROUND,
     WITHOUT_BACKGROUND,
     CAUSES_IN_JSON,
@@ -196,23 +198,24 @@ static REPORTS: &[Case] = &[
     VERSION,
 ];
 
-static FAULTS: &[Case] = &[FAULT, UNKNOWN_NAME, REFUSED_VALUE];
+static FAULTS: &[Case<'static>] = &[FAULT, UNKNOWN_NAME, REFUSED_VALUE];
 
 /// A report goes to the output, and a fault to the errors.
 #[test]
 fn each_program_tells_what_is_written(rt: HostRuntime) {
     let files = Cabinet::new(&FILES, OpenFault::Unopened);
-    for cases in [
-        REPORTS,
-        FAULTS,
-        STRICT_RUNS,
-        MORE_REASONS,
-        since_programs::NEWS,
-        since_programs::FAULTS,
-    ] {
+    for cases in [REPORTS, FAULTS, STRICT_RUNS, since_programs::FAULTS] {
         for case in cases {
             expect_on(&rt, &files, case);
         }
+    }
+    for (index, document) in [
+        (TWO_CAUSES, ALL_REASONS),
+        (EDITOR, WHY),
+        (from_utf8(since_programs::INDEX).unwrap_or(""), NEWS),
+        (TWO_NEEDS, ALL_OF_NEWS),
+    ] {
+        expect_each(&rt, &files, index, document);
     }
 }
 

@@ -9,6 +9,7 @@ use std::process::Abort;
 use std::thread::Threads;
 use std::time::Clock;
 use test_devices::{Cabinet, Feed, Held, Screen, sink_of, source_of, words_in};
+use test_texts::{index_of, report_of};
 
 /// What a program left.
 #[derive(Drop)]
@@ -48,11 +49,11 @@ pub fn run_line<O: Opener, S: Source + IsTerminal, R: Clock + Threads + Sync + A
 /// What a program is given, its status, and what it tells: on the output where the status is 0 or 1, else on the errors. The words have a `|` before
 /// each.
 #[derive(Clone, Copy)]
-pub struct Case {
-    pub words: &'static str,
-    pub index: &'static [u8],
+pub struct Case<'a> {
+    pub words: &'a str,
+    pub index: &'a [u8],
     pub status: u8,
-    pub told: &'static [u8],
+    pub told: &'a [u8],
 }
 
 /// The program under the words of a line, on sinks that take all.
@@ -79,7 +80,7 @@ pub fn expect_of(
     rt: &(impl Abort + Clock + Threads + Sync + AllocGlobal),
     files: &Cabinet<'_>,
     reader: &mut Feed<'_>,
-    case: &Case,
+    case: &Case<'_>,
 )
     requires { reader.old.failed ≡ false }
 {
@@ -101,9 +102,41 @@ pub fn expect_of(
 pub fn expect_on(
     rt: &(impl Abort + Clock + Threads + Sync + AllocGlobal),
     files: &Cabinet<'_>,
-    case: &Case,
+    case: &Case<'_>,
 ) -> u32 {
     let mut reader = source_of(case.index, 11);
     expect_of(rt, files, &mut reader, case);
     reader.reads
+}
+
+/// On an index the program under the words of `WORDS gives STATUS` comes to the report or the fault behind that line.
+fn expect_told(
+    rt: &(impl Abort + Clock + Threads + Sync + AllocGlobal),
+    files: &Cabinet<'_>,
+    index: &[u8],
+    told: &str,
+) {
+    let (head, report) = told.split_once('\n').expect(rt, "nothing is told");
+    let (words, status) = head.split_once(" gives ").expect(rt, "no status");
+    let report = report_of(rt.alloc(), report).expect(rt, "no memory");
+    let case = Case {
+        words,
+        index,
+        status: status.parse::<u8>().expect(rt, "no status"),
+        told: report.as_bytes(),
+    };
+    let _ = expect_on(rt, files, &case);
+}
+
+/// The same of each such text of a document, on an index that may be written shortly, as what is told may be.
+pub fn expect_each(
+    rt: &(impl Abort + Clock + Threads + Sync + AllocGlobal),
+    files: &Cabinet<'_>,
+    index: &str,
+    document: &str,
+) {
+    let index = index_of(rt.alloc(), index).expect(rt, "no memory");
+    for told in document.split("\n====\n") {
+        expect_told(rt, files, index.as_bytes(), told);
+    }
 }

@@ -63,285 +63,63 @@ Depends: y
 pub const CUT: &[u8] =
     b"Package: a\nVersion: 1\nArchitecture: all\nDepends: x\n\nPackage: b\nVersion: 2\nArchi";
 
-const NEWLY_BROKEN: &[u8] = b"architecture: amd64
-report:
- -
-  package: d
-  version: 1
-  architecture: all
-  status: broken
- -
-  package: e
-  version: 1
-  architecture: all
-  status: broken
-stanzas: 4
-skipped: 0
-duplicates: 0
-asked: 4
-broken: 3
-newly-broken: 2
-mended:
- - a 1
-gone:
- - b 2
-";
-
-const EXPLAINED: &[u8] = b"architecture: amd64
-report:
- -
-  package: d
-  version: 1
-  architecture: all
-  status: broken
-  reasons:
-   - missing: d 1 Depends: y
- -
-  package: e
-  version: 1
-  architecture: all
-  status: broken
-  reasons:
-   - missing: d 1 Depends: y
-   - depends: e 1 Depends: d
-stanzas: 4
-skipped: 0
-duplicates: 0
-asked: 4
-broken: 3
-newly-broken: 2
-mended:
- - a 1
-gone:
- - b 2
-causes: 1
- -
-  packages: 2
-  frees: 2
-  reasons:
-   - missing: y
-  needed-by:
-   - d 1 Depends: y
-  broken:
-   - d 1
-   - e 1
-";
-
-const DOCUMENT: &[u8] = b"{\"architecture\":\"amd64\",\"report\":[
-{\"package\":\"d\",\"version\":\"1\",\"architecture\":\"all\",\"status\":\"broken\"},
-{\"package\":\"e\",\"version\":\"1\",\"architecture\":\"all\",\"status\":\"broken\"}
-],\"stanzas\":4,\"skipped\":0,\"duplicates\":0,\"asked\":4,\"broken\":3,\"newly-broken\":2,\"mended\":[{\"package\":\"a\",\"version\":\"1\"}],\"gone\":[{\"package\":\"b\",\"version\":\"2\"}]}
-";
-
 /// `a` and `b` are gone, `c` is broken as before, and `d` newly broken, each by two needs.
-const TWO_NEEDS: &[u8] = b"Package: c
-Version: 2
-Architecture: all
-Depends: z, v
+pub static TWO_NEEDS: &str = "c 2 {Depends: z, v} / d 1 {Depends: w, y}";
 
-Package: d
-Version: 1
-Architecture: all
-Depends: w, y
-";
-
-const ALL_OF_NEWS: &[u8] = b"architecture: amd64
-report:
- -
-  package: d
-  version: 1
-  architecture: all
-  status: broken
-  reasons:
-   - missing: d 1 Depends: y
-  also:
-   - missing: d 1 Depends: w
-stanzas: 2
-skipped: 0
-duplicates: 0
-asked: 2
-broken: 2
-newly-broken: 1
-mended:
-gone:
- - a 1
- - b 2
-causes: 2
- -
-  packages: 1
-  frees: 0
-  reasons:
-   - missing: y
-  needed-by:
-   - d 1 Depends: y
-  broken:
-   - d 1
- -
-  packages: 1
-  frees: 0
-  reasons:
-   - missing: w
-  needed-by:
-   - d 1 Depends: w
-  broken:
-   - d 1
-";
-
-/// With the background behind each index `b` was not broken, and `d` isn't.
-const BEHIND: &[u8] = b"architecture: amd64
-report:
-stanzas: 5
-skipped: 0
-duplicates: 0
-background: 1
-asked: 4
-broken: 1
-newly-broken: 0
-mended:
- - a 1
-gone:
-causes: 0
-";
-
-const OF_E: &[u8] = b"architecture: amd64
-report:
- -
-  package: e
-  version: 1
-  architecture: all
-  status: broken
-stanzas: 4
-skipped: 0
-duplicates: 0
-asked: 1
-broken: 1
-newly-broken: 1
-mended:
-gone:
-";
-
-const OF_A_AND_C: &[u8] = b"architecture: amd64
-report:
-stanzas: 4
-skipped: 0
-duplicates: 0
-asked: 2
-broken: 1
-newly-broken: 0
-mended:
- - a 1
-gone:
-";
-
-const OF_THE_SAME: &[u8] = b"architecture: amd64
-report:
-stanzas: 4
-skipped: 0
-duplicates: 0
-asked: 4
-broken: 3
-newly-broken: 0
-mended:
-gone:
-";
-
-const ALL_NEW: &[u8] = b"architecture: amd64
-report:
- -
-  package: c
-  version: 2
-  architecture: all
-  status: broken
- -
-  package: d
-  version: 1
-  architecture: all
-  status: broken
- -
-  package: e
-  version: 1
-  architecture: all
-  status: broken
-stanzas: 4
-skipped: 0
-duplicates: 0
-asked: 4
-broken: 3
-newly-broken: 3
-mended:
-gone:
-";
+pub static ALL_OF_NEWS: &str = "|--arch|amd64|--causes|--all-reasons|--since|old gives 1
+d 1: broken {missing: d 1 Depends: y} also {missing: d 1 Depends: w}
+stanzas 2, skipped 0, duplicates 0, asked 2, broken 2, newly-broken 1, mended {}, gone {a 1 / b 2}, causes 2
+cause 1 0 reasons {missing: y} needed-by {d 1 Depends: y} broken {d 1}
+cause 1 0 reasons {missing: w} needed-by {d 1 Depends: w} broken {d 1}";
 
 /// What any number of workers finds, whatever is to be shown. A name that the earlier index doesn't have is no fault, and packages that are broken as
-/// before leave the status at 0. An index of another architecture has no package, and so none that was broken.
-pub static NEWS: &[Case] = &[
-    Case {
-        words: "|--arch|amd64|--since|old",
-        index: INDEX,
-        status: 1,
-        told: NEWLY_BROKEN,
-    },
-    Case {
-        words: "|--arch|amd64|--since=old|--failures|--workers|1",
-        index: INDEX,
-        status: 1,
-        told: NEWLY_BROKEN,
-    },
-    Case {
-        words: "|--arch|amd64|--workers|64|--chunk|1|--since|old",
-        index: INDEX,
-        status: 1,
-        told: NEWLY_BROKEN,
-    },
-    Case {
-        words: "|--arch|amd64|--since|old|--format|json",
-        index: INDEX,
-        status: 1,
-        told: DOCUMENT,
-    },
-    Case {
-        words: "|--arch|amd64|--explain|--causes|--since|old",
-        index: INDEX,
-        status: 1,
-        told: EXPLAINED,
-    },
-    Case {
-        words: "|--arch|amd64|--causes|--all-reasons|--since|old",
-        index: TWO_NEEDS,
-        status: 1,
-        told: ALL_OF_NEWS,
-    },
-    Case {
-        words: "|--arch|amd64|--causes|--bg|behind|--since|old",
-        index: INDEX,
-        status: 0,
-        told: BEHIND,
-    },
-    Case {
-        words: "|--arch|amd64|--since|old|--checkonly|e",
-        index: INDEX,
-        status: 1,
-        told: OF_E,
-    },
-    Case {
-        words: "|--arch|amd64|--since|old|--checkonly|c,a",
-        index: INDEX,
-        status: 0,
-        told: OF_A_AND_C,
-    },
-    Case {
-        words: "|--arch|amd64|--since|same",
-        index: INDEX,
-        status: 0,
-        told: OF_THE_SAME,
-    },
-    Case {
-        words: "|--arch|amd64|--since|elsewhere",
-        index: INDEX,
-        status: 1,
-        told: ALL_NEW,
-    },
-];
+/// before leave the status at 0. An index of another architecture has no package, and so none that was broken. With the background behind each index `b` was
+/// not broken, and `d` isn't.
+pub static NEWS: &str = r#"|--arch|amd64|--since|old gives 1
+d 1: broken
+e 1: broken
+stanzas 4, skipped 0, duplicates 0, asked 4, broken 3, newly-broken 2, mended {a 1}, gone {b 2}
+====
+|--arch|amd64|--since=old|--failures|--workers|1 gives 1
+d 1: broken
+e 1: broken
+stanzas 4, skipped 0, duplicates 0, asked 4, broken 3, newly-broken 2, mended {a 1}, gone {b 2}
+====
+|--arch|amd64|--workers|64|--chunk|1|--since|old gives 1
+d 1: broken
+e 1: broken
+stanzas 4, skipped 0, duplicates 0, asked 4, broken 3, newly-broken 2, mended {a 1}, gone {b 2}
+====
+|--arch|amd64|--since|old|--format|json gives 1
+{"architecture":"amd64","report":[
+{"package":"d","version":"1","architecture":"all","status":"broken"},
+{"package":"e","version":"1","architecture":"all","status":"broken"}
+],"stanzas":4,"skipped":0,"duplicates":0,"asked":4,"broken":3,"newly-broken":2,"mended":[{"package":"a","version":"1"}],"gone":[{"package":"b","version":"2"}]}
+====
+|--arch|amd64|--explain|--causes|--since|old gives 1
+d 1: broken {missing: d 1 Depends: y}
+e 1: broken {missing: d 1 Depends: y / depends: e 1 Depends: d}
+stanzas 4, skipped 0, duplicates 0, asked 4, broken 3, newly-broken 2, mended {a 1}, gone {b 2}, causes 1
+cause 2 2 reasons {missing: y} needed-by {d 1 Depends: y} broken {d 1 / e 1}
+====
+|--arch|amd64|--causes|--bg|behind|--since|old gives 0
+stanzas 5, skipped 0, duplicates 0, background 1, asked 4, broken 1, newly-broken 0, mended {a 1}, gone {}, causes 0
+====
+|--arch|amd64|--since|old|--checkonly|e gives 1
+e 1: broken
+stanzas 4, skipped 0, duplicates 0, asked 1, broken 1, newly-broken 1, mended {}, gone {}
+====
+|--arch|amd64|--since|old|--checkonly|c,a gives 0
+stanzas 4, skipped 0, duplicates 0, asked 2, broken 1, newly-broken 0, mended {a 1}, gone {}
+====
+|--arch|amd64|--since|same gives 0
+stanzas 4, skipped 0, duplicates 0, asked 4, broken 3, newly-broken 0, mended {}, gone {}
+====
+|--arch|amd64|--since|elsewhere gives 1
+c 2: broken
+d 1: broken
+e 1: broken
+stanzas 4, skipped 0, duplicates 0, asked 4, broken 3, newly-broken 3, mended {}, gone {}"#;
 
 /// An index with a fault in its first stanza.
 const FAULTY: &[u8] = b"Package: a\nVersion: 1\n";
@@ -356,7 +134,7 @@ const EMPTY: &[u8] = b"debcheck: the index is empty\n";
 
 /// Those of the index and of the asked names go before those of the earlier index; that an index has no package goes behind an unknown name. An earlier
 /// index without a package is no fault.
-pub static FAULTS: &[Case] = &[
+pub static FAULTS: &[Case<'static>] = &[
     Case {
         words: "|--arch|amd64|--since|cut",
         index: INDEX,

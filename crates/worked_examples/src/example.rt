@@ -9,18 +9,28 @@ use devices::{Source, Std};
 use run_settings::Config;
 use std::alloc::{AllocError, Global};
 use std::thread::Threads;
+use test_texts::{index_of, report_of};
 use work_draw::OpenGate;
-
-/// The words that ask for amd64 and for explanations.
-pub const EXPLAINED: &str = "--arch amd64 --explain";
 
 /// What stands between two examples of a document.
 pub const NEXT: &str = "\n====\n";
 
-/// What stands between two parts of an example.
-const PART: &str = "\n----\n";
+/// The report on no stanza.
+pub const EMPTY_REPORT: &str = "stanzas 0, skipped 0, duplicates 0, asked 0, broken 0";
 
-/// The words of a command line, one text or two, and the answer of a run.
+/// A run on a text alone under these words, for amd64.
+pub fn example_of<'a>(words: &'a str, status: u8, text: &'a str, answer: &'a str) -> Example<'a> {
+    Example {
+        name: "",
+        status,
+        words,
+        text,
+        background: "",
+        answer,
+    }
+}
+
+/// The words of a command line, one text or two, and the answer of a run. Texts and reports may be written shortly.
 #[derive(Clone, Copy)]
 pub struct Example<'a> {
     pub name: &'a str,
@@ -29,24 +39,21 @@ pub struct Example<'a> {
     pub words: &'a str,
     pub text: &'a str,
     /// The second text, where there is one: what stands under the name that the words give.
-    pub background: Option<&'a str>,
+    pub background: &'a str,
     /// The report, or the line of the fault under a status above 1.
     pub answer: &'a str,
 }
 
 impl<'a> Example<'a> {
-    /// Reads `NAME gives STATUS under WORDS`, the text, perhaps a second text, and the answer, with `PART` between each two.
+    /// Reads lines: `NAME under WORDS`, the text, perhaps `with` and a second text, `gives STATUS`, and the answer.
     ///
-    /// A document keeps each text byte by byte: one that ends with a line feed has an empty line behind it.
+    /// A text that isn't written shortly stands byte by byte: one that ends with a line feed has an empty line behind it.
     pub fn read(told: &'a str) -> Option<Example<'a>> {
-        let (head, texts) = told.split_once(PART)?;
-        let (name, asked) = head.split_once(" gives ")?;
-        let (status, words) = asked.split_once(" under ")?;
-        let (text, rest) = texts.split_once(PART)?;
-        let (background, answer) = match rest.split_once(PART) {
-            Some((background, answer)) => (Some(background), answer),
-            None => (None, rest),
-        };
+        let (head, texts) = told.split_once('\n')?;
+        let (name, words) = head.split_once(" under ")?;
+        let (texts, answer) = texts.split_once("\ngives ")?;
+        let (status, answer) = answer.split_once('\n')?;
+        let (text, background) = texts.split_once("\nwith\n").unwrap_or((texts, ""));
         Some(Example {
             name,
             status: status.parse::<u8>().ok()?,
@@ -78,26 +85,21 @@ fn config_of(alloc: Global, words: &str, more: &str) -> Option<Config>
     read_line(alloc, list).ok()
 }
 
-/// Whether this is the line of the fault.
-fn has_line(alloc: Global, fault: &RunFault, line: &str) -> bool {
-    match fault_line(alloc, fault) {
-        Ok(told) => told.as_slice() == line.as_bytes(),
-        Err(_) => false,
-    }
-}
-
 /// Whether a run that came to this and wrote this gives the answer of the example: the whole report, or the line of a fault under which nothing was written.
 fn is_answer(
     alloc: Global,
     example: &Example<'_>,
     outcome: &Result<Summary, RunFault>,
     written: &[u8],
-) -> bool {
+) -> Result<bool, AllocError> {
+    let answer = report_of(alloc, example.answer)?;
     let told = match outcome {
-        Ok(_) => written == example.answer.as_bytes(),
-        Err(fault) => written.is_empty() && has_line(alloc, fault, example.answer),
+        Ok(_) => written == answer.as_bytes(),
+        Err(fault) => {
+            written.is_empty() && fault_line(alloc, fault)?.as_slice() == answer.as_bytes()
+        }
     };
-    told && status(outcome) == example.status
+    Ok(told && status(outcome) == example.status)
 }
 
 /// Whether a run under a configuration on what a reader gives has the answer of the example.
@@ -112,17 +114,20 @@ pub fn gives_under<S: Source, R: Threads + Sync>(
     requires workers { (0 < config.now.workers) × (config.now.workers ≤ 64) }
     requires chunk { 0 < config.now.chunk }
 {
+    let Ok(background) = index_of(alloc, example.background) else {
+        return false;
+    };
     let mut written = Vec::new(alloc);
     let outcome = run(
         rt,
         alloc,
         config,
         reader,
-        &mut Std::new(example.background.unwrap_or("").as_bytes()),
+        &mut Std::new(background.as_bytes()),
         &mut Std::new(&mut written),
         &OpenGate,
     );
-    is_answer(alloc, example, &outcome, &written)
+    is_answer(alloc, example, &outcome, &written).unwrap_or(false)
 }
 
 /// The same under the words of the example and more.
@@ -143,6 +148,8 @@ pub fn gives_on<S: Source, R: Threads + Sync>(
 
 /// The same on the text of the example.
 pub fn gives<R: Threads + Sync>(rt: &R, alloc: Global, more: &str, example: &Example<'_>) -> bool {
-    let mut reader = Std::new(example.text.as_bytes());
-    gives_on(rt, alloc, more, &mut reader, example)
+    match index_of(alloc, example.text) {
+        Ok(text) => gives_on(rt, alloc, more, &mut Std::new(text.as_bytes()), example),
+        Err(_) => false,
+    }
 }

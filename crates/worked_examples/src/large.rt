@@ -1,143 +1,48 @@
 //! A group of 10,000 alternatives, a package with 20,000 groups, and many line feeds.
 
-use crate::example::{EXPLAINED, Example, gives, gives_on};
-use crate::relations::EMPTY_REPORT;
+use crate::example::{EMPTY_REPORT, example_of, gives, gives_on};
 use devices::{DeviceFault, Source};
 use std::alloc::{AllocError, Global};
 use std::thread::Threads;
 
-/// `n0 | n1 | .. | n9999`.
-fn alternatives(alloc: Global) -> Result<String, AllocError> {
-    let mut group = String::from_str(alloc, "n0")?;
-    for number in 1..10_000 {
-        write!(group, " | n{number}")?;
-    }
-    Ok(group)
-}
-
-/// `x0 | y0, x1 | y1, .. , x19999 | y19999`.
-fn groups(alloc: Global) -> Result<String, AllocError> {
-    let mut field = String::from_str(alloc, "x0 | y0")?;
-    for number in 1..20_000 {
-        write!(field, ", x{number} | y{number}")?;
-    }
-    Ok(field)
-}
-
-/// A stanza without dependencies, behind an empty line.
-fn push_stanza(text: &mut String, letter: char, number: u32) -> Result<(), AllocError> {
-    write!(
-        text,
-        "
-Package: {letter}{number}
-Version: 1
-Architecture: all
-"
-    )
-}
-
-/// The stanza of a package that depends on this.
-fn stanza_of(alloc: Global, name: &str, field: &str) -> Result<String, AllocError> {
-    format!(in alloc;
-        "Package: {name}
-Version: 1
-Architecture: all
-Depends: {field}
-"
-    )
-}
-
-/// A package whose need has many alternatives, and the report on it alone.
+/// A package whose need has the alternatives `n0 | n1 | .. | n9999`, and the report on it alone.
 fn alternatives_alone(alloc: Global) -> Result<(String, String), AllocError> {
-    let group = alternatives(alloc)?;
-    let report = format!(in alloc;
-        "architecture: amd64
-report:
- -
-  package: a
-  version: 1
-  architecture: all
-  status: broken
-  reasons:
-   - missing: a 1 Depends: {group}
-stanzas: 1
-skipped: 0
-duplicates: 0
-asked: 1
-broken: 1
-"
-    )?;
-    Ok((stanza_of(alloc, "a", group.as_str())?, report))
+    let mut text = String::from_str(alloc, "a 1 {Depends: n0")?;
+    let mut report = String::from_str(alloc, "a 1: broken {missing: a 1 Depends: n0")?;
+    for number in 1..10_000 {
+        write!(text, " | n{number}")?;
+        write!(report, " | n{number}")?;
+    }
+    text.push('}')?;
+    report.push_str("}\nstanzas 1, skipped 0, duplicates 0, asked 1, broken 1")?;
+    Ok((text, report))
 }
 
 /// The package, and each of its alternatives.
 fn alternatives_met(alloc: Global) -> Result<(String, String), AllocError> {
-    let group = alternatives(alloc)?;
-    let mut text = stanza_of(alloc, "a", group.as_str())?;
+    let (mut text, _) = alternatives_alone(alloc)?;
     for number in 0..10_000 {
-        push_stanza(&mut text, 'n', number)?;
+        write!(text, " / n{number} 1")?;
     }
-    let report = "architecture: amd64
-report:
- -
-  package: a
-  version: 1
-  architecture: all
-  status: ok
-  installation-set:
-   - a 1
-   - n9999 1
-stanzas: 10001
-skipped: 0
-duplicates: 0
-asked: 1
-broken: 0
-";
+    let report = "a 1: ok {a 1 / n9999 1}
+stanzas 10001, skipped 0, duplicates 0, asked 1, broken 0";
     Ok((text, String::from_str(alloc, report)?))
 }
 
-/// A package with many groups, and both alternatives of each. The last alternative of each group is in the set.
+/// A package with the groups `x0 | y0, .. , x19999 | y19999`, and both alternatives of each. The last alternative of each group is in the set.
 fn groups_met(alloc: Global) -> Result<(String, String), AllocError> {
-    let field = groups(alloc)?;
-    let mut text = stanza_of(alloc, "p", field.as_str())?;
-    let mut report = String::from_str(alloc, BEFORE_THE_SET)?;
+    let mut text = String::from_str(alloc, "p 1 {Depends: x0 | y0")?;
+    for number in 1..20_000 {
+        write!(text, ", x{number} | y{number}")?;
+    }
+    text.push('}')?;
+    let mut report = String::from_str(alloc, "p 1: ok {p 1")?;
     for number in 0..20_000 {
-        push_stanza(&mut text, 'x', number)?;
-        push_stanza(&mut text, 'y', number)?;
-        write!(report, "   - y{number} 1\n")?;
+        write!(text, " / x{number} 1 / y{number} 1")?;
+        write!(report, " / y{number} 1")?;
     }
-    report.push_str(BEHIND_THE_SET)?;
+    report.push_str("}\nstanzas 40001, skipped 0, duplicates 0, asked 1, broken 0")?;
     Ok((text, report))
-}
-
-const BEFORE_THE_SET: &str = "architecture: amd64
-report:
- -
-  package: p
-  version: 1
-  architecture: all
-  status: ok
-  installation-set:
-   - p 1
-";
-
-const BEHIND_THE_SET: &str = "stanzas: 40001
-skipped: 0
-duplicates: 0
-asked: 1
-broken: 0
-";
-
-/// A run on a text alone, and its report.
-fn example_of<'a>(words: &'a str, status: u8, text: &'a str, answer: &'a str) -> Example<'a> {
-    Example {
-        name: "",
-        status,
-        words,
-        text,
-        background: None,
-        answer,
-    }
 }
 
 /// Whether there are both, and the run gives this report on the asked package of the text.
@@ -203,17 +108,9 @@ impl Source for Feeds {
     }
 }
 
-static LINE_FEEDS: Example<'static> = Example {
-    name: "",
-    status: 0,
-    words: EXPLAINED,
-    text: "",
-    background: None,
-    answer: EMPTY_REPORT,
-};
-
 #[test]
 fn line_feeds_alone_are_an_empty_index(rt: HostRuntime) {
     let mut reader = Feeds::new(268_435_457);
-    assert!(rt; gives_on(&rt, rt.alloc(), "", &mut reader, &LINE_FEEDS));
+    let example = example_of("--arch amd64 --explain", 0, "", EMPTY_REPORT);
+    assert!(rt; gives_on(&rt, rt.alloc(), "", &mut reader, &example));
 }

@@ -1,10 +1,7 @@
 //! Each example gives its bytes.
 
 use crate::example::{Example, NEXT, gives};
-use crate::{
-    backgrounds, json_reports, meanings, qualifiers, refusals, relations, sample, settings, walks,
-    without_sets,
-};
+use crate::{crews, json_reports, refusals, rows, walks};
 use std::process::Abort;
 use std::thread::Threads;
 
@@ -25,10 +22,10 @@ fn check(rt: &(impl Abort + Threads + Sync + AllocGlobal), document: &str, more:
 #[test]
 fn examples_give_their_reports(rt: HostRuntime) {
     for document in [
-        relations::EXAMPLES,
-        meanings::EXAMPLES,
-        qualifiers::EXAMPLES,
-        settings::EXAMPLES,
+        rows::RELATIONS,
+        rows::MEANINGS,
+        rows::QUALIFIERS,
+        rows::SETTINGS,
         refusals::EXAMPLES,
         json_reports::EXAMPLES,
         walks::EXAMPLES,
@@ -36,12 +33,11 @@ fn examples_give_their_reports(rt: HostRuntime) {
         check(&rt, document, &[""]);
     }
     for document in [
-        backgrounds::USED,
-        backgrounds::ESSENTIAL,
-        backgrounds::REFUSED,
+        crews::BACKGROUNDS,
+        crews::REFUSED_BACKGROUNDS,
+        crews::WITHOUT_SETS,
     ] {
-        check(&rt, document, &backgrounds::CREWS);
+        check(&rt, document, &crews::CREWS);
     }
-    check(&rt, sample::EXAMPLES, &sample::CREWS);
-    check(&rt, without_sets::EXAMPLES, &without_sets::CREWS);
+    check(&rt, crews::SAMPLE, &crews::SAMPLE_CREWS);
 }
