@@ -54,8 +54,8 @@ foreground 1
 1: b 1 all, name 1, versions [1, 2], marked false
 2: b 2 all, name 1, versions [1, 2], marked false
 b: number Some(1), places [1, 2], provided []
-need 0 0: [1, 2]
-need 1 0: []
+need 0: [1, 2]
+need 1: []
 ";
 
 const COUNTS: &[Part] = &[Part::Counts, Part::Foreground];
@@ -152,7 +152,7 @@ zz: number Some(1), places [1], provided []
         parts: LASTS,
         wanted: "packages 4, stanzas 4, skipped 0, duplicates 0
 last: number Some(2), places [3], provided []
-need 3 0: [0, 1, 2]
+need 3: [0, 1, 2]
 ",
     },
     Case {
@@ -161,7 +161,7 @@ need 3 0: [0, 1, 2]
         parts: LASTS,
         wanted: "packages 4, stanzas 4, skipped 0, duplicates 0
 last: number Some(0), places [0], provided []
-need 0 0: [1, 2, 3]
+need 0: [1, 2, 3]
 ",
     },
 ];

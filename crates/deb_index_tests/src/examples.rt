@@ -95,11 +95,8 @@ A: number None, places [], provided []
         texts: Texts::Short(MIXED, "", true),
         parts: &[Part::Groups],
         wanted: "Pre-Depends 2, Depends 1, Conflicts 1, Breaks 1
-need 0 0: e1
-need 0 1: e2
-need 0 2: d1 d2
-apart 0 0: c1
-apart 0 1: b1
+need 0: e1 | e2 | d1 d2
+apart 0: c1 | b1
 ",
     },
 ];

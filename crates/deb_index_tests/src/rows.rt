@@ -27,34 +27,14 @@ static CASES: [Case; 2] = [
             Part::Packages,
             Part::Names,
         ],
-        wanted: "need 0 0: [0, 1, 2, 3]
-need 0 1: [0]
-need 0 2: [0, 1, 2, 3]
-need 0 3: [0, 1, 2]
-need 0 4: []
-need 0 5: [1]
-need 0 6: [0]
-need 0 7: [1]
-need 1 0: [0]
-need 3 0: [0, 1, 3]
-need 3 1: [0, 1, 2]
-answers 0 0: [0, 1, 2, 3]
-answers 0 1: [0]
-answers 0 2: [0, 1, 2, 3]
-answers 0 3: [0, 1, 2]
-answers 0 4: []
-answers 0 5: [1]
-answers 0 6: [0]
-answers 0 7: [1]
-answers 1 0: [0]
-answers 3 0: [0, 1, 3]
-answers 3 1: [0, 1, 2]
-apart 0 0: [0]
-apart 0 1: [0, 1, 2]
-apart 0 2: [1]
-apart 0 3: []
-apart 3 0: [2]
-apart 3 1: [1, 3]
+        wanted: "need 0: [0, 1, 2, 3] | [0] | [0, 1, 2, 3] | [0, 1, 2] | [] | [1] | [0] | [1]
+need 1: [0]
+need 3: [0, 1, 3] | [0, 1, 2]
+answers 0: [0, 1, 2, 3] | [0] | [0, 1, 2, 3] | [0, 1, 2] | [] | [1] | [0] | [1]
+answers 1: [0]
+answers 3: [0, 1, 3] | [0, 1, 2]
+apart 0: [0] | [0, 1, 2] | [1] | []
+apart 3: [2] | [1, 3]
 0: a 1 all, name 0, versions [0], marked false
 1: w 1 amd64, name 1, versions [1, 3], marked true
 2: v 3 all, name 2, versions [2], marked false
@@ -68,21 +48,10 @@ name 2: v, places [2]
         name: "rows asked for twice",
         texts: Texts::Short(ASKED_TWICE, "", true),
         parts: &[Part::AnswerRows, Part::HitRows],
-        wanted: "need 0 0: [1, 2, 3]
-need 0 1: [3]
-need 0 2: [1, 2, 3, 4]
-need 0 3: [4]
-need 5 0: [1, 2, 3, 4]
-need 5 1: [1, 3]
-need 5 2: [1, 2, 3]
-need 5 3: [3]
-need 5 4: [4]
-apart 0 0: [3, 4]
-apart 0 1: [1, 2, 3]
-apart 0 2: [1, 3]
-apart 5 0: [1, 2, 3]
-apart 5 1: [2]
-apart 5 2: [3, 4]
+        wanted: "need 0: [1, 2, 3] | [3] | [1, 2, 3, 4] | [4]
+need 5: [1, 2, 3, 4] | [1, 3] | [1, 2, 3] | [3] | [4]
+apart 0: [3, 4] | [1, 2, 3] | [1, 3]
+apart 5: [1, 2, 3] | [2] | [3, 4]
 ",
     },
 ];
@@ -152,10 +121,8 @@ static CROWDS: [Crowd; 6] = [
         again: false,
         parts: ROWS,
         wanted: "packages 263, stanzas 263, skipped 0, duplicates 0
-need 0 0: none
-need 0 1: none
-need 0 2: [0]
-apart 0 0: none
+need 0: none | none | [0]
+apart 0: none
 ",
     },
     Crowd {
@@ -164,10 +131,8 @@ apart 0 0: none
         again: false,
         parts: ROWS,
         wanted: "packages 258, stanzas 258, skipped 0, duplicates 0
-need 0 0: none
-need 0 1: none
-need 0 2: [0]
-apart 0 0: none
+need 0: none | none | [0]
+apart 0: none
 ",
     },
     Crowd {
@@ -176,10 +141,8 @@ apart 0 0: none
         again: false,
         parts: ROWS,
         wanted: "packages 257, stanzas 257, skipped 0, duplicates 0
-need 0 0: 256 from Some(1)
-need 0 1: none
-need 0 2: [0]
-apart 0 0: 256 from Some(1)
+need 0: 256 from Some(1) | none | [0]
+apart 0: 256 from Some(1)
 ",
     },
     Crowd {
@@ -188,10 +151,8 @@ apart 0 0: 256 from Some(1)
         again: false,
         parts: ROWS,
         wanted: "packages 256, stanzas 256, skipped 0, duplicates 0
-need 0 0: 255 from Some(1)
-need 0 1: 256 from Some(0)
-need 0 2: [0]
-apart 0 0: 255 from Some(1)
+need 0: 255 from Some(1) | 256 from Some(0) | [0]
+apart 0: 255 from Some(1)
 ",
     },
     Crowd {
@@ -200,16 +161,8 @@ apart 0 0: 255 from Some(1)
         again: false,
         parts: &[Part::Counts, Part::AnswerRows, Part::Answers],
         wanted: "packages 263, stanzas 263, skipped 0, duplicates 0
-need 0 0: none
-need 0 1: none
-need 0 2: none
-need 0 3: none
-need 0 4: [0]
-answers 0 0: 262 from Some(1)
-answers 0 1: [0]
-answers 0 2: 262 from Some(1)
-answers 0 3: 263 from Some(0)
-answers 0 4: [0]
+need 0: none | none | none | none | [0]
+answers 0: 262 from Some(1) | [0] | 262 from Some(1) | 263 from Some(0) | [0]
 ",
     },
     Crowd {
@@ -218,20 +171,10 @@ answers 0 4: [0]
         again: true,
         parts: ROWS,
         wanted: "packages 259, stanzas 259, skipped 0, duplicates 0
-need 0 0: none
-need 0 1: [0]
-need 0 2: none
-need 0 3: [0]
-need 258 0: none
-need 258 1: [0]
-need 258 2: none
-need 258 3: [0]
-apart 0 0: none
-apart 0 1: [0]
-apart 0 2: none
-apart 258 0: none
-apart 258 1: [0]
-apart 258 2: none
+need 0: none | [0] | none | [0]
+need 258: none | [0] | none | [0]
+apart 0: none | [0] | none
+apart 258: none | [0] | none
 ",
     },
 ];

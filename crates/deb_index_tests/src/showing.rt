@@ -29,16 +29,16 @@ pub enum Part {
     Constraints,
     /// How many groups and entries the fields of a package have, and the names in each.
     Groups,
-    /// The row of each group, where it has one.
+    /// The row of each group of a package, where it has one.
     AnswerRows,
     /// The row of each entry, where it has one.
     HitRows,
     /// The answers to each group. The lent list is filled before, and lent again for each group.
     Answers,
-    /// The places that meet each of these atoms, which have to be those of the packages that do, each asked in turn.
-    Satisfiers(&'static [&'static str]),
-    /// Those that meet each of these atoms as an alternative of a group, in the same way.
-    NeedSatisfiers(&'static [&'static str]),
+    /// The places that meet each atom of a list, which have to be those of the packages that do, each asked in turn.
+    Satisfiers(&'static str),
+    /// Those that meet each of the atoms as an alternative of a group, in the same way.
+    NeedSatisfiers(&'static str),
 }
 
 fn text_of(bytes: &[u8]) -> &str {
@@ -115,11 +115,21 @@ fn append_atom_names(out: &mut String, atoms: &[Atom]) -> Result<(), AllocError>
     for atom in atoms {
         write!(out, " {}", text_of(atom.name.as_slice()))?;
     }
-    out.push('\n')
+    Ok(())
 }
 
+/// Goes before what is told of one of the groups or entries of a package: the place before the first, and a bar before each other one.
 fn append_label(out: &mut String, label: &str, place: u32, number: u32) -> Result<(), AllocError> {
-    write!(out, "{label} {place} {number}:")
+    if number == 0 {
+        write!(out, "{label} {place}:")
+    } else {
+        out.push_str(" |")
+    }
+}
+
+/// Ends the line of a package that has so many groups or entries.
+fn append_end(out: &mut String, count: u32) -> Result<(), AllocError> {
+    if count > 0 { out.push('\n') } else { Ok(()) }
 }
 
 fn append_need_names(out: &mut String, index: &Index, place: u32) -> Result<(), AllocError>
@@ -129,7 +139,7 @@ fn append_need_names(out: &mut String, index: &Index, place: u32) -> Result<(), 
         append_label(out, "need", place, number)?;
         append_atom_names(out, index.need(place, number))?;
     }
-    Ok(())
+    append_end(out, index.need_count(place))
 }
 
 fn append_apart_names(out: &mut String, index: &Index, place: u32) -> Result<(), AllocError>
@@ -139,7 +149,7 @@ fn append_apart_names(out: &mut String, index: &Index, place: u32) -> Result<(),
         append_label(out, "apart", place, number)?;
         append_atom_names(out, from_ref(index.apart(place, number)))?;
     }
-    Ok(())
+    append_end(out, index.apart_count(place))
 }
 
 fn append_groups(out: &mut String, index: &Index) -> Result<(), AllocError> {
@@ -154,16 +164,16 @@ fn append_groups(out: &mut String, index: &Index) -> Result<(), AllocError> {
 /// Adds places: how many there are and the first one, where they are many.
 fn append_places(out: &mut String, places: &[u32]) -> Result<(), AllocError> {
     if places.len() > 20 {
-        write!(out, " {} from {:?}\n", places.len(), places.first())
+        write!(out, " {} from {:?}", places.len(), places.first())
     } else {
-        write!(out, " {places:?}\n")
+        write!(out, " {places:?}")
     }
 }
 
 fn append_row(out: &mut String, row: Option<&[u32]>) -> Result<(), AllocError> {
     match row {
         Some(places) => append_places(out, places),
-        None => out.push_str(" none\n"),
+        None => out.push_str(" none"),
     }
 }
 
@@ -173,6 +183,7 @@ fn append_answer_rows(out: &mut String, index: &Index) -> Result<(), AllocError>
             append_label(out, "need", place, number)?;
             append_row(out, index.answer_row(place, number))?;
         }
+        append_end(out, index.need_count(place))?;
     }
     Ok(())
 }
@@ -183,6 +194,7 @@ fn append_hit_rows(out: &mut String, index: &Index) -> Result<(), AllocError> {
             append_label(out, "apart", place, number)?;
             append_row(out, index.hit_row(place, number))?;
         }
+        append_end(out, index.apart_count(place))?;
     }
     Ok(())
 }
@@ -197,6 +209,7 @@ fn append_answers_by(
             append_label(out, "answers", place, number)?;
             append_places(out, index.answers(place, number, lent)?)?;
         }
+        append_end(out, index.need_count(place))?;
     }
     Ok(())
 }
@@ -241,34 +254,35 @@ fn append_met_atom(
     if are_met(index, atom, &found) {
         append_places(out, &found)
     } else {
-        out.push_str(" others\n")
+        out.push_str(" others")
     }
 }
 
-fn append_met(
+fn append_met_atoms(
     out: &mut String,
     index: &Index,
-    text: &str,
+    atoms: &[Atom],
     as_need: bool,
 ) -> Result<(), AllocError> {
-    let kind = if as_need { " in a group" } else { "" };
-    write!(out, "{text}{kind}:")?;
-    match parse_list(*out.allocator(), text.as_bytes()) {
-        Ok(list) if list.len() == 1 => append_met_atom(out, index, &list[0], as_need),
-        _ => out.push_str(" no atom\n"),
+    let mut before = if as_need { "met in a group:" } else { "met:" };
+    for atom in atoms {
+        out.push_str(before)?;
+        append_met_atom(out, index, atom, as_need)?;
+        before = " |";
     }
+    out.push('\n')
 }
 
 fn append_each_met(
     out: &mut String,
     index: &Index,
-    atoms: &[&'static str],
+    list: &str,
     as_need: bool,
 ) -> Result<(), AllocError> {
-    for text in atoms {
-        append_met(out, index, *text, as_need)?;
+    match parse_list(*out.allocator(), list.as_bytes()) {
+        Ok(atoms) => append_met_atoms(out, index, &atoms, as_need),
+        Err(_) => out.push_str("no atoms\n"),
     }
-    Ok(())
 }
 
 fn append_part(out: &mut String, index: &Index, part: Part) -> Result<(), AllocError> {

@@ -4,7 +4,8 @@ use std::alloc::{AllocError, Global};
 
 /// Adds the stanza of `NAME VERSION ARCHITECTURE {FIELD: VALUE; FIELD: VALUE}`; the architecture is `all` where none is written.
 fn append_stanza(out: &mut String, written: &str) -> Result<(), AllocError> {
-    let (head, fields) = written.split_once('{').unwrap_or((written, ""));
+    let (head, rest) = written.split_once('{').unwrap_or((written, ""));
+    let (fields, _) = rest.split_once('}').unwrap_or((rest, ""));
     let mut words = head.split_whitespace();
     let (name, version) = (words.next().unwrap_or(""), words.next().unwrap_or(""));
     let architecture = words.next().unwrap_or("all");
@@ -12,7 +13,7 @@ fn append_stanza(out: &mut String, written: &str) -> Result<(), AllocError> {
         out,
         "Package: {name}\nVersion: {version}\nArchitecture: {architecture}\n"
     )?;
-    for field in fields.split(|c| c == ';' || c == '}') {
+    for field in fields.split(';') {
         if !field.trim().is_empty() {
             write!(out, "{}\n", field.trim())?;
         }
