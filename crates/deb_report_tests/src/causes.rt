@@ -10,20 +10,7 @@ const CAUSES: Asked<'static> = Asked {
     ..USUAL
 };
 
-const CHAIN: &str = "Package: a
-Version: 1
-Architecture: all
-Depends: b
-
-Package: b
-Version: 1
-Architecture: all
-Depends: c (>= 2)
-
-Package: c
-Version: 1
-Architecture: all
-";
+const CHAIN: &str = "a 1 {Depends: b} / b 1 {Depends: c (>= 2)} / c 1";
 
 const CHAIN_CAUSES: &str = "asked: 3
 broken: 2
@@ -70,54 +57,9 @@ causes: 1
 
 /// An essential package, one that conflicts with it, one that needs two versions of a name at once, and one of whose alternatives none is
 /// there as it is asked for. The last breaks a package behind it, so that its cause goes first.
-const KINDS: &str = "Package: e
-Version: 1
-Architecture: all
-Essential: yes
-
-Package: x
-Version: 1
-Architecture: all
-Conflicts: e
-
-Package: p
-Version: 1
-Architecture: all
-Depends: q (= 1), r
-
-Package: r
-Version: 1
-Architecture: all
-Depends: q (= 2)
-
-Package: q
-Version: 1
-Architecture: all
-
-Package: q
-Version: 2
-Architecture: all
-
-Package: w
-Version: 1
-Architecture: all
-Provides: v (= 1), u, n (= 1), k:i386
-
-Package: m
-Version: 1
-Architecture: all
-Depends: n (>= 2) | v (>= 2) | k
-
-Package: n
-Version: 1
-Architecture: all
-Provides: v (= 1)
-
-Package: z
-Version: 1
-Architecture: all
-Pre-Depends: m
-";
+const KINDS: &str =
+    "e 1 {Essential: yes} / x 1 {Conflicts: e} / p 1 {Depends: q (= 1), r} / r 1 {Depends: q (= 2)} / q 1 / q 2 /
+w 1 {Provides: v (= 1), u, n (= 1), k:i386} / m 1 {Depends: n (>= 2) | v (>= 2) | k} / n 1 {Provides: v (= 1)} / z 1 {Pre-Depends: m}";
 
 const KINDS_CAUSES: &str = "asked: 10
 broken: 4
@@ -174,21 +116,7 @@ const KINDS_JSON: &str = "\"causes\":[
 ";
 
 /// Two packages that need the same name, one behind them, and a second name that one of them needs.
-const SHARED: &str = "Package: a
-Version: 1
-Architecture: all
-Depends: x, y
-
-Package: b
-Version: 1
-Architecture: all
-Pre-Depends: x
-
-Package: c
-Version: 1
-Architecture: all
-Depends: b
-";
+const SHARED: &str = "a 1 {Depends: x, y} / b 1 {Pre-Depends: x} / c 1 {Depends: b}";
 
 /// What is asked where the report has no blocks and ends with the causes.
 const CAUSES_ALONE: Asked<'static> = Asked {

@@ -19,20 +19,7 @@ const ONE: &str = "Package: a
 Version: 1
 Architecture: amd64";
 
-const TWO_NEEDED: &str = "Package: a
-Version: 1
-Architecture: all
-Depends: b, c
-
-Package: b
-Version: 1
-Architecture: all
-Conflicts: c
-
-Package: c
-Version: 1
-Architecture: all
-";
+const TWO_NEEDED: &str = "a 1 {Depends: b, c} / b 1 {Conflicts: c} / c 1";
 
 static PLACES: &[Case<'static, 'static, 'static>] = &[
     Case {
@@ -68,20 +55,7 @@ fn of_asked_places(rt: HostRuntime) -> Result<(), Fail> {
     Ok(())
 }
 
-const CHAIN: &str = "Package: a
-Version: 1
-Architecture: all
-Depends: b
-
-Package: b
-Version: 1
-Architecture: all
-Depends: c (>= 2)
-
-Package: c
-Version: 1
-Architecture: all
-";
+const CHAIN: &str = "a 1 {Depends: b} / b 1 {Depends: c (>= 2)} / c 1";
 
 const CHAIN_HEAD: &str = "architecture: amd64
 report:

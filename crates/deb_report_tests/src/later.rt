@@ -17,20 +17,7 @@ const ALL_IN_JSON: Asked<'static> = Asked {
 };
 
 /// Two packages that miss two and three names, and one that can be installed.
-const MISSING: &str = "Package: a
-Version: 1
-Architecture: all
-Depends: x, y
-
-Package: b
-Version: 1
-Architecture: all
-Depends: x, y, z
-
-Package: c
-Version: 1
-Architecture: all
-";
+const MISSING: &str = "a 1 {Depends: x, y} / b 1 {Depends: x, y, z} / c 1";
 
 const HEAD: &str = "architecture: amd64
 report:

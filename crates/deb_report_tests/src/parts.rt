@@ -6,52 +6,11 @@ use std::process::Abort;
 use std::test::Fail;
 
 /// Two versions of a package, one that needs both, an unknown alternative, and a package that another one breaks.
-const RELATED: &str = "Package: n
-Version: 1
-Architecture: all
-
-Package: n
-Version: 2
-Architecture: all
-
-Package: a
-Version: 1
-Architecture: all
-Pre-Depends: n (= 1)
-Depends: b
-
-Package: b
-Version: 1
-Architecture: all
-Depends: n (= 2)
-
-Package: c
-Version: 1
-Architecture: all
-Depends: zz | yy
-
-Package: d
-Version: 1
-Architecture: all
-Depends: e
-
-Package: e
-Version: 1
-Architecture: all
-Breaks: d
-";
+const RELATED: &str =
+    "n 1 / n 2 / a 1 {Pre-Depends: n (= 1); Depends: b} / b 1 {Depends: n (= 2)} / c 1 {Depends: zz | yy} / d 1 {Depends: e} / e 1 {Breaks: d}";
 
 /// A package that conflicts with an essential one.
-const ESSENTIAL: &str = "Package: base
-Version: 1
-Architecture: amd64
-Essential: yes
-
-Package: x
-Version: 1
-Architecture: all
-Conflicts: base
-";
+const ESSENTIAL: &str = "base 1 amd64 {Essential: yes} / x 1 {Conflicts: base}";
 
 /// The places that are asked of the index of two versions of a package and others.
 const PLACES: Case = Case {

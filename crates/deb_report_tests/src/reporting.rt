@@ -13,7 +13,10 @@ use run_settings::Config;
 use std::alloc::{AllocError, Global};
 use std::test::Fail;
 
+/// The index of texts, which may be written shortly.
 pub fn index_of(alloc: Global, text: &str, background: &str) -> Result<Index, Fail> {
+    let text = test_texts::index_of(alloc, text)?;
+    let background = test_texts::index_of(alloc, background)?;
     if text.len() > 2_000 || background.len() > 2_000 {
         return Err("a longer text".into());
     }

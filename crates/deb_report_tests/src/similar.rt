@@ -15,16 +15,8 @@ const CAUSES: Asked<'static> = Asked {
 };
 
 /// One package needs a name of each kind.
-const NUMBERED: &str = "Package: libio-pty-perl
-Version: 1
-Architecture: all
-Depends: perlapi-5.42.2
-
-Package: perl-base
-Version: 5.40.1-6
-Architecture: all
-Provides: perlapi-5.40.0, perlapi-5.40.1, perlapi-5.40.1:i386, perlapi-x
-";
+const NUMBERED: &str =
+    "libio-pty-perl 1 {Depends: perlapi-5.42.2} / perl-base 5.40.1-6 {Provides: perlapi-5.40.0, perlapi-5.40.1, perlapi-5.40.1:i386, perlapi-x}";
 
 const NUMBERED_CAUSES: &str = "asked: 2
 broken: 1
@@ -51,26 +43,9 @@ const NUMBERED_JSON: &str = "\"causes\":[
 ]}
 ";
 
-const MANY: &str = "Package: a
-Version: 1
-Architecture: all
-Depends: n1 (>= 2) | o1
-
-Package: n1
-Version: 1
-Architecture: all
-Provides: n2, n3, n4, n5, n6
-
-Package: o2
-Version: 1
-Architecture: all
-Provides: n2, o1 (= 1), o3, n7, n8, n9, n10, n11
-
-Package: b
-Version: 1
-Architecture: all
-Depends: m1 | o1 (>= 2) | n1 (>= 2)
-";
+const MANY: &str =
+    "a 1 {Depends: n1 (>= 2) | o1} / n1 1 {Provides: n2, n3, n4, n5, n6} / o2 1 {Provides: n2, o1 (= 1), o3, n7, n8, n9, n10, n11} /
+b 1 {Depends: m1 | o1 (>= 2) | n1 (>= 2)}";
 
 const MANY_CAUSES: &str = "asked: 4
 broken: 1
@@ -100,16 +75,8 @@ causes: 1
    - b 1
 ";
 
-const OWN: &str = "Package: a
-Version: 1
-Architecture: all
-Depends: n1 (>= 2)
-
-Package: n1
-Version: 1
-Architecture: all
-Provides: n2, n3, n4, n5, n6, n7, n8, n9, n10, n11
-";
+const OWN: &str =
+    "a 1 {Depends: n1 (>= 2)} / n1 1 {Provides: n2, n3, n4, n5, n6, n7, n8, n9, n10, n11}";
 
 const OWN_SIMILAR: &str = "  present:
    - n1 1

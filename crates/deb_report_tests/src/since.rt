@@ -5,36 +5,10 @@ use run_settings::{Format, Show};
 use std::test::Fail;
 
 /// Two broken packages and one that isn't.
-const EARLIER: &str = "Package: a
-Version: 1
-Architecture: all
-Depends: lib
-
-Package: b
-Version: 2
-Architecture: all
-Depends: lib
-
-Package: c
-Version: 1
-Architecture: all
-";
+const EARLIER: &str = "a 1 {Depends: lib} / b 2 {Depends: lib} / c 1";
 
 /// The first is mended, the second is gone, the third is broken, and so is one more.
-const LATER: &str = "Package: a
-Version: 2
-Architecture: all
-
-Package: c
-Version: 1
-Architecture: amd64
-Depends: lib
-
-Package: d
-Version: 1
-Architecture: all
-Depends: c
-";
+const LATER: &str = "a 2 / c 1 amd64 {Depends: lib} / d 1 {Depends: c}";
 
 const HEAD: &str = "architecture: amd64
 report:
@@ -102,62 +76,11 @@ const DOCUMENT: &str = r#"{"architecture":"amd64","report":[
 
 /// Of the first name one of two versions is broken, and then another one: no news. Of the second none is broken, and then one of two. The two of
 /// the third name are mended by one. The fourth is broken still, in a new version.
-const VERSIONS: &str = "Package: n
-Version: 1
-Architecture: all
-Depends: lib
+const VERSIONS: &str =
+    "n 1 {Depends: lib} / n 2 / m 1 / k 2 {Depends: lib} / k 1 {Depends: lib} / s 1 {Depends: lib}";
 
-Package: n
-Version: 2
-Architecture: all
-
-Package: m
-Version: 1
-Architecture: all
-
-Package: k
-Version: 2
-Architecture: all
-Depends: lib
-
-Package: k
-Version: 1
-Architecture: all
-Depends: lib
-
-Package: s
-Version: 1
-Architecture: all
-Depends: lib
-";
-
-const OTHER_VERSIONS: &str = "Package: n
-Version: 1
-Architecture: all
-
-Package: n
-Version: 3
-Architecture: all
-Depends: lib
-
-Package: s
-Version: 2
-Architecture: all
-Depends: lib (>= 2)
-
-Package: m
-Version: 1
-Architecture: all
-
-Package: m
-Version: 2
-Architecture: all
-Depends: lib
-
-Package: k
-Version: 3
-Architecture: all
-";
+const OTHER_VERSIONS: &str =
+    "n 1 / n 3 {Depends: lib} / s 2 {Depends: lib (>= 2)} / m 1 / m 2 {Depends: lib} / k 3";
 
 const VERSIONS_REPORT: &str = "architecture: amd64
 report:
@@ -233,16 +156,9 @@ gone:
 ";
 
 /// A name is provided alone, and one is in the background alone.
-const PROVIDED: &str = "Package: p
-Version: 1
-Architecture: all
-Provides: a
-";
+const PROVIDED: &str = "p 1 {Provides: a}";
 
-const IN_BACKGROUND: &str = "Package: b
-Version: 2
-Architecture: all
-";
+const IN_BACKGROUND: &str = "b 2";
 
 const STILL_GONE: &str = "architecture: amd64
 report:

@@ -85,25 +85,7 @@ pub fn expect_reasons<'x>(
 
 /// The example of the README.
 pub const EDITOR: Walked<'static> = Walked {
-    text: "Package: dictionary
-Version: 1
-Architecture: all
-Conflicts: gui (<< 5)
-
-Package: editor
-Version: 2.1
-Architecture: all
-Depends: gui, speller (>= 3)
-
-Package: gui
-Version: 4.0
-Architecture: all
-
-Package: speller
-Version: 3.2
-Architecture: all
-Depends: word-list | dictionary
-",
+    text: "dictionary 1 {Conflicts: gui (<< 5)} / editor 2.1 {Depends: gui, speller (>= 3)} / gui 4.0 / speller 3.2 {Depends: word-list | dictionary}",
     name: "editor",
     version: "2.1",
     stanzas: "4",
@@ -117,32 +99,7 @@ Depends: word-list | dictionary
 
 /// Either package that provides the name keeps out another that is needed, which comes behind them.
 const TWO_WAYS: Walked<'static> = Walked {
-    text: "Package: a
-Version: 1
-Architecture: all
-Conflicts: c
-Provides: v
-
-Package: b
-Version: 1
-Architecture: all
-Depends: d
-Provides: v
-
-Package: c
-Version: 1
-Architecture: all
-
-Package: d
-Version: 1
-Architecture: all
-Conflicts: c
-
-Package: p
-Version: 1
-Architecture: all
-Depends: v, c
-",
+    text: "a 1 {Conflicts: c; Provides: v} / b 1 {Depends: d; Provides: v} / c 1 / d 1 {Conflicts: c} / p 1 {Depends: v, c}",
     name: "p",
     version: "1",
     stanzas: "5",
@@ -159,61 +116,8 @@ Depends: v, c
 
 /// Eleven packages, each of which needs the next, and the last one that nobody has; of the names that differ in the number the first ten.
 const CHAIN: Walked<'static> = Walked {
-    text: "Package: n5
-Version: 1
-Architecture: all
-Depends: n6
-
-Package: n2
-Version: 1
-Architecture: all
-Depends: n3
-
-Package: n11
-Version: 1
-Architecture: all
-Depends: n12
-
-Package: n9
-Version: 1
-Architecture: all
-Depends: n10
-
-Package: n1
-Version: 1
-Architecture: all
-Depends: n2
-
-Package: n7
-Version: 1
-Architecture: all
-Depends: n8
-
-Package: n3
-Version: 1
-Architecture: all
-Depends: n4
-
-Package: n10
-Version: 1
-Architecture: all
-Depends: n11
-
-Package: n4
-Version: 1
-Architecture: all
-Depends: n5
-
-Package: n8
-Version: 1
-Architecture: all
-Depends: n9
-
-Package: n6
-Version: 1
-Architecture: all
-Depends: n7
-",
+    text: "n5 1 {Depends: n6} / n2 1 {Depends: n3} / n11 1 {Depends: n12} / n9 1 {Depends: n10} / n1 1 {Depends: n2} / n7 1 {Depends: n8} /
+n3 1 {Depends: n4} / n10 1 {Depends: n11} / n4 1 {Depends: n5} / n8 1 {Depends: n9} / n6 1 {Depends: n7}",
     name: "n1",
     version: "1",
     stanzas: "11",
@@ -233,17 +137,7 @@ Depends: n7
 
 /// A package that is met by Provides has a line of its own, though the core speaks of it.
 const PROVIDED: Walked<'static> = Walked {
-    text: "Package: app
-Version: 1
-Architecture: all
-Depends: v (= 1)
-
-Package: lib
-Version: 2
-Architecture: all
-Depends: gone
-Provides: u, v (= 1)
-",
+    text: "app 1 {Depends: v (= 1)} / lib 2 {Depends: gone; Provides: u, v (= 1)}",
     name: "app",
     version: "1",
     stanzas: "2",
@@ -255,28 +149,7 @@ Provides: u, v (= 1)
 
 /// The third version is none of the walk.
 const VERSIONS: Walked<'static> = Walked {
-    text: "Package: p
-Version: 1
-Architecture: all
-Depends: q (= 1), r
-
-Package: r
-Version: 1
-Architecture: all
-Depends: q (= 2)
-
-Package: q
-Version: 1
-Architecture: all
-
-Package: q
-Version: 2
-Architecture: all
-
-Package: q
-Version: 3
-Architecture: all
-",
+    text: "p 1 {Depends: q (= 1), r} / r 1 {Depends: q (= 2)} / q 1 / q 2 / q 3",
     name: "p",
     version: "1",
     stanzas: "5",
@@ -291,16 +164,7 @@ Architecture: all
 
 /// What is essential is told behind the package.
 const ESSENTIAL: Walked<'static> = Walked {
-    text: "Package: e
-Version: 1
-Architecture: all
-Essential: yes
-
-Package: x
-Version: 1
-Architecture: all
-Conflicts: e
-",
+    text: "e 1 {Essential: yes} / x 1 {Conflicts: e}",
     name: "x",
     version: "1",
     stanzas: "2",
@@ -312,25 +176,7 @@ Conflicts: e
 
 /// What comes near stands in the same line.
 const MISSING: Walked<'static> = Walked {
-    text: "Package: a
-Version: 1
-Architecture: all
-Pre-Depends: b
-
-Package: b
-Version: 1
-Architecture: all
-Depends: c (>= 2) | d (>= 4)
-
-Package: c
-Version: 1
-Architecture: all
-
-Package: e
-Version: 1
-Architecture: all
-Provides: c, d (= 3), f
-",
+    text: "a 1 {Pre-Depends: b} / b 1 {Depends: c (>= 2) | d (>= 4)} / c 1 / e 1 {Provides: c, d (= 3), f}",
     name: "a",
     version: "1",
     stanzas: "4",
@@ -341,20 +187,7 @@ Provides: c, d (= 3), f
 
 /// What comes near, and behind it the names that are similar.
 const NEWER: Walked<'static> = Walked {
-    text: "Package: player
-Version: 1
-Architecture: all
-Depends: libbluray2 (>= 2)
-
-Package: libbluray2
-Version: 1.4
-Architecture: all
-
-Package: libbluray3
-Version: 1.3
-Architecture: all
-Provides: libbluray4
-",
+    text: "player 1 {Depends: libbluray2 (>= 2)} / libbluray2 1.4 / libbluray3 1.3 {Provides: libbluray4}",
     name: "player",
     version: "1",
     stanzas: "3",
@@ -364,31 +197,7 @@ Provides: libbluray4
 
 /// Each need has similar names of its own.
 const EITHER: Walked<'static> = Walked {
-    text: "Package: p
-Version: 1
-Architecture: all
-Depends: a | b | c
-
-Package: a
-Version: 1
-Architecture: all
-Depends: one1
-
-Package: b
-Version: 1
-Architecture: all
-Depends: two1
-
-Package: c
-Version: 1
-Architecture: all
-Depends: three1
-
-Package: one2
-Version: 1
-Architecture: all
-Provides: two2
-",
+    text: "p 1 {Depends: a | b | c} / a 1 {Depends: one1} / b 1 {Depends: two1} / c 1 {Depends: three1} / one2 1 {Provides: two2}",
     name: "p",
     version: "1",
     stanzas: "5",
@@ -401,26 +210,7 @@ Provides: two2
 
 /// What was told is told once.
 const TWICE: Walked<'static> = Walked {
-    text: "Package: p
-Version: 1
-Architecture: all
-Depends: a | b
-
-Package: a
-Version: 1
-Architecture: all
-Depends: s
-
-Package: b
-Version: 1
-Architecture: all
-Depends: s
-
-Package: s
-Version: 1
-Architecture: all
-Depends: gone
-",
+    text: "p 1 {Depends: a | b} / a 1 {Depends: s} / b 1 {Depends: s} / s 1 {Depends: gone}",
     name: "p",
     version: "1",
     stanzas: "4",
@@ -433,26 +223,7 @@ Depends: gone
 
 /// Further in where it forks again; one of the packages was told there.
 const NESTED: Walked<'static> = Walked {
-    text: "Package: p
-Version: 1
-Architecture: all
-Depends: a | b
-
-Package: a
-Version: 1
-Architecture: all
-Depends: b | c
-
-Package: b
-Version: 1
-Architecture: all
-Depends: gone
-
-Package: c
-Version: 1
-Architecture: all
-Conflicts: p
-",
+    text: "p 1 {Depends: a | b} / a 1 {Depends: b | c} / b 1 {Depends: gone} / c 1 {Conflicts: p}",
     name: "p",
     version: "1",
     stanzas: "4",
