@@ -30,7 +30,7 @@ causes: 1
 ";
 
 /// The causes of the chain are the same whatever is shown.
-const CHAIN_SHOWN: Case = Case {
+pub const CHAIN_SHOWN: Case = Case {
     name: "one cause for whatever is shown",
     text: CHAIN,
     asked: CAUSES,
@@ -191,6 +191,17 @@ pub const SHARED_TOLD: Case = Case {
     ..REPORT
 };
 
+pub const KINDS_IN_JSON: Case = Case {
+    name: "causes of each kind in JSON",
+    text: KINDS,
+    asked: Asked {
+        format: Format::Json,
+        ..CAUSES
+    },
+    wanted: Wanted::End(KINDS_JSON),
+    ..REPORT
+};
+
 const CASES: &[Case] = &[
     Case {
         asked: Asked {
@@ -284,16 +295,7 @@ const CASES: &[Case] = &[
         wanted: Wanted::End(KINDS_CAUSES),
         ..REPORT
     },
-    Case {
-        name: "causes of each kind in JSON",
-        text: KINDS,
-        asked: Asked {
-            format: Format::Json,
-            ..CAUSES
-        },
-        wanted: Wanted::End(KINDS_JSON),
-        ..REPORT
-    },
+    KINDS_IN_JSON,
     SHARED_TOLD,
     Case {
         name: "causes of first cores",

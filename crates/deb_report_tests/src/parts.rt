@@ -121,17 +121,51 @@ asked: 1
 broken: 1
 ";
 
+pub const PLACES_OF_NAMES: Case = Case {
+    name: "the places of names rise",
+    asked: Asked {
+        only: Some(&[b"e", b"n", b"a", b"e"]),
+        ..USUAL
+    },
+    wanted: Wanted::Places(&[0, 1, 2, 6]),
+    ..PLACES
+};
+
+pub const UNKNOWN_NAME: Case = Case {
+    name: "the first unknown name",
+    asked: Asked {
+        only: Some(&[b"a", b"zz", b"b", b"yy"]),
+        ..USUAL
+    },
+    wanted: Wanted::Unknown(b"zz"),
+    ..PLACES
+};
+
+pub const FAILURES: Case = Case {
+    name: "failures alone",
+    text: RELATED,
+    asked: Asked {
+        show: Show::Failures,
+        ..USUAL
+    },
+    wanted: Wanted::Whole(&[HEAD, RELATED_FAILURES, RELATED_TAIL]),
+    ..REPORT
+};
+
+pub const SUCCESSES: Case = Case {
+    name: "successes alone",
+    text: RELATED,
+    asked: Asked {
+        show: Show::Successes,
+        ..USUAL
+    },
+    wanted: Wanted::Whole(&[HEAD, RELATED_SUCCESSES, RELATED_TAIL]),
+    ..REPORT
+};
+
 const CASES: &[Case] = &[
     PLACES,
-    Case {
-        name: "the places of names rise",
-        asked: Asked {
-            only: Some(&[b"e", b"n", b"a", b"e"]),
-            ..USUAL
-        },
-        wanted: Wanted::Places(&[0, 1, 2, 6]),
-        ..PLACES
-    },
+    PLACES_OF_NAMES,
     Case {
         name: "no places of no names",
         asked: Asked {
@@ -141,35 +175,9 @@ const CASES: &[Case] = &[
         wanted: Wanted::Places(&[]),
         ..PLACES
     },
-    Case {
-        name: "the first unknown name",
-        asked: Asked {
-            only: Some(&[b"a", b"zz", b"b", b"yy"]),
-            ..USUAL
-        },
-        wanted: Wanted::Unknown(b"zz"),
-        ..PLACES
-    },
-    Case {
-        name: "failures alone",
-        text: RELATED,
-        asked: Asked {
-            show: Show::Failures,
-            ..USUAL
-        },
-        wanted: Wanted::Whole(&[HEAD, RELATED_FAILURES, RELATED_TAIL]),
-        ..REPORT
-    },
-    Case {
-        name: "successes alone",
-        text: RELATED,
-        asked: Asked {
-            show: Show::Successes,
-            ..USUAL
-        },
-        wanted: Wanted::Whole(&[HEAD, RELATED_SUCCESSES, RELATED_TAIL]),
-        ..REPORT
-    },
+    UNKNOWN_NAME,
+    FAILURES,
+    SUCCESSES,
     Case {
         name: "essential names are reasons",
         text: ESSENTIAL,

@@ -206,6 +206,26 @@ pub const SINCE: Case = Case {
     ..REPORT
 };
 
+const SINCE_DOCUMENT: &str =
+    r#"{"format":1,"options":["explain","since","causes"],"architecture":"amd64","report":[
+{"package":"c","version":"1","architecture":"amd64","status":"broken","reasons":[{"kind":"missing","package":"c","version":"1","field":"Depends","relation":"lib"}]},
+{"package":"d","version":"1","architecture":"all","status":"broken","reasons":[{"kind":"missing","package":"c","version":"1","field":"Depends","relation":"lib"},{"kind":"depends","package":"d","version":"1","field":"Depends","relation":"c"}]}
+],"stanzas":3,"skipped":0,"duplicates":0,"asked":3,"broken":2,"newly-broken":2,"mended":[{"package":"a","version":"1"}],"gone":[{"package":"b","version":"2"}],"causes":[
+{"packages":2,"frees":2,"reasons":[{"kind":"missing","relation":"lib"}],"needed-by":[{"package":"c","version":"1","field":"Depends","relation":"lib"}],"hits":[],"versions":[],"present":[],"similar":[],"broken":[{"package":"c","version":"1"},{"package":"d","version":"1"}]}
+]}
+"#;
+
+pub const SINCE_IN_JSON: Case = Case {
+    name: "since an earlier index, in JSON",
+    asked: Asked {
+        causes: true,
+        format: Format::Json,
+        ..USUAL
+    },
+    wanted: Wanted::Whole(&[SINCE_DOCUMENT]),
+    ..SINCE
+};
+
 /// The places of what is newly broken since then.
 pub const NEWS: Case = Case {
     name: "places of the newly broken",
@@ -315,6 +335,7 @@ const CASES: &[Case] = &[
         wanted: Wanted::Whole(&[HEAD, ONE_BLOCK, TWO_NAMES]),
         ..SINCE
     },
+    SINCE_IN_JSON,
     NEWS,
     // Of one name another version was broken, of one none is broken any more, and one was broken and is still.
     Case {
