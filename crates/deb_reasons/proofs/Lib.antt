@@ -1,3 +1,4 @@
+pub mod FormLemmas
 pub mod HitLemmas
 mod OwnLemmas
 pub mod TextLemmas

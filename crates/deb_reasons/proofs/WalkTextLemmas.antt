@@ -1,5 +1,5 @@
 -- What a walk tells, step by step.
-use Rattle.std.proofs.Common.{◌≡◌, ℕ, zero, suc, ◌+◌, ◌-◌, ◌<◌, ◌≤◌, List, [], ◌∷◌, ◌++◌, length, reverse, append-nil, refl, sym, ap, ◌∙◌, arith, codes}
+use Rattle.std.proofs.Common.{◌≡◌, ℕ, zero, suc, ◌+◌, ◌-◌, ◌<◌, ◌≤◌, List, [], ◌∷◌, ◌++◌, length, reverse, append-nil, refl, sym, ap, ◌∙◌, arith}
 use Rattle.std.proofs.lemmas.List.{append_assoc}
 use Rattle.number_sets.specs.Sets.{NumberSet, members_of}
 use Rattle.deb_index.specs.declared.constraint.Constraint.{Constraint}
@@ -7,7 +7,6 @@ use Rattle.deb_index.specs.Packages.{IndexView}
 use Rattle.deb_reasons.specs.declared.walk.Step.{Step}
 use Rattle.deb_reasons.specs.Walk.{comers, first_steps, step_limit, steps_behind, told_behind, walk}
 use Rattle.deb_reasons.proofs.WalkLemmas.{next_is}
-use Rattle.deb_reasons.specs.Reasons.{line}
 use Rattle.deb_reasons.specs.WalkLines.{step_text, walk_lines, walk_text}
 
 -- with no step left nothing is told
@@ -47,10 +46,9 @@ run_out index core coming told limit counter out total steps over before =
     let none : limit - counter ≡ zero = omega arith in
     sym (append-nil out) ∙ (rw none at before)
 
--- the steps of a core, as they are gone under the title, are its lines
-pub told_whole : (index : IndexView) (place : ℕ) (core held : List Constraint) (coming : NumberSet) (steps : List Step) (start under new : List ℕ)
-    → held ≡ core → coming ≡ members_of (comers index core place) → steps ≡ first_steps core place → under ≡ start ++ line (codes "  why:") []
-    → new ≡ under ++ walk_text step_limit index held coming (members_of []) steps → new ≡ start ++ walk_lines index place core
+-- the steps of a core, as they are gone, are its lines
+pub told_whole : (index : IndexView) (place : ℕ) (core held : List Constraint) (coming : NumberSet) (steps : List Step) (start new : List ℕ)
+    → held ≡ core → coming ≡ members_of (comers index core place) → steps ≡ first_steps core place
+    → new ≡ start ++ walk_text step_limit index held coming (members_of []) steps → new ≡ start ++ walk_lines index place core
 unfolding walk_lines
-told_whole index place core held coming steps start under new same comes first title is =
-    rw (is, title, first, comes, same) (append_assoc start (line (codes "  why:") []) (walk_text step_limit index core (members_of (comers index core place)) (members_of []) (first_steps core place)))
+told_whole index place core held coming steps start new same comes first is = rw (is, first, comes, same) refl

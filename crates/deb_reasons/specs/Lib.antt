@@ -1,6 +1,7 @@
 pub mod Answers
+pub mod Forms
 pub mod Hits
-pub mod JsonParts
+pub mod Links
 pub mod Own
 pub mod Reasons
 pub mod Similar

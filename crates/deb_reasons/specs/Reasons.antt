@@ -1,31 +1,32 @@
--- What stands against a package, in lines.
-use Rattle.std.specs.Prelude.{ℕ, Bool, nat_lt, List, [], ◌∷◌, ◌++◌, length, codes, if◌then◌else◌, ◌==◌}
-use Rattle.deb_relation.specs.Relationship.{AtomText, printed}
+-- What is told of packages and constraints, whatever its form.
+use Rattle.std.specs.Prelude.{ℕ, ◌==◌, nat_lt, List, [], ◌∷◌, ◌++◌, length, codes, if◌then◌else◌}
+use Rattle.deb_relation.specs.Relationship.{AtomText}
 use Rattle.deb_index.specs.declared.constraint.Constraint.{Constraint}
 use Rattle.deb_index.specs.declared.constraint.Constraint.TheVariants.{Essential, Need, Apart, Only}
 use Rattle.deb_index.specs.Packages.{IndexView, PackageView, package_at, name_at, need_at, apart_at}
-use Rattle.deb_texts.specs.Texts.{group_text}
 use Rattle.deb_near.specs.Missing.{is_missing}
-use Rattle.std.specs.List.{join_by}
+use Rattle.deb_near.specs.Near.{NearMissView}
+use Rattle.deb_reasons.specs.Forms.{PartView, OfField, OfKind, OfName, OfPackage, OfProvides, OfRelation, item_front, item_in}
+use Rattle.deb_reasons.specs.declared.form.Lead.TheVariants.{Within}
+use Rattle.run_settings.specs.declared.config.Format.{Format}
 
--- ---- lines
+-- ---- packages
 
--- a title and a text, with the end of the line
-unfoldable pub line : List ℕ → List ℕ → List ℕ
-line title text = title ++ text ++ (10 ∷ [])
+abbrev pub package_part : PackageView → PartView
+package_part deb = OfPackage deb.name deb.version
 
--- name and version
-unfoldable pub label_text : List ℕ → List ℕ → List ℕ
-label_text name version = name ++ (32 ∷ version)
+-- the package at a place
+abbrev pub place_in : Format → IndexView → ℕ → List ℕ
+place_in form index place = item_in form Within (package_part (package_at index place) ∷ [])
 
-abbrev pub label_of : PackageView → List ℕ
-label_of deb = label_text deb.name deb.version
+-- a near miss, with what it provides, where it is near by that alone
+unfoldable pub near_parts : NearMissView → List PartView
+near_parts miss = package_part miss.deb ∷ (if length miss.provides == 0 then [] else OfProvides miss.provides ∷ [])
 
--- the line of a package of the set that was found
-unfoldable pub place_line : IndexView → ℕ → List ℕ
-place_line index place = line (codes "   - ") (label_of (package_at index place))
+abbrev pub near_in : Format → NearMissView → List ℕ
+near_in form miss = item_in form Within (near_parts miss)
 
--- ---- reasons
+-- ---- constraints
 
 -- the field that a group stands in: the groups of Pre-Depends come first
 unfoldable pub group_field : PackageView → ℕ → List ℕ
@@ -35,42 +36,21 @@ group_field deb number = if nat_lt number (length deb.pre_depends) then codes "P
 unfoldable pub entry_field : PackageView → ℕ → List ℕ
 entry_field deb number = if nat_lt number (length deb.conflicts) then codes "Conflicts" else codes "Breaks"
 
--- what is told of a constraint: of what kind it is, and the name that it is of, or the relation of a package, with its field
-pub data ReasonView : Type 0 where
-  OfName : (kind name : List ℕ) → ReasonView
-  OfRelation : (kind : List ℕ) (deb : PackageView) (field : List ℕ) (relation : List AtomText) → ReasonView
-
--- what is told of a group of a package, which may be missing
-abbrev pub need_reason : Bool → PackageView → ℕ → List AtomText → ReasonView
-need_reason missing deb number group = OfRelation (if missing then codes "missing" else codes "depends") deb (group_field deb number) group
-
--- what is told of a constraint
-unfoldable pub reason_of : IndexView → Constraint → ReasonView
-reason_of index (Essential name) = OfName (codes "essential") (name_at index name)
-reason_of index (Need place number) = let group = need_at index place number in need_reason (is_missing index group) (package_at index place) number group
-reason_of index (Apart place number) = let deb = package_at index place in
-    OfRelation (codes "conflict") deb (entry_field deb number) (apart_at index place number ∷ [])
-reason_of index (Only name) = OfName (codes "versions") (name_at index name)
-
 -- what a package asks for
-unfoldable pub asked_text : PackageView → List ℕ → List AtomText → List ℕ
-asked_text deb field relation = label_of deb ++ codes " " ++ field ++ codes ": " ++ group_text relation
+abbrev pub asked_parts : PackageView → List ℕ → List AtomText → List PartView
+asked_parts deb field relation = package_part deb ∷ OfField field ∷ OfRelation relation ∷ []
 
--- the line of a reason
-unfoldable pub reason_line : ReasonView → List ℕ
-reason_line (OfName kind name) = codes "   - " ++ kind ++ codes ": " ++ name ++ codes "\n"
-reason_line (OfRelation kind deb field relation) = codes "   - " ++ kind ++ codes ": " ++ asked_text deb field relation ++ codes "\n"
+-- what a constraint is told by: of what kind it is, and the name that it is of, or the relation of a package, with its field
+unfoldable pub reason_parts : IndexView → Constraint → List PartView
+reason_parts index (Essential name) = OfKind (codes "essential") ∷ OfName (name_at index name) ∷ []
+reason_parts index (Need place number) = let deb = package_at index place in let group = need_at index place number in
+    OfKind (if is_missing index group then codes "missing" else codes "depends") ∷ asked_parts deb (group_field deb number) group
+reason_parts index (Apart place number) = let deb = package_at index place in
+    OfKind (codes "conflict") ∷ asked_parts deb (entry_field deb number) (apart_at index place number ∷ [])
+reason_parts index (Only name) = OfKind (codes "versions") ∷ OfName (name_at index name) ∷ []
 
--- the line of a constraint
-abbrev pub constraint_line : IndexView → Constraint → List ℕ
-constraint_line index constraint = reason_line (reason_of index constraint)
+abbrev pub reason_front : Format → IndexView → Constraint → List ℕ
+reason_front form index constraint = item_front form Within (reason_parts index constraint)
 
--- ---- blocks
-
--- lines under a title
-abbrev pub titled : List ℕ → List ℕ → List ℕ
-titled title lines = line title [] ++ lines
-
--- what a package provides, where it comes near by that alone
-unfoldable pub provides_text : List AtomText → List ℕ
-provides_text entries = if length entries == 0 then [] else codes " (provides " ++ join_by printed (codes ", ") entries ++ codes ")"
+abbrev pub reason_in : Format → IndexView → Constraint → List ℕ
+reason_in form index constraint = item_in form Within (reason_parts index constraint)

@@ -1,11 +1,14 @@
--- What is told of a constraint, without where it lies in memory.
+-- What an item is told by, without where it lies in memory.
 use Rattle.std.specs.Prelude.{map}
 use Rattle.deb_relation.specs.AtomView.{atom_view}
-use Rattle.deb_index.specs.Packages.{package_view}
-use Rattle.deb_reasons.specs.declared.reasons.Reason.{Reason}
-use Rattle.deb_reasons.specs.declared.reasons.Reason.TheVariants.{Name, Relation}
-use Rattle.deb_reasons.specs.Reasons.{OfName, OfRelation, ReasonView}
+use Rattle.deb_reasons.specs.declared.parts.Part.{Part}
+use Rattle.deb_reasons.specs.declared.parts.Part.TheVariants.{Field, Kind, Name, Package, Provides, Relation}
+use Rattle.deb_reasons.specs.Forms.{PartView, OfField, OfKind, OfName, OfPackage, OfProvides, OfRelation}
 
-abbrev pub reason_view : Reason → ReasonView
-reason_view (Name kind name) = OfName kind.now name.now
-reason_view (Relation kind deb field relation) = OfRelation kind.now (package_view deb.now) field.now (map atom_view relation.now)
+abbrev pub part_view : Part → PartView
+part_view (Kind kind) = OfKind kind.now
+part_view (Name name) = OfName name.now
+part_view (Package name version) = OfPackage name.now version.now
+part_view (Field field) = OfField field.now
+part_view (Relation relation) = OfRelation (map atom_view relation.now)
+part_view (Provides entries) = OfProvides (map (λ entry. atom_view entry.now) entries.now.items)

@@ -6,13 +6,14 @@ use Rattle.number_sets.specs.Sets.{NumberSet, members_of}
 use Rattle.deb_relation.specs.Relationship.{AtomText}
 use Rattle.deb_index.specs.declared.constraint.Constraint.{Constraint}
 use Rattle.deb_index.specs.declared.constraint.Constraint.TheVariants.{Essential, Need, Apart, Only}
-use Rattle.deb_index.specs.Packages.{IndexView, apart_at, name_at, need_at, package_at}
+use Rattle.deb_index.specs.Packages.{IndexView, PackageView, apart_at, name_at, need_at, package_at}
 use Rattle.deb_near.specs.Near.{NearMissView, near_misses, similar_names}
 use Rattle.deb_reasons.specs.declared.walk.Step.{Step}
 use Rattle.deb_reasons.specs.declared.walk.Step.TheVariants.{Begin, Meet, Tell}
 use Rattle.deb_reasons.specs.Answers.{met_by}
 use Rattle.deb_reasons.specs.Walk.{are_told, brought, comers, first_steps, hits_in, own_steps, step_limit, versions_coming, walk}
-use Rattle.deb_reasons.specs.Reasons.{provides_text, asked_text, entry_field, group_field, label_of, titled}
+use Rattle.deb_reasons.specs.Forms.{part_line}
+use Rattle.deb_reasons.specs.Reasons.{asked_parts, entry_field, group_field, near_parts, package_part}
 use Rattle.deb_texts.specs.Texts.{told_if}
 use Rattle.deb_near.specs.Missing.{is_missing}
 
@@ -33,7 +34,7 @@ above_text told = if told then codes " (above)" else []
 
 -- a package that may be told already
 unfoldable pub seen_text : IndexView → NumberSet → ℕ → List ℕ
-seen_text index told place = label_of (package_at index place) ++ above_text (told place)
+seen_text index told place = part_line (package_part (package_at index place)) ++ above_text (told place)
 
 -- some of them, one after the other
 abbrev pub seen_texts : IndexView → NumberSet → List ℕ → List ℕ
@@ -41,7 +42,11 @@ seen_texts index told places = join_by (seen_text index told) (codes ", ") place
 
 -- a near miss
 unfoldable pub near_text : NearMissView → List ℕ
-near_text miss = label_of miss.deb ++ provides_text miss.provides
+near_text miss = flat_map part_line (near_parts miss)
+
+-- what a package asks for
+abbrev pub asked_text : PackageView → List ℕ → List AtomText → List ℕ
+asked_text deb field relation = flat_map part_line (asked_parts deb field relation)
 
 -- what comes near to a need
 unfoldable pub present_text : List NearMissView → List ℕ
@@ -76,7 +81,7 @@ constraint_text index coming told (Only name) = codes "versions: " ++ seen_texts
 
 -- the line of a package, with the entry of Provides by which it is met
 unfoldable pub package_line : IndexView → ℕ → ℕ → List AtomText → Bool → List ℕ
-package_line index depth place entries told = lead depth ++ label_of (package_at index place) ++ provides_text entries ++ above_text told ++ codes "\n"
+package_line index depth place entries told = lead depth ++ near_text (record { deb = package_at index place; provides = entries }) ++ above_text told ++ codes "\n"
 
 -- a package has a line of its own where the core says nothing of it, or where it is met by Provides
 unfoldable pub package_text : IndexView → List Constraint → ℕ → ℕ → List AtomText → List ℕ
@@ -100,4 +105,4 @@ walk_text count index core coming told steps = flat_map (λ gone. step_text inde
 -- the lines of a core as it is walked from the package at a place
 unfoldable pub walk_lines : IndexView → ℕ → List Constraint → List ℕ
 walk_lines index place core =
-    titled (codes "  why:") (walk_text step_limit index core (members_of (comers index core place)) (members_of []) (first_steps core place))
+    walk_text step_limit index core (members_of (comers index core place)) (members_of []) (first_steps core place)

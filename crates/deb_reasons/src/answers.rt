@@ -9,7 +9,7 @@ ghost use Rattle.deb_index.specs.Packages.{package_view};
 ghost use Rattle.deb_near.specs.Near.{alternatives, near_view};
 ghost use Rattle.deb_reasons.specs.Walk.{brought};
 ghost use Rattle.deb_reasons.specs.Answers.{answer_at, answers_by, answers_itself, entry_told, first_entry, may_answer};
-ghost use Rattle.deb_reasons.specs.JsonParts.{answers_to};
+ghost use Rattle.deb_reasons.specs.Links.{answers_to};
 
 use crate::walk::brought;
 use deb_index::{Constraint, Index, Package, meets_bound, provided_meets};
@@ -133,7 +133,7 @@ pub(crate) fn answer_at<'i>(
 /// What is told of the packages that a constraint brings.
 ///
 /// The constraint is of the index. `AllocError` where there is no memory for it.
-#[tactic(auto, unfolding(crate::specs::JsonParts::answers_to))]
+#[tactic(auto, unfolding(crate::specs::Links::answers_to))]
 pub(crate) fn answers_to<'i>(
     alloc: Global,
     index: &'i Index,

@@ -1,36 +1,22 @@
-//! What is told of a constraint.
+//! What is told of packages and constraints, whatever its form.
 
-ghost use Rattle.std.specs.Prelude.{◌≡◌, ◌++◌, IfOk, OnOk, map};
+ghost use Rattle.std.specs.Prelude.{◌≡◌, ◌++◌, ◌<◌, OnOk, length};
 ghost use Rattle.deb_relation.specs.AtomView.{atom_view};
+ghost use Rattle.deb_relation.specs.Relationship.{printed};
 ghost use Rattle.deb_index.specs.Constraints.{IsOfIndex};
-ghost use Rattle.deb_index.specs.Packages.{need_at, package_view};
-ghost use Rattle.deb_reasons.specs.Reasons.{entry_field, group_field, need_reason, reason_of};
-ghost use Rattle.deb_texts.specs.Texts.{group_text};
-ghost use Rattle.deb_near.specs.Missing.{is_missing};
-ghost use Rattle.deb_reasons.specs.Told.{reason_view};
+ghost use Rattle.deb_index.specs.Packages.{package_view};
+ghost use Rattle.deb_near.specs.Near.{near_view};
+ghost use Rattle.deb_reasons.specs.Forms.{name_in};
+ghost use Rattle.deb_reasons.specs.Reasons.{entry_field, group_field, near_in, place_in, reason_front, reason_in};
 
-use deb_index::{Constraint, Index, Package, RelField};
-use deb_near::is_missing;
+use crate::form::{Lead, Writer};
+use crate::parts::{Part, package_part};
+use deb_index::{Constraint, Package, RelField};
+use deb_near::{NearMiss, is_missing};
 use deb_relation::Atom;
-use std::alloc::{AllocError, Global};
+use deb_texts::Print;
+use std::alloc::AllocError;
 use std::slice;
-
-/// What is told of a constraint.
-#[derive(Drop)]
-pub enum Reason<'i> {
-    /// A name.
-    Name {
-        kind: &'static [u8],
-        name: &'i [u8],
-    },
-    /// A relation of a package, in a field.
-    Relation {
-        kind: &'static [u8],
-        deb: &'i Package,
-        field: &'static [u8],
-        relation: &'i [Atom],
-    },
-}
 
 /// The field that a group stands in.
 #[tactic(auto, unfolding(crate::specs::Reasons::group_field))]
@@ -56,55 +42,118 @@ pub(crate) fn entry_field(deb: &Package, number: u32) -> &'static str
     }
 }
 
-/// What is told of a group of a package.
-fn need_reason<'i>(deb: &'i Package, number: u32, group: &'i [Atom], missing: bool) -> Reason<'i>
-    ensures { reason_view result ≡ need_reason missing (package_view deb.now) number (map atom_view group.now) }
-{
-    let kind: &[u8] = if missing { b"missing" } else { b"depends" };
-    Reason::Relation {
-        kind,
-        deb,
-        field: group_field(deb, number).as_bytes(),
-        relation: group,
+impl<'i> Writer<'i> {
+    /// Adds what a constraint is told by, up to the end of its item.
+    #[tactic(auto, unfolding(crate::specs::Reasons::reason_parts))]
+    pub fn push_reason_front(
+        &self,
+        out: &mut Vec<u8>,
+        constraint: Constraint,
+    ) -> Result<(), AllocError>
+        requires { IsOfIndex self.now.index.now constraint }
+        ensures { OnOk result (out.new.items ≡ out.old.items ++ reason_front self.now.format self.now.index.now constraint) }
+    {
+        match constraint {
+            Constraint::Essential(name) => {
+                let name = Part::Name(self.index.name_text(name));
+                self.push_front(out, Lead::Within, &[Part::Kind(b"essential"), name])?;
+            }
+            Constraint::Need(place, number) => {
+                let missing = is_missing(self.alloc, self.index, place, number)?;
+                let kind: &[u8] = if missing { b"missing" } else { b"depends" };
+                let deb = self.index.package(place);
+                let field = Part::Field(group_field(deb, number).as_bytes());
+                let relation = Part::Relation(self.index.need(place, number));
+                self.push_front(
+                    out,
+                    Lead::Within,
+                    &[Part::Kind(kind), package_part(deb), field, relation],
+                )?;
+            }
+            Constraint::Apart(place, number) => {
+                let deb = self.index.package(place);
+                let field = Part::Field(entry_field(deb, number).as_bytes());
+                let relation = Part::Relation(slice::from_ref(self.index.apart(place, number)));
+                self.push_front(
+                    out,
+                    Lead::Within,
+                    &[Part::Kind(b"conflict"), package_part(deb), field, relation],
+                )?;
+            }
+            Constraint::Only(name) => {
+                let name = Part::Name(self.index.name_text(name));
+                self.push_front(out, Lead::Within, &[Part::Kind(b"versions"), name])?;
+            }
+        }
+        Ok(())
     }
 }
 
-/// What is told of a constraint.
-#[tactic(auto, unfolding(crate::specs::Reasons::reason_of))]
-pub fn reason_of<'i>(
-    alloc: Global,
-    index: &'i Index,
-    constraint: Constraint,
-) -> Result<Reason<'i>, AllocError>
-    requires { IsOfIndex index.now constraint }
-    ensures { IfOk result (λ reason. reason_view reason ≡ reason_of index.now constraint) }
-{
-    Ok(match constraint {
-        Constraint::Essential(name) => Reason::Name {
-            kind: b"essential",
-            name: index.name_text(name),
-        },
-        Constraint::Need(place, number) => {
-            let missing = is_missing(alloc, index, place, number)?;
-            need_reason(
-                index.package(place),
-                number,
-                index.need(place, number),
-                missing,
-            )
+impl<'i> Print<Constraint> for Writer<'i> {
+    ghost fits = { λ writer constraint. IsOfIndex writer.index.now constraint };
+
+    ghost text = { λ writer constraint. reason_in writer.format writer.index.now constraint };
+
+    fn print(&self, out: &mut Vec<u8>, constraint: &Constraint) -> Result<(), AllocError> {
+        self.push_reason_front(out, *constraint)?;
+        self.push_item_end(out)?;
+        Ok(())
+    }
+}
+
+impl<'i> Print<u32> for Writer<'i> {
+    ghost fits = { λ writer place. place < length writer.index.now.packages };
+
+    ghost text = { λ writer place. place_in writer.format writer.index.now place };
+
+    fn print(&self, out: &mut Vec<u8>, place: &u32) -> Result<(), AllocError> {
+        self.push_item(
+            out,
+            Lead::Within,
+            &[package_part(self.index.package(*place))],
+        )?;
+        Ok(())
+    }
+}
+
+impl<'i, 'm> Print<NearMiss<'m>> for Writer<'i> {
+    ghost fits = { λ _ _. Unit {0} };
+
+    ghost text = { λ writer miss. near_in writer.format (near_view miss) };
+
+    #[tactic(auto, unfolding(crate::specs::Reasons::near_parts))]
+    fn print(&self, out: &mut Vec<u8>, miss: &NearMiss<'m>) -> Result<(), AllocError> {
+        let deb = miss.deb;
+        if miss.provides.is_empty() {
+            self.push_item(out, Lead::Within, &[package_part(deb)])?;
+        } else {
+            let provides = Part::Provides(&miss.provides);
+            self.push_item(out, Lead::Within, &[package_part(deb), provides])?;
         }
-        Constraint::Apart(place, number) => {
-            let deb = index.package(place);
-            Reason::Relation {
-                kind: b"conflict",
-                deb,
-                field: entry_field(deb, number).as_bytes(),
-                relation: slice::from_ref(index.apart(place, number)),
-            }
-        }
-        Constraint::Only(name) => Reason::Name {
-            kind: b"versions",
-            name: index.name_text(name),
-        },
-    })
+        Ok(())
+    }
+}
+
+impl<'i> Print<Atom> for Writer<'i> {
+    ghost fits = { λ _ _. Unit {0} };
+
+    ghost text = { λ writer atom. name_in writer.format (printed (atom_view atom)) };
+
+    fn print(&self, out: &mut Vec<u8>, atom: &Atom) -> Result<(), AllocError> {
+        let mut text = Vec::new(self.alloc);
+        atom.append_to(&mut text)?;
+        self.push_name(out, text.as_slice())?;
+        Ok(())
+    }
+}
+
+impl<'i, 'n> Print<&'n [u8]> for Writer<'i> {
+    ghost fits = { λ _ _. Unit {0} };
+
+    ghost text = { λ writer name. name_in writer.format name.now };
+
+    fn print(&self, out: &mut Vec<u8>, name: &&'n [u8]) -> Result<(), AllocError> {
+        self.push_name(out, name)?;
+        Ok(())
+    }
 }

@@ -1,26 +1,25 @@
 -- A report since an earlier index tells of packages that are no news only whether they are broken.
 use Rattle.std.proofs.Common.{◌≡◌, ℕ, ◌+◌, Bool, true, cond, not, ◌&&◌, List, [], ◌∷◌, ◌++◌, Option, Some, None, codes, filter, fold, if◌then◌else◌, length, map, refl, sym, ap, ap₂, ◌∙◌, inl, inr}
-use Rattle.std.specs.List.{flat_map, join_by}
+use Rattle.std.specs.List.{flat_map}
 use Rattle.std.proofs.lemmas.Bool.{cases_Bool}
 use Rattle.deb_index.specs.declared.constraint.Constraint.{Constraint}
 use Rattle.deb_index.specs.Packages.{IndexView}
 use Rattle.deb_health.specs.Verdicts.{VerdictView, Found, Blocked}
 use Rattle.run_settings.specs.declared.config.Format.{Format}
 use Rattle.run_settings.specs.declared.config.Format.TheVariants.{Json, Text}
-use Rattle.deb_report.specs.CauseLines.{causes_text}
+use Rattle.deb_report.specs.CauseText.{causes_in}
 use Rattle.deb_causes.specs.Causes.{CauseView, by_count, by_first, causes_list, cores_of}
 use Rattle.deb_report.specs.Content.{causes_if, content_since}
-use Rattle.deb_report.specs.Json.{block_json, causes_json, explanation_json, head_json, json_text, list_json, number_json, tall_array, told_json}
-use Rattle.deb_reasons.specs.JsonParts.{member, object, quoted}
-use Rattle.deb_report.specs.Lines.{block_of, explanation, lines_text, list_lines}
+use Rattle.deb_report.specs.Document.{also_in, amended_in, block_in, counted_in, explanation_in, first_core, head_in, later_core, report_end, text_in, told_in}
+use Rattle.deb_reasons.specs.Forms.{list_in, string_in}
+use Rattle.deb_reasons.specs.declared.form.Lead.TheVariants.{First, Tall}
+use Rattle.deb_reasons.proofs.FormLemmas.{list_map}
 use Rattle.deb_outcome.specs.Outcome.{broken_ones, is_broken, numbers_of}
-use Rattle.deb_report.specs.Report.{TellingView, number_line, telling_of}
-use Rattle.deb_reasons.specs.Reasons.{line, titled}
+use Rattle.deb_report.specs.Report.{TellingView, telling_of}
 use Rattle.deb_causes.specs.Later.{later_at}
 use Rattle.run_settings.specs.Settings.{Settings}
 use Rattle.deb_outcome.specs.Since.{BrokenView, amends_of, has_named, is_gone, is_new, is_news, news_of, summary_since}
-use Rattle.deb_report.specs.Written.{text_in, written_since}
-use Rattle.list_steps.proofs.JoinLemmas.{joined_map, lines_map}
+use Rattle.deb_report.specs.Written.{written_since}
 
 -- what is the same of each that passes is the same of all that do
 map-filtered : {A B : Type 0} (test : A → Bool) (f g : A → B) → ((x : A) → test x ≡ true → f x ≡ g x) → (xs : List A) → map f (filter test xs) ≡ map g (filter test xs)
@@ -79,15 +78,12 @@ module _ (settings : Settings) (index : IndexView) (asked : List ℕ) (before : 
     abbrev telling : List (List (List Constraint)) → TellingView
     telling later = telling_of settings true later
 
-    block_by_news : (deb : ℕ × VerdictView) → is_news index before deb ≡ true → block_of index (telling first) deb ≡ block_of index (telling second) deb
-    unfolding block_of explanation
-    block_by_news (place, Found places) new = refl
-    block_by_news (place, Blocked core) new = rw (same place new) refl
-
-    object_by_news : (deb : ℕ × VerdictView) → is_news index before deb ≡ true → block_json index (telling first) deb ≡ block_json index (telling second) deb
-    unfolding block_json explanation_json told_json
-    object_by_news (place, Found places) new = refl
-    object_by_news (place, Blocked core) new = rw (same place new) refl
+    block_by_news : (form : Format) (deb : ℕ × VerdictView) → is_news index before deb ≡ true → block_in form index (telling first) deb ≡ block_in form index (telling second) deb
+    unfolding block_in explanation_in first_core also_in later_core told_in
+    block_by_news Text (place, Found places) new = refl
+    block_by_news Text (place, Blocked core) new = rw (same place new) refl
+    block_by_news Json (place, Found places) new = refl
+    block_by_news Json (place, Blocked core) new = rw (same place new) refl
 
     cores_by_news : (deb : ℕ × VerdictView) → is_news index before deb ≡ true → cores_of first deb ≡ cores_of second deb
     cores_by_news (place, Found places) new = refl
@@ -108,23 +104,18 @@ module _ (settings : Settings) (index : IndexView) (asked : List ℕ) (before : 
         amends_by_news causes_by_news
 
     -- the same content, told with either
-    text_by_news : (format : Format) → text_in format index (telling first) (content_since settings index asked other second before)
-        ≡ text_in format index (telling second) (content_since settings index asked other second before)
-    unfolding lines_text json_text tall_array news_of
-    text_by_news Text =
+    text_by_news : (form : Format) → text_in form index (telling first) (content_since settings index asked other second before)
+        ≡ text_in form index (telling second) (content_since settings index asked other second before)
+    unfolding text_in news_of
+    text_by_news form =
         let content = content_since settings index asked other second before in
-        ap (λ (blocks : List ℕ). line (codes "architecture: ") index.arch ++ titled (codes "report:") blocks ++ flat_map number_line content.numbers ++ flat_map list_lines content.lists ++ causes_text index content.causes)
-        (sym (lines_map whole (block_of index (telling first)) content.blocks)
-        ∙ ap (flat_map whole) (map-filtered (is_news index before) (block_of index (telling first)) (block_of index (telling second)) block_by_news (broken_ones asked other))
-        ∙ lines_map whole (block_of index (telling second)) content.blocks)
-    text_by_news Json =
-        let content = content_since settings index asked other second before in
-        ap (λ (blocks : List ℕ). object (head_json (telling first).options ++ (member (codes "architecture") (quoted index.arch)
-        ∷ member (codes "report") (codes "[" ++ blocks ++ codes "\n]")
-        ∷ map number_json content.numbers ++ map list_json content.lists ++ causes_json index content.causes)) ++ codes "\n")
-        (sym (joined_map whole (block_json index (telling first)) (codes ",") content.blocks)
-        ∙ ap (join_by whole (codes ",")) (map-filtered (is_news index before) (block_json index (telling first)) (block_json index (telling second)) object_by_news (broken_ones asked other))
-        ∙ joined_map whole (block_json index (telling second)) (codes ",") content.blocks)
+        let one = block_in form index (telling first) in
+        let other_one = block_in form index (telling second) in
+        ap (λ (blocks : List ℕ). head_in form (telling first).options ++ string_in form First (codes "architecture") index.arch ++ blocks
+        ++ flat_map (counted_in form) content.numbers ++ flat_map (amended_in form) content.lists ++ causes_in form index content.causes ++ report_end form)
+        (sym (list_map form Tall (codes "report") whole one content.blocks)
+        ∙ ap (list_in form Tall (codes "report") whole) (map-filtered (is_news index before) one other_one (block_by_news form) (broken_ones asked other))
+        ∙ list_map form Tall (codes "report") whole other_one content.blocks)
 
     -- the report is the same
     pub report_by_news : written_since settings index asked one first before ≡ written_since settings index asked other second before

@@ -1,27 +1,25 @@
 -- What no block and no cause tells of verdicts doesn't change a report.
 use Rattle.std.proofs.Common.{◌≡◌, ℕ, ◌+◌, Bool, true, false, cond, not, ◌&&◌, List, [], ◌∷◌, ◌++◌, length, map, filter, codes, fold, refl, sym, ap, ap₂, ◌∙◌, Some, inl, inr}
-use Rattle.std.specs.List.{flat_map, join_by}
+use Rattle.std.specs.List.{flat_map}
 use Rattle.std.proofs.lemmas.Bool.{cases_Bool, true≢false, false≢true}
 use Rattle.std.proofs.lemmas.List.{length-map}
 use Rattle.deb_index.specs.declared.constraint.Constraint.{Constraint}
 use Rattle.deb_index.specs.Packages.{IndexView, package_at}
 use Rattle.deb_health.specs.Verdicts.{VerdictView, Found, Blocked}
 use Rattle.run_settings.specs.declared.config.Format.{Format}
-use Rattle.run_settings.specs.declared.config.Format.TheVariants.{Json, Text}
 use Rattle.run_settings.specs.declared.config.Show.{Show}
 use Rattle.run_settings.specs.declared.config.Show.TheVariants.{All, Failures, Successes}
-use Rattle.deb_report.specs.CauseLines.{causes_text}
+use Rattle.deb_report.specs.CauseText.{causes_in}
 use Rattle.deb_report.specs.Content.{ContentView, causes_if, content_of, content_since}
-use Rattle.deb_report.specs.Json.{block_json, causes_json, head_json, json_text, list_json, number_json, tall_array}
-use Rattle.deb_reasons.specs.JsonParts.{member, object, quoted}
-use Rattle.deb_report.specs.Lines.{block_of, lines_text, list_lines}
+use Rattle.deb_report.specs.Document.{amended_in, block_in, counted_in, head_in, report_end, text_in}
+use Rattle.deb_reasons.specs.Forms.{list_in, string_in}
+use Rattle.deb_reasons.specs.declared.form.Lead.TheVariants.{First, Tall}
+use Rattle.deb_reasons.proofs.FormLemmas.{list_map}
 use Rattle.deb_outcome.specs.Outcome.{broken_ones, is_broken, is_shown, numbers_of, shown_of, status_of, summary_of}
-use Rattle.deb_report.specs.Report.{TellingView, number_line, telling_of}
-use Rattle.deb_reasons.specs.Reasons.{line, titled}
+use Rattle.deb_report.specs.Report.{TellingView, telling_of}
 use Rattle.run_settings.specs.Settings.{Settings}
 use Rattle.deb_outcome.specs.Since.{BrokenView, amends_of, broken_at, broken_of, has_named, is_gone, news_of, summary_since, was_broken}
-use Rattle.deb_report.specs.Written.{text_in, written_since, written_told}
-use Rattle.list_steps.proofs.JoinLemmas.{joined_map, lines_map}
+use Rattle.deb_report.specs.Written.{written_since, written_told}
 
 -- a change of verdicts that leaves their statuses, what is explained in a block, and what causes are found in
 pub record LeavesTold (explain : Bool) (show : Show) (causes : Bool) (change : VerdictView → VerdictView) : Type 0 where
@@ -55,19 +53,12 @@ seen_alike show change status text same (p ∷ ps) (v ∷ vs) =
 abbrev TellsStatus : {A : Type 0} → (ℕ × VerdictView → A) → Type 0
 TellsStatus text = (place : ℕ) (other verdict : VerdictView) → is_broken other ≡ is_broken verdict → text (place, other) ≡ text (place, verdict)
 
-block_tells_status : (index : IndexView) (telling : TellingView) → telling.explain ≡ false → TellsStatus (block_of index telling)
-unfolding block_of status_of
-block_tells_status index telling silent place (Found others) (Found places) alike = rw silent refl
-block_tells_status index telling silent place (Found others) (Blocked core) alike = absurd (false≢true alike)
-block_tells_status index telling silent place (Blocked others) (Found places) alike = absurd (true≢false alike)
-block_tells_status index telling silent place (Blocked others) (Blocked core) alike = rw silent refl
-
-object_tells_status : (index : IndexView) (telling : TellingView) → telling.explain ≡ false → TellsStatus (block_json index telling)
-unfolding block_json status_of
-object_tells_status index telling silent place (Found others) (Found places) alike = rw silent refl
-object_tells_status index telling silent place (Found others) (Blocked core) alike = absurd (false≢true alike)
-object_tells_status index telling silent place (Blocked others) (Found places) alike = absurd (true≢false alike)
-object_tells_status index telling silent place (Blocked others) (Blocked core) alike = rw silent refl
+block_tells_status : (form : Format) (index : IndexView) (telling : TellingView) → telling.explain ≡ false → TellsStatus (block_in form index telling)
+unfolding block_in status_of
+block_tells_status form index telling silent place (Found others) (Found places) alike = rw silent refl
+block_tells_status form index telling silent place (Found others) (Blocked core) alike = absurd (false≢true alike)
+block_tells_status form index telling silent place (Blocked others) (Found places) alike = absurd (true≢false alike)
+block_tells_status form index telling silent place (Blocked others) (Blocked core) alike = rw silent refl
 
 -- ---- contents that tell the same
 
@@ -80,20 +71,15 @@ record TellSame (explain : Bool) (one other : ContentView) : Type 0 where
 abbrev whole : List ℕ → List ℕ
 whole bytes = bytes
 
-text_same : (format : Format) (index : IndexView) (telling : TellingView) (one other : ContentView) → TellSame telling.explain one other → text_in format index telling one ≡ text_in format index telling other
-unfolding lines_text json_text tall_array
-text_same Text index telling one other same =
-    ap₂ (λ front causes. front ++ causes_text index causes)
-    (ap₂ (λ front lists. front ++ flat_map list_lines lists)
-    (ap₂ (λ blocks numbers. line (codes "architecture: ") index.arch ++ titled (codes "report:") blocks ++ flat_map number_line numbers)
-    (sym (lines_map whole (block_of index telling) one.blocks) ∙ ap (flat_map whole) (same.blocks (block_of index telling) (block_tells_status index telling)) ∙ lines_map whole (block_of index telling) other.blocks)
-    same.numbers) same.lists) same.causes
-text_same Json index telling one other same =
-    ap₂ (λ front causes. object (head_json telling.options ++ (member (codes "architecture") (quoted index.arch) ∷ front ++ causes_json index causes)) ++ codes "\n")
-    (ap₂ (λ front lists. front ++ map list_json lists)
-    (ap₂ (λ blocks numbers. member (codes "report") (codes "[" ++ blocks ++ codes "\n]") ∷ map number_json numbers)
-    (sym (joined_map whole (block_json index telling) (codes ",") one.blocks) ∙ ap (join_by whole (codes ",")) (same.blocks (block_json index telling) (object_tells_status index telling))
-    ∙ joined_map whole (block_json index telling) (codes ",") other.blocks)
+text_same : (form : Format) (index : IndexView) (telling : TellingView) (one other : ContentView) → TellSame telling.explain one other → text_in form index telling one ≡ text_in form index telling other
+unfolding text_in
+text_same form index telling one other same =
+    let block = block_in form index telling in
+    ap₂ (λ front causes. front ++ causes_in form index causes ++ report_end form)
+    (ap₂ (λ front lists. front ++ flat_map (amended_in form) lists)
+    (ap₂ (λ blocks numbers. head_in form telling.options ++ string_in form First (codes "architecture") index.arch ++ blocks ++ flat_map (counted_in form) numbers)
+    (sym (list_map form Tall (codes "report") whole block one.blocks) ∙ ap (list_in form Tall (codes "report") whole) (same.blocks block (block_tells_status form index telling))
+    ∙ list_map form Tall (codes "report") whole block other.blocks)
     same.numbers) same.lists) same.causes
 
 -- ---- a change that leaves what is told

@@ -1,12 +1,11 @@
 pub mod Report
 pub mod Told
 pub mod Similar
-pub mod CauseLines
+pub mod CauseText
 pub use Rattle.deb_outcome.specs.Asked
 pub use Rattle.deb_outcome.specs.Outcome
 pub use Rattle.deb_outcome.specs.Since
 pub mod Content
 pub mod Sought
-pub mod Lines
-pub mod Json
+pub mod Document
 pub mod Written

@@ -1,11 +1,8 @@
 -- The report on an index.
-use Rattle.std.specs.Prelude.{ℕ, Bool, List, [], ◌++◌, codes, decimal, if◌then◌else◌}
-use Rattle.std.specs.List.{flat_map}
+use Rattle.std.specs.Prelude.{ℕ, Bool, List, [], if◌then◌else◌}
 use Rattle.deb_index.specs.declared.constraint.Constraint.{Constraint}
-use Rattle.deb_index.specs.Packages.{IndexView, PackageView}
 use Rattle.deb_causes.specs.Later.{later_at}
 use Rattle.run_settings.specs.Settings.{Settings, options_of, tells_options}
-use Rattle.deb_reasons.specs.Reasons.{line, constraint_line, titled}
 
 -- what is told of verdicts: whether they are explained; whether the cores behind the first are, and which these are, by place;
 -- whether the first core is told as it is walked; and the words that a document begins with, where it tells any
@@ -29,20 +26,3 @@ telling_of settings since later = record {
 -- those that are told
 abbrev pub also_at : TellingView → ℕ → List (List Constraint)
 also_at telling place = if telling.also then later_at telling.later place else []
-
--- the lines of a core, under a title
-unfoldable pub core_lines : IndexView → List ℕ → List Constraint → List ℕ
-core_lines index title core = titled title (flat_map (constraint_line index) core)
-
--- the first lines of a block
-unfoldable pub heading : PackageView → List ℕ
-heading deb = line (codes " -") []
-    ++ line (codes "  package: ") deb.name
-    ++ line (codes "  version: ") deb.version
-    ++ line (codes "  architecture: ") deb.architecture
-
--- ---- numbers
-
--- the line of a number
-unfoldable pub number_line : List ℕ × ℕ → List ℕ
-number_line number = number.0 ++ codes ": " ++ decimal number.1 ++ codes "\n"

@@ -3,19 +3,11 @@ use Rattle.std.specs.Prelude.{ℕ, false, true, List, []}
 use Rattle.deb_index.specs.declared.constraint.Constraint.{Constraint}
 use Rattle.deb_index.specs.Packages.{IndexView}
 use Rattle.deb_health.specs.Verdicts.{VerdictView}
-use Rattle.run_settings.specs.declared.config.Format.{Format}
-use Rattle.run_settings.specs.declared.config.Format.TheVariants.{Json, Text}
-use Rattle.deb_report.specs.Content.{ContentView, content_of, content_since}
-use Rattle.deb_report.specs.Json.{json_text}
-use Rattle.deb_report.specs.Lines.{lines_text}
-use Rattle.deb_report.specs.Report.{TellingView, telling_of}
+use Rattle.deb_report.specs.Content.{content_of, content_since}
+use Rattle.deb_report.specs.Document.{text_in}
+use Rattle.deb_report.specs.Report.{telling_of}
 use Rattle.run_settings.specs.Settings.{Settings}
 use Rattle.deb_outcome.specs.Since.{BrokenView}
-
--- what is told in a form: lines, or a JSON document
-abbrev pub text_in : Format → IndexView → TellingView → ContentView → List ℕ
-text_in Text index telling content = lines_text index telling content
-text_in Json index telling content = json_text index telling content
 
 -- what is written of the asked places, and of the later cores, by place
 abbrev pub written_told : Settings → IndexView → List ℕ → List VerdictView → List (List (List Constraint)) → List ℕ

@@ -4,36 +4,17 @@ ghost use Rattle.std.specs.Prelude.{◌≡◌, ◌<◌, ◌^◌, All, IfOk, leng
 ghost use Rattle.deb_health.specs.Verdicts.{SpeaksOf, verdict_view};
 ghost use Rattle.run_settings.specs.Settings.{settings_of};
 ghost use Rattle.deb_outcome.specs.Since.{broken_view, summary_since};
-ghost use Rattle.deb_report.specs.Told.{IsContentOf, content_view, telling_view};
 ghost use Rattle.deb_causes.specs.Later.{AreLaterOf, later_view};
-ghost use Rattle.deb_report.specs.Written.{text_in, written_report, written_since, written_told};
+ghost use Rattle.deb_report.specs.Written.{written_report, written_since, written_told};
 
-use crate::content::{Content, content_of, content_since};
-use crate::json::json_report;
-use crate::lines::lines_report;
+use crate::content::{content_of, content_since};
+use crate::document::text_in;
 use crate::telling::Telling;
 use deb_health::Verdict;
 use deb_index::{Constraint, Index};
 use deb_outcome::{BrokenPackage, Summary, summary_with};
-use run_settings::{Config, Format};
+use run_settings::Config;
 use std::alloc::{AllocError, Global};
-
-/// What a report tells, in the form that is asked for.
-fn text_in(
-    alloc: Global,
-    index: &Index,
-    content: &Content<'_>,
-    telling: Telling<'_>,
-) -> Result<Vec<u8>, AllocError>
-    requires content { IsContentOf index.now content.now }
-    requires later { AreLaterOf index.now (later_view telling.later.now) }
-    ensures { IfOk result (λ text. text.items ≡ text_in telling.entry.config.now.format index.now (telling_view telling.entry) (content_view content.now)) }
-{
-    match telling.config.format {
-        Format::Text => lines_report(alloc, index, content, telling),
-        Format::Json => json_report(alloc, index, content, telling),
-    }
-}
 
 /// The report on the asked places: two lines at the head, a block for each place that is shown, in the order of the list, five lines of numbers,
 /// or six with a background, and where causes are asked for, the block of them, whatever is shown.

@@ -2,18 +2,17 @@
 //!
 //! The modules, in reading order:
 //!
-//! - `layout`: the report in its form, by `lines` or by `json`, of what `deb_reasons` has of both. `telling`: what of verdicts it tells; `options`: the
-//!   words that it is made under.
-//! - `content`: what both tell, its causes by `deb_causes`.
-//! - `cause_lines` and `cause_json` tell causes in both forms; `sought`: which names that differ in numbers alone are looked for.
+//! - `layout`: the calls; `content`: what a report tells, its causes by `deb_causes`. `telling`: what of verdicts it tells; `options`: the words that it
+//!   is made under.
+//! - `document`: a report in its form, by the writer of `deb_reasons`, with its `numbers`; `causes`: the blocks of causes; `sought`: which names that
+//!   differ in numbers alone are looked for.
 #![tactic(auto)]
 
-mod cause_json;
-mod cause_lines;
+mod causes;
 mod content;
-mod json;
+mod document;
 mod layout;
-mod lines;
+mod numbers;
 mod options;
 mod sought;
 mod telling;

@@ -1,6 +1,6 @@
 use Rattle.std.proofs.Common.{◌≡◌, false, take}
 use Rattle.std.specs.List.{list_any}
-use Rattle.deb_reasons.specs.JsonParts.{needs_escape}
+use Rattle.deb_reasons.specs.Forms.{needs_escape}
 use Rattle.deb_reasons.proofs.json_text.needs_escapes.Given as goal
 
 abbrev pub invariant-loop-byte : goal.invariant-loop-byte

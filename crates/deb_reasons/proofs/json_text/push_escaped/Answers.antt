@@ -1,7 +1,7 @@
 use Rattle.std.proofs.Common.{◌++◌, ◌∙◌, ap, arith, get_or, sym, take}
 use Rattle.std.proofs.lemmas.List.{flat_map_more, take_all, take_more}
 use Rattle.std.specs.List.{flat_map}
-use Rattle.deb_reasons.specs.JsonParts.{escaped_byte}
+use Rattle.deb_reasons.specs.Forms.{escaped_byte}
 use Rattle.deb_reasons.proofs.json_text.push_escaped.Goals as goal
 
 pub loop-byte-preserved : goal.loop-byte-preserved

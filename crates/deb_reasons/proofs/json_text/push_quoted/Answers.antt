@@ -1,7 +1,7 @@
 use Rattle.std.proofs.Common.{◌≡◌, ◌||◌, ◌==◌, ◌∷◌, [], ◌++◌, ◌∙◌, List, ap, codes, false, inl, inr, nat_lt, refl, sym, ℕ}
 use Rattle.std.proofs.lemmas.Bool.{cases_Bool}
 use Rattle.std.specs.List.{flat_map, list_any}
-use Rattle.deb_reasons.specs.JsonParts.{escaped_byte, needs_escape, quoted}
+use Rattle.deb_reasons.specs.Forms.{escaped_byte, needs_escape, quoted}
 use Rattle.deb_reasons.proofs.TextLemmas.{last_call}
 use Rattle.deb_reasons.proofs.json_text.push_quoted.Goals as goal
 

@@ -4,7 +4,6 @@ use Rattle.deb_index.specs.Constraints.{IsOfIndex}
 use Rattle.deb_reasons.specs.Walk.{IsStepOf, first_steps}
 use Rattle.deb_reasons.proofs.WalkLemmas.{first-within}
 use Rattle.deb_reasons.specs.Similar.{FitsWalk}
-use Rattle.deb_reasons.proofs.TextLemmas.{last_call}
 use Rattle.deb_reasons.proofs.WalkTextLemmas.{told_whole}
 use Rattle.deb_reasons.proofs.walk_lines.push_walk.Goals as goal
 
@@ -23,6 +22,5 @@ go_from-requires-clause-steps c =
 
 pub returns : goal.returns
 returns c =
-    last_call c.go_from.result c.go_from.ensures (λ is.
-    told_whole c.args.index.now c.args.place c.args.core.now _ _ c.in_ok-first.first.items c.args.out.now.items c.push_line.new.out.items c.go_from.new.out.items
-    c.in_ok-table.ensures c.in_ok-coming.ensures c.in_ok-first.ensures c.in_ok-push_line.ensures is)
+    told_whole c.args.index.now c.args.place c.args.core.now _ _ c.in_ok-first.first.items c.args.out.now.items c.go_from.new.out.items
+    c.in_ok-table.ensures c.in_ok-coming.ensures c.in_ok-first.ensures c.in_ok-go_from.ensures

@@ -4,7 +4,7 @@ use Rattle.run_settings.specs.Settings.{settings_of}
 use Rattle.deb_outcome.specs.Since.{broken_view}
 use Rattle.deb_causes.specs.Later.{later_view}
 use Rattle.deb_report.specs.Report.{telling_of}
-use Rattle.deb_report.specs.Written.{text_in}
+use Rattle.deb_report.specs.Document.{text_in}
 use Rattle.deb_report.proofs.ReportLemmas.{few-blocks}
 use Rattle.deb_report.proofs.layout.report_since.Goals as goal
 

@@ -1,0 +1,41 @@
+use Rattle.std.proofs.Common.{codes, refl}
+use Rattle.list_steps.proofs.JoinLemmas.{lines_map}
+use Rattle.deb_health.specs.Shown.{shown_view}
+use Rattle.deb_outcome.specs.Outcome.{number_view}
+use Rattle.deb_outcome.specs.Since.{amends_view}
+use Rattle.deb_reasons.proofs.FormLemmas.{list_map}
+use Rattle.deb_reasons.specs.declared.form.Lead.TheVariants.{Tall}
+use Rattle.deb_report.specs.Document.{amended_in, block_in, counted_in, text_in}
+use Rattle.deb_report.specs.Told.{telling_view}
+use Rattle.deb_report.proofs.document.Document.text.Goals as goal
+
+pub push_list-requires : goal.push_list-requires
+push_list-requires c =
+    rw c.as_slice-blocks.ensures.value
+    (λ k d below. record { asked = c.requires.content.blocks k d below; later = c.requires.later; walked = c.requires.walked k d below })
+
+pub returns : goal.returns
+unfolding text_in
+returns c =
+    let form = c.args.self.now.writer.format in
+    let index = c.args.self.now.writer.index.now in
+    let content = c.args.content.now in
+    rw (
+      c.in_ok-push_end.ensures,
+      c.in_ok-push_all-2.ensures,
+      c.in_ok-push_all.ensures,
+      c.in_ok-push_list.ensures,
+      c.in_ok-push_string.ensures,
+      c.in_ok-push_head.ensures,
+      c.as_slice-options.ensures.value,
+      c.in_ok-options.ensures,
+      c.new-out.ensures.items,
+      c.as_slice-blocks.ensures.value,
+      c.as_slice.ensures.value,
+      c.as_slice-2.ensures.value,
+      c.arch-arch.ensures,
+      ← list_map form Tall (codes "report") (block_in form index (telling_view c.args.self.now.telling)) shown_view content.blocks.items,
+      ← lines_map (counted_in form) number_view content.numbers.items,
+      ← lines_map (amended_in form) amends_view content.lists.items,
+    )
+    refl

@@ -1,0 +1,167 @@
+//! The blocks of causes.
+
+ghost use Rattle.std.specs.Prelude.{◌≡◌, ◌++◌, ◌<◌, All, OnOk, Some, length, map};
+ghost use Rattle.deb_index.specs.Constraints.{IsOfIndex};
+ghost use Rattle.deb_near.specs.Near.{near_misses, near_view, similar_names};
+ghost use Rattle.deb_reasons.specs.Hits.{hits_of};
+ghost use Rattle.deb_causes.specs.Causes.{IsCauseOf, cause_view};
+ghost use Rattle.deb_report.specs.CauseText.{cause_in, causes_in, count_in, needed_in, wrong_in};
+ghost use Rattle.deb_report.specs.Similar.{FitsCause};
+
+use crate::sought::similar_to_causes;
+use deb_causes::Cause;
+use deb_index::Constraint;
+use deb_near::{NearMiss, Similar, near_misses};
+use deb_reasons::form::{Lead, Writer, push_elements, push_list, push_some, push_title};
+use deb_reasons::hits::hits_of;
+use deb_reasons::parts::{Part, package_part};
+use deb_reasons::reasons::group_field;
+use deb_texts::{Print, push_texts};
+use run_settings::Format;
+use std::alloc::AllocError;
+
+/// What is wrong.
+#[derive(Drop)]
+struct Wrong<'p, 'i> {
+    writer: &'p Writer<'i>,
+}
+
+impl<'p, 'i> Print<Constraint> for Wrong<'p, 'i> {
+    ghost fits = { λ wrong constraint. IsOfIndex wrong.writer.now.index.now constraint };
+
+    ghost text = { λ wrong constraint. wrong_in wrong.writer.now.format wrong.writer.now.index.now constraint };
+
+    #[tactic(auto, unfolding(crate::specs::CauseText::wrong_parts))]
+    fn print(&self, out: &mut Vec<u8>, constraint: &Constraint) -> Result<(), AllocError> {
+        match *constraint {
+            Constraint::Need(place, number) => {
+                let relation = Part::Relation(self.writer.index.need(place, number));
+                self.writer
+                    .push_item(out, Lead::Within, &[Part::Kind(b"missing"), relation])?;
+            }
+            Constraint::Essential(_) | Constraint::Apart(_, _) | Constraint::Only(_) => {
+                self.writer.print(out, constraint)?;
+            }
+        }
+        Ok(())
+    }
+}
+
+/// Who needs it.
+#[derive(Drop)]
+struct Needed<'p, 'i> {
+    writer: &'p Writer<'i>,
+}
+
+impl<'p, 'i> Print<Constraint> for Needed<'p, 'i> {
+    ghost fits = { λ needed constraint. IsOfIndex needed.writer.now.index.now constraint };
+
+    ghost text = { λ needed constraint. needed_in needed.writer.now.format needed.writer.now.index.now constraint };
+
+    #[tactic(auto, unfolding(crate::specs::CauseText::needed_parts))]
+    fn print(&self, out: &mut Vec<u8>, constraint: &Constraint) -> Result<(), AllocError> {
+        match *constraint {
+            Constraint::Need(place, number) => {
+                let deb = self.writer.index.package(place);
+                let field = Part::Field(group_field(deb, number).as_bytes());
+                let relation = Part::Relation(self.writer.index.need(place, number));
+                self.writer
+                    .push_item(out, Lead::Within, &[package_part(deb), field, relation])?;
+            }
+            Constraint::Essential(_) | Constraint::Apart(_, _) | Constraint::Only(_) => {
+                self.writer.print(out, constraint)?;
+            }
+        }
+        Ok(())
+    }
+}
+
+/// Causes of an index.
+#[derive(Drop)]
+struct Causes<'p, 'i> {
+    writer: &'p Writer<'i>,
+    similar: Similar,
+}
+
+impl<'p, 'i> Causes<'p, 'i> {
+    /// Adds a cause: what is wrong, who needs it, the packages that stand in the way, what comes near, and what is broken.
+    fn push_cause(
+        &self,
+        out: &mut Vec<u8>,
+        cause: &Cause,
+        hits: &[u32],
+        misses: &[NearMiss<'_>],
+        names: &[&[u8]],
+    ) -> Result<(), AllocError>
+        requires cause { IsCauseOf self.now.writer.now.index.now (cause_view cause.now) }
+        requires hits { hits.now ≡ hits_of self.now.writer.now.index.now cause.now.constraints.items }
+        requires within { All (λ place. place < length self.now.writer.now.index.now.packages) hits.now }
+        requires misses { map near_view misses.now ≡ near_misses self.now.writer.now.index.now cause.now.constraints.items }
+        requires names { map (λ name. name.now) names.now ≡ similar_names self.now.writer.now.index.now cause.now.constraints.items }
+        ensures { OnOk result (out.new.items ≡ out.old.items ++ cause_in self.now.writer.now.format self.now.writer.now.index.now (cause_view cause.now)) }
+    {
+        let writer = self.writer;
+        let form = writer.format;
+        let constraints = cause.constraints.as_slice();
+        let wrong = Wrong { writer };
+        let needs = cause.needs.as_slice();
+        let versions = cause.versions.as_slice();
+        let places = cause.places.as_slice();
+        writer.push_number(out, Lead::Block, "packages", places.len())?;
+        writer.push_number(out, Lead::Within, "frees", cause.frees)?;
+        push_list(form, out, Lead::Within, "reasons", &wrong, constraints)?;
+        push_some(form, out, "needed-by", &Needed { writer }, needs)?;
+        push_some(form, out, "hits", writer, hits)?;
+        push_some(form, out, "versions", writer, versions)?;
+        push_some(form, out, "present", writer, misses)?;
+        push_some(form, out, "similar", writer, names)?;
+        push_list(form, out, Lead::Within, "broken", writer, places)?;
+        writer.push_block_end(out)?;
+        Ok(())
+    }
+}
+
+impl<'p, 'i> Print<Cause> for Causes<'p, 'i> {
+    ghost fits = { λ causes cause. FitsCause causes.writer.now.index.now causes.similar cause };
+
+    ghost text = { λ causes cause. cause_in causes.writer.now.format causes.writer.now.index.now (cause_view cause) };
+
+    fn print(&self, out: &mut Vec<u8>, cause: &Cause) -> Result<(), AllocError> {
+        let writer = self.writer;
+        let constraints = cause.constraints.as_slice();
+        let hits = hits_of(writer.alloc, writer.index, constraints)?;
+        let misses = near_misses(writer.alloc, writer.index, constraints)?;
+        let names = self.similar.names(writer.alloc, writer.index, constraints)?;
+        self.push_cause(out, cause, &hits, &misses, &names)?;
+        Ok(())
+    }
+}
+
+/// Adds how many causes there are, where lines tell it.
+#[tactic(auto, unfolding(crate::specs::CauseText::count_in))]
+fn push_count(writer: &Writer<'_>, out: &mut Vec<u8>, count: usize) -> Result<(), AllocError>
+    ensures { OnOk result (out.new.items ≡ out.old.items ++ count_in writer.now.format count) }
+{
+    let digits = count.to_string(writer.alloc)?;
+    if writer.format == Format::Text {
+        push_texts(out, &[b" ", digits.as_str().as_bytes()])?;
+    }
+    Ok(())
+}
+
+/// Adds the causes.
+pub(crate) fn push_causes(
+    writer: &Writer<'_>,
+    out: &mut Vec<u8>,
+    causes: &[Cause],
+) -> Result<(), AllocError>
+    requires { All (λ cause. IsCauseOf writer.now.index.now (cause_view cause)) causes.now }
+    ensures { OnOk result (out.new.items ≡ out.old.items ++ causes_in writer.now.format writer.now.index.now (Some (map cause_view causes.now))) }
+{
+    let similar = similar_to_causes(writer.alloc, writer.index, causes)?;
+    let blocks = Causes { writer, similar };
+    push_title(writer.format, out, Lead::Tall, "causes")?;
+    push_count(writer, out, causes.len())?;
+    push_elements(writer.format, out, Lead::Tall, &blocks, causes)?;
+    Ok(())
+}

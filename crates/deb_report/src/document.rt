@@ -1,0 +1,265 @@
+//! The report in its form: lines, or one JSON document (RFC 8259).
+
+ghost use Rattle.std.specs.Prelude.{◌≡◌, ◌++◌, ◌<◌, All, IfOk, OnOk, codes, length, map, true};
+ghost use Rattle.deb_index.specs.Constraints.{IsOfIndex};
+ghost use Rattle.deb_reasons.specs.Forms.{list_in, quoted};
+ghost use Rattle.deb_reasons.specs.Similar.{FitsWalk};
+ghost use Rattle.deb_reasons.specs.declared.form.Lead.TheVariants.{Other};
+ghost use Rattle.deb_health.specs.Shown.{IsAskedOf, shown_view};
+ghost use Rattle.deb_report.specs.CauseText.{causes_in};
+ghost use Rattle.deb_report.specs.Document.{also_in, block_in, explanation_in, first_core, head_in, later_core, report_end, text_in, told_in};
+ghost use Rattle.deb_report.specs.Sought.{FitsBlock, IsWalked, core_in};
+ghost use Rattle.deb_report.specs.Told.{IsContentOf, content_view, telling_view};
+ghost use Rattle.deb_causes.specs.Later.{AreLaterOf, later_view};
+
+use crate::causes::push_causes;
+use crate::content::Content;
+use crate::sought::similar_to_walks;
+use crate::telling::Telling;
+use deb_health::{Shown, Verdict};
+use deb_index::{Constraint, Index};
+use deb_near::Similar;
+use deb_outcome::status_text;
+use deb_reasons::form::{Lead, Writer, push_elements, push_list, push_title};
+use deb_reasons::walk_lines::push_walk;
+use deb_texts::{Print, push_all};
+use run_settings::Format;
+use std::alloc::{AllocError, Global};
+
+/// What is told of an index.
+#[derive(Drop)]
+pub(crate) struct Document<'i> {
+    pub(crate) writer: Writer<'i>,
+    telling: Telling<'i>,
+    /// The names that walks tell as similar.
+    similar: &'i Similar,
+}
+
+impl<'i> Print<Constraint> for Document<'i> {
+    ghost fits = { λ document constraint. IsOfIndex document.writer.index.now constraint };
+
+    ghost text = { λ document constraint. told_in document.writer.format document.writer.index.now (telling_view document.telling) constraint };
+
+    #[tactic(auto, unfolding(crate::specs::Document::told_in))]
+    fn print(&self, out: &mut Vec<u8>, constraint: &Constraint) -> Result<(), AllocError> {
+        self.writer.push_reason_front(out, *constraint)?;
+        if self.telling.config.why {
+            self.writer.push_links(out, *constraint)?;
+        }
+        self.writer.push_item_end(out)?;
+        Ok(())
+    }
+}
+
+impl<'i> Print<Vec<Constraint>> for Document<'i> {
+    ghost fits = { λ document core. All (IsOfIndex document.writer.index.now) core.items };
+
+    ghost text = { λ document core. later_core document.writer.format document.writer.index.now (telling_view document.telling) core.items };
+
+    #[tactic(auto, unfolding(crate::specs::Document::later_core))]
+    fn print(&self, out: &mut Vec<u8>, core: &Vec<Constraint>) -> Result<(), AllocError> {
+        let writer = &self.writer;
+        let form = writer.format;
+        let core = core.as_slice();
+        match form {
+            Format::Text => push_list(form, out, Lead::Within, "also", writer, core)?,
+            Format::Json => push_elements(form, out, Lead::Within, self, core)?,
+        }
+        Ok(())
+    }
+}
+
+impl<'i> Document<'i> {
+    /// Adds the first core of the package at a place.
+    #[tactic(auto, unfolding(crate::specs::Document::first_core))]
+    fn push_first(
+        &self,
+        out: &mut Vec<u8>,
+        place: u32,
+        core: &[Constraint],
+    ) -> Result<(), AllocError>
+        requires place { place < length self.now.writer.index.now.packages }
+        requires core { All (IsOfIndex self.now.writer.index.now) core.now }
+        requires walked { self.now.telling.config.now.why ≡ true → All (FitsWalk self.now.writer.index.now self.now.similar.now) core.now }
+        ensures { OnOk result (out.new.items ≡
+            out.old.items ++ first_core self.now.writer.format self.now.writer.index.now (telling_view self.now.telling) place core.now) }
+    {
+        let writer = &self.writer;
+        let form = writer.format;
+        if form == Format::Text && self.telling.config.why {
+            push_title(form, out, Lead::Within, "why")?;
+            out.extend_from_slice(b"\n")?;
+            push_walk(writer.alloc, out, writer.index, self.similar, place, core)?;
+        } else {
+            push_list(form, out, Lead::Within, "reasons", self, core)?;
+        }
+        Ok(())
+    }
+
+    /// Adds the cores behind the first of the package at a place, where they are told.
+    #[tactic(auto, unfolding(crate::specs::Document::also_in))]
+    fn push_also(&self, out: &mut Vec<u8>, place: u32) -> Result<(), AllocError>
+        requires { AreLaterOf self.now.writer.index.now (later_view self.now.telling.later.now) }
+        ensures { OnOk result (out.new.items ≡
+            out.old.items ++ also_in self.now.writer.format self.now.writer.index.now (telling_view self.now.telling) place) }
+    {
+        let form = self.writer.format;
+        let cores = self.telling.also_at(place);
+        match form {
+            Format::Text => push_all(out, self, cores)?,
+            Format::Json => {
+                if self.telling.config.all_reasons {
+                    push_list(form, out, Lead::Within, "also", self, cores)?;
+                }
+            }
+        }
+        Ok(())
+    }
+
+    /// Adds what explains a verdict.
+    #[tactic(auto, unfolding(crate::specs::Document::explanation_in))]
+    fn push_explanation(&self, out: &mut Vec<u8>, shown: &Shown<'_>) -> Result<(), AllocError>
+        requires asked { IsAskedOf self.now.writer.index.now (shown_view shown.now) }
+        requires later { AreLaterOf self.now.writer.index.now (later_view self.now.telling.later.now) }
+        requires walked { self.now.telling.config.now.why ≡ true
+            → All (FitsWalk self.now.writer.index.now self.now.similar.now) (core_in (shown_view shown.now)) }
+        ensures { OnOk result (out.new.items ≡
+            out.old.items ++ explanation_in self.now.writer.format self.now.writer.index.now (telling_view self.now.telling) (shown_view shown.now)) }
+    {
+        let writer = &self.writer;
+        let form = writer.format;
+        match shown.verdict {
+            Verdict::Ok(places) => {
+                let places = places.as_slice();
+                push_list(form, out, Lead::Within, "installation-set", writer, places)?;
+            }
+            Verdict::Broken(core) => {
+                self.push_first(out, shown.place, core.as_slice())?;
+                self.push_also(out, shown.place)?;
+            }
+        }
+        Ok(())
+    }
+}
+
+impl<'i, 'v> Print<Shown<'v>> for Document<'i> {
+    ghost fits = { λ document shown. FitsBlock document.writer.index.now document.telling document.similar.now shown };
+
+    ghost text = { λ document shown. block_in document.writer.format document.writer.index.now (telling_view document.telling) (shown_view shown) };
+
+    #[tactic(auto, unfolding(crate::specs::Document::block_in))]
+    fn print(&self, out: &mut Vec<u8>, shown: &Shown<'v>) -> Result<(), AllocError> {
+        let writer = &self.writer;
+        let deb = writer.index.package(shown.place);
+        let architecture = deb.architecture.as_slice();
+        writer.push_string(out, Lead::Block, "package", deb.name.as_slice())?;
+        writer.push_string(out, Lead::Within, "version", deb.version.text())?;
+        writer.push_string(out, Lead::Within, "architecture", architecture)?;
+        writer.push_string(out, Lead::Within, "status", status_text(shown.verdict))?;
+        if self.telling.config.explain {
+            self.push_explanation(out, shown)?;
+        }
+        writer.push_block_end(out)?;
+        Ok(())
+    }
+}
+
+impl<'i> Document<'i> {
+    /// Adds the words that the document is made under.
+    #[tactic(auto, using(deb_reasons::proofs::FormLemmas::list_map))]
+    fn push_options(&self, out: &mut Vec<u8>, options: &[&'static str]) -> Result<(), AllocError>
+        ensures { OnOk result (out.new.items ≡
+            out.old.items ++ list_in self.now.writer.format Other (codes "options") quoted (map (λ one. one.now) options.now)) }
+    {
+        push_list(
+            self.writer.format,
+            out,
+            Lead::Other,
+            "options",
+            self,
+            options,
+        )?;
+        Ok(())
+    }
+
+    /// Adds what a document begins with.
+    #[tactic(auto, unfolding(crate::specs::Document::head_in))]
+    fn push_head(&self, out: &mut Vec<u8>, options: &[&'static str]) -> Result<(), AllocError>
+        ensures { OnOk result (out.new.items ≡ out.old.items ++ head_in self.now.writer.format (map (λ one. one.now) options.now)) }
+    {
+        if self.writer.format == Format::Json {
+            out.extend_from_slice(b"{")?;
+            if !options.is_empty() {
+                out.extend_from_slice(b"\"format\":1")?;
+                self.push_options(out, options)?;
+                out.extend_from_slice(b",")?;
+            }
+        }
+        Ok(())
+    }
+
+    /// Adds the causes, where they are told, and what ends the report.
+    #[tactic(auto, unfolding(crate::specs::Document::report_end))]
+    fn push_end(&self, out: &mut Vec<u8>, content: &Content<'_>) -> Result<(), AllocError>
+        requires { IsContentOf self.now.writer.index.now content.now }
+        ensures { OnOk result (out.new.items ≡ out.old.items
+            ++ causes_in self.now.writer.format self.now.writer.index.now (content_view content.now).causes ++ report_end self.now.writer.format) }
+    {
+        if let Some(causes) = &content.causes {
+            push_causes(&self.writer, out, causes.as_slice())?;
+        }
+        if self.writer.format == Format::Json {
+            out.extend_from_slice(b"}\n")?;
+        }
+        Ok(())
+    }
+
+    /// The whole report.
+    fn text(&self, content: &Content<'_>) -> Result<Vec<u8>, AllocError>
+        requires content { IsContentOf self.now.writer.index.now content.now }
+        requires later { AreLaterOf self.now.writer.index.now (later_view self.now.telling.later.now) }
+        requires walked { All (IsWalked self.now.writer.index.now self.now.telling self.now.similar.now) content.now.blocks.items }
+        ensures { IfOk result (λ text. text.items ≡
+            text_in self.now.writer.format self.now.writer.index.now (telling_view self.now.telling) (content_view content.now)) }
+    {
+        let form = self.writer.format;
+        let arch = self.writer.index.arch();
+        let blocks = content.blocks.as_slice();
+        let options = self.telling.options(self.writer.alloc)?;
+        let options = options.as_slice();
+        let mut out = Vec::new(self.writer.alloc);
+        self.push_head(&mut out, options)?;
+        self.writer
+            .push_string(&mut out, Lead::First, "architecture", arch)?;
+        push_list(form, &mut out, Lead::Tall, "report", self, blocks)?;
+        push_all(&mut out, self, content.numbers.as_slice())?;
+        push_all(&mut out, self, content.lists.as_slice())?;
+        self.push_end(&mut out, content)?;
+        Ok(out)
+    }
+}
+
+/// What a report tells, in the form that is asked for.
+pub(crate) fn text_in(
+    alloc: Global,
+    index: &Index,
+    content: &Content<'_>,
+    telling: Telling<'_>,
+) -> Result<Vec<u8>, AllocError>
+    requires content { IsContentOf index.now content.now }
+    requires later { AreLaterOf index.now (later_view telling.later.now) }
+    ensures { IfOk result (λ text. text.items ≡ text_in telling.entry.config.now.format index.now (telling_view telling.entry) (content_view content.now)) }
+{
+    let similar = similar_to_walks(alloc, index, telling, content.blocks.as_slice())?;
+    let writer = Writer {
+        alloc,
+        index,
+        format: telling.config.format,
+    };
+    let document = Document {
+        writer,
+        telling,
+        similar: &similar,
+    };
+    document.text(content)
+}
