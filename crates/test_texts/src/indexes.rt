@@ -31,11 +31,13 @@ pub fn append_index(out: &mut String, written: &str) -> Result<(), AllocError> {
     if written.starts_with("Package:") || written.starts_with(' ') || written.is_empty() {
         return out.push_str(written);
     }
-    let mut between = "";
+    let mut is_first = true;
     for stanza in written.split('/') {
-        out.push_str(between)?;
+        if !is_first {
+            out.push('\n')?;
+        }
         append_stanza(out, stanza)?;
-        between = "\n";
+        is_first = false;
     }
     Ok(())
 }
