@@ -1,6 +1,6 @@
 //! A run since an earlier index: that is read and checked first, and what is kept of it is its broken packages.
 
-ghost use Rattle.std.specs.Prelude.{◌≡◌, ◌<◌, ◌≤◌, IfErr, IfOk, OnOk, Some, false, length, map, true};
+ghost use Rattle.std.specs.Prelude.{◌≡◌, ◌≢◌, ◌<◌, ◌≤◌, IfErr, IfOk, OnOk, Some, false, length, map, true};
 ghost use Rattle.std.specs.Io.KnownBytes.{IsAtEnd};
 ghost use Rattle.deb_index.specs.Reading.{byte_limit};
 ghost use Rattle.run_settings.specs.Settings.{settings_of};
@@ -135,6 +135,11 @@ pub fn run_since<S: Source, B: Source, E: Source, K: Sink, G: Gate + Sync, R: Th
     requires background { B.failed background.old ≡ false }
     requires earlier { E.failed earlier.old ≡ false }
     requires writer { K.failed writer.old ≡ false }
+    ensures end { OnOk result (IsAtEnd (S.remaining reader.new)) }
+    ensures background_end { OnOk result ((settings_of config.now).background ≡ true → IsAtEnd (B.remaining background.new)) }
+    ensures earlier_end { OnOk result (IsAtEnd (E.remaining earlier.new)) }
+    ensures spared { (settings_of config.now).background ≡ false → background.new ≡ background.old }
+    ensures untouched { IfErr result (λ fault. fault ≢ RunFault.Write → writer.new ≡ writer.old) }
     ensures runs { RunsOn (settings_of config.now) (Some (input (E.remaining earlier.old) (E.failed earlier.new)))
         (input (S.remaining reader.old) (S.failed reader.new)) (input (B.remaining background.old) (B.failed background.new))
         (written (K.contents writer.old) (K.contents writer.new) (K.failed writer.new) (K.flushed writer.new) (K.abandoned writer.new)) result }
@@ -146,14 +151,6 @@ pub fn run_since<S: Source, B: Source, E: Source, K: Sink, G: Gate + Sync, R: Th
     drop(more);
     let before = Some(before.as_slice());
     report_and_write(
-        rt,
-        alloc,
-        config,
-        reader,
-        index,
-        before,
-        writer,
-        gate,
-        After::End,
+        rt, alloc, config, reader, index, before, writer, gate, after,
     )
 }

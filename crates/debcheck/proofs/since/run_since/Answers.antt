@@ -17,6 +17,11 @@ returns-in_err-before-clause-runs g c =
     let background = input (g.B.Source.remaining c.args.background.now) (g.B.Source.failed c.read_before.new.background) in
     rw (p.1, p.2) (runs-behind (settings_of c.args.config.now) earlier text background _ c.in_err-before.field-0.0 c.requires.reader c.in_err-before.ensures.refused (kept-itself _))
 
+pub returns-in_err-before-clause-untouched : goal.returns-in_err-before-clause-untouched
+returns-in_err-before-clause-untouched g c =
+    let p = err_from_is_err_and c.from_residual.result c.from_residual.ensures.1 in
+    rw (p.1, p.2) (λ other. refl)
+
 pub returns-in_err-before-clause-may_fail : goal.returns-in_err-before-clause-may_fail
 returns-in_err-before-clause-may_fail g c =
     let p = err_from_is_err_and c.from_residual.result c.from_residual.ensures.1 in
@@ -38,6 +43,11 @@ returns-in_err-index-clause-runs g c =
     let second = rw (← c.as_slice.ensures.value) at c.in_ok-before.ensures.behind in
     rw (p.1, p.2) (runs-unindexed settings (Some earlier) text background (Some broken) _ c.in_err-index.field-0.0
     (broken, refl, c.in_ok-before.ensures.broken) (c.in_err-index.ensures.refused background second) (kept-itself _))
+
+pub returns-in_err-index-clause-untouched : goal.returns-in_err-index-clause-untouched
+returns-in_err-index-clause-untouched g c =
+    let p = err_from_is_err_and c.from_residual-in_err-index.result c.from_residual-in_err-index.ensures.1 in
+    rw (p.1, p.2) (λ other. refl)
 
 pub returns-in_err-index-clause-may_fail : goal.returns-in_err-index-clause-may_fail
 returns-in_err-index-clause-may_fail g c =
