@@ -11,8 +11,8 @@ use Rattle.clap.specs.declared.error.kind.ErrorKind.TheVariants as kind
 use Rattle.clap.specs.declared.parser.matches.ArgMatches.{ArgMatches}
 use Rattle.deb_relation.specs.Relationship.{is_name}
 use Rattle.run_settings.specs.declared.config.Config.{Config}
-use Rattle.command_line.specs.declared.line.LineFault.{LineFault}
-use Rattle.command_line.specs.declared.line.LineFault.TheVariants.{Refused, Help, Memory}
+use Rattle.command_line.specs.declared.fault.LineFault.{LineFault}
+use Rattle.command_line.specs.declared.fault.LineFault.TheVariants.{Refused, Help, Memory}
 use Rattle.run_settings.specs.Settings.{Settings, is_architecture, settings_of, usual_settings}
 use Rattle.command_line.specs.Line.{Accepts, IsFaultOf, RefusesLine, RefusesUnless, Request, asked_by, file_in, format_of, has_good_file, has_good_names, has_good_reasons, has_good_since, has_good_values, is_count, is_good_list, is_help, is_version, line_app, line_faults, line_rows, listed_in, names_in, request_of, usual_request, value_of}
 use Rattle.command_line.proofs.LineLemmas.{count-least}

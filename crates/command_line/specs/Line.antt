@@ -21,8 +21,8 @@ use Rattle.command_line.specs.declared.checked.Values.{Values}
 use Rattle.command_line.specs.declared.options.LineOption.{LineOption}
 use Rattle.run_settings.specs.declared.config.Show.{Show}
 use Rattle.run_settings.specs.declared.config.Show.TheVariants.{All, Failures, Successes}
-use Rattle.command_line.specs.declared.line.LineFault.{LineFault}
-use Rattle.command_line.specs.declared.line.LineFault.TheVariants.{Refused, Help, Memory}
+use Rattle.command_line.specs.declared.fault.LineFault.{LineFault}
+use Rattle.command_line.specs.declared.fault.LineFault.TheVariants.{Refused, Help, Memory}
 use Rattle.run_settings.specs.Settings.{Settings, is_architecture, settings_of, usual_settings}
 
 -- all that a configuration says

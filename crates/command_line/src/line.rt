@@ -5,10 +5,10 @@ ghost use Rattle.clap.specs.Words.{kind_of};
 ghost use Rattle.deb_relation.specs.Relationship.{is_name};
 ghost use Rattle.run_settings.specs.Settings.{is_architecture, settings_of};
 ghost use Rattle.command_line.specs.Line.{Accepts, AreValuesOf, IsFaultOf, RefusesLine, RefusesUnless, asked_by, file_named, has_good_values};
-ghost use Rattle.command_line.specs.Line.{line_status_of, listed_in, request_of, rows_in};
-ghost use Rattle.command_line.specs.declared.line.LineFault.TheVariants.{Memory};
+ghost use Rattle.command_line.specs.Line.{listed_in, request_of, rows_in};
 
 use crate::checked::{Values, checked_values, tells_more_reasons};
+use crate::fault::LineFault;
 use crate::options::{command, is_set};
 use crate::other_words::advice_in;
 use crate::refusal::fault_of;
@@ -16,52 +16,10 @@ use crate::values::{file_in, names_of};
 use clap::ArgMatches;
 use clap::error::ErrorKind;
 use run_settings::Config;
-use std::alloc::{AllocError, AllocFailed, Global};
-use thiserror::Error;
+use std::alloc::{AllocError, Global};
 
 /// What `--version` writes: the name of the program and its version.
 pub const VERSION_LINE: &str = "debcheck 1.0.0\n";
-
-/// Why a command line gives no configuration.
-#[derive(Debug, Drop, Error)]
-pub enum LineFault {
-    /// A word or a value isn't of the form that the program takes. The text for standard error says what is wrong and what is allowed.
-    #[error("the command line is refused")]
-    Refused { text: String },
-    /// Help or the version was asked for: the text for standard output.
-    #[error("help or the version was asked for")]
-    Help { text: String },
-    /// Some growth was refused.
-    #[error("out of memory")]
-    Memory,
-}
-
-impl From<AllocError> for LineFault {
-    ghost from_gives = { λ _ e. e ≡ Memory };
-
-    fn from(_e: AllocError) -> LineFault {
-        LineFault::Memory
-    }
-}
-
-impl<T: Drop> From<AllocFailed<T>> for LineFault {
-    ghost from_gives = { λ _ e. e ≡ Memory };
-
-    fn from(_e: AllocFailed<T>) -> LineFault {
-        LineFault::Memory
-    }
-}
-
-/// The exit status where a command line gives no configuration: 64 where it is refused, 0 for help and the version, 69 for want of memory.
-pub fn line_status(fault: &LineFault) -> u8
-    ensures { result ≡ line_status_of fault.now }
-{
-    match fault {
-        LineFault::Refused { .. } => 64,
-        LineFault::Help { .. } => 0,
-        LineFault::Memory => 69,
-    }
-}
 
 // The text of a refusal, with what to write here where that is known.
 fn refused_text(

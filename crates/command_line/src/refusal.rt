@@ -3,7 +3,7 @@
 ghost use Rattle.std.specs.Prelude.{IfOk};
 ghost use Rattle.command_line.specs.Line.{IsRefusal};
 
-use crate::line::LineFault;
+use crate::fault::LineFault;
 use std::alloc::{AllocError, Global};
 
 // Why what an option says is refused.

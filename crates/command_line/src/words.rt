@@ -3,7 +3,7 @@
 ghost use Rattle.std.specs.Prelude.{IfErr, false};
 ghost use Rattle.command_line.specs.Line.{RefusesUnless};
 
-use crate::line::LineFault;
+use crate::fault::LineFault;
 use std::env::Env;
 use std::io::ErrorKind;
 

@@ -96,11 +96,10 @@ pub fn asked_for(
         rest: 0,
         asked: 0,
     };
-    let kept = first_failing(alloc, &mut question)?;
-    if kept.as_slice() == needed {
-        return Ok(Some(question.asked));
+    match first_failing(alloc, &mut question)? {
+        Some(kept) if kept.as_slice() == needed => Ok(Some(question.asked)),
+        _ => Ok(None),
     }
-    Ok(None)
 }
 
 /// None of the needed numbers is known.

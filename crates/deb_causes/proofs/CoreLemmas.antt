@@ -24,8 +24,8 @@ use Rattle.number_sets.specs.Sets.{members_of}
 use Rattle.number_sets.specs.SparseSets.{Grows}
 use Rattle.number_sets.proofs.ListMembers.{same_test}
 use Rattle.number_sets.proofs.RisingLists.{rising_once}
-use Rattle.list_steps.proofs.ListLemmas.{or_assoc, or_false}
-use Rattle.list_steps.proofs.PlaceLemmas.{places_from}
+use Rattle.number_sets.proofs.ListLemmas.{or_assoc, or_false}
+use Rattle.number_sets.proofs.PlaceLemmas.{places_from}
 use Rattle.deb_index.proofs.BelowLemmas.{rising-below}
 use Rattle.deb_causes.specs.Causes.{is_answer_to, is_need, is_version_in, is_version_of, needs_in, same_constraint, says, says_same, versions_in}
 use Rattle.deb_causes.specs.Numbering.{with_text}

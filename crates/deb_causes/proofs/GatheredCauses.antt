@@ -14,8 +14,8 @@ use Rattle.deb_index.proofs.ConstraintLemmas.{constraints-within}
 use Rattle.deb_index.proofs.EnumerateLemmas.{filter-length}
 use Rattle.deb_index.proofs.TableLemmas.{IsApart, number-within}
 use Rattle.deb_health.specs.Causes.{cause_in, is_final}
-use Rattle.deb_health.specs.Verdicts.{VerdictView, Found, Blocked}
-use Rattle.list_steps.proofs.ListLemmas.{all_seen, map-twice}
+use Rattle.deb_health.specs.Verdicts.{ToldView}
+use Rattle.number_sets.proofs.ListLemmas.{all_seen, map-twice}
 use Rattle.deb_causes.specs.declared.gathered.Cause.{Cause}
 use Rattle.deb_causes.specs.declared.gathered.Part.{Part}
 use Rattle.deb_causes.specs.declared.numbered.NumberedCore.{NumberedCore}
@@ -27,7 +27,6 @@ use Rattle.deb_causes.specs.Gathering.{PartView, has_number, part_of, part_view}
 use Rattle.deb_causes.specs.Numbered.{core_view, package_view, unnumbered}
 use Rattle.deb_causes.specs.Numbering.{StandOnce}
 use Rattle.deb_causes.specs.Said.{IsKnown, IsNumbered, key_of}
-use Rattle.deb_causes.specs.Later.{AreLaterOf}
 use Rattle.deb_health.specs.Shown.{IsAskedOf}
 use Rattle.deb_causes.specs.Wrongs.{AreNumbered, causes_of, said_of}
 use Rattle.deb_causes.proofs.FirstOnes.{Starts, all-each, all-get, first-kept, first-keyed, first-starts, range-all, range-seen}
@@ -139,12 +138,12 @@ parts-within index packages count all =
     (All-filter (has_number k) (λ (core : ℕ × List Constraint). P core.1) (flat_map (λ one. one.1) packages) each) in
     All-map (λ (part : PartView). All P part.cores) (part_of packages) (below count) (λ i d inside. own (get_or (below count) i d))
 
-pub told-within : (index : IndexView) (later : List (List (List Constraint))) (told : List (ℕ × VerdictView)) → AreLaterOf index later → All (IsAskedOf index) told
-    → All (All (IsOfIndex index)) (flat_map (λ one. one.1) (map (cores_of later) told))
-told-within index later [] also all = All-nil (All (IsOfIndex index))
-told-within index later (one ∷ told) also all =
-    All-append (All (IsOfIndex index)) (cores_of later one).1 (flat_map (λ one. one.1) (map (cores_of later) told))
-    (cores-within index later one also (All-head (IsAskedOf index) one told all)) (told-within index later told also (All-tail (IsAskedOf index) one told all))
+pub told-within : (index : IndexView) (told : List (ℕ × ToldView)) → All (IsAskedOf index) told
+    → All (All (IsOfIndex index)) (flat_map (λ one. one.1) (map cores_of told))
+told-within index [] all = All-nil (All (IsOfIndex index))
+told-within index (one ∷ told) all =
+    All-append (All (IsOfIndex index)) (cores_of one).1 (flat_map (λ one. one.1) (map cores_of told))
+    (cores-within index one (All-head (IsAskedOf index) one told all)) (told-within index told (All-tail (IsAskedOf index) one told all))
 
 found-within : (index : IndexView) (broken : List (ℕ × List (List Constraint))) → All (λ one. All (All (IsOfIndex index)) one.1) broken → All (All (IsOfIndex index)) (found_causes index broken)
 found-within index [] all = All-nil (All (IsOfIndex index))
@@ -155,15 +154,10 @@ found-within index (one ∷ broken) all =
     (All-weaker P (λ core. P (cause_in index core)) (λ core within. All-filter (is_final index) (IsOfIndex index) core within) one.1 (All-head (λ (one : ℕ × List (List Constraint)). All P one.1) one broken all)))
     (found-within index broken (All-tail (λ (one : ℕ × List (List Constraint)). All P one.1) one broken all))
 
-places-within : (index : IndexView) (later : List (List (List Constraint))) (told : List (ℕ × VerdictView)) → All (IsAskedOf index) told
-    → All (λ (one : ℕ × List (List Constraint)). one.0 < length index.packages) (map (cores_of later) told)
-places-within index later told all =
-    All-map (λ (one : ℕ × List (List Constraint)). one.0 < length index.packages) (cores_of later) told
-    (All-weaker (IsAskedOf index) (λ one. (cores_of later one).0 < length index.packages) (λ one asked. place one asked.0) told all)
-  where
-    place : (one : ℕ × VerdictView) → one.0 < length index.packages → (cores_of later one).0 < length index.packages
-    place (p, Found places) less = less
-    place (p, Blocked core) less = less
+places-within : (index : IndexView) (told : List (ℕ × ToldView)) → All (IsAskedOf index) told → All (λ (one : ℕ × List (List Constraint)). one.0 < length index.packages) (map cores_of told)
+places-within index told all =
+    All-map (λ (one : ℕ × List (List Constraint)). one.0 < length index.packages) cores_of told
+    (All-weaker (IsAskedOf index) (λ one. (cores_of one).0 < length index.packages) (λ one asked. asked.0) told all)
 
 all-below : (n : ℕ) → All (λ k. k < n) (below n)
 all-below n k d h =
@@ -188,15 +182,15 @@ unfolding by_count
 count-kept P zero causes all = All-filter (has_count 0) P causes all
 count-kept P (suc n) causes all = All-append P (filter (has_count (suc n)) causes) (by_count n causes) (All-filter (has_count (suc n)) P causes all) (count-kept P n causes all)
 
-pub causes-within : (index : IndexView) (later : List (List (List Constraint))) (told : List (ℕ × VerdictView)) → AreLaterOf index later → All (IsAskedOf index) told → All (IsCauseOf index) (causes_list index later told)
+pub causes-within : (index : IndexView) (told : List (ℕ × ToldView)) → All (IsAskedOf index) told → All (IsCauseOf index) (causes_list index told)
 unfolding by_first causes_list
-causes-within index later told also all =
-    let broken : List (ℕ × List (List Constraint)) = map (cores_of later) told in
-    let cores = all-each (All (IsOfIndex index)) (λ (one : ℕ × List (List Constraint)). one.1) broken (told-within index later told also all) in
+causes-within index told all =
+    let broken : List (ℕ × List (List Constraint)) = map cores_of told in
+    let cores = all-each (All (IsOfIndex index)) (λ (one : ℕ × List (List Constraint)). one.1) broken (told-within index told all) in
     let distinct : List (List Constraint) = first_of_each (same_cause index) (found_causes index broken) in
     count-kept (IsCauseOf index) (length told) (by_first index broken)
     (All-map (IsCauseOf index) (gathered index broken) distinct
-    (All-weaker (All (IsOfIndex index)) (λ cause. IsCauseOf index (gathered index broken cause)) (λ cause of. gathered-within index broken cause (places-within index later told all) of) distinct
+    (All-weaker (All (IsOfIndex index)) (λ cause. IsCauseOf index (gathered index broken cause)) (λ cause of. gathered-within index broken cause (places-within index told all) of) distinct
     (first-kept (same_cause index) (All (IsOfIndex index)) (found_causes index broken) (found-within index broken cores))))
 
 -- ---- no cause has more packages than there are
@@ -238,14 +232,14 @@ cores-own index parts views are all =
     (λ part each. all_seen (All (IsOfIndex index)) (λ core. core.now) part.cores.items each) parts
     (all_seen P part_view parts (All-same P (map part_view parts) views are all))
 
-pub few-places-of : (index : IndexView) (later : List (List (List Constraint))) (told : List (ℕ × VerdictView)) (causes : List Cause) → map cause_view causes ≡ by_first index (map (cores_of later) told)
+pub few-places-of : (index : IndexView) (told : List (ℕ × ToldView)) (causes : List Cause) → map cause_view causes ≡ by_first index (map cores_of told)
     → All (λ (cause : Cause). length cause.places.items ≤ length told) causes
-few-places-of index later told causes are =
-    let few = subst (λ n. All (λ (cause : CauseView). length cause.places ≤ n) (by_first index (map (cores_of later) told))) (length-map told (cores_of later)) (few-places index (map (cores_of later) told)) in
+few-places-of index told causes are =
+    let few = subst (λ n. All (λ (cause : CauseView). length cause.places ≤ n) (by_first index (map cores_of told))) (length-map told cores_of) (few-places index (map cores_of told)) in
     all_seen (λ (cause : CauseView). length cause.places ≤ length told) cause_view causes
-    (All-same (λ (cause : CauseView). length cause.places ≤ length told) (map cause_view causes) (by_first index (map (cores_of later) told)) are few)
+    (All-same (λ (cause : CauseView). length cause.places ≤ length told) (map cause_view causes) (by_first index (map cores_of told)) are few)
 
-pub listed : (index : IndexView) (later : List (List (List Constraint))) (told : List (ℕ × VerdictView)) (causes : List CauseView) → causes ≡ by_first index (map (cores_of later) told)
-    → by_count (length told) causes ≡ causes_list index later told
+pub listed : (index : IndexView) (told : List (ℕ × ToldView)) (causes : List CauseView) → causes ≡ by_first index (map cores_of told)
+    → by_count (length told) causes ≡ causes_list index told
 unfolding causes_list
-listed index later told causes are = ap (by_count (length told)) are
+listed index told causes are = ap (by_count (length told)) are

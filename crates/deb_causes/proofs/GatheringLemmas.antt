@@ -12,7 +12,7 @@ use Rattle.deb_index.specs.Constraints.{below}
 use Rattle.number_sets.specs.Sets.{members_of}
 use Rattle.number_sets.proofs.ListMembers.{at_members_of}
 use Rattle.number_sets.proofs.RisingLists.{above_first, rising_tail}
-use Rattle.list_steps.proofs.ListLemmas.{or_false}
+use Rattle.number_sets.proofs.ListLemmas.{or_false}
 use Rattle.number_sets.proofs.MembersLemmas.{members-more}
 use Rattle.deb_causes.specs.Gathering.{PartView, cores_with_number, has_number, part_of, share_of, with_cores, with_share}
 use Rattle.deb_causes.specs.Numbered.{core_view}

@@ -9,3 +9,7 @@ pub mod ListingLemmas
 pub mod SaidLemmas
 pub mod PartLemmas
 pub mod WrongsLemmas
+mod NearLemmas
+pub mod SimilarLemmas
+mod StemLemmas
+pub mod MissingLemmas

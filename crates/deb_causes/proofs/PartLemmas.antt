@@ -13,7 +13,7 @@ use Rattle.deb_index.specs.declared.constraint.Constraint.{Constraint}
 use Rattle.deb_index.specs.Packages.{IndexView, first_of_each}
 use Rattle.deb_index.proofs.TableLemmas.{IsApart}
 use Rattle.deb_health.specs.Causes.{cause_in}
-use Rattle.list_steps.proofs.ListLemmas.{map-twice}
+use Rattle.number_sets.proofs.ListLemmas.{map-twice}
 use Rattle.deb_causes.specs.Causes.{cores_with, found_causes, gathered, has_cause, is_broken_by, is_freed_by, needs_in, same_cause, says_same, versions_in}
 use Rattle.deb_causes.specs.Gathered.{cause_from}
 use Rattle.deb_causes.specs.Gathering.{has_number, is_alone, part_of, share_of}

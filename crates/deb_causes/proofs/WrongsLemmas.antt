@@ -8,11 +8,10 @@ use Rattle.deb_index.specs.declared.constraint.Constraint.{Constraint}
 use Rattle.deb_index.specs.Constraints.{IsOfIndex}
 use Rattle.deb_index.specs.Packages.{IndexView}
 use Rattle.deb_health.specs.Causes.{cause_in}
-use Rattle.deb_health.specs.Verdicts.{VerdictView, Found, Blocked}
+use Rattle.deb_health.specs.Verdicts.{ToldView, Installable, Found, Blocked}
 use Rattle.deb_causes.specs.declared.wrongs.Wrongs.{Wrongs}
 use Rattle.deb_causes.specs.Causes.{cores_of, says}
 use Rattle.deb_causes.specs.Numbering.{Grows}
-use Rattle.deb_causes.specs.Later.{later_at, AreLaterOf}
 use Rattle.deb_causes.specs.Said.{IsNumbered, key_of}
 use Rattle.deb_health.specs.Shown.{IsAskedOf}
 use Rattle.deb_causes.specs.Wrongs.{AreNumbered, causes_of, said_of}
@@ -44,15 +43,7 @@ numbered-more index a b c xs ys first next =
 
 -- ---- the cores are of the index
 
-later-within : (index : IndexView) (later : List (List (List Constraint))) (place : ℕ) → AreLaterOf index later → All (All (IsOfIndex index)) (later_at later place)
-later-within index [] place all = All-nil (All (IsOfIndex index))
-later-within index (cores ∷ later) zero all = All-head (All (All (IsOfIndex index))) cores later all
-later-within index (cores ∷ later) (suc place) all = later-within index later place (All-tail (All (All (IsOfIndex index))) cores later all)
-
-pub cores-within : (index : IndexView) (later : List (List (List Constraint))) (one : ℕ × VerdictView) → AreLaterOf index later → IsAskedOf index one → All (All (IsOfIndex index)) (cores_of later one).1
-cores-within index later (place, Found places) all asked = All-nil (All (IsOfIndex index))
-cores-within index later (place, Blocked core) all asked = All-cons (All (IsOfIndex index)) core (later_at later place) asked.1 (later-within index later place all)
-
-pub named-cores : (later : List (List (List Constraint))) (one : ℕ × VerdictView) (cores : List (List Constraint)) → cores ≡ (cores_of later one).1 → (one.0, cores) ≡ cores_of later one
-named-cores later (place, Found places) cores same = ap (λ all. (place, all)) same
-named-cores later (place, Blocked core) cores same = ap (λ all. (place, all)) same
+pub cores-within : (index : IndexView) (one : ℕ × ToldView) → IsAskedOf index one → All (All (IsOfIndex index)) (cores_of one).1
+cores-within index (place, Installable) asked = All-nil (All (IsOfIndex index))
+cores-within index (place, Found places) asked = All-nil (All (IsOfIndex index))
+cores-within index (place, Blocked told) asked = asked.1

@@ -8,10 +8,9 @@ use Rattle.deb_index.specs.declared.constraint.Constraint.TheVariants.{Essential
 use Rattle.deb_index.specs.Constraints.{IsOfIndex, answers, below, constraints_of, has_name}
 use Rattle.deb_index.specs.Packages.{IndexView, first_of_each, need_at}
 use Rattle.deb_health.specs.Causes.{cause_in}
-use Rattle.deb_health.specs.Verdicts.{VerdictView, Found, Blocked}
+use Rattle.deb_health.specs.Verdicts.{ToldView, cores_in}
 use Rattle.deb_causes.specs.declared.gathered.Cause.{Cause}
-use Rattle.deb_texts.specs.Texts.{group_text}
-use Rattle.deb_causes.specs.Later.{later_at}
+use Rattle.deb_relation.specs.Texts.{group_text}
 
 -- ---- what is wrong
 
@@ -37,10 +36,9 @@ same_cause index one other = list_all (is_said index other) one && list_all (is_
 
 -- ---- the cores of broken packages
 
--- an asked place, and the cores of all its causes
-abbrev pub cores_of : List (List (List Constraint)) → ℕ × VerdictView → ℕ × List (List Constraint)
-cores_of later (place, Found places) = (place, [])
-cores_of later (place, Blocked core) = (place, core ∷ later_at later place)
+-- an asked place, and the cores that are told of it
+abbrev pub cores_of : ℕ × ToldView → ℕ × List (List Constraint)
+cores_of one = (one.0, cores_in one.1)
 
 -- the core has the cause
 abbrev pub has_cause : IndexView → List Constraint → List Constraint → Bool
@@ -153,6 +151,6 @@ unfoldable pub by_count : ℕ → List CauseView → List CauseView
 by_count zero causes = filter (has_count 0) causes
 by_count (suc n) causes = filter (has_count (suc n)) causes ++ by_count n causes
 
--- the causes of broken packages with these verdicts and later cores: those of more packages first, then by their first packages
-unfoldable pub causes_list : IndexView → List (List (List Constraint)) → List (ℕ × VerdictView) → List CauseView
-causes_list index later broken = by_count (length broken) (by_first index (map (cores_of later) broken))
+-- the causes of broken packages: those of more packages first, then by their first packages
+unfoldable pub causes_list : IndexView → List (ℕ × ToldView) → List CauseView
+causes_list index broken = by_count (length broken) (by_first index (map cores_of broken))

@@ -1,4 +1,3 @@
-pub mod Later
 pub mod Causes
 pub mod Freed
 pub mod Listing
@@ -9,3 +8,7 @@ pub mod Numbered
 pub mod Gathering
 pub mod Gathered
 pub mod Positions
+pub mod Near
+pub mod Stems
+pub mod Similar
+pub mod Missing

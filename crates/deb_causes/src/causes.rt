@@ -6,14 +6,13 @@ ghost use Rattle.deb_causes.specs.Causes.{IsCauseOf, by_count, by_first, cause_v
 ghost use Rattle.deb_causes.specs.Gathered.{cause_from};
 ghost use Rattle.deb_causes.specs.Gathering.{part_view, share_view};
 ghost use Rattle.deb_health.specs.Shown.{IsAskedOf, shown_view};
-ghost use Rattle.deb_causes.specs.Later.{AreLaterOf, later_view};
 
 use crate::cores::{needs_in, versions_in, wrongs_in};
 use crate::gathered::{Cause, Part, Share, parts_of};
 use crate::numbered::number_packages;
 use crate::wrongs::Wrongs;
 use deb_health::Shown;
-use deb_index::{Constraint, Index};
+use deb_index::Index;
 use std::alloc::{AllocError, Global};
 
 /// The places of packages.
@@ -83,18 +82,16 @@ fn sort_by_count(causes: &mut Vec<Cause>) -> Result<(), AllocError>
 fn parts_in<'v>(
     alloc: Global,
     index: &Index,
-    later: &'v [Vec<Vec<Constraint>>],
     broken: &[Shown<'v>],
 ) -> Result<Vec<Part<'v>>, AllocError>
-    requires broken { All (λ one. IsAskedOf index.now (shown_view one)) broken.now }
-    requires later { AreLaterOf index.now (later_view later.now) }
+    requires { All (λ one. IsAskedOf index.now (shown_view one)) broken.now }
     ensures causes { IfOk result (λ parts. map (cause_from index.now) (map part_view parts.items)
-        ≡ by_first index.now (map (cores_of (later_view later.now)) (map shown_view broken.now))) }
+        ≡ by_first index.now (map cores_of (map shown_view broken.now))) }
     ensures some { IfOk result (λ parts. All (λ part. 0 < length part.cores.items) parts.items) }
     ensures within { IfOk result (λ parts. All (λ part. All (λ core. All (IsOfIndex index.now) core.now) part.cores.items) parts.items) }
 {
     let mut wrongs = Wrongs::new(alloc);
-    let packages = number_packages(alloc, index, later, broken, &mut wrongs)?;
+    let packages = number_packages(alloc, index, broken, &mut wrongs)?;
     let parts = parts_of(alloc, wrongs.count(), packages.as_slice())?;
     Ok(parts)
 }
@@ -102,19 +99,17 @@ fn parts_in<'v>(
 /// The causes of broken packages, each with what is gathered of it: those of more packages first, among equals those whose first package is
 /// first in the list.
 ///
-/// The packages, their verdicts and the later cores speak of what the index has. `AllocError` where there is no memory for it.
+/// The packages and what is told of them speak of what the index has. `AllocError` where there is no memory for it.
 pub fn causes_of(
     alloc: Global,
     index: &Index,
-    later: &[Vec<Vec<Constraint>>],
     broken: &[Shown<'_>],
 ) -> Result<Vec<Cause>, AllocError>
-    requires broken { All (λ one. IsAskedOf index.now (shown_view one)) broken.now }
-    requires later { AreLaterOf index.now (later_view later.now) }
-    ensures causes { IfOk result (λ causes. map cause_view causes.items ≡ causes_list index.now (later_view later.now) (map shown_view broken.now)) }
+    requires { All (λ one. IsAskedOf index.now (shown_view one)) broken.now }
+    ensures causes { IfOk result (λ causes. map cause_view causes.items ≡ causes_list index.now (map shown_view broken.now)) }
     ensures within { IfOk result (λ causes. All (λ cause. IsCauseOf index.now (cause_view cause)) causes.items) }
 {
-    let parts = parts_in(alloc, index, later, broken)?;
+    let parts = parts_in(alloc, index, broken)?;
     let mut causes = list_causes(alloc, index, parts.as_slice())?;
     sort_by_count(&mut causes)?;
     Ok(causes)

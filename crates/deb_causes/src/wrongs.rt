@@ -8,10 +8,10 @@ ghost use Rattle.deb_causes.specs.Causes.{says};
 ghost use Rattle.deb_causes.specs.Numbering.{Grows, IsFront, texts_of, with_text};
 ghost use Rattle.deb_causes.specs.Said.{number_said};
 
+use crate::missing::is_missing;
 use crate::numbering::Numbering;
 use deb_index::{Constraint, Index};
-use deb_near::is_missing;
-use deb_texts::push_group;
+use deb_relation::push_group;
 use number_sets::sort_once;
 use std::alloc::{AllocError, Global};
 

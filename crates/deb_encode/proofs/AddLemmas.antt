@@ -12,7 +12,7 @@ use Rattle.number_sets.specs.Sets.{NumberSet, members_of}
 use Rattle.sat_solve.specs.Clauses.{Clause, Clauses, clause_holds}
 use Rattle.deb_encode.specs.Adding.{GroupHolds, Adds}
 use Rattle.deb_encode.specs.Play.{placed, TellsPlaces}
-use Rattle.list_steps.proofs.ListLemmas.{All-front, All-back}
+use Rattle.number_sets.proofs.ListLemmas.{All-front, All-back}
 
 -- nothing is added, for what holds anyway
 pub adds_none : (group : ℕ) (Means : NumberSet → Type 0) (before : Clauses) → ((set : NumberSet) → Means set) → Adds group Means before before

@@ -11,7 +11,7 @@ use Rattle.sat_solve.specs.Clauses.{Clause, Clauses}
 use Rattle.deb_encode.specs.Adding.{Adds, AllHold}
 use Rattle.deb_encode.specs.Play.{placed, places_in_play}
 use Rattle.deb_encode.specs.Standings.{is_narrow, MeetsNarrow}
-use Rattle.list_steps.proofs.ListLemmas.{All-front, All-back}
+use Rattle.number_sets.proofs.ListLemmas.{All-front, All-back}
 use Rattle.deb_encode.proofs.AddLemmas.{adds_both, adds_as, taken_either, taken_before, taken_last}
 use Rattle.number_sets.proofs.ListMembers.{take_whole}
 

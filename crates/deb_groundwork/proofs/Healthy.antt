@@ -20,7 +20,7 @@ use Rattle.deb_groundwork.specs.Parts.{HasNoEarlier}
 use Rattle.deb_index.specs.Apart.{HasOneOf, HasOneVersion}
 use Rattle.number_sets.proofs.ListMembers.{members_of_at, at_members_of}
 use Rattle.deb_index.proofs.IndexFacts.{member_named, named_is_place, only_says_once}
-use Rattle.list_steps.proofs.ListLemmas.{All-front, All-back}
+use Rattle.number_sets.proofs.ListLemmas.{All-front, All-back}
 
 -- ---- what a set meets of all that the package at a place asks for
 

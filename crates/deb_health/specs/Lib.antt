@@ -1,4 +1,4 @@
 pub mod Health
+pub mod Causes
 pub mod Verdicts
 pub mod Shown
-pub mod Causes

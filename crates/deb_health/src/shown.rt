@@ -1,10 +1,10 @@
-//! A package that was asked, with what was found of it.
+//! A package that was asked, with what is told of it.
 
-use crate::answer::Verdict;
+use crate::told::Told;
 
-/// An asked place and its verdict.
+/// An asked place, and what is told of it.
 #[derive(Drop)]
-pub struct Shown<'v> {
+pub struct Shown<'t> {
     pub place: u32,
-    pub verdict: &'v Verdict,
+    pub told: &'t Told,
 }

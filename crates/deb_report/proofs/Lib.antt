@@ -1,5 +1,12 @@
 mod JoinLemmas
-pub mod NewsLemmas
 mod ReportLemmas
 mod SoughtLemmas
-pub mod Unshown
+mod AskedLemmas
+mod MarkLemmas
+pub mod ShownLemmas
+pub mod FormLemmas
+pub mod HitLemmas
+mod OwnLemmas
+pub mod TextLemmas
+pub mod WalkLemmas
+mod WalkTextLemmas

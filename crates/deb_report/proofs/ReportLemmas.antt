@@ -1,74 +1,75 @@
--- What a report tells, and the cores that it tells.
-use Rattle.std.proofs.Common.{◌≡◌, ◌≤◌, ◌∙◌, ℕ, Bool, true, false, List, [], All, Global, Option, Some, Vec, ap, arith, filter, if◌then◌else◌, inl, inr, length, ltb, map, refl, sym}
-use Rattle.std.proofs.lemmas.Bool.{cases_Bool, ltb-false, ltb-true}
-use Rattle.std.proofs.lemmas.List.{get_or_past, length-map}
-use Rattle.std.proofs.lemmas.List.Elements.{All-nil, All-same}
+-- What a report tells, and what is counted of it.
+use Rattle.std.proofs.Common.{◌≡◌, ◌<◌, ◌≤◌, ◌^◌, ◌∙◌, ℕ, List, [], IfSome, None, Option, Some, ap, ap₂, arith, filter, length, map, refl, subst, sym}
+use Rattle.std.proofs.lemmas.List.{length-map}
 use Rattle.std.proofs.lemmas.Slice.Zip.{length-zip}
 use Rattle.std.specs.List.{zip}
 use Rattle.deb_index.proofs.EnumerateLemmas.{filter-length}
-use Rattle.deb_index.specs.declared.constraint.Constraint.{Constraint}
-use Rattle.deb_index.specs.Constraints.{IsOfIndex}
 use Rattle.deb_index.specs.Packages.{IndexView}
-use Rattle.deb_health.specs.Verdicts.{VerdictView}
-use Rattle.run_settings.specs.declared.config.Show.TheVariants.{Failures}
-use Rattle.deb_report.specs.declared.content.Content.{Content}
-use Rattle.deb_causes.specs.Causes.{CauseView}
-use Rattle.deb_report.specs.Content.{ContentView, causes_if, content_of, content_since}
-use Rattle.deb_outcome.specs.Outcome.{broken_ones, is_shown, numbers_of, shown_of, summary_of, summary_with}
+use Rattle.deb_health.specs.declared.shown.Shown.{Shown}
 use Rattle.deb_health.specs.Shown.{shown_view}
-use Rattle.deb_report.specs.Report.{TellingView, also_at}
-use Rattle.deb_causes.specs.Later.{later_at, AreLaterOf}
+use Rattle.deb_health.specs.Verdicts.{ToldView}
+use Rattle.run_settings.specs.declared.config.Show.TheVariants.{Failures}
 use Rattle.run_settings.specs.Settings.{Settings}
-use Rattle.deb_outcome.specs.Since.{BrokenView, amends_of, is_news, news_of}
-use Rattle.deb_report.specs.Told.{content_view}
-use Rattle.list_steps.proofs.ListLemmas.{all_seen}
+use Rattle.deb_causes.specs.Causes.{CauseView}
+use Rattle.deb_report.specs.declared.summary.Counts.{Counts}
+use Rattle.deb_report.specs.Outcome.{broken_ones, is_shown, numbers_of, shown_of, summary_with}
+use Rattle.deb_report.specs.Since.{BrokenView, amends_of, counts_of, is_news, news_of}
+use Rattle.deb_report.specs.Content.{causes_if, content_of}
 
--- the cores behind the first are the index's
-later-within : (index : IndexView) (later : List (List (List Constraint))) → AreLaterOf index later → (place : ℕ) → All (All (IsOfIndex index)) (later_at later place)
-later-within index later within place =
-    elim (cases_Bool (ltb place (length later))) [
-      | inl there ↦ within place [] (ltb-true place (length later) there)
-      | inr past ↦ All-same (All (IsOfIndex index)) (later_at later place) [] (get_or_past later place [] (ltb-false place (length later) past)) (All-nil (All (IsOfIndex index)))
-    ]
+-- ---- what is counted
 
-also-told : (index : IndexView) (also : Bool) (cores : List (List Constraint)) → All (All (IsOfIndex index)) cores → All (All (IsOfIndex index)) (if also then cores else [])
-also-told index true cores within = within
-also-told index false cores within = All-nil (All (IsOfIndex index))
+abbrev pub counted : ℕ → ℕ → Option ℕ → Counts
+counted asked broken news = record { asked = asked; broken = broken; newly_broken = news }
 
--- and so are those that are told
-pub also-within : (index : IndexView) (telling : TellingView) (cores : List (Vec Constraint Global)) (place : ℕ) → AreLaterOf index telling.later → map (λ core. core.items) cores ≡ also_at telling place
-    → All (λ core. All (IsOfIndex index) core.items) cores
-also-within index telling cores place within are =
-    all_seen (All (IsOfIndex index)) (λ core. core.items) cores
-    (All-same (All (IsOfIndex index)) (map (λ core. core.items) cores) (also_at telling place) are
-    (also-told index telling.also (later_at telling.later place) (later-within index telling.later within place)))
+module _ (index : IndexView) (asked : List ℕ) (told : List ToldView) where
+  -- as many are listed as are broken
+  listed-broken : (broken : List Shown) → map shown_view broken ≡ broken_ones asked told → length broken ≡ length (broken_ones asked told)
+  listed-broken broken are = sym (length-map broken shown_view) ∙ ap length are
 
--- no more are newly broken than are asked
-few-news : (index : IndexView) (asked : List ℕ) (verdicts : List VerdictView) (before : List BrokenView) → length (news_of index asked verdicts before) ≤ length asked
-unfolding news_of
-few-news index asked verdicts before =
-    let new = filter-length (is_news index before) (broken_ones asked verdicts) in
-    let broken = filter-length (λ (one : ℕ × VerdictView). is_shown Failures one.1) (zip asked verdicts) in
-    omega (arith, length-zip asked verdicts)
+  pub counts-alone : (broken : List Shown) → map shown_view broken ≡ broken_ones asked told → counted (length asked) (length broken) None ≡ counts_of index asked told None
+  counts-alone broken are = ap (λ (count : ℕ). counted (length asked) count None) (listed-broken broken are)
 
-pub few-blocks : (settings : Settings) (index : IndexView) (asked : List ℕ) (verdicts : List VerdictView) (later : List (List (List Constraint))) (before : List BrokenView) (content : Content)
-    → content_view content ≡ content_since settings index asked verdicts later before → length content.blocks.items ≤ length asked
-few-blocks settings index asked verdicts later before content is =
-    let size : length content.blocks.items ≡ length (news_of index asked verdicts before) = sym (length-map content.blocks.items shown_view) ∙ ap (λ (told : ContentView). length told.blocks) is in
-    let few = few-news index asked verdicts before in
-    omega arith
+  pub counts-since : (before : List BrokenView) (broken news : List Shown) → map shown_view broken ≡ broken_ones asked told
+      → map shown_view news ≡ filter (is_news index before) (map shown_view broken) → counted (length asked) (length broken) (Some (length news)) ≡ counts_of index asked told (Some before)
+  unfolding news_of
+  counts-since before broken news are new =
+      ap₂ (λ (count more : ℕ). counted (length asked) count (Some more)) (listed-broken broken are)
+      (sym (length-map news shown_view) ∙ ap length (new ∙ ap (filter (is_news index before)) are))
 
--- ---- what is told
+  -- no more are broken, and no more newly broken, than are asked
+  few-broken : length (broken_ones asked told) ≤ length asked
+  few-broken =
+      let broken = filter-length (λ (one : ℕ × ToldView). is_shown Failures one.1) (zip asked told) in
+      omega (arith, length-zip asked told)
 
-pub content-is : (settings : Settings) (index : IndexView) (asked : List ℕ) (blocks broken : List (ℕ × VerdictView)) (views : List VerdictView) (later : List (List (List Constraint)))
-    (numbers : List (List ℕ × ℕ)) (causes : Option (List CauseView))
-    → blocks ≡ shown_of settings.show asked views → broken ≡ broken_ones asked views → numbers ≡ numbers_of settings.background (summary_of index asked views) → causes ≡ causes_if settings.causes index later broken
-    → record { blocks = blocks; numbers = numbers; lists = []; causes = causes } ≡ content_of settings index asked views later
-content-is settings index asked blocks broken views later numbers causes shown are counted told = rw (told, counted, are, shown) refl
+  few-news : (before : List BrokenView) → length (news_of index asked told before) ≤ length asked
+  unfolding news_of
+  few-news before =
+      let new = filter-length (is_news index before) (broken_ones asked told) in
+      omega (arith, few-broken)
 
-pub since-is : (settings : Settings) (index : IndexView) (asked : List ℕ) (blocks broken : List (ℕ × VerdictView)) (views : List VerdictView) (later : List (List (List Constraint))) (before : List BrokenView) (numbers : List (List ℕ × ℕ))
-    (lists : List (List ℕ × List BrokenView)) (causes : Option (List CauseView)) → broken ≡ broken_ones asked views → blocks ≡ filter (is_news index before) broken
-    → numbers ≡ numbers_of settings.background (summary_with index asked views (Some (length blocks))) → lists ≡ amends_of index asked broken before → causes ≡ causes_if settings.causes index later blocks
-    → record { blocks = blocks; numbers = numbers; lists = lists; causes = causes } ≡ content_since settings index asked views later before
-unfolding news_of
-since-is settings index asked blocks broken views later before numbers lists causes are new counted amended told = rw (told, counted, amended, new, are) refl
+  abbrev pub AreFew : Counts → Type 0
+  AreFew counts = (counts.asked < 2 ^ 32) × (counts.broken < 2 ^ 32) × IfSome counts.newly_broken (λ count. count < 2 ^ 32)
+
+  pub few-counts : (before : Option (List BrokenView)) (counts : Counts) → counts ≡ counts_of index asked told before → length asked < 2 ^ 32 → AreFew counts
+  few-counts before counts is few = subst AreFew (sym is) (by before)
+    where
+      by : (before : Option (List BrokenView)) → AreFew (counts_of index asked told before)
+      by None = (few, omega (arith, few, few-broken), tt)
+      by (Some packages) = (few, omega (arith, few, few-broken), omega (arith, few, few-news packages))
+
+  -- ---- what is told
+
+  pub content-is : (settings : Settings) (blocks broken : List (ℕ × ToldView)) (counts : Counts) (numbers : List (List ℕ × ℕ)) (causes : Option (List CauseView))
+      → blocks ≡ shown_of settings.show asked told → broken ≡ broken_ones asked told → counts ≡ counts_of index asked told None
+      → numbers ≡ numbers_of settings.background (summary_with index counts) → causes ≡ causes_if settings.causes index broken
+      → record { blocks = blocks; numbers = numbers; lists = []; causes = causes } ≡ content_of settings index asked told None
+  content-is settings blocks broken counts numbers causes shown are count number cause = rw (cause, number, count, are, shown) refl
+
+  pub since-is : (settings : Settings) (blocks broken : List (ℕ × ToldView)) (before : List BrokenView) (counts : Counts) (numbers : List (List ℕ × ℕ))
+      (lists : List (List ℕ × List BrokenView)) (causes : Option (List CauseView)) → broken ≡ broken_ones asked told → blocks ≡ filter (is_news index before) broken
+      → counts ≡ counts_of index asked told (Some before) → numbers ≡ numbers_of settings.background (summary_with index counts)
+      → lists ≡ amends_of index asked broken before → causes ≡ causes_if settings.causes index blocks
+      → record { blocks = blocks; numbers = numbers; lists = lists; causes = causes } ≡ content_of settings index asked told (Some before)
+  unfolding news_of
+  since-is settings blocks broken before counts numbers lists causes are new count number list cause = rw (cause, list, number, count, new, are) refl

@@ -1,5 +1,6 @@
 -- Stems that are sought for lists of constraints are sought for each of them.
-use Rattle.std.proofs.Common.{◌≡◌, ℕ, ◌+◌, ◌<◌, Bool, true, false, All, List, [], ◌∷◌, ◌++◌, ap, append_assoc, filter, get_or, length, sym, take, ◌∙◌, inl, inr}
+use Rattle.std.proofs.Common.{◌≡◌, ℕ, ◌+◌, ◌<◌, ◌≤◌, Bool, true, false, All, Global, List, [], ◌∷◌, ◌++◌, Vec, ap, append_assoc, arith, filter, get_or, length, map, refl, sym, take, ◌∙◌, inl, inr}
+use Rattle.std.specs.Prelude.{slice_index_or}
 use Rattle.std.specs.List.{flat_map}
 use Rattle.std.proofs.lemmas.Bool.{cases_Bool, false≢true}
 use Rattle.std.proofs.lemmas.List.{flat_map_more, take_more}
@@ -9,19 +10,19 @@ use Rattle.deb_index.specs.declared.constraint.Constraint.{Constraint}
 use Rattle.deb_index.specs.Constraints.{IsOfIndex}
 use Rattle.deb_index.specs.Packages.{IndexView}
 use Rattle.deb_health.specs.Causes.{cause_in, is_final}
-use Rattle.deb_health.specs.Verdicts.{VerdictView, Found, Blocked}
-use Rattle.deb_near.specs.declared.similar.Similar.{Similar}
-use Rattle.deb_near.specs.Near.{alternatives, stem}
-use Rattle.deb_near.specs.Similar.{IsSimilarOf, stems_in}
-use Rattle.deb_near.specs.Stems.{AreSought, has_text}
-use Rattle.deb_near.proofs.SimilarLemmas.{all-grow}
-use Rattle.deb_reasons.proofs.WalkLemmas.{filter_all, flat_all}
+use Rattle.deb_health.specs.Verdicts.{ToldView, Installable, Found, Blocked}
+use Rattle.deb_causes.specs.declared.similar.Similar.{Similar}
+use Rattle.deb_causes.specs.Near.{alternatives, stem}
+use Rattle.deb_causes.specs.Similar.{IsSimilarOf, stems_in}
+use Rattle.deb_causes.specs.Stems.{AreSought, has_text}
+use Rattle.deb_causes.proofs.SimilarLemmas.{all-grow}
+use Rattle.deb_report.proofs.WalkLemmas.{filter_all, flat_all}
 use Rattle.deb_health.specs.declared.shown.Shown.{Shown}
-use Rattle.deb_reasons.specs.Similar.{FitsWalk}
+use Rattle.deb_report.specs.FitsWalk.{FitsWalk}
 use Rattle.deb_report.specs.Sought.{core_in}
 use Rattle.deb_health.specs.Shown.{IsAskedOf, shown_view}
 use Rattle.deb_causes.proofs.FirstOnes.{all-each}
-use Rattle.list_steps.proofs.ListLemmas.{filter_fails, filter_passes}
+use Rattle.number_sets.proofs.ListLemmas.{filter_fails, filter_passes}
 
 -- those of one element more
 pub gathered_more : {A B : Type 0} (f : A → List B) (xs : List A) (i : ℕ) (d : A) (old new : List B) → i < length xs
@@ -78,11 +79,24 @@ module _ (index : IndexView) (stems : List (List ℕ)) where
       (all-grow HasSought (λ one. AreSought index stems (one ∷ [])) (λ one it. all-together (one ∷ []) (All-cons HasSought one [] it (All-nil HasSought))) (cause_in index core)
       (each-alone (cause_in index core) sought))
 
+-- the first of the cores that are told
+pub first-told : (cores : List (Vec Constraint Global)) (told : List (List Constraint)) (d : Vec Constraint Global) → 1 ≤ length cores → map (λ core. core.items) cores ≡ told
+    → slice_index_or told 0 [] ≡ (get_or cores 0 d).items
+first-told [] told d some are = absurd (omega (arith, some))
+first-told (core ∷ later) told d some are = rw (← are) refl
+
+pub none-told : (cores : List (Vec Constraint Global)) (told : List (List Constraint)) → length cores < 1 → map (λ core. core.items) cores ≡ told
+    → slice_index_or told 0 [] ≡ []
+none-told [] told none are = rw (← are) refl
+none-told (core ∷ later) told none are = absurd (omega (arith, none))
+
 module _ (index : IndexView) where
   -- a core that is asked for is of the index
-  core-within : (asked : ℕ × VerdictView) → IsAskedOf index asked → All (IsOfIndex index) (core_in asked)
+  pub core-within : (asked : ℕ × ToldView) → IsAskedOf index asked → All (IsOfIndex index) (core_in asked)
+  core-within (place, Installable) within = All-nil (IsOfIndex index)
   core-within (place, Found places) within = All-nil (IsOfIndex index)
-  core-within (place, Blocked core) within = within.1
+  core-within (place, Blocked []) within = All-nil (IsOfIndex index)
+  core-within (place, Blocked (core ∷ later)) within = All-head (All (IsOfIndex index)) core later within.1
 
   abbrev pub final : Shown → List Constraint
   final one = cause_in index (core_in (shown_view one))

@@ -3,18 +3,17 @@ use Rattle.std.specs.Prelude.{ℕ, Bool, false, ◌==◌, List, [], ◌∷◌, �
 use Rattle.std.specs.List.{flat_map}
 use Rattle.deb_index.specs.declared.constraint.Constraint.{Constraint}
 use Rattle.deb_index.specs.Packages.{IndexView, package_at}
-use Rattle.deb_health.specs.Verdicts.{VerdictView, Found, Blocked}
-use Rattle.deb_causes.specs.Later.{later_at}
-use Rattle.deb_outcome.specs.Outcome.{status_of}
-use Rattle.deb_outcome.specs.Since.{BrokenView}
-use Rattle.deb_reasons.specs.Forms.{OfPackage, block_end, elements_in, item_end, item_in, list_in, number_in, quoted, string_in, title_in}
-use Rattle.deb_reasons.specs.Links.{links_in}
-use Rattle.deb_reasons.specs.Reasons.{place_in, reason_front, reason_in}
-use Rattle.deb_reasons.specs.WalkLines.{walk_lines}
-use Rattle.deb_reasons.specs.declared.form.Lead.TheVariants.{Block, First, Other, Tall, Within}
+use Rattle.deb_health.specs.Verdicts.{ToldView, Installable, Found, Blocked}
+use Rattle.deb_report.specs.Outcome.{status_of}
+use Rattle.deb_report.specs.Since.{BrokenView}
+use Rattle.deb_report.specs.Forms.{OfPackage, block_end, elements_in, item_end, item_in, list_in, number_in, quoted, string_in, title_in}
+use Rattle.deb_report.specs.Links.{links_in}
+use Rattle.deb_report.specs.Reasons.{place_in, reason_front, reason_in}
+use Rattle.deb_report.specs.WalkLines.{walk_lines}
+use Rattle.deb_report.specs.declared.form.Lead.TheVariants.{Block, First, Other, Tall, Within}
 use Rattle.deb_report.specs.CauseText.{causes_in}
 use Rattle.deb_report.specs.Content.{ContentView}
-use Rattle.deb_report.specs.Report.{TellingView, also_at}
+use Rattle.deb_report.specs.Report.{TellingView}
 use Rattle.run_settings.specs.declared.config.Format.{Format}
 use Rattle.run_settings.specs.declared.config.Format.TheVariants.{Json, Text}
 
@@ -40,18 +39,25 @@ unfoldable pub later_core : Format → IndexView → TellingView → List Constr
 later_core Text index telling core = list_in Text Within (codes "also") (reason_in Text index) core
 later_core Json index telling core = elements_in Json Within (told_in Json index telling) core
 
--- those that are told
-unfoldable pub also_in : Format → IndexView → TellingView → ℕ → List ℕ
-also_in Text index telling place = flat_map (later_core Text index telling) (also_at telling place)
-also_in Json index telling place = if telling.also then list_in Json Within (codes "also") (later_core Json index telling) (later_at telling.later place) else []
+-- those behind the first
+unfoldable pub later_cores : Format → IndexView → TellingView → List (List Constraint) → List ℕ
+later_cores Text index telling later = flat_map (later_core Text index telling) later
+later_cores Json index telling later = list_in Json Within (codes "also") (later_core Json index telling) later
+
+-- the first core of the package at a place, and where they are told those behind it
+unfoldable pub all_cores : Format → IndexView → TellingView → ℕ → List (List Constraint) → List ℕ
+all_cores form index telling place [] = []
+all_cores form index telling place (core ∷ later) = first_core form index telling place core
+    ++ (if telling.also then later_cores form index telling later else [])
 
 -- the set that was found, or what stands against each set
-unfoldable pub explanation_in : Format → IndexView → TellingView → ℕ × VerdictView → List ℕ
+unfoldable pub explanation_in : Format → IndexView → TellingView → ℕ × ToldView → List ℕ
+explanation_in form index telling (place, Installable) = []
 explanation_in form index telling (place, Found places) = list_in form Within (codes "installation-set") (place_in form index) places
-explanation_in form index telling (place, Blocked core) = first_core form index telling place core ++ also_in form index telling place
+explanation_in form index telling (place, Blocked cores) = all_cores form index telling place cores
 
--- an asked place and its verdict
-unfoldable pub block_in : Format → IndexView → TellingView → ℕ × VerdictView → List ℕ
+-- an asked place and what is told of it
+unfoldable pub block_in : Format → IndexView → TellingView → ℕ × ToldView → List ℕ
 block_in form index telling asked = let deb = package_at index asked.0 in string_in form Block (codes "package") deb.name
     ++ string_in form Within (codes "version") deb.version
     ++ string_in form Within (codes "architecture") deb.architecture

@@ -1,8 +1,8 @@
 -- The similar names of an index that causes tell.
 use Rattle.deb_index.specs.Packages.{IndexView}
-use Rattle.deb_near.specs.declared.similar.Similar.{Similar}
-use Rattle.deb_near.specs.Similar.{IsSimilarOf, stems_in}
-use Rattle.deb_near.specs.Stems.{AreSought}
+use Rattle.deb_causes.specs.declared.similar.Similar.{Similar}
+use Rattle.deb_causes.specs.Similar.{IsSimilarOf, stems_in}
+use Rattle.deb_causes.specs.Stems.{AreSought}
 use Rattle.deb_causes.specs.declared.gathered.Cause.{Cause}
 use Rattle.deb_causes.specs.Causes.{IsCauseOf, cause_view}
 

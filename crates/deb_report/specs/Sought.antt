@@ -1,19 +1,17 @@
 -- The cores that are walked, and what is looked for to tell them.
-use Rattle.std.specs.Prelude.{◌≡◌, ℕ, true, All, List, []}
+use Rattle.std.specs.Prelude.{◌≡◌, ℕ, true, All, List, [], slice_index_or}
 use Rattle.deb_index.specs.declared.constraint.Constraint.{Constraint}
 use Rattle.deb_index.specs.Packages.{IndexView}
-use Rattle.deb_health.specs.Verdicts.{VerdictView, Found, Blocked}
-use Rattle.deb_near.specs.declared.similar.Similar.{Similar}
+use Rattle.deb_health.specs.Verdicts.{ToldView, cores_in}
+use Rattle.deb_causes.specs.declared.similar.Similar.{Similar}
 use Rattle.deb_health.specs.declared.shown.Shown.{Shown}
 use Rattle.deb_report.specs.declared.telling.Telling.{Telling}
-use Rattle.deb_reasons.specs.Similar.{FitsWalk}
-use Rattle.deb_causes.specs.Later.{AreLaterOf, later_view}
+use Rattle.deb_report.specs.FitsWalk.{FitsWalk}
 use Rattle.deb_health.specs.Shown.{IsAskedOf, shown_view}
 
--- the first core of an asked place
-abbrev pub core_in : ℕ × VerdictView → List Constraint
-core_in (place, Found places) = []
-core_in (place, Blocked core) = core
+-- the first core that is told of an asked place
+abbrev pub core_in : ℕ × ToldView → List Constraint
+core_in one = slice_index_or (cores_in one.1) 0 []
 
 -- what the walk of its core tells as similar was looked for, where cores are walked
 abbrev pub IsWalked : IndexView → Telling → Similar → Shown → Type 0
@@ -23,5 +21,4 @@ IsWalked index telling similar shown =
 -- a block of the index, and what is told of it
 pub record FitsBlock (index : IndexView) (telling : Telling) (similar : Similar) (shown : Shown) : Type 0 where
   pub asked : IsAskedOf index (shown_view shown)
-  pub later : AreLaterOf index (later_view telling.later.now)
   pub walked : IsWalked index telling similar shown

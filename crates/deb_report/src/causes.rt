@@ -2,21 +2,20 @@
 
 ghost use Rattle.std.specs.Prelude.{◌≡◌, ◌++◌, ◌<◌, All, OnOk, Some, length, map};
 ghost use Rattle.deb_index.specs.Constraints.{IsOfIndex};
-ghost use Rattle.deb_near.specs.Near.{near_misses, near_view, similar_names};
-ghost use Rattle.deb_reasons.specs.Hits.{hits_of};
+ghost use Rattle.deb_causes.specs.Near.{near_misses, near_view, similar_names};
+ghost use Rattle.deb_report.specs.Hits.{hits_of};
 ghost use Rattle.deb_causes.specs.Causes.{IsCauseOf, cause_view};
 ghost use Rattle.deb_report.specs.CauseText.{cause_in, causes_in, count_in, needed_in, wrong_in};
 ghost use Rattle.deb_report.specs.Similar.{FitsCause};
 
+use crate::form::{Lead, Writer, push_elements, push_list, push_some, push_title};
+use crate::hits::hits_of;
+use crate::parts::{Part, package_part};
+use crate::reasons::group_field;
 use crate::sought::similar_to_causes;
-use deb_causes::Cause;
+use deb_causes::{Cause, NearMiss, Similar, near_misses};
 use deb_index::Constraint;
-use deb_near::{NearMiss, Similar, near_misses};
-use deb_reasons::form::{Lead, Writer, push_elements, push_list, push_some, push_title};
-use deb_reasons::hits::hits_of;
-use deb_reasons::parts::{Part, package_part};
-use deb_reasons::reasons::group_field;
-use deb_texts::{Print, push_texts};
+use deb_relation::{Print, push_texts};
 use run_settings::Format;
 use std::alloc::AllocError;
 

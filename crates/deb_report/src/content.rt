@@ -1,20 +1,22 @@
 //! What a report tells, whatever its form.
 
-ghost use Rattle.std.specs.Prelude.{◌≡◌, ◌<◌, All, IfOk, IfSome, length, map};
-ghost use Rattle.std.specs.Option.{option_map};
-ghost use Rattle.deb_health.specs.Verdicts.{SpeaksOf, verdict_view};
-ghost use Rattle.deb_causes.specs.Causes.{IsCauseOf, cause_view};
-ghost use Rattle.deb_report.specs.Content.{causes_if, content_of, content_since};
-ghost use Rattle.run_settings.specs.Settings.{settings_of};
-ghost use Rattle.deb_outcome.specs.Since.{broken_view};
+ghost use Rattle.std.specs.Prelude.{◌≡◌, ◌<◌, None, Some, All, IfOk, IfSome, length, map};
+ghost use Rattle.std.specs.Option.{ForSome, option_map};
 ghost use Rattle.deb_health.specs.Shown.{IsAskedOf, shown_view};
-ghost use Rattle.deb_report.specs.Told.{IsContentOf, content_view};
-ghost use Rattle.deb_causes.specs.Later.{AreLaterOf, later_view};
+ghost use Rattle.deb_health.specs.Verdicts.{SpeaksOf, told_view};
+ghost use Rattle.deb_causes.specs.Causes.{IsCauseOf, cause_view};
+ghost use Rattle.deb_report.specs.Since.{broken_view, counts_of};
+ghost use Rattle.deb_report.specs.Content.{causes_if, content_of};
+ghost use Rattle.deb_report.specs.Told.{IsContentOf, before_view, content_view};
+ghost use Rattle.run_settings.specs.Settings.{settings_of};
 
+use crate::amends::{Amends, amends_of};
+use crate::before::Before;
+use crate::shown::shown_of;
+use crate::summary::{Counts, Number, numbers_of};
 use deb_causes::{Cause, causes_of};
-use deb_health::{Shown, Verdict};
-use deb_index::{Constraint, Index};
-use deb_outcome::{Amends, BrokenPackage, Number, amends_of, news_of, numbers_of, shown_of};
+use deb_health::{Shown, Told};
+use deb_index::Index;
 use run_settings::{Config, Show};
 use std::alloc::{AllocError, Global};
 
@@ -23,6 +25,7 @@ use std::alloc::{AllocError, Global};
 pub(crate) struct Content<'r> {
     /// The asked places that have a block.
     pub(crate) blocks: Vec<Shown<'r>>,
+    pub(crate) counts: Counts,
     pub(crate) numbers: Vec<Number>,
     /// What became of the packages that were broken in an earlier index; none where none is read.
     pub(crate) lists: Vec<Amends<'r>>,
@@ -34,81 +37,110 @@ pub(crate) struct Content<'r> {
 fn causes_if(
     alloc: Global,
     index: &Index,
-    later: &[Vec<Vec<Constraint>>],
     broken: &[Shown<'_>],
     causes: bool,
 ) -> Result<Option<Vec<Cause>>, AllocError>
-    requires broken { All (λ one. IsAskedOf index.now (shown_view one)) broken.now }
-    requires later { AreLaterOf index.now (later_view later.now) }
-    ensures value { IfOk result (λ told. option_map (λ list. map cause_view list.items) told ≡
-        causes_if causes index.now (later_view later.now) (map shown_view broken.now)) }
+    requires { All (λ one. IsAskedOf index.now (shown_view one)) broken.now }
+    ensures value { IfOk result (λ told. option_map (λ list. map cause_view list.items) told ≡ causes_if causes index.now (map shown_view broken.now)) }
     ensures within { IfOk result (λ told. IfSome told (λ list. All (λ cause. IsCauseOf index.now (cause_view cause)) list.items)) }
 {
     if causes {
-        Ok(Some(causes_of(alloc, index, later, broken)?))
+        Ok(Some(causes_of(alloc, index, broken)?))
     } else {
         Ok(None)
     }
 }
 
 /// What the report on the asked places tells.
-pub(crate) fn content_of<'r>(
+fn content_alone<'r>(
     alloc: Global,
     index: &Index,
     asked: &[u32],
-    verdicts: &'r [Verdict],
-    later: &[Vec<Vec<Constraint>>],
+    told: &'r [Told],
     config: &Config,
 ) -> Result<Content<'r>, AllocError>
-    requires same { length asked.now ≡ length verdicts.now }
+    requires same { length asked.now ≡ length told.now }
     requires places { All (λ place. place < length index.now.packages) asked.now }
-    requires within { All (SpeaksOf index.now) (map verdict_view verdicts.now) }
-    requires later { AreLaterOf index.now (later_view later.now) }
-    ensures content { IfOk result (λ content. content_view content ≡
-        content_of (settings_of config.now) index.now asked.now (map verdict_view verdicts.now) (later_view later.now)) }
+    requires within { All (SpeaksOf index.now) (map told_view told.now) }
+    ensures content { IfOk result (λ content. content_view content ≡ content_of (settings_of config.now) index.now asked.now (map told_view told.now) None) }
+    ensures counts { IfOk result (λ content. content.counts ≡ counts_of index.now asked.now (map told_view told.now) None) }
     ensures within { IfOk result (IsContentOf index.now) }
 {
-    let blocks = shown_of(alloc, asked, verdicts, config.show)?;
-    let numbers = numbers_of(alloc, index, asked, verdicts, config.bg.is_some(), None)?;
-    let broken = shown_of(alloc, asked, verdicts, Show::Failures)?;
-    let causes = causes_if(alloc, index, later, broken.as_slice(), config.causes)?;
+    let blocks = shown_of(alloc, asked, told, config.show)?;
+    let failures = shown_of(alloc, asked, told, Show::Failures)?;
+    let broken = failures.as_slice();
+    let causes = causes_if(alloc, index, broken, config.causes)?;
+    let counts = Counts {
+        asked: asked.len(),
+        broken: broken.len(),
+        newly_broken: None,
+    };
     Ok(Content {
         blocks,
-        numbers,
+        counts,
+        numbers: numbers_of(alloc, index, counts, config.bg.is_some())?,
         lists: Vec::new(alloc),
         causes,
     })
 }
 
-/// What the report on the asked places tells of what became of them since an earlier index, whose broken packages are given.
-pub(crate) fn content_since<'r>(
+/// What the report on the asked places tells of what became of them since these packages were broken.
+fn content_since<'r>(
     alloc: Global,
-    index: &Index,
     asked: &[u32],
-    verdicts: &'r [Verdict],
-    later: &[Vec<Vec<Constraint>>],
-    before: &'r [BrokenPackage],
+    told: &'r [Told],
+    before: &Before<'r>,
     config: &Config,
 ) -> Result<Content<'r>, AllocError>
-    requires same { length asked.now ≡ length verdicts.now }
-    requires places { All (λ place. place < length index.now.packages) asked.now }
-    requires within { All (SpeaksOf index.now) (map verdict_view verdicts.now) }
-    requires later { AreLaterOf index.now (later_view later.now) }
+    requires same { length asked.now ≡ length told.now }
+    requires places { All (λ place. place < length before.now.index.now.packages) asked.now }
+    requires within { All (SpeaksOf before.now.index.now) (map told_view told.now) }
     ensures content { IfOk result (λ content. content_view content ≡
-        content_since (settings_of config.now) index.now asked.now (map verdict_view verdicts.now) (later_view later.now) (map broken_view before.now)) }
-    ensures within { IfOk result (IsContentOf index.now) }
+        content_of (settings_of config.now) before.now.index.now asked.now (map told_view told.now) (Some (map broken_view before.now.packages.now))) }
+    ensures counts { IfOk result (λ content.
+        content.counts ≡ counts_of before.now.index.now asked.now (map told_view told.now) (Some (map broken_view before.now.packages.now))) }
+    ensures within { IfOk result (IsContentOf before.now.index.now) }
 {
-    let failures = shown_of(alloc, asked, verdicts, Show::Failures)?;
+    let index = before.index;
+    let failures = shown_of(alloc, asked, told, Show::Failures)?;
     let broken = failures.as_slice();
-    let news = news_of(alloc, index, broken, before)?;
-    let count = Some(news.len());
-    let numbers = numbers_of(alloc, index, asked, verdicts, config.bg.is_some(), count)?;
-    let lists = amends_of(alloc, index, asked, broken, before)?;
-    let causes = causes_if(alloc, index, later, news.as_slice(), config.causes)?;
+    let news = before.news_of(alloc, broken)?;
+    let lists = amends_of(alloc, index, asked, broken, before.packages)?;
+    let causes = causes_if(alloc, index, news.as_slice(), config.causes)?;
+    let counts = Counts {
+        asked: asked.len(),
+        broken: broken.len(),
+        newly_broken: Some(news.len()),
+    };
     Ok(Content {
         blocks: news,
-        numbers,
+        counts,
+        numbers: numbers_of(alloc, index, counts, config.bg.is_some())?,
         lists,
         causes,
     })
+}
+
+/// What the report on the asked places tells, since these packages were broken, where an earlier index is read.
+pub(crate) fn content_of<'r>(
+    alloc: Global,
+    index: &Index,
+    asked: &[u32],
+    told: &'r [Told],
+    before: Option<&Before<'r>>,
+    config: &Config,
+) -> Result<Content<'r>, AllocError>
+    requires same { length asked.now ≡ length told.now }
+    requires places { All (λ place. place < length index.now.packages) asked.now }
+    requires within { All (SpeaksOf index.now) (map told_view told.now) }
+    requires before { ForSome before (λ before. before.now.index.now ≡ index.now) }
+    ensures content { IfOk result (λ content. content_view content ≡
+        content_of (settings_of config.now) index.now asked.now (map told_view told.now) (before_view before.entry)) }
+    ensures counts { IfOk result (λ content. content.counts ≡ counts_of index.now asked.now (map told_view told.now) (before_view before.entry)) }
+    ensures within { IfOk result (IsContentOf index.now) }
+{
+    match before {
+        None => content_alone(alloc, index, asked, told, config),
+        Some(before) => content_since(alloc, asked, told, before, config),
+    }
 }

@@ -1,28 +1,27 @@
 //! The report in its form: lines, or one JSON document (RFC 8259).
 
-ghost use Rattle.std.specs.Prelude.{◌≡◌, ◌++◌, ◌<◌, All, IfOk, OnOk, codes, length, map, true};
+ghost use Rattle.std.specs.Prelude.{◌≡◌, ◌++◌, ◌<◌, [], All, IfOk, OnOk, codes, length, map, slice_index_or, true};
 ghost use Rattle.deb_index.specs.Constraints.{IsOfIndex};
-ghost use Rattle.deb_reasons.specs.Forms.{list_in, quoted};
-ghost use Rattle.deb_reasons.specs.Similar.{FitsWalk};
-ghost use Rattle.deb_reasons.specs.declared.form.Lead.TheVariants.{Other};
+ghost use Rattle.deb_report.specs.Forms.{list_in, quoted};
+ghost use Rattle.deb_report.specs.FitsWalk.{FitsWalk};
+ghost use Rattle.deb_report.specs.declared.form.Lead.TheVariants.{Other};
 ghost use Rattle.deb_health.specs.Shown.{IsAskedOf, shown_view};
 ghost use Rattle.deb_report.specs.CauseText.{causes_in};
-ghost use Rattle.deb_report.specs.Document.{also_in, block_in, explanation_in, first_core, head_in, later_core, report_end, text_in, told_in};
+ghost use Rattle.deb_report.specs.Document.{all_cores, block_in, explanation_in, first_core, head_in, later_core, later_cores, report_end, text_in, told_in};
 ghost use Rattle.deb_report.specs.Sought.{FitsBlock, IsWalked, core_in};
 ghost use Rattle.deb_report.specs.Told.{IsContentOf, content_view, telling_view};
-ghost use Rattle.deb_causes.specs.Later.{AreLaterOf, later_view};
 
 use crate::causes::push_causes;
 use crate::content::Content;
+use crate::form::{Lead, Writer, push_elements, push_list, push_title};
+use crate::shown::status_text;
 use crate::sought::similar_to_walks;
 use crate::telling::Telling;
-use deb_health::{Shown, Verdict};
+use crate::walk_lines::push_walk;
+use deb_causes::Similar;
+use deb_health::{Shown, Told};
 use deb_index::{Constraint, Index};
-use deb_near::Similar;
-use deb_outcome::status_text;
-use deb_reasons::form::{Lead, Writer, push_elements, push_list, push_title};
-use deb_reasons::walk_lines::push_walk;
-use deb_texts::{Print, push_all};
+use deb_relation::{Print, push_all};
 use run_settings::Format;
 use std::alloc::{AllocError, Global};
 
@@ -96,31 +95,49 @@ impl<'i> Document<'i> {
         Ok(())
     }
 
-    /// Adds the cores behind the first of the package at a place, where they are told.
-    #[tactic(auto, unfolding(crate::specs::Document::also_in))]
-    fn push_also(&self, out: &mut Vec<u8>, place: u32) -> Result<(), AllocError>
-        requires { AreLaterOf self.now.writer.index.now (later_view self.now.telling.later.now) }
-        ensures { OnOk result (out.new.items ≡
-            out.old.items ++ also_in self.now.writer.format self.now.writer.index.now (telling_view self.now.telling) place) }
+    /// Adds the cores behind the first.
+    #[tactic(auto, unfolding(crate::specs::Document::later_cores))]
+    fn push_later(&self, out: &mut Vec<u8>, later: &[Vec<Constraint>]) -> Result<(), AllocError>
+        requires { All (λ core. All (IsOfIndex self.now.writer.index.now) core.items) later.now }
+        ensures { OnOk result (out.new.items ≡ out.old.items
+            ++ later_cores self.now.writer.format self.now.writer.index.now (telling_view self.now.telling) (map (λ core. core.items) later.now)) }
     {
         let form = self.writer.format;
-        let cores = self.telling.also_at(place);
         match form {
-            Format::Text => push_all(out, self, cores)?,
-            Format::Json => {
-                if self.telling.config.all_reasons {
-                    push_list(form, out, Lead::Within, "also", self, cores)?;
-                }
+            Format::Text => push_all(out, self, later)?,
+            Format::Json => push_list(form, out, Lead::Within, "also", self, later)?,
+        }
+        Ok(())
+    }
+
+    /// Adds the first core of the package at a place, and where they are told those behind it.
+    #[tactic(auto, unfolding(crate::specs::Document::all_cores))]
+    fn push_cores(
+        &self,
+        out: &mut Vec<u8>,
+        place: u32,
+        cores: &[Vec<Constraint>],
+    ) -> Result<(), AllocError>
+        requires place { place < length self.now.writer.index.now.packages }
+        requires cores { All (λ core. All (IsOfIndex self.now.writer.index.now) core.items) cores.now }
+        requires walked { self.now.telling.config.now.why ≡ true
+            → All (FitsWalk self.now.writer.index.now self.now.similar.now) (slice_index_or (map (λ core. core.items) cores.now) 0 []) }
+        ensures { OnOk result (out.new.items ≡ out.old.items
+            ++ all_cores self.now.writer.format self.now.writer.index.now (telling_view self.now.telling) place (map (λ core. core.items) cores.now)) }
+    {
+        if let [core, later @ ..] = cores {
+            self.push_first(out, place, core.as_slice())?;
+            if self.telling.config.all_reasons {
+                self.push_later(out, later)?;
             }
         }
         Ok(())
     }
 
-    /// Adds what explains a verdict.
+    /// Adds what explains a status.
     #[tactic(auto, unfolding(crate::specs::Document::explanation_in))]
     fn push_explanation(&self, out: &mut Vec<u8>, shown: &Shown<'_>) -> Result<(), AllocError>
         requires asked { IsAskedOf self.now.writer.index.now (shown_view shown.now) }
-        requires later { AreLaterOf self.now.writer.index.now (later_view self.now.telling.later.now) }
         requires walked { self.now.telling.config.now.why ≡ true
             → All (FitsWalk self.now.writer.index.now self.now.similar.now) (core_in (shown_view shown.now)) }
         ensures { OnOk result (out.new.items ≡
@@ -128,15 +145,13 @@ impl<'i> Document<'i> {
     {
         let writer = &self.writer;
         let form = writer.format;
-        match shown.verdict {
-            Verdict::Ok(places) => {
+        match shown.told {
+            Told::Installable => {}
+            Told::Set(places) => {
                 let places = places.as_slice();
                 push_list(form, out, Lead::Within, "installation-set", writer, places)?;
             }
-            Verdict::Broken(core) => {
-                self.push_first(out, shown.place, core.as_slice())?;
-                self.push_also(out, shown.place)?;
-            }
+            Told::Broken(cores) => self.push_cores(out, shown.place, cores.as_slice())?,
         }
         Ok(())
     }
@@ -155,7 +170,7 @@ impl<'i, 'v> Print<Shown<'v>> for Document<'i> {
         writer.push_string(out, Lead::Block, "package", deb.name.as_slice())?;
         writer.push_string(out, Lead::Within, "version", deb.version.text())?;
         writer.push_string(out, Lead::Within, "architecture", architecture)?;
-        writer.push_string(out, Lead::Within, "status", status_text(shown.verdict))?;
+        writer.push_string(out, Lead::Within, "status", status_text(shown.told))?;
         if self.telling.config.explain {
             self.push_explanation(out, shown)?;
         }
@@ -166,7 +181,7 @@ impl<'i, 'v> Print<Shown<'v>> for Document<'i> {
 
 impl<'i> Document<'i> {
     /// Adds the words that the document is made under.
-    #[tactic(auto, using(deb_reasons::proofs::FormLemmas::list_map))]
+    #[tactic(auto, using(crate::proofs::FormLemmas::list_map))]
     fn push_options(&self, out: &mut Vec<u8>, options: &[&'static str]) -> Result<(), AllocError>
         ensures { OnOk result (out.new.items ≡
             out.old.items ++ list_in self.now.writer.format Other (codes "options") quoted (map (λ one. one.now) options.now)) }
@@ -217,7 +232,6 @@ impl<'i> Document<'i> {
     /// The whole report.
     fn text(&self, content: &Content<'_>) -> Result<Vec<u8>, AllocError>
         requires content { IsContentOf self.now.writer.index.now content.now }
-        requires later { AreLaterOf self.now.writer.index.now (later_view self.now.telling.later.now) }
         requires walked { All (IsWalked self.now.writer.index.now self.now.telling self.now.similar.now) content.now.blocks.items }
         ensures { IfOk result (λ text. text.items ≡
             text_in self.now.writer.format self.now.writer.index.now (telling_view self.now.telling) (content_view content.now)) }
@@ -246,8 +260,7 @@ pub(crate) fn text_in(
     content: &Content<'_>,
     telling: Telling<'_>,
 ) -> Result<Vec<u8>, AllocError>
-    requires content { IsContentOf index.now content.now }
-    requires later { AreLaterOf index.now (later_view telling.later.now) }
+    requires { IsContentOf index.now content.now }
     ensures { IfOk result (λ text. text.items ≡ text_in telling.entry.config.now.format index.now (telling_view telling.entry) (content_view content.now)) }
 {
     let similar = similar_to_walks(alloc, index, telling, content.blocks.as_slice())?;

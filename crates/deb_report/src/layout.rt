@@ -1,20 +1,48 @@
 //! The report in its form.
 
 ghost use Rattle.std.specs.Prelude.{◌≡◌, ◌<◌, ◌^◌, All, IfOk, length, map};
-ghost use Rattle.deb_health.specs.Verdicts.{SpeaksOf, verdict_view};
+ghost use Rattle.std.specs.Option.{ForSome};
+ghost use Rattle.deb_health.specs.Verdicts.{SpeaksOf, told_view, verdict_view};
 ghost use Rattle.run_settings.specs.Settings.{settings_of};
-ghost use Rattle.deb_outcome.specs.Since.{broken_view, summary_since};
-ghost use Rattle.deb_causes.specs.Later.{AreLaterOf, later_view};
-ghost use Rattle.deb_report.specs.Written.{written_report, written_since, written_told};
+ghost use Rattle.deb_report.specs.Since.{counts_of, summary_of};
+ghost use Rattle.deb_report.specs.Told.{before_view};
+ghost use Rattle.deb_report.specs.Written.{written_report, written_told};
 
-use crate::content::{content_of, content_since};
+use crate::before::Before;
+use crate::content::content_of;
 use crate::document::text_in;
+use crate::summary::{Counts, Summary, summary_of};
 use crate::telling::Telling;
-use deb_health::Verdict;
-use deb_index::{Constraint, Index};
-use deb_outcome::{BrokenPackage, Summary, summary_with};
+use crate::told::told_by;
+use deb_health::{Told, Verdict};
+use deb_index::Index;
 use run_settings::Config;
 use std::alloc::{AllocError, Global};
+
+/// The text of the report on the asked places, and what is counted of them.
+fn text_of(
+    alloc: Global,
+    index: &Index,
+    asked: &[u32],
+    told: &[Told],
+    before: Option<&Before<'_>>,
+    config: &Config,
+) -> Result<(Vec<u8>, Counts), AllocError>
+    requires same { length asked.now ≡ length told.now }
+    requires places { All (λ place. place < length index.now.packages) asked.now }
+    requires within { All (SpeaksOf index.now) (map told_view told.now) }
+    requires before { ForSome before (λ before. before.now.index.now ≡ index.now) }
+    ensures text { IfOk result (λ r. r.0.items ≡ written_told (settings_of config.now) index.now asked.now (map told_view told.now) (before_view before.entry)) }
+    ensures counts { IfOk result (λ r. r.1 ≡ counts_of index.now asked.now (map told_view told.now) (before_view before.entry)) }
+{
+    let content = content_of(alloc, index, asked, told, before, config)?;
+    let telling = Telling {
+        config,
+        since: before.is_some(),
+    };
+    let text = text_in(alloc, index, &content, telling)?;
+    Ok((text, content.counts))
+}
 
 /// The report on the asked places: two lines at the head, a block for each place that is shown, in the order of the list, five lines of numbers,
 /// or six with a background, and where causes are asked for, the block of them, whatever is shown.
@@ -38,69 +66,33 @@ pub fn report(
     requires within { All (SpeaksOf index.now) (map verdict_view verdicts.now) }
     ensures { IfOk result (λ text. text.items ≡ written_report (settings_of config.now) index.now asked.now (map verdict_view verdicts.now)) }
 {
-    report_told(alloc, index, asked, verdicts, &[], config)
+    let told = told_by(alloc, verdicts)?;
+    let (text, _) = text_of(alloc, index, asked, told.as_slice(), None, config)?;
+    Ok(text)
 }
 
-/// The report on the asked places, as `report` gives it, where the cores behind the first of each package are known: `later` has them by place, and
-/// none for a place past its end. With `all_reasons` a block tells these, too, and the causes are those of all cores.
+/// The report on the asked places, as `report` gives it, of as much as is told of each, with its numbers: with `all_reasons` a block tells all cores
+/// that are told, and causes are those of all of them.
 ///
-/// The constraints of all cores are the index's.
+/// Where packages that were broken in an earlier index are given, a block and a cause have the newly broken packages alone, whatever is to be shown:
+/// those of whose name no package was broken before. Behind the numbers, the last of which is theirs, stand the packages that were broken and are
+/// mended, and those that are gone, in the order of the earlier index, each with its name and its version.
 pub fn report_told(
     alloc: Global,
     index: &Index,
     asked: &[u32],
-    verdicts: &[Verdict],
-    later: &[Vec<Vec<Constraint>>],
-    config: &Config,
-) -> Result<Vec<u8>, AllocError>
-    requires same { length asked.now ≡ length verdicts.now }
-    requires places { All (λ place. place < length index.now.packages) asked.now }
-    requires within { All (SpeaksOf index.now) (map verdict_view verdicts.now) }
-    requires later { AreLaterOf index.now (later_view later.now) }
-    ensures { IfOk result (λ text. text.items ≡
-        written_told (settings_of config.now) index.now asked.now (map verdict_view verdicts.now) (later_view later.now)) }
-{
-    let content = content_of(alloc, index, asked, verdicts, later, config)?;
-    let telling = Telling {
-        config,
-        since: false,
-        later,
-    };
-    text_in(alloc, index, &content, telling)
-}
-
-/// The report on what became of the asked places since an earlier index, with its numbers. `before` has the broken packages of that index, as
-/// `broken_packages` gives them.
-///
-/// As `report_told`, but a block and a cause have the newly broken packages alone, whatever is to be shown: those of whose name no package was
-/// broken before. Behind the numbers, the last of which is theirs, stand the packages that were broken and are mended, and those that are
-/// gone, in the order of the earlier index, each with its name and its version.
-pub fn report_since(
-    alloc: Global,
-    index: &Index,
-    asked: &[u32],
-    verdicts: &[Verdict],
-    later: &[Vec<Vec<Constraint>>],
-    before: &[BrokenPackage],
+    told: &[Told],
+    before: Option<&Before<'_>>,
     config: &Config,
 ) -> Result<(Vec<u8>, Summary), AllocError>
     requires few { length asked.now < 2 ^ 32 }
-    requires same { length asked.now ≡ length verdicts.now }
+    requires same { length asked.now ≡ length told.now }
     requires places { All (λ place. place < length index.now.packages) asked.now }
-    requires within { All (SpeaksOf index.now) (map verdict_view verdicts.now) }
-    requires later { AreLaterOf index.now (later_view later.now) }
-    ensures text { IfOk result (λ told. told.0.items ≡
-        written_since (settings_of config.now) index.now asked.now (map verdict_view verdicts.now) (later_view later.now)
-        (map broken_view before.now)) }
-    ensures summary { IfOk result (λ told. told.1 ≡ summary_since index.now asked.now (map verdict_view verdicts.now) (map broken_view before.now)) }
+    requires within { All (SpeaksOf index.now) (map told_view told.now) }
+    requires before { ForSome before (λ before. before.now.index.now ≡ index.now) }
+    ensures text { IfOk result (λ r. r.0.items ≡ written_told (settings_of config.now) index.now asked.now (map told_view told.now) (before_view before.entry)) }
+    ensures summary { IfOk result (λ r. r.1 ≡ summary_of index.now asked.now (map told_view told.now) (before_view before.entry)) }
 {
-    let content = content_since(alloc, index, asked, verdicts, later, before, config)?;
-    let telling = Telling {
-        config,
-        since: true,
-        later,
-    };
-    let text = text_in(alloc, index, &content, telling)?;
-    let summary = summary_with(index, asked, verdicts, Some(content.blocks.len() as u32));
-    Ok((text, summary))
+    let (text, counts) = text_of(alloc, index, asked, told, before, config)?;
+    Ok((text, summary_of(index, counts)))
 }

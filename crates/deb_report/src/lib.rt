@@ -1,24 +1,50 @@
-//! The report on an index: the bytes that tell the verdicts of the places that are asked.
+//! The report on an index: the bytes that tell what was found of the places that are asked.
 //!
 //! The modules, in reading order:
 //!
-//! - `layout`: the calls; `content`: what a report tells, its causes by `deb_causes`. `telling`: what of verdicts it tells; `options`: the words that it
-//!   is made under.
-//! - `document`: a report in its form, by the writer of `deb_reasons`, with its `numbers`; `causes`: the blocks of causes; `sought`: which names that
-//!   differ in numbers alone are looked for.
+//! - `layout`: the calls; `content`: what a report tells, with its causes by `deb_causes`. `telling`: what of packages is told; `options`: the words that a
+//!   report is made under.
+//! - `asked`: the places that are asked; `shown`: those that are shown, with what is told of them (`told`); `summary`: what a run counts.
+//! - `broken`: the broken packages of an earlier index; `before`: these, by which it is told of a package whether it is newly broken; `amends`: those
+//!   that are mended or gone; `marks`: marks on names.
+//! - `document`: a report in its form, with its `numbers`; `causes`: the blocks of causes; `sought`: which names that differ in numbers alone are looked
+//!   for.
+//! - `form`: how members, lists and items are written in each form; `parts`: what items are told by; `json_text`: the strings of JSON.
+//! - `walk`: the steps of a core as it is walked from its package, over a table of what the core says of each package (`own`); `hits`: the packages that
+//!   entries hit; `answers`: what answers a need.
+//! - `reasons`: what is told of packages and constraints; `links`: where a walk goes on from a constraint; `walk_lines` tells the steps of a core.
 #![tactic(auto)]
 
+mod amends;
+mod answers;
+mod asked;
+mod before;
+mod broken;
 mod causes;
 mod content;
 mod document;
+mod form;
+mod hits;
+mod json_text;
 mod layout;
+mod links;
+mod marks;
 mod numbers;
 mod options;
+mod own;
+mod parts;
+mod reasons;
+mod shown;
 mod sought;
+mod summary;
 mod telling;
+mod told;
+mod walk;
+mod walk_constraints;
+mod walk_lines;
 
-pub use deb_outcome::{
-    AskedFault, BrokenPackage, Summary, asked_places, broken_packages, earlier_places,
-    newly_broken, summary_of,
-};
-pub use layout::{report, report_since, report_told};
+pub use asked::{AskedFault, asked_places, earlier_places};
+pub use before::Before;
+pub use broken::{BrokenPackage, broken_packages};
+pub use layout::{report, report_told};
+pub use summary::Summary;

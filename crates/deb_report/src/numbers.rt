@@ -1,17 +1,19 @@
 //! What a report tells besides blocks: numbers, packages of an earlier index, and the words that it is made under.
 
 ghost use Rattle.std.specs.Prelude.{◌≡◌, ◌++◌, OnOk};
-ghost use Rattle.deb_reasons.specs.Forms.{quoted};
-ghost use Rattle.deb_outcome.specs.Since.{amends_view, broken_view};
-ghost use Rattle.deb_outcome.specs.Outcome.{number_view};
+ghost use Rattle.deb_report.specs.Forms.{quoted};
+ghost use Rattle.deb_report.specs.Since.{amends_view, broken_view};
+ghost use Rattle.deb_report.specs.Outcome.{number_view};
 ghost use Rattle.deb_report.specs.Document.{amended_in, broken_in, counted_in};
 
+use crate::amends::Amends;
+use crate::broken::BrokenPackage;
 use crate::document::Document;
-use deb_outcome::{Amends, BrokenPackage, Number};
-use deb_reasons::form::{Lead, push_list};
-use deb_reasons::json_text::push_quoted;
-use deb_reasons::parts::Part;
-use deb_texts::Print;
+use crate::form::{Lead, push_list};
+use crate::json_text::push_quoted;
+use crate::parts::Part;
+use crate::summary::Number;
+use deb_relation::Print;
 use std::alloc::AllocError;
 
 impl<'i> Print<Number> for Document<'i> {
@@ -43,7 +45,7 @@ impl<'i, 'b> Print<Amends<'b>> for Document<'i> {
 
     ghost text = { λ document amends. amended_in document.writer.format (amends_view amends) };
 
-    #[tactic(auto, using(deb_reasons::proofs::FormLemmas::list_map))]
+    #[tactic(auto, using(crate::proofs::FormLemmas::list_map))]
     fn print(&self, out: &mut Vec<u8>, amends: &Amends<'b>) -> Result<(), AllocError> {
         let form = self.writer.format;
         let packages = amends.packages.as_slice();

@@ -10,10 +10,9 @@ ghost use Rattle.deb_report.specs.Sought.{IsWalked, core_in};
 ghost use Rattle.deb_health.specs.Shown.{IsAskedOf, shown_view};
 
 use crate::telling::Telling;
-use deb_causes::{Cause, is_final};
-use deb_health::{Shown, Verdict};
+use deb_causes::{Cause, Similar, is_final};
+use deb_health::Shown;
 use deb_index::{Constraint, Index};
-use deb_near::Similar;
 use std::alloc::{AllocError, Global};
 
 /// The constraints of causes, one after the other.
@@ -70,7 +69,7 @@ fn final_in(
 {
     let mut constraints = Vec::new(alloc);
     for one in blocks {
-        if let Verdict::Broken(core) = one.verdict {
+        if let [core, ..] = one.told.cores() {
             push_final(alloc, index, core.as_slice(), &mut constraints)?;
         }
     }

@@ -1,14 +1,12 @@
 //! What is asked of the index of a text, and what is expected of the answer.
 
 ghost use Rattle.std.specs.Prelude.{◌≡◌, ◌^◌, ◌<◌, All, length, map};
-ghost use Rattle.deb_health.specs.Verdicts.{SpeaksOf, verdict_view};
+ghost use Rattle.deb_health.specs.Verdicts.{SpeaksOf, told_view};
 
-use crate::reporting::{
-    index_of, named, news_since, report_since_earlier, report_with_later, verdicts_of,
-};
+use crate::reporting::{index_of, named, news_since, report_since_earlier, told_of, verdicts_of};
 use deb_index::Index;
-use deb_report::{AskedFault, asked_places, report};
-use deb_verdict::Verdict;
+use deb_report::{AskedFault, asked_places, report, report_told};
+use deb_verdict::Told;
 use run_settings::{Config, Format, Show};
 use std::alloc::{AllocError, AllocGlobal, Global};
 use std::process::Abort;
@@ -47,7 +45,7 @@ pub enum Call<'a> {
     /// The places that are asked.
     Asked,
     Report,
-    /// With the cores behind the first of the places below a number.
+    /// With all cores of the places below a number.
     Told(u32),
     /// The report since the index of an earlier text.
     Since(&'a str),
@@ -150,29 +148,33 @@ fn expect_of(
     rt: &(impl Abort + AllocGlobal),
     index: &Index,
     places: &[u32],
-    verdicts: &[Verdict],
+    told: &[Told],
     case: &Case,
     config: &Config,
 ) -> Result<(), Fail>
     requires few { length places.now < 2 ^ 32 }
-    requires same { length places.now ≡ length verdicts.now }
+    requires same { length places.now ≡ length told.now }
     requires within { All (λ place. place < length index.now.packages) places.now }
-    requires speaks { All (SpeaksOf index.now) (map verdict_view verdicts.now) }
+    requires speaks { All (SpeaksOf index.now) (map told_view told.now) }
 {
     let alloc = rt.alloc();
     match case.call {
         Call::Asked => expect_places(rt, case, places),
-        Call::Report => expect_text(rt, case, &report(alloc, index, places, verdicts, config)?),
-        Call::Told(count) => {
-            let told = report_with_later(alloc, index, places, verdicts, count, config)?;
-            expect_text(rt, case, &told);
+        Call::Report => {
+            let verdicts = verdicts_of(alloc, index, places)?;
+            let text = report(alloc, index, places, verdicts.as_slice(), config)?;
+            expect_text(rt, case, &text);
+        }
+        Call::Told(_) => {
+            let (text, _) = report_told(alloc, index, places, told, None, config)?;
+            expect_text(rt, case, &text);
         }
         Call::Since(earlier) => {
-            let told = report_since_earlier(alloc, index, places, verdicts, earlier, config)?;
-            expect_text(rt, case, &told);
+            let text = report_since_earlier(alloc, index, places, told, earlier, config)?;
+            expect_text(rt, case, &text);
         }
         Call::News(earlier) => {
-            let news = news_since(alloc, index, places, verdicts, earlier, config)?;
+            let news = news_since(alloc, index, places, told, earlier, config)?;
             expect_places(rt, case, &news);
         }
     }
@@ -189,8 +191,12 @@ fn expect_at(
     requires few { length places.now < 2 ^ 32 }
     requires within { All (λ place. place < length index.now.packages) places.now }
 {
-    let verdicts = verdicts_of(rt.alloc(), index, places)?;
-    expect_of(rt, index, places, verdicts.as_slice(), case, config)
+    let count = match case.call {
+        Call::Told(count) => count,
+        _ => 0,
+    };
+    let told = told_of(rt.alloc(), index, places, count)?;
+    expect_of(rt, index, places, told.as_slice(), case, config)
 }
 
 fn expect_under(

@@ -1,14 +1,11 @@
-//! The index of a text, the verdicts on what is asked of it, and the calls that answer from them.
+//! The index of a text, what is told of what is asked of it, and the calls that answer from that.
 
-ghost use Rattle.std.specs.Prelude.{◌≡◌, ◌^◌, ◌<◌, ◌≤◌, All, IfOk, length, map};
-ghost use Rattle.deb_index.specs.Constraints.{IsOfIndex};
-ghost use Rattle.deb_health.specs.Verdicts.{SpeaksOf, verdict_view};
+ghost use Rattle.std.specs.Prelude.{◌≡◌, ◌^◌, ◌<◌, All, IfOk, length, map};
+ghost use Rattle.deb_health.specs.Verdicts.{SpeaksOf, told_view, verdict_view};
 
-use deb_index::{Constraint, Index};
-use deb_report::{
-    BrokenPackage, broken_packages, earlier_places, newly_broken, report_since, report_told,
-};
-use deb_verdict::{Groundwork, Verdict, Workspace, cores_in, verdict};
+use deb_index::Index;
+use deb_report::{Before, BrokenPackage, broken_packages, earlier_places, report_told};
+use deb_verdict::{Cores, Groundwork, Told, Verdict, Wanted, Workspace, told_in, verdict};
 use run_settings::Config;
 use std::alloc::{AllocError, Global};
 use std::test::Fail;
@@ -54,92 +51,73 @@ pub fn verdicts_of(alloc: Global, index: &Index, places: &[u32]) -> Result<Vec<V
     Ok(verdicts)
 }
 
-/// The cores behind the first of the package at a place.
-fn later_at(
-    alloc: Global,
-    workspace: &mut Workspace,
-    groundwork: &Groundwork<'_>,
-    place: u32,
-) -> Result<Vec<Vec<Constraint>>, AllocError>
-    requires { place < length groundwork.now.index.now.packages }
-    ensures { IfOk result (λ cores. All (λ core. All (IsOfIndex groundwork.now.index.now) core.items) cores.items) }
-{
-    let mut cores = cores_in(alloc, workspace, groundwork, place)?;
-    if !cores.is_empty() {
-        cores.remove(0);
+/// What is told of the package at a place: all its cores, where it is below a number, and else its verdict.
+fn wanted_at(place: u32, count: u32) -> Wanted {
+    if place < count {
+        Wanted {
+            sets: true,
+            cores: Cores::All,
+        }
+    } else {
+        Wanted::verdict()
     }
-    Ok(cores)
 }
 
-/// The same of each place below a number.
-fn each_later(
+fn tell_each(
     alloc: Global,
     workspace: &mut Workspace,
     groundwork: &Groundwork<'_>,
+    places: &[u32],
     count: u32,
-) -> Result<Vec<Vec<Vec<Constraint>>>, AllocError>
-    requires { count ≤ length groundwork.now.index.now.packages }
-    ensures { IfOk result (λ later. All (λ cores. All (λ core. All (IsOfIndex groundwork.now.index.now) core.items) cores.items) later.items) }
+) -> Result<Vec<Told>, AllocError>
+    requires { All (λ place. place < length groundwork.now.index.now.packages) places.now }
+    ensures same { IfOk result (λ told. length places.now ≡ length told.items) }
+    ensures within { IfOk result (λ told. All (SpeaksOf groundwork.now.index.now) (map told_view told.items)) }
 {
-    let mut later = Vec::new(alloc);
-    for place in 0..count {
-        later.push(later_at(alloc, workspace, groundwork, place)?)?;
+    let mut told = Vec::new(alloc);
+    for place in places {
+        let wanted = wanted_at(*place, count);
+        told.push(told_in(alloc, workspace, groundwork, *place, wanted)?)?;
     }
-    Ok(later)
+    Ok(told)
 }
 
 /// The same, in buffers of its own.
-fn later_on(
+fn tell_on(
     alloc: Global,
     groundwork: &Groundwork<'_>,
+    places: &[u32],
     count: u32,
-) -> Result<Vec<Vec<Vec<Constraint>>>, AllocError>
-    requires { count ≤ length groundwork.now.index.now.packages }
-    ensures { IfOk result (λ later. All (λ cores. All (λ core. All (IsOfIndex groundwork.now.index.now) core.items) cores.items) later.items) }
+) -> Result<Vec<Told>, AllocError>
+    requires { All (λ place. place < length groundwork.now.index.now.packages) places.now }
+    ensures same { IfOk result (λ told. length places.now ≡ length told.items) }
+    ensures within { IfOk result (λ told. All (SpeaksOf groundwork.now.index.now) (map told_view told.items)) }
 {
     let mut workspace = Workspace::new(alloc)?;
-    let later = each_later(alloc, &mut workspace, groundwork, count);
+    let told = tell_each(alloc, &mut workspace, groundwork, places, count);
     drop(workspace);
-    later
+    told
 }
 
-/// The same, on a groundwork of its own.
-fn later_below(
-    alloc: Global,
-    index: &Index,
-    count: u32,
-) -> Result<Vec<Vec<Vec<Constraint>>>, AllocError>
-    requires { count ≤ length index.now.packages }
-    ensures { IfOk result (λ later. All (λ cores. All (λ core. All (IsOfIndex index.now) core.items) cores.items) later.items) }
-{
-    let groundwork = Groundwork::new(alloc, index)?;
-    let later = later_on(alloc, &groundwork, count);
-    drop(groundwork);
-    later
-}
-
-/// The report with the cores behind the first of the places below a number.
+/// What is told of each place: all cores of those below a number.
 ///
 /// # Errors
 ///
-/// Fewer packages, or want of memory.
-pub fn report_with_later(
+/// Want of memory.
+pub fn told_of(
     alloc: Global,
     index: &Index,
     places: &[u32],
-    verdicts: &[Verdict],
     count: u32,
-    config: &Config,
-) -> Result<Vec<u8>, Fail>
-    requires same { length places.now ≡ length verdicts.now }
-    requires within { All (λ place. place < length index.now.packages) places.now }
-    requires speaks { All (SpeaksOf index.now) (map verdict_view verdicts.now) }
+) -> Result<Vec<Told>, AllocError>
+    requires { All (λ place. place < length index.now.packages) places.now }
+    ensures same { IfOk result (λ told. length places.now ≡ length told.items) }
+    ensures within { IfOk result (λ told. All (SpeaksOf index.now) (map told_view told.items)) }
 {
-    if count > index.len() {
-        return Err("fewer packages".into());
-    }
-    let later = later_below(alloc, index, count)?;
-    Ok(report_told(alloc, index, places, verdicts, later.as_slice(), config)?)
+    let groundwork = Groundwork::new(alloc, index)?;
+    let told = tell_on(alloc, &groundwork, places, count);
+    drop(groundwork);
+    told
 }
 
 /// The broken packages of an index.
@@ -150,8 +128,8 @@ fn broken_before(
 ) -> Result<Vec<BrokenPackage>, AllocError> {
     let places = earlier_places(alloc, index, config)?;
     let places = places.as_slice();
-    let verdicts = verdicts_of(alloc, index, places)?;
-    broken_packages(alloc, index, places, verdicts.as_slice())
+    let told = told_of(alloc, index, places, 0)?;
+    broken_packages(alloc, index, places, told.as_slice())
 }
 
 /// The broken packages of the index of a text.
@@ -171,16 +149,22 @@ pub fn news_since(
     alloc: Global,
     index: &Index,
     places: &[u32],
-    verdicts: &[Verdict],
+    told: &[Told],
     earlier: &str,
     config: &Config,
 ) -> Result<Vec<u32>, Fail>
-    requires same { length places.now ≡ length verdicts.now }
+    requires same { length places.now ≡ length told.now }
     requires within { All (λ place. place < length index.now.packages) places.now }
-    requires speaks { All (SpeaksOf index.now) (map verdict_view verdicts.now) }
 {
-    let before = broken_in(alloc, earlier, config)?;
-    Ok(newly_broken(alloc, index, places, verdicts, &before)?)
+    let packages = broken_in(alloc, earlier, config)?;
+    let before = Before::new(alloc, index, &packages)?;
+    let mut news = Vec::new(alloc);
+    for at in 0..places.len() {
+        if matches!(told[at], Told::Broken(_)) && before.is_new(places[at]) {
+            news.push(places[at])?;
+        }
+    }
+    Ok(news)
 }
 
 /// The report on what became of the places since the index of an earlier text.
@@ -192,16 +176,17 @@ pub fn report_since_earlier(
     alloc: Global,
     index: &Index,
     places: &[u32],
-    verdicts: &[Verdict],
+    told: &[Told],
     earlier: &str,
     config: &Config,
 ) -> Result<Vec<u8>, Fail>
     requires few { length places.now < 2 ^ 32 }
-    requires same { length places.now ≡ length verdicts.now }
+    requires same { length places.now ≡ length told.now }
     requires within { All (λ place. place < length index.now.packages) places.now }
-    requires speaks { All (SpeaksOf index.now) (map verdict_view verdicts.now) }
+    requires speaks { All (SpeaksOf index.now) (map told_view told.now) }
 {
-    let before = broken_in(alloc, earlier, config)?;
-    let told = report_since(alloc, index, places, verdicts, &[], &before, config)?;
-    Ok(told.0)
+    let packages = broken_in(alloc, earlier, config)?;
+    let before = Before::new(alloc, index, &packages)?;
+    let (text, _) = report_told(alloc, index, places, told, Some(&before), config)?;
+    Ok(text)
 }

@@ -1,20 +1,20 @@
 -- Cores that are found one after the other, each with its cause taken out.
-use Rattle.std.proofs.Common.{◌≡◌, ℕ, zero, suc, ◌+◌, ◌<◌, ◌≤◌, Bool, true, false, ◌&&◌, ◌||◌, eqb, leb, List, [], ◌∷◌, ◌++◌, length, map, get_or, take, All, Some, slice_get, if◌then◌else◌, refl, sym, subst, ◌∙◌, ap, append_assoc, append-nil, inl, inr, arith}
+use Rattle.std.proofs.Common.{◌≡◌, ℕ, zero, suc, ◌+◌, ◌<◌, ◌≤◌, Bool, true, false, ◌&&◌, ◌||◌, eqb, leb, List, [], ◌∷◌, ◌++◌, Global, Option, None, Vec, IfNone, IfSome, length, map, get_or, take, All, Some, slice_get, if◌then◌else◌, refl, sym, subst, ◌∙◌, ap, append_assoc, append-nil, inl, inr, arith}
 use mathlib.Core.Path.{fun_ext}
 use Rattle.std.proofs.lemmas.Bool.{cases_Bool, cases_lt, and_parts, eqb-true, le-leb, or_left, or_right}
 use Rattle.std.proofs.lemmas.List.{map-append, take_more}
 use Rattle.deb_index.specs.declared.constraint.Constraint.{Constraint}
 use Rattle.deb_index.specs.Packages.{IndexView}
 use Rattle.deb_index.specs.Constraints.{constraints_of}
-use Rattle.number_sets.specs.Sets.{NumberSet, all_of, IsWithin, members_of}
+use Rattle.std.specs.List.Sorted.{IsStrictlyIncreasing}
+use Rattle.number_sets.specs.Sets.{NumberSet, all_of, IsFirst, IsWithin, members_of}
 use Rattle.number_sets.proofs.ListMembers.{members_of_at}
 use Rattle.number_sets.proofs.MembersLemmas.{members_of_push}
 use Rattle.deb_health.specs.Causes.{AreCores, AreCoresWithout, cause_at, either, is_final_at, IsFirstWithout, nothing, without}
 use Rattle.deb_health.specs.Health.{Admits, AdmitsNone, admits_none_upward, IsHopeless}
 use Rattle.deb_health.proofs.CauseLemmas.{core_has_final}
 use Rattle.deb_health.proofs.CoreLemmas.{core_left, without_more, without_nothing}
-use Rattle.core_extract.specs.Reduction.{left, IsRefutation}
-use Rattle.deb_verdict.proofs.FirstExists.{admits_some}
+use Rattle.deb_verdict.proofs.AdmitsSome.{admits_some}
 use Rattle.deb_verdict.proofs.Whole.{all_admit_none}
 
 -- ---- a cause, one constraint of its core after the other
@@ -103,25 +103,18 @@ member_below xs bound q all is_in =
     let at = members_of_at xs q is_in in
     omega (arith, all at.0 0 at.1, at.2)
 
--- ---- whether what is not taken out admits none
+-- ---- the first core, where one is found
 
 module _ (index : IndexView) (p : ℕ) (out : NumberSet) where
-  -- the part that has all of it
-  abbrev pub whole : NumberSet
-  whole = without out (left (members_of []) 0)
+  pub first_found : (found : Option (Vec ℕ Global)) → IfSome found (λ core. IsStrictlyIncreasing core.items)
+      → IfSome found (λ core. IsFirst (λ set. AdmitsNone index p (without out set)) (members_of core.items)) → IfSome found (λ core. IsFirstWithout index p out core.items)
+  first_found None rising first = tt
+  first_found (Some core) rising first = record { rising = rising; first = first }
 
-  has_all : (set : NumberSet) → IsWithin set (left (members_of []) 0)
-  has_all set k is_in = or_right (members_of [] k) (leb 0 k) (le-leb 0 k (omega arith))
-
-  pub refuted_whole : (used : NumberSet) → IsRefutation (AdmitsNone index p) whole used → AdmitsNone index p (without out all_of)
-  refuted_whole used refuted =
-      admits_none_upward index p used (without out all_of)
-      (λ k is_used. without_more out (left (members_of []) 0) all_of (λ n here. refl) k (refuted.within k is_used)) refuted.fails
-
-  pub admitted_whole : p < length index.packages → (AdmitsNone index p whole → ⊥) → Admits index p (without out all_of)
-  admitted_whole inside some =
-      admits_some index p inside (without out all_of)
-      (λ none. some (admits_none_upward index p (without out all_of) whole (without_more out all_of (left (members_of []) 0) (has_all all_of)) none))
+  pub none_found : (found : Option (Vec ℕ Global)) → p < length index.packages → IfNone found (AdmitsNone index p (without out all_of) → ⊥)
+      → IfNone found (Admits index p (without out all_of))
+  none_found None inside some = admits_some index p inside (without out all_of) some
+  none_found (Some core) inside some = tt
 
 -- ---- cores so far
 

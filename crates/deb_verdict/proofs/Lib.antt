@@ -1,11 +1,9 @@
+pub mod AdmitsSome
 pub mod Answered
 pub mod CauseSteps
-pub mod CoresExist
 pub mod Cutting
 pub mod Described
 pub mod Encoded
-pub mod FirstExists
-pub mod FirstOfSets
 pub mod FirstSet
 pub mod GatherLemmas
 pub mod Inserted
@@ -15,6 +13,5 @@ pub mod OneVerdict
 pub mod ReachLemmas
 pub mod Reaching
 pub mod Settled
-pub mod ToldLemmas
 pub mod Whole
 pub mod KnownLemmas

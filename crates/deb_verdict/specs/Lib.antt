@@ -1,6 +1,5 @@
 -- what public contracts cite, with the definitions of deb_health
 pub mod Closure
-pub mod Told
 pub mod Workspaces
 -- ---- the inside: what contracts of single functions cite
 pub mod Encoding

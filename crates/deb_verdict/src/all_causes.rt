@@ -1,21 +1,19 @@
 //! All causes of a package that no healthy set has: that of its first core, then that of the first core of the constraints without the causes
 //! so far, as long as no set with the package meets what is left.
 
-ghost use Rattle.std.specs.Prelude.{◌≡◌, ◌<◌, ℕ, false, true, All, IfOk, OnOk, length, map};
+ghost use Rattle.std.specs.Prelude.{◌≡◌, ◌<◌, ℕ, All, IfOk, OnOk, length, map};
 ghost use Rattle.std.specs.List.Sorted.{IsStrictlyIncreasing};
 ghost use Rattle.std.specs.Option.{ForSome};
-ghost use Rattle.number_sets.specs.Sets.{all_of, members_of};
+ghost use Rattle.number_sets.specs.Sets.{members_of};
 ghost use Rattle.deb_index.specs.Constraints.{IsOfIndex, constraints_of};
-ghost use Rattle.deb_health.specs.Causes.{AreCores, cause_at, either, is_final, without};
-ghost use Rattle.deb_health.specs.Health.{Admits, AdmitsNone};
+ghost use Rattle.deb_health.specs.Causes.{AreCores, cause_at, either, is_final};
 ghost use Rattle.deb_verdict.specs.Formulas.{Tells};
 
 use crate::core_formula::CoreFormula;
 use crate::first_core::first_positions;
 use crate::kept_positions::list_constraints;
-use crate::question::refute_part;
 use crate::workspace::Workspace;
-use deb_groundwork::{Groundwork, Part};
+use deb_groundwork::Groundwork;
 use deb_index::{Constraint, Index};
 use number_sets::sort_once;
 use std::alloc::{AllocError, Global};
@@ -51,41 +49,8 @@ fn take_out(
     Ok(())
 }
 
-/// Whether the constraints that are not taken out admit no set with the package at a place.
-fn is_blocked(
-    alloc: Global,
-    workspace: &mut Workspace,
-    groundwork: &Groundwork<'_>,
-    p: u32,
-    out: &[u32],
-    formula: &mut Option<CoreFormula>,
-) -> Result<bool, AllocError>
-    requires place { p < length groundwork.now.index.now.packages }
-    requires rising { IsStrictlyIncreasing out.now }
-    requires formula { ForSome formula.old (Tells groundwork.now.index.now p) }
-    ensures formula { ForSome formula.new (Tells groundwork.now.index.now p) }
-    ensures none { IfOk result (λ blocked. blocked ≡ true → AdmitsNone groundwork.now.index.now p (without (members_of out.now) all_of)) }
-    ensures some { IfOk result (λ blocked. blocked ≡ false → Admits groundwork.now.index.now p (without (members_of out.now) all_of)) }
-{
-    let left = Part {
-        index: groundwork.index,
-        kept: &[],
-        rest: 0,
-        out,
-    };
-    refute_part(
-        alloc,
-        &left,
-        p,
-        &groundwork.base,
-        &groundwork.lacking,
-        formula,
-        workspace,
-    )
-}
-
-/// The cores of a package, as `cores_in` has them, by its formula.
-fn cores_by(
+/// The cores whose causes are all causes of a package: none where some healthy set has it. Each is in the order of the index's list.
+pub(crate) fn all_cores(
     alloc: Global,
     workspace: &mut Workspace,
     groundwork: &Groundwork<'_>,
@@ -100,31 +65,11 @@ fn cores_by(
     let index = groundwork.index;
     let mut cores = Vec::new(alloc);
     let mut out = Vec::new(alloc);
-    while is_blocked(alloc, workspace, groundwork, p, &out, formula)? {
-        let positions = first_positions(alloc, workspace, groundwork, p, &out, formula)?;
+    while let Some(positions) = first_positions(alloc, workspace, groundwork, p, &out, formula)? {
         take_out(index, &positions, &mut workspace.found, &mut out)?;
         let mut core = Vec::new(alloc);
         list_constraints(index, &positions, &mut core)?;
         cores.push(core)?;
     }
     Ok(cores)
-}
-
-/// The cores whose causes are all causes of the package at a place of the index of a groundwork: none where some healthy set has the package.
-/// The first is its first core; the next is the first core of the constraints without those of the causes so far, as long as no set with the
-/// package meets what is left. Each core is in the order of the index's list.
-///
-/// They are found in the buffers of an earlier verdict, of whatever package and index, which change no answer. `p` is below the index's
-/// `len()`. The one error is want of memory.
-pub fn cores_in(
-    alloc: Global,
-    workspace: &mut Workspace,
-    groundwork: &Groundwork<'_>,
-    p: u32,
-) -> Result<Vec<Vec<Constraint>>, AllocError>
-    requires { p < length groundwork.now.index.now.packages }
-    ensures cores { IfOk result (λ cores. AreCores groundwork.now.index.now p (map (λ core. core.items) cores.items)) }
-    ensures within { IfOk result (λ cores. All (λ core. All (IsOfIndex groundwork.now.index.now) core.items) cores.items) }
-{
-    cores_by(alloc, workspace, groundwork, p, &mut None)
 }

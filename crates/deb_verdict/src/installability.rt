@@ -8,11 +8,8 @@ use crate::workspace::Workspace;
 use deb_groundwork::{Groundwork, is_seen_installable};
 use std::alloc::{AllocError, Global};
 
-/// Whether some healthy set has the package at a place of the index of a groundwork: `true` exactly where one has it.
-///
-/// It is found in the buffers of an earlier verdict, of whatever package and index, without a search where a set is seen at once. `p` is
-/// below the index's `len()`. The one error is want of memory.
-pub fn is_installable_in(
+/// Whether some healthy set has the package at a place. There is no search where a set is seen at once.
+pub(crate) fn is_installable(
     alloc: Global,
     workspace: &mut Workspace,
     groundwork: &Groundwork<'_>,

@@ -1,10 +1,9 @@
 //! The closure and the verdict of a package of an index.
 //!
-//! `decision` has the public calls, `laws` what holds of the definitions alone. What is found of a package, and what a healthy set is,
+//! `decision` has the public calls, `laws` what holds of the definitions alone. What is told of a package, and what a healthy set is,
 //! `deb_health` says. `specs/Lib` names first the definitions that public contracts cite, then those of the inside. The modules, room by room:
 //!
-//! - `workspace` has the buffers that one verdict leaves to the next. What is told without a search, `deb_groundwork` tells. `wanted` says what of a
-//!   verdict is told.
+//! - `workspace` has the buffers that one verdict leaves to the next. What is told without a search, `deb_groundwork` tells.
 //! - The closure: `reach` finds it.
 //! - The first healthy set: `gather` finds the candidates beside the places that are in every healthy set, and the needs that these leave open,
 //!   `describe` has the encoder of `deb_encode` make clauses of all constraints that speak of these places, and `first_set` has the solver find the
@@ -13,8 +12,8 @@
 //!   refutation needs, and asks `question` whether a part of the constraints admits none: where `deb_groundwork` can't tell, `by_formula` does. It
 //!   knows of each part, by the `core_formula` of the package, which is made once: each constraint that speaks of the closure (`kept_positions`
 //!   lists them) is a group of clauses, the part says which groups are kept, and the solver which it used.
-//! - All causes: `all_causes` takes the cause of the first core out of the constraints, and looks for the first core of what is left, as long
-//!   as that admits no set.
+//! - All causes: `all_causes` takes the cause of the first core out of the constraints, and looks for the first core of what is left, until
+//!   that admits a set.
 #![tactic(auto)]
 
 mod all_causes;
@@ -31,13 +30,9 @@ mod known;
 pub mod laws;
 mod question;
 mod reach;
-mod wanted;
 mod workspace;
 
-pub use all_causes::cores_in;
 pub use deb_groundwork::{Groundwork, find_installable};
-pub use deb_health::Verdict;
-pub use decision::{closure, told_verdict_in, verdict};
-pub use installability::is_installable_in;
-pub use wanted::Wanted;
+pub use deb_health::{Cores, Told, Verdict, Wanted};
+pub use decision::{closure, told_in, verdict, verdict_in};
 pub use workspace::Workspace;

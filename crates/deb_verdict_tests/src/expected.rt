@@ -10,10 +10,8 @@ use crate::compared::compare_value;
 use crate::grounded::Grounded;
 use crate::marks::expect_marks;
 use deb_index::Index;
-use deb_verdict::{
-    Verdict, Wanted, Workspace, closure, cores_in, is_installable_in, told_verdict_in, verdict,
-};
-use std::alloc::{AllocError, AllocGlobal, Global};
+use deb_verdict::{Cores, Told, Verdict, Wanted, Workspace, closure, told_in, verdict, verdict_in};
+use std::alloc::{AllocError, AllocGlobal};
 use std::process::Abort;
 
 /// The short text of an index, and what is expected of it.
@@ -41,46 +39,46 @@ impl<'a> Case<'a> {
 #[derive(Clone, Copy)]
 pub enum Call {
     Verdict,
-    IsInstallableIn,
-    ToldVerdictIn(Wanted),
+    VerdictIn,
+    ToldIn(Wanted),
 }
 
-const NEITHER: Wanted = Wanted {
+const STATUS: Wanted = Wanted {
     sets: false,
-    cores: false,
+    cores: Cores::None,
 };
 
-const CORES: Wanted = Wanted {
+const FIRST_CORE: Wanted = Wanted {
     sets: false,
-    cores: true,
+    cores: Cores::First,
 };
 
-const SETS: Wanted = Wanted {
+const SET: Wanted = Wanted {
     sets: true,
-    cores: false,
+    cores: Cores::None,
 };
 
 pub const EVERYTHING: Wanted = Wanted {
     sets: true,
-    cores: true,
+    cores: Cores::All,
 };
 
-/// Whether a package can be installed, and what is told of its verdict where not all of it is wanted, and where all is.
+/// What is told of a package where not all of it is wanted, and where all is.
 pub const TOLD: [Call; 5] = [
-    Call::IsInstallableIn,
-    Call::ToldVerdictIn(NEITHER),
-    Call::ToldVerdictIn(CORES),
-    Call::ToldVerdictIn(SETS),
-    Call::ToldVerdictIn(EVERYTHING),
+    Call::VerdictIn,
+    Call::ToldIn(STATUS),
+    Call::ToldIn(FIRST_CORE),
+    Call::ToldIn(SET),
+    Call::ToldIn(EVERYTHING),
 ];
 
 pub const ALL: [Call; 6] = [
     Call::Verdict,
-    Call::IsInstallableIn,
-    Call::ToldVerdictIn(NEITHER),
-    Call::ToldVerdictIn(CORES),
-    Call::ToldVerdictIn(SETS),
-    Call::ToldVerdictIn(EVERYTHING),
+    Call::VerdictIn,
+    Call::ToldIn(STATUS),
+    Call::ToldIn(FIRST_CORE),
+    Call::ToldIn(SET),
+    Call::ToldIn(EVERYTHING),
 ];
 
 pub fn expect_lines(
@@ -146,8 +144,8 @@ fn expect_cores(
 ) -> Result<(), AllocError>
     requires { p < length grounded.now.index.now.packages }
 {
-    let cores = cores_in(rt.alloc(), workspace, &grounded.groundwork, p)?;
-    compare_value(rt, name, "cores", &cores, wanted)
+    let told = told_in(rt.alloc(), workspace, &grounded.groundwork, p, EVERYTHING)?;
+    compare_value(rt, name, "cores", &told.cores(), wanted)
 }
 
 /// Compares the verdict of a package. After a refusal the same workspace serves, and what was left in it changes no answer.
@@ -183,48 +181,20 @@ fn expect_by(
 ) -> Result<(), AllocError>
     requires { p < length grounded.now.index.now.packages }
 {
-    let found = verdict_by(rt.alloc(), workspace, grounded, call, p)?;
-    compare_verdict(rt, name, &found, told_by(call, wanted))
-}
-
-/// The verdict that a call gives; without its places or constraints where the call tells that a package is installable or not.
-fn verdict_by(
-    alloc: Global,
-    workspace: &mut Workspace,
-    grounded: &Grounded<'_>,
-    call: Call,
-    p: u32,
-) -> Result<Verdict, AllocError>
-    requires { p < length grounded.now.index.now.packages }
-{
+    let (alloc, groundwork) = (rt.alloc(), &grounded.groundwork);
     match call {
-        Call::Verdict => verdict(alloc, grounded.index, p),
-        Call::IsInstallableIn => {
-            if is_installable_in(alloc, workspace, &grounded.groundwork, p)? {
-                Ok(Verdict::Ok(Vec::new(alloc)))
-            } else {
-                Ok(Verdict::Broken(Vec::new(alloc)))
-            }
+        Call::Verdict => {
+            let found = verdict(alloc, grounded.index, p)?;
+            compare_verdict(rt, name, &found, wanted)
         }
-        Call::ToldVerdictIn(wanted) => {
-            told_verdict_in(alloc, workspace, &grounded.groundwork, p, wanted)
+        Call::VerdictIn => {
+            let found = verdict_in(alloc, workspace, groundwork, p)?;
+            compare_verdict(rt, name, &found, wanted)
         }
-    }
-}
-
-/// What a call tells of a verdict.
-fn told_by(call: Call, verdict: &str) -> &str {
-    let wanted = match call {
-        Call::Verdict => EVERYTHING,
-        Call::IsInstallableIn => NEITHER,
-        Call::ToldVerdictIn(wanted) => wanted,
-    };
-    if verdict.starts_with("set") {
-        if wanted.sets { verdict } else { "set []" }
-    } else if wanted.cores {
-        verdict
-    } else {
-        "core []"
+        Call::ToldIn(what) => {
+            let told = told_in(alloc, workspace, groundwork, p, what)?;
+            compare_told(rt, name, &told, what, wanted)
+        }
     }
 }
 
@@ -238,5 +208,44 @@ fn compare_verdict(
     match found {
         Verdict::Ok(places) => compare_value(rt, name, "set", places, wanted),
         Verdict::Broken(core) => compare_value(rt, name, "core", core, wanted),
+    }
+}
+
+/// Whether there are as many cores as are wanted of a broken package.
+fn are_wanted(cores: usize, wanted: Cores) -> bool {
+    match wanted {
+        Cores::None => cores == 0,
+        Cores::First => cores == 1,
+        Cores::All => cores > 0,
+    }
+}
+
+/// Compares what is told with a verdict, where that has it.
+fn compare_told(
+    rt: &(impl Abort + AllocGlobal),
+    name: &str,
+    told: &Told,
+    what: Wanted,
+    wanted: &str,
+) -> Result<(), AllocError> {
+    match told {
+        Told::Installable => {
+            assert!(rt; !what.sets && wanted.starts_with("set "), "{name}");
+            Ok(())
+        }
+        Told::Set(places) => {
+            assert!(rt; what.sets, "{name}");
+            compare_value(rt, name, "set", places, wanted)
+        }
+        Told::Broken(cores) => {
+            assert!(rt;
+                are_wanted(cores.len(), what.cores) && wanted.starts_with("core "),
+                "{name}"
+            );
+            match cores.as_slice() {
+                [core, ..] => compare_value(rt, name, "core", core, wanted),
+                [] => Ok(()),
+            }
+        }
     }
 }

@@ -4,7 +4,7 @@ use crate::expected::{Call, EVERYTHING, TOLD};
 use crate::lent::expect_each;
 use std::alloc::AllocError;
 
-const TOLD_OF_ALL: [Call; 1] = [Call::ToldVerdictIn(EVERYTHING)];
+const TOLD_OF_ALL: [Call; 1] = [Call::ToldIn(EVERYTHING)];
 
 #[test]
 fn of_closure(rt: HostRuntime) -> Result<(), AllocError> {
@@ -56,7 +56,7 @@ marks 0 1 2 = [true, true, true]";
 
 /// A package that is found to be installable though it isn't seen, a broken one, and one that is seen.
 #[test]
-fn of_told_verdict_in(rt: HostRuntime) -> Result<(), AllocError> {
+fn of_told_in(rt: HostRuntime) -> Result<(), AllocError> {
     let cases = "answer between two that lead nowhere
 a 1 {Depends: b | c | d} / b 1 {Conflicts: e} / c 1 / d 1 {Conflicts: e} / e 1 {Essential: yes}
 0 set [0, 2, 4]
@@ -67,7 +67,7 @@ a 1 {Depends: b | c | d} / b 1 {Conflicts: e} / c 1 / d 1 {Conflicts: e} / e 1 {
 
 /// The causes that an index with a groundwork has, before any verdict of it.
 #[test]
-fn of_cores_in(rt: HostRuntime) -> Result<(), AllocError> {
+fn of_all_cores(rt: HostRuntime) -> Result<(), AllocError> {
     let cases = "two missing\na 1 {Depends: x, y}\n0 cores [[Need(0, 1)], [Need(0, 0)]]";
     expect_each(&rt, true, &[], cases)
 }

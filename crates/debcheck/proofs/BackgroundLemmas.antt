@@ -8,8 +8,8 @@ use Rattle.deb_index.specs.Reading.{in_fore, index_of, index_of_both}
 use Rattle.deb_index.proofs.BackgroundLemmas.{both-empty}
 use Rattle.deb_input.specs.declared.fault.RunFault.{RunFault}
 use Rattle.deb_input.specs.declared.fault.RunFault.TheVariants.{Read, TooLong, BackgroundRead, BackgroundTooLong, EarlierRead, EarlierTooLong, NamesRead, NamesTooLong, BadNameLine, Index, Background, Earlier, UnknownAsked, Slipped, Memory, Write}
-use Rattle.deb_outcome.specs.declared.summary.Summary.{Summary}
-use Rattle.deb_outcome.specs.Since.{BrokenView}
+use Rattle.deb_report.specs.declared.summary.Summary.{Summary}
+use Rattle.deb_report.specs.Since.{BrokenView}
 use Rattle.run_settings.specs.Settings.{Settings}
 use Rattle.deb_input.specs.Inputs.{Input, IsReadAs, input}
 use Rattle.debcheck.specs.Run.{FailsAlone, IsReport, IsReportOn, behind, is_of_background}

@@ -1,11 +1,7 @@
 mod BackgroundLemmas
-mod LaterLemmas
-mod MergeLemmas
-mod NewsLemmas
 mod OneReport
 mod PhaseLemmas
 mod ProgramLemmas
 mod RunLemmas
 mod SinceLemmas
-mod StandingLemmas
-mod TellingLemmas
+mod TellLemmas

@@ -6,8 +6,8 @@ use Rattle.deb_index.specs.Reading.{byte_limit, index_of, index_of_both}
 use Rattle.deb_index.specs.declared.error.BothError.TheVariants.{Back}
 use Rattle.deb_input.specs.declared.fault.RunFault.{RunFault}
 use Rattle.deb_input.specs.declared.fault.RunFault.TheVariants.{Read, TooLong, BackgroundRead, BackgroundTooLong, EarlierRead, EarlierTooLong, NamesRead, NamesTooLong, BadNameLine, Index, Background, Earlier, UnknownAsked, Slipped, Memory, Write}
-use Rattle.deb_outcome.specs.declared.summary.Summary.{Summary}
-use Rattle.deb_outcome.specs.Since.{BrokenView}
+use Rattle.deb_report.specs.declared.summary.Summary.{Summary}
+use Rattle.deb_report.specs.Since.{BrokenView}
 use Rattle.run_settings.specs.Settings.{Settings}
 use Rattle.deb_input.specs.Inputs.{FailsToAccept, FailsToRead, Input, IsRead, IsReadAs, input, is_unread}
 use Rattle.debcheck.specs.Run.{Fails, FailsAlone, FailsEarlier, FailsToIndex, FailsToReadBehind, FailsToReport, FailsToWrite, HasAsked, HasIndex, IfAllTold, IfIndexed, IfTold, IsReport, IsReportOn, ReadsAs, RunsOn, Tells, WereBroken, Written, behind, earlier_fault}

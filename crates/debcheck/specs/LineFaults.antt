@@ -1,8 +1,8 @@
 -- Where the text on a fault of the command line goes.
 use Rattle.std.specs.Prelude.{◌≡◌, ℕ, Bool, List, Option, string_bytes}
 use Rattle.std.specs.Io.KnownBytes.{Appends}
-use Rattle.command_line.specs.declared.line.LineFault.{LineFault}
-use Rattle.command_line.specs.declared.line.LineFault.TheVariants.{Refused, Help, Memory}
+use Rattle.command_line.specs.declared.fault.LineFault.{LineFault}
+use Rattle.command_line.specs.declared.fault.LineFault.TheVariants.{Refused, Help, Memory}
 use Rattle.deb_input.specs.declared.fault.RunFault.TheVariants as run_fault
 use Rattle.devices.specs.Devices.{AppendsPart}
 use Rattle.deb_input.specs.Faults.{fault_line}

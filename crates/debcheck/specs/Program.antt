@@ -2,12 +2,12 @@
 use Rattle.std.specs.Prelude.{◌≡◌, ◌⊎◌, ℕ, Bool, false, true, List, Option, Some, None, Result, Ok, Err, IfSome, option_map, string_bytes}
 use Rattle.std.specs.Io.KnownBytes.{Appends}
 use Rattle.run_settings.specs.declared.config.Config.{Config}
-use Rattle.deb_outcome.specs.declared.summary.Summary.{Summary}
+use Rattle.deb_report.specs.declared.summary.Summary.{Summary}
 use Rattle.run_settings.specs.Settings.{Settings, settings_of}
 use Rattle.deb_input.specs.declared.fault.RunFault.{RunFault}
 use Rattle.deb_input.specs.declared.fault.RunFault.TheVariants as run_fault
-use Rattle.command_line.specs.declared.line.LineFault.{LineFault}
-use Rattle.command_line.specs.declared.line.LineFault.TheVariants.{Refused, Help, Memory}
+use Rattle.command_line.specs.declared.fault.LineFault.{LineFault}
+use Rattle.command_line.specs.declared.fault.LineFault.TheVariants.{Refused, Help, Memory}
 use Rattle.devices.specs.Devices.{AppendsPart, IsHeld, IsUnopened, Stands, unknown}
 use Rattle.deb_input.specs.Faults.{fault_line, told_line}
 use Rattle.debcheck.specs.Statuses.{status_of}

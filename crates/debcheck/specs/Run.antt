@@ -1,10 +1,9 @@
 -- What a run answers and writes.
-use Rattle.std.specs.Prelude.{◌≡◌, ◌≢◌, ◌⊎◌, ℕ, ◌≤◌, Bool, false, true, List, [], Option, Some, None, Result, Ok, Err, IfErr, IfOk, IfSome, OnOk, if◌then◌else◌, length}
+use Rattle.std.specs.Prelude.{◌≡◌, ◌≢◌, ◌⊎◌, ℕ, ◌≤◌, Bool, false, true, List, [], Option, Some, None, Result, Ok, Err, IfErr, IfOk, IfSome, OnOk, if◌then◌else◌, is_some, length}
 use Rattle.std.specs.Io.KnownBytes.{Appends, Keeps}
-use Rattle.deb_index.specs.declared.constraint.Constraint.{Constraint}
 use Rattle.deb_index.specs.Packages.{IndexView}
 use Rattle.deb_index.specs.Reading.{byte_limit, index_of, index_of_both}
-use Rattle.deb_health.specs.Verdicts.{IsVerdict, VerdictView}
+use Rattle.deb_health.specs.Verdicts.{IsTold, ToldView}
 use Rattle.work_draw.specs.Checks.{AnswersEach}
 use Rattle.deb_index.specs.declared.error.BothError.TheVariants.{Back}
 use Rattle.deb_index.specs.declared.error.IndexError.TheVariants as index_error
@@ -12,14 +11,13 @@ use Rattle.deb_input.specs.Inputs.{Input, IsRead, IsTooLong, input}
 use Rattle.deb_input.specs.declared.fault.RunFault.{RunFault}
 use Rattle.deb_input.specs.declared.fault.RunFault.TheVariants.{Read, TooLong, BackgroundRead, BackgroundTooLong, EarlierRead, EarlierTooLong, Index, Background}
 use Rattle.deb_input.specs.declared.fault.RunFault.TheVariants.{Earlier, UnknownAsked, Slipped, Memory, Write}
-use Rattle.deb_outcome.specs.declared.summary.Summary.{Summary}
-use Rattle.deb_outcome.specs.Asked.{asked_places, listed_places}
-use Rattle.deb_outcome.specs.Since.{BrokenView, broken_of, summary_since}
+use Rattle.deb_report.specs.declared.summary.Summary.{Summary}
+use Rattle.deb_report.specs.Asked.{asked_places, listed_places}
+use Rattle.deb_report.specs.Since.{BrokenView, broken_of, summary_of}
 use Rattle.devices.specs.Devices.{AppendsPart}
-use Rattle.deb_outcome.specs.Outcome.{summary_of}
 use Rattle.run_settings.specs.Settings.{Settings}
-use Rattle.deb_report.specs.Written.{written_since, written_told}
-use Rattle.debcheck.specs.Later.{AreLater}
+use Rattle.deb_report.specs.Written.{written_told}
+use Rattle.debcheck.specs.Telling.{statuses, wanted_at, wanted_by}
 use Rattle.deb_input.specs.Strict.{slip_of}
 
 -- ---- the report
@@ -29,35 +27,15 @@ pub record IsAsked (settings : Settings) (index : IndexView) (asked : List ℕ) 
   pub are_asked : asked_places index settings.only ≡ Ok asked
   pub no_slip : slip_of settings index asked ≡ None
 
--- what is written of the asked places of an index, their verdicts and the later cores
-abbrev pub Writing : Type 0
-Writing = IndexView → List ℕ → List VerdictView → List (List (List Constraint)) → List ℕ
-
--- a report on an index, with its numbers, where these are what is written of asked places, their verdicts and their later cores, and what is counted
-pub record IsReportBy (written : Writing) (counted : IndexView → List ℕ → List VerdictView → Summary)
-    (settings : Settings) (index : IndexView) (output : List ℕ) (summary : Summary) : Type 0 where
+-- the report on an index, with its numbers, since these packages were broken, where an earlier index is read: what is written of asked places and of what
+-- is told of each, and what is counted
+pub record IsReportOn (before : Option (List BrokenView)) (settings : Settings) (index : IndexView) (output : List ℕ) (summary : Summary) : Type 0 where
   pub asked : List ℕ
-  pub verdicts : List VerdictView
-  pub later : List (List (List Constraint))
+  pub told : List ToldView
   pub is_asked : IsAsked settings index asked
-  pub are_verdicts : AnswersEach (IsVerdict index) asked verdicts
-  pub are_later : AreLater settings index asked verdicts later
-  pub is_output : output ≡ written index asked verdicts later
-  pub is_summary : summary ≡ counted index asked verdicts
-
--- what is written, by itself or since these packages were broken
-abbrev pub written_by : Option (List BrokenView) → Settings → Writing
-written_by None settings = written_told settings
-written_by (Some before) settings = λ index asked verdicts later. written_since settings index asked verdicts later before
-
--- what is counted
-abbrev pub counted_by : Option (List BrokenView) → IndexView → List ℕ → List VerdictView → Summary
-counted_by None = summary_of
-counted_by (Some before) = λ index asked verdicts. summary_since index asked verdicts before
-
--- the report on an index, with its numbers; since these packages were broken, where an earlier index is told of
-abbrev pub IsReportOn : Option (List BrokenView) → Settings → IndexView → List ℕ → Summary → Type 0
-IsReportOn before settings index output summary = IsReportBy (written_by before settings) (counted_by before) settings index output summary
+  pub are_told : AnswersEach (λ place. IsTold (wanted_at (wanted_by settings (is_some before)) index before place) index place) asked told
+  pub is_output : output ≡ written_told settings index asked told before
+  pub is_summary : summary ≡ summary_of index asked told before
 
 -- a text and the background behind it are within the limit, and have an index, with this property; a background that is not asked for has no bytes
 pub record HasIndex (settings : Settings) (text background : List ℕ) (P : IndexView → Type 0) : Type 0 where
@@ -70,9 +48,9 @@ pub record HasIndex (settings : Settings) (text background : List ℕ) (P : Inde
 
 -- these are the broken packages of an earlier index, of those that are asked in it
 pub record WereBroken (settings : Settings) (before : List BrokenView) (index : IndexView) : Type 0 where
-  pub verdicts : List VerdictView
-  pub are_verdicts : AnswersEach (IsVerdict index) (listed_places index settings.only) verdicts
-  pub are_broken : before ≡ broken_of index (listed_places index settings.only) verdicts
+  pub told : List ToldView
+  pub are_told : AnswersEach (IsTold statuses index) (listed_places index settings.only) told
+  pub are_broken : before ≡ broken_of index (listed_places index settings.only) told
 
 -- what is known from before: the broken packages of an earlier text, where there is one
 abbrev pub IsBefore : Settings → Option (List ℕ) → List ℕ → Option (List BrokenView) → Type 0

@@ -5,7 +5,7 @@ use Rattle.deb_input.specs.declared.fault.RunFault.{RunFault}
 use Rattle.deb_input.specs.declared.fault.RunFault.TheVariants.{Read, TooLong, BackgroundRead, BackgroundTooLong}
 use Rattle.deb_input.specs.declared.fault.RunFault.TheVariants.{EarlierRead, EarlierTooLong, NamesRead, NamesTooLong}
 use Rattle.deb_input.specs.declared.fault.RunFault.TheVariants.{BadNameLine, Index, Background, Earlier, UnknownAsked, Slipped, Memory, Write}
-use Rattle.deb_outcome.specs.declared.summary.Summary.{Summary}
+use Rattle.deb_report.specs.declared.summary.Summary.{Summary}
 
 -- how many broken packages the status tells of: the newly broken ones, where there is an earlier index, else all
 abbrev pub told_broken : Summary → ℕ

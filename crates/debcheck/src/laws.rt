@@ -3,7 +3,7 @@
 ghost use Rattle.std.specs.Prelude.{◌≡◌, ℕ, Bool, List, None, Ok, Option, Some, false, option_map};
 ghost use Rattle.deb_index.specs.Packages.{IndexView};
 ghost use Rattle.deb_index.specs.Reading.{index_of};
-ghost use Rattle.deb_outcome.specs.declared.summary.Summary.{Summary};
+ghost use Rattle.deb_report.specs.declared.summary.Summary.{Summary};
 ghost use Rattle.run_settings.specs.Settings.{Settings};
 ghost use Rattle.deb_input.specs.declared.fault.RunFault.{RunFault};
 ghost use Rattle.deb_input.specs.Inputs.{Input, input};

@@ -3,18 +3,19 @@
 ghost use Rattle.std.specs.Prelude.{◌≡◌, ◌≢◌, ◌<◌, ◌≤◌, IfErr, IfOk, None, OnOk, false, map, option_map, true};
 ghost use Rattle.std.specs.Io.KnownBytes.{IsAtEnd};
 ghost use Rattle.run_settings.specs.Settings.{settings_of};
-ghost use Rattle.deb_outcome.specs.Since.{broken_view};
+ghost use Rattle.deb_report.specs.Since.{broken_view};
 ghost use Rattle.deb_input.specs.Inputs.{IsReadAs, input, is_unread};
 ghost use Rattle.debcheck.specs.Run.{FailsToIndex, FailsToReadBehind, FailsToReport, IsReportOn, ReadsAs, RunsOn, Tells, behind, written};
 
 use crate::asked::asked_places;
 use crate::hints::{note, note_unknown};
-use crate::telling::check_and_tell;
+use crate::input::Input;
+use crate::reading::reading_text;
+use crate::verdicts::check_and_tell;
 use deb_index::{Index, TEXT_LIMIT};
 use deb_input::{RunFault, TextRead, finish, read_all, read_text};
 use deb_report::{BrokenPackage, Summary};
 use devices::{Sink, Source, write_all};
-use input_hints::{Input, reading_text};
 use run_settings::Config;
 use std::alloc::Global;
 use std::mem::forget;

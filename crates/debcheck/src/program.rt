@@ -10,16 +10,16 @@ ghost use Rattle.debcheck.specs.Run.{written};
 
 use crate::exit_status::status;
 use crate::hints::{note_input, tell_hint};
+use crate::input::Input;
 use crate::output::{refuse, tell_outcome};
 use crate::phases::{After, run_ending};
+use crate::progress::Progress;
 use crate::since::run_since;
 use crate::wiping::Wiping;
 use command_line::{LineFault, read_line, words_of};
 use deb_input::{RunFault, read_names};
 use deb_report::Summary;
 use devices::{Disk, OpenFault, Opener, Recording, Sink, Source, Std};
-use input_hints::Input;
-use run_progress::Progress;
 use run_settings::Config;
 use std::alloc::Global;
 use std::env::Env;

@@ -4,18 +4,18 @@ ghost use Rattle.std.specs.Prelude.{◌≡◌, ◌≢◌, ◌<◌, ◌≤◌, If
 ghost use Rattle.std.specs.Io.KnownBytes.{IsAtEnd};
 ghost use Rattle.deb_index.specs.Reading.{byte_limit};
 ghost use Rattle.run_settings.specs.Settings.{settings_of};
-ghost use Rattle.deb_outcome.specs.Since.{broken_view};
+ghost use Rattle.deb_report.specs.Since.{broken_view};
 ghost use Rattle.deb_input.specs.Inputs.{Input, IsReadAs, input};
 ghost use Rattle.debcheck.specs.Run.{FailsEarlier, FailsToIndex, IfIndexed, ReadsAs, RunsOn, WereBroken, behind, earlier_fault, written};
 
 use crate::hints::note;
 use crate::phases::{After, read_index, report_and_write};
-use crate::telling::find_broken_packages;
+use crate::reading::reading_text;
+use crate::verdicts::find_broken_packages;
 use deb_index::Index;
 use deb_input::{RunFault, TextRead, finish, read_text};
 use deb_report::{BrokenPackage, Summary};
 use devices::{Sink, Source};
-use input_hints::reading_text;
 use run_settings::Config;
 use std::alloc::Global;
 use std::thread::Threads;
@@ -64,7 +64,7 @@ fn read_before<E: Source, B: Source, G: Gate + Sync, R: Threads + Sync>(
         rt,
         alloc,
         config,
-        input_hints::Input::Earlier,
+        crate::input::Input::Earlier,
         earlier,
         background,
     ) {
@@ -103,7 +103,7 @@ fn read_now<S: Source, R: Threads + Sync>(
         reading_text(
             alloc,
             config,
-            input_hints::Input::Index,
+            crate::input::Input::Index,
             &index,
             piece,
             more,

@@ -2,8 +2,8 @@
 
 ghost use Rattle.std.specs.Prelude.{◌≡◌};
 
+use crate::progress::Progress;
 use devices::{DeviceFault, Sink};
-use run_progress::Progress;
 use std::io::{IsTerminal, Write};
 use std::time::Clock;
 

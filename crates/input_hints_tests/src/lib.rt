@@ -1,4 +1,4 @@
-//! Tests of the public calls of `input_hints`: `beginnings` of what first bytes tell, `inputs` of what indexes tell, and `outcomes` of what runs do. The
+//! Tests of the hints of `debcheck`: `beginnings` of what first bytes tell, `inputs` of what indexes tell, and `outcomes` of what runs do. The
 //! hints of whole programs are in `screen_tests`.
 #![tactic(auto)]
 

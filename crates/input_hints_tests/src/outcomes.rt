@@ -2,8 +2,8 @@
 
 use crate::text::expect_text;
 use deb_input::{RunFault, Slip};
-use deb_outcome::Summary;
-use input_hints::{Input, fault_text, file_text, summary_text};
+use deb_report::Summary;
+use debcheck::{Input, fault_text, file_text, summary_text};
 use std::io::ErrorKind;
 
 const EMPTY: &str = "the index is empty: see whether what writes it failed";

@@ -8,3 +8,6 @@ pub mod Extending
 pub mod SparseSetLemmas
 pub mod EndLemmas
 pub mod ShareLemmas
+pub mod AtomSteps
+pub mod ListLemmas
+pub mod PlaceLemmas

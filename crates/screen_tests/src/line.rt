@@ -1,10 +1,10 @@
 //! The line of progress: when it is written, what it says, and that it is taken away.
 
-use draw_board::Gate;
-use run_progress::Progress;
+use debcheck::Progress;
 use run_settings::Config;
 use std::process::Abort;
 use test_devices::{Screen, clock_of};
+use work_draw::Gate;
 
 /// A check: how many packages are seen before the first chunk, how many there are, chunks that are done of the others, and the milliseconds from one
 /// step of it to the next. A line, and how often it and how often others are written.

@@ -1,11 +1,10 @@
 -- Answers to the parts of a list are answers to the list.
-use Rattle.std.proofs.Common.{◌≡◌, ℕ, zero, suc, ◌+◌, ◌-◌, ◌*◌, ◌<◌, ◌≤◌, List, [], ◌∷◌, ◌++◌, All, take, drop, length, get_or, flat_map, map, Global, Vec, Result, Ok, Err, IfOk, IsOkAnd, sym, ap, ◌∙◌, subst, refl, arith, min, take-append-drop, drop-drop, drop_of_length-le, take_all}
+use Rattle.std.proofs.Common.{◌≡◌, ℕ, zero, suc, ◌+◌, ◌-◌, ◌*◌, ◌<◌, ◌≤◌, List, [], ◌∷◌, ◌++◌, All, take, drop, length, get_or, flat_map, map, Result, Ok, Err, IfOk, sym, ap, ◌∙◌, subst, refl, arith, min, take-append-drop, drop-drop, drop_of_length-le, take_all}
 use Rattle.std.specs.Int.{div_ceil}
 use Rattle.std.specs.List.{range_with_len}
 use Rattle.std.proofs.lemmas.Grind.{common_steps, div_ceil_times}
 use Rattle.std.proofs.lemmas.List.{length-drop, take_min, take_more}
 use Rattle.std.proofs.lemmas.List.Elements.{All-cons, All-nil}
-use Rattle.std.proofs.lemmas.Result.{IfOk-weaker}
 use Rattle.work_draw.specs.declared.pieces.Piece.{Piece}
 use Rattle.work_draw.specs.Checks.{AnswersEach, chunk_of}
 use Rattle.work_draw.specs.Pieces.{numbers_of}
@@ -21,7 +20,7 @@ module _ {A B : Type 0} (R : A → B → Type 0) where
   AnswersEach_more xs i d ys y lt h here = subst (λ (l : List A). AnswersEach R l (ys ++ y ∷ [])) (sym (take_more xs i d lt)) (AnswersEach-append (take i xs) (get_or xs i d ∷ []) ys (y ∷ []) h (here, tt))
 
   -- the pieces numbered from a on answer what is asked from a * size on
-  from_chunk : (items_of : Piece → List B) (asked : List A) (size a n : ℕ) (ps : List Piece) → numbers_of ps ≡ range_with_len a n → length asked ≤ (a + n) * size
+  from_chunk : (items_of : Piece B → List B) (asked : List A) (size a n : ℕ) (ps : List (Piece B)) → numbers_of ps ≡ range_with_len a n → length asked ≤ (a + n) * size
       → All (λ p. AnswersEach R (chunk_of asked size p.number) (items_of p)) ps → AnswersEach R (drop (a * size) asked) (flat_map (λ p. items_of p) ps)
   from_chunk items_of asked size a zero [] e enough h = subst (λ (l : List A). AnswersEach R l []) (sym (drop_of_length-le asked {i = a * size} (omega arith))) tt
   from_chunk items_of asked size a zero (p ∷ ps) e enough h = absurd (cc)
@@ -36,21 +35,14 @@ module _ {A B : Type 0} (R : A → B → Type 0) where
       subst (λ (l : List A). AnswersEach R l (items_of p ++ flat_map (λ q. items_of q) ps)) (ap (λ (l : List A). take size (drop (a * size) asked) ++ l) next ∙ take-append-drop size (drop (a * size) asked)) both
 
   -- pieces in order answer all that is asked
-  pub answers_in_order : (items_of : Piece → List B) (asked : List A) (size n : ℕ) (ps : List Piece) → numbers_of ps ≡ range_with_len 0 n → length asked ≤ n * size
+  pub answers_in_order : (items_of : Piece B → List B) (asked : List A) (size n : ℕ) (ps : List (Piece B)) → numbers_of ps ≡ range_with_len 0 n → length asked ≤ n * size
       → All (λ p. AnswersEach R (chunk_of asked size p.number) (items_of p)) ps → AnswersEach R asked (flat_map (λ p. items_of p) ps)
   answers_in_order items_of asked size n ps e enough h = let none : 0 * size ≡ 0 = omega arith in subst (λ (k : ℕ). AnswersEach R (drop k asked) (flat_map (λ p. items_of p) ps)) none (from_chunk items_of asked size 0 n ps e (omega arith) h)
 
--- what answers two parts of a list, joined, answers the list
-module _ {A B E : Type 0} (R : A → B → Type 0) where
-  pub Answers-joined : (front back : List A) (first second both : Result (Vec B Global) E) → IfOk first (λ ys. AnswersEach R front ys.items)
-      → IfOk second (λ ys. AnswersEach R back ys.items) → IfOk both (λ all. IsOkAnd first (λ found. IsOkAnd second (λ more. all.items ≡ found.items ++ more.items)))
-      → IfOk both (λ all. AnswersEach R (front ++ back) all.items)
-  Answers-joined front back (Ok found) (Ok more) both one two items =
-      IfOk-weaker both _ _
-      (λ all e. subst (λ (ys : List B). AnswersEach R (front ++ back) ys) (sym e) (AnswersEach-append R front back found.items more.items one two))
-      items
-  Answers-joined front back (Ok found) (Err none) both one two items = IfOk-weaker both _ _ (λ all none. absurd none) items
-  Answers-joined front back (Err none) second both one two items = IfOk-weaker both _ _ (λ all none. absurd none) items
+-- what is said twice of a result
+pub IfOk-both : {A E : Type 0} (r : Result A E) (P Q : A → Type 0) → IfOk r P → IfOk r Q → IfOk r (λ x. P x × Q x)
+IfOk-both (Ok x) P Q one other = (one, other)
+IfOk-both (Err e) P Q one other = tt
 
 -- answers that say as much, seen by view
 module _ {A B C : Type 0} (R : A → B → Type 0) (S : A → C → Type 0) (view : B → C) (says : (a : A) (b : B) → R a b → S a (view b)) where
@@ -59,14 +51,6 @@ module _ {A B C : Type 0} (R : A → B → Type 0) (S : A → C → Type 0) (vie
   AnswersEach-map [] (y ∷ ys) h = absurd h
   AnswersEach-map (x ∷ xs) [] h = absurd h
   AnswersEach-map (x ∷ xs) (y ∷ ys) h = (says x y h.0, AnswersEach-map xs ys h.1)
-
--- answers that say as much
-module _ {A B : Type 0} (R S : A → B → Type 0) (says : (a : A) (b : B) → R a b → S a b) where
-  pub AnswersEach-weaker : (xs : List A) (ys : List B) → AnswersEach R xs ys → AnswersEach S xs ys
-  AnswersEach-weaker [] [] h = tt
-  AnswersEach-weaker [] (y ∷ ys) h = absurd h
-  AnswersEach-weaker (x ∷ xs) [] h = absurd h
-  AnswersEach-weaker (x ∷ xs) (y ∷ ys) h = (says x y h.0, AnswersEach-weaker xs ys h.1)
 
 -- what each answer has by itself, seen by view
 module _ {A B C : Type 0} (R : A → B → Type 0) (P : C → Type 0) (view : B → C) (says : (a : A) (b : B) → R a b → P (view b)) where

@@ -3,17 +3,16 @@ use Rattle.std.proofs.Common.{◌≡◌, ℕ, ◌+◌, ◌-◌, ◌<◌, Bool, t
 use Rattle.std.proofs.lemmas.List.Elements.{All-append}
 use mathlib.Core.List.{map-append}
 use Rattle.deb_index.specs.Packages.{IndexView}
-use Rattle.deb_health.specs.declared.answer.Verdict.{Verdict}
 use Rattle.work_draw.specs.Checks.{AnswersEach, chunk_of}
 use Rattle.work_draw.specs.declared.pieces.Drawn.{Drawn}
 use Rattle.work_draw.specs.declared.pieces.Piece.{Piece}
-use Rattle.draw_board.specs.Board.{BoardView, DrawerView, both_drawers, new_drawer}
-use Rattle.draw_board.specs.Drawing.{times, HoldsEachOnce}
+use Rattle.work_draw.specs.Board.{BoardView, DrawerView, both_drawers, new_drawer}
+use Rattle.work_draw.specs.Drawing.{times, HoldsEachOnce}
 use Rattle.work_draw.specs.Pieces.{numbers_of, Find, Gains, GainsInAll, IsLeftBy, IsReady, after_crew}
-use Rattle.draw_board.proofs.Counts.{times-append}
+use Rattle.work_draw.proofs.Counts.{times-append}
 
 -- what a first drawer gained is all that it holds
-pub gained_all : (total : ℕ) (before after : List ℕ) (pieces : List Piece) → before ≡ [] → GainsInAll before pieces after → HoldsEachOnce total after → HoldsEachOnce total (numbers_of pieces)
+pub gained_all : {T : Type 0} (total : ℕ) (before after : List ℕ) (pieces : List (Piece T)) → before ≡ [] → GainsInAll before pieces after → HoldsEachOnce total after → HoldsEachOnce total (numbers_of pieces)
 gained_all total before after pieces empty gained once n =
     let g = gained n in
     let none : times n before ≡ 0 = ap (times n) empty in
@@ -21,11 +20,11 @@ gained_all total before after pieces empty gained once n =
     omega arith
 
 -- a drawer that began with nothing is joined into another
-gains_joined : (before : List ℕ) (p q : List Piece) (m n : List ℕ) → GainsInAll before p m → GainsInAll [] q n → GainsInAll before (p ++ q) (m ++ n)
+gains_joined : {T : Type 0} (before : List ℕ) (p q : List (Piece T)) (m n : List ℕ) → GainsInAll before p m → GainsInAll [] q n → GainsInAll before (p ++ q) (m ++ n)
 gains_joined before p q m n h k x =
     let a = h x in
     let b = k x in
-    omega (arith, times-append x m n, ap (times x) (map-append (λ (y : Piece). y.number) p q), times-append x (numbers_of p) (numbers_of q))
+    omega (arith, times-append x m n, ap (times x) (map-append (λ y. y.number) p q), times-append x (numbers_of p) (numbers_of q))
 
 -- what a crew has done to a drawer but for what it drew: so many drawers were split off, and joined again
 abbrev with_crew : DrawerView → List ℕ → ℕ → ℕ → ℕ → DrawerView
@@ -54,9 +53,9 @@ module _ (index : IndexView) (asked : List ℕ) (size : ℕ) (board : BoardView)
       let room = ready.5 in
       (ap (λ (d : DrawerView). d.board) kept ∙ ready.0, ready.1, ready.2, ready.3, others, omega arith)
 
-module _ (IsSo : ℕ → Verdict → Type 0) (asked : List ℕ) (size : ℕ) (before : DrawerView) where
+module _ {T : Type 0} (IsSo : ℕ → T → Type 0) (asked : List ℕ) (size : ℕ) (before : DrawerView) where
   -- what a worker leaves is what a crew of one does
-  pub left_by_one : (drawn : Drawn) → drawn.drawer ≡ record before { numbers = drawn.drawer.numbers; past = drawn.drawer.past; done = drawn.drawer.done }
+  pub left_by_one : (drawn : Drawn T) → drawn.drawer ≡ record before { numbers = drawn.drawer.numbers; past = drawn.drawer.past; done = drawn.drawer.done }
       → (drawn.refused ≡ false → (drawn.drawer.done ≡ true) × Gains before.numbers drawn.pieces.items drawn.drawer.numbers) → Find IsSo asked size drawn.pieces.items
       → IsLeftBy IsSo asked size before 1 drawn
   left_by_one drawn same gained found = record {
@@ -71,7 +70,7 @@ module _ (IsSo : ℕ → Verdict → Type 0) (asked : List ℕ) (size : ℕ) (be
 
   -- what two crews leave, of which the second began with a new drawer, is what a crew of all does
   pub left_by_both : (mine theirs : DrawerView) (board : BoardView) (workers half rest : ℕ) → half + rest ≡ workers → mine ≡ record before { spare = before.spare - 1 - (half - 1) }
-      → theirs ≡ new_drawer board (half - 1) before.done → 0 < half → 0 < rest → (first second both : Drawn) → IsLeftBy IsSo asked size mine rest first
+      → theirs ≡ new_drawer board (half - 1) before.done → 0 < half → 0 < rest → (first second both : Drawn T) → IsLeftBy IsSo asked size mine rest first
       → IsLeftBy IsSo asked size theirs half second → both.drawer ≡ both_drawers first.drawer second.drawer
       → (both.refused ≡ false → (first.refused ≡ false) × (second.refused ≡ false))
       → (both.refused ≡ false → both.pieces.items ≡ first.pieces.items ++ second.pieces.items) → IsLeftBy IsSo asked size before workers both
@@ -87,8 +86,8 @@ module _ (IsSo : ℕ → Verdict → Type 0) (asked : List ℕ) (size : ℕ) (be
         let new = subst (λ (b : List ℕ). GainsInAll b second.pieces.items second.drawer.numbers) (ap (λ (d : DrawerView). d.numbers) given) (two.gained (fine r).1) in
         let joined = gains_joined before.numbers first.pieces.items second.pieces.items first.drawer.numbers second.drawer.numbers begun new in
         subst (λ (n : List ℕ). GainsInAll before.numbers both.pieces.items n) (sym (ap (λ (d : DrawerView). d.numbers) drawer))
-        (subst (λ (p : List Piece). GainsInAll before.numbers p (first.drawer.numbers ++ second.drawer.numbers)) (sym (pieces r)) joined);
+        (subst (λ (p : List (Piece T)). GainsInAll before.numbers p (first.drawer.numbers ++ second.drawer.numbers)) (sym (pieces r)) joined);
     found = λ r.
-        subst (λ (p : List Piece). Find IsSo asked size p) (sym (pieces r))
-        (All-append (λ (p : Piece). AnswersEach IsSo (chunk_of asked size p.number) p.verdicts.items) first.pieces.items second.pieces.items (one.found (fine r).0) (two.found (fine r).1));
+        subst (λ (p : List (Piece T)). Find IsSo asked size p) (sym (pieces r))
+        (All-append (λ (p : Piece T). AnswersEach IsSo (chunk_of asked size p.number) p.verdicts.items) first.pieces.items second.pieces.items (one.found (fine r).0) (two.found (fine r).1));
   }

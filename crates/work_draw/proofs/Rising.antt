@@ -8,9 +8,9 @@ use Rattle.std.proofs.lemmas.List.{get_or-map, length-map}
 use native.Mathlib.Decide.{dec_le}
 use mathlib.Core.Logic.{dite}
 use Rattle.work_draw.specs.declared.pieces.Piece.{Piece}
-use Rattle.draw_board.specs.Drawing.{times, HoldsEachOnce}
+use Rattle.work_draw.specs.Drawing.{times, HoldsEachOnce}
 use Rattle.work_draw.specs.Pieces.{numbers_of}
-use Rattle.draw_board.proofs.Counts.{counts_itself, once_inside, none_from}
+use Rattle.work_draw.proofs.Counts.{counts_itself, once_inside, none_from}
 
 times-cons : (n x : ℕ) (xs : List ℕ) → times n (x ∷ xs) ≡ cond {A = ℕ} (x == n) 1 0 + times n xs
 times-cons n x xs = sum_by-cons (λ y. cond (y == n) 1 0) x xs
@@ -73,10 +73,10 @@ rising_is_range total xs rising h = is_range 0 total xs rising record {
   outside = λ m out. h m ∙ none_from total m (⊎_elim (λ (l : m < 0). absurd (omega arith)) (λ (r : 0 + total ≤ m). omega arith) out);
 }
 
-rising-map : (ps : List Piece) → IsNonDecreasingBy (λ p. p.number) ps → IsNonDecreasing (numbers_of ps)
+rising-map : {T : Type 0} (ps : List (Piece T)) → IsNonDecreasingBy (λ p. p.number) ps → IsNonDecreasing (numbers_of ps)
 rising-map [] h i j d le lt = absurd (omega arith)
-rising-map (p ∷ ps) h i j d le lt =
-    let number : Piece → ℕ = λ (q : Piece). q.number in
+rising-map {T} (p ∷ ps) h i j d le lt =
+    let number : Piece T → ℕ = λ (q : Piece T). q.number in
     let short : j < length (p ∷ ps) = omega (arith, length-map (p ∷ ps) number) in
     let a = get_or-map number (p ∷ ps) i p d (omega arith) in
     let b = get_or-map number (p ∷ ps) j p d short in
@@ -84,6 +84,6 @@ rising-map (p ∷ ps) h i j d le lt =
     omega arith
 
 -- the pieces, sorted, are numbered 0, 1, 2 and so on
-pub sorted_pieces : (total : ℕ) (ps qs : List Piece) → HoldsEachOnce total (numbers_of ps) → IsPermutation ps qs → IsNonDecreasingBy (λ p. p.number) qs → numbers_of qs ≡ range_with_len 0 total
-sorted_pieces total ps qs once moved rising = rising_is_range total (numbers_of qs) (rising-map qs rising)
-    (λ n. sum_by-IsPermutation (λ x. cond (x == n) 1 0) (numbers_of ps) (numbers_of qs) (IsPermutation-map (λ (p : Piece). p.number) ps qs moved) ∙ once n)
+pub sorted_pieces : {T : Type 0} (total : ℕ) (ps qs : List (Piece T)) → HoldsEachOnce total (numbers_of ps) → IsPermutation ps qs → IsNonDecreasingBy (λ p. p.number) qs → numbers_of qs ≡ range_with_len 0 total
+sorted_pieces {T} total ps qs once moved rising = rising_is_range total (numbers_of qs) (rising-map qs rising)
+    (λ n. sum_by-IsPermutation (λ x. cond (x == n) 1 0) (numbers_of ps) (numbers_of qs) (IsPermutation-map (λ (p : Piece T). p.number) ps qs moved) ∙ once n)

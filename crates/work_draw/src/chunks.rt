@@ -1,108 +1,88 @@
-//! The verdicts of one chunk of the asked places, and what finds them.
-ghost use Rattle.std.specs.Prelude.{◌<◌, ◌*◌, All, IfOk, length};
-ghost use Rattle.deb_index.specs.Constraints.{IsOfIndex};
+//! What is found of one chunk of the asked places, and what finds it.
+ghost use Rattle.std.specs.Prelude.{◌<◌, ◌*◌, ℕ, All, IfOk, length};
 ghost use Rattle.deb_index.specs.Packages.{IndexView};
-ghost use Rattle.deb_health.specs.Causes.{AreCores};
-ghost use Rattle.deb_health.specs.Verdicts.{SpeaksOf, verdict_view};
-ghost use Rattle.deb_verdict.specs.Told.{IsToldVerdict};
-ghost use Rattle.work_draw.specs.Checks.{AnswersEach, IsFoundAs, chunk_of, cores_view};
+ghost use Rattle.work_draw.specs.Checks.{AnswersEach, IsFound, chunk_of};
 
-use deb_index::Constraint;
-use deb_verdict::{Groundwork, Verdict, Wanted, Workspace, cores_in, told_verdict_in};
-use draw_board::Gate;
+use crate::gate::Gate;
+use deb_verdict::{Groundwork, Verdict, Workspace, verdict_in};
 use std::alloc::{AllocError, Global};
 
-/// Finds the verdicts and the cores of the packages of an index; shared between threads. A groundwork does, and workers name no type beside this
-/// trait: a closure for another thread tells its caller nothing where it captures a struct of references.
-pub(crate) trait Finder {
-    // The index that the answers speak of.
+/// Finds something of each package of an index; shared between threads.
+pub trait Finder {
+    /// What is found of a package.
+    type Found: Drop;
+
+    // The index whose packages are asked.
     ghost index: { Self → IndexView };
 
-    /// As much of the verdict of the package at a place as is wanted, found in the buffers of an earlier one.
+    // What may be found of the package at a place.
+    ghost finds: { Self → ℕ → Self.Found → Type 0 };
+
+    /// What is found of the package at a place, in the buffers of an earlier answer.
     fn find(
         &self,
         alloc: Global,
         workspace: &mut Workspace,
-        wanted: Wanted,
         place: u32,
-    ) -> Result<Verdict, AllocError>
+    ) -> Result<Self::Found, AllocError>
         requires { place < length (index self.now).packages }
-        ensures told { IfOk result (λ found. IsToldVerdict wanted (index self.now) place (verdict_view found)) }
-        ensures within { IfOk result (λ found. SpeaksOf (index self.now) (verdict_view found)) };
-
-    /// The cores of the package at a place whose causes are all its causes, found in the buffers of an earlier answer.
-    fn cores(
-        &self,
-        alloc: Global,
-        workspace: &mut Workspace,
-        place: u32,
-    ) -> Result<Vec<Vec<Constraint>>, AllocError>
-        requires { place < length (index self.now).packages }
-        ensures cores { IfOk result (λ found. AreCores (index self.now) place (cores_view found)) }
-        ensures within { IfOk result (λ found. All (λ core. All (IsOfIndex (index self.now)) core.items) found.items) };
+        ensures { IfOk result (finds self.now place) };
 }
 
+/// A groundwork finds verdicts.
 impl Finder for Groundwork<'_> {
+    type Found = Verdict;
+
     ghost index = { λ groundwork. groundwork.index.now };
 
+    ghost finds = { λ groundwork. IsFound groundwork.index.now };
+
     fn find(
         &self,
         alloc: Global,
         workspace: &mut Workspace,
-        wanted: Wanted,
         place: u32,
     ) -> Result<Verdict, AllocError> {
-        told_verdict_in(alloc, workspace, self, place, wanted)
-    }
-
-    fn cores(
-        &self,
-        alloc: Global,
-        workspace: &mut Workspace,
-        place: u32,
-    ) -> Result<Vec<Vec<Constraint>>, AllocError> {
-        cores_in(alloc, workspace, self, place)
+        verdict_in(alloc, workspace, self, place)
     }
 }
 
-/// As much of the verdict of each place as is wanted, found in one workspace.
-fn verdicts_of<F: Finder>(
+/// What is found of each place, in one workspace.
+fn find_each<F: Finder>(
     alloc: Global,
     workspace: &mut Workspace,
     finder: &F,
-    wanted: Wanted,
     places: &[u32],
-) -> Result<Vec<Verdict>, AllocError>
+) -> Result<Vec<F::Found>, AllocError>
     requires { All (λ place. place < length (F.index finder.now).packages) places.now }
-    ensures { IfOk result (λ v. AnswersEach (IsFoundAs wanted (F.index finder.now)) places.now v.items) }
+    ensures { IfOk result (λ v. AnswersEach (F.finds finder.now) places.now v.items) }
 {
-    let mut verdicts = Vec::with_capacity(alloc, places.len())?;
+    let mut found = Vec::with_capacity(alloc, places.len())?;
     for place in places {
-        let verdict = finder.find(alloc, workspace, wanted, *place)?;
-        verdicts.push(verdict)?;
+        let one = finder.find(alloc, workspace, *place)?;
+        found.push(one)?;
     }
-    Ok(verdicts)
+    Ok(found)
 }
 
-/// As much of the verdicts of the chunk with a number as is wanted. The gate is told of the chunk before and, if all were found, after.
-pub(crate) fn check_chunk<F: Finder, G: Gate>(
+/// What is found of the chunk with a number. The gate is told of the chunk before and, if all was found, after.
+pub(crate) fn find_chunk<F: Finder, G: Gate>(
     alloc: Global,
     workspace: &mut Workspace,
     finder: &F,
-    wanted: Wanted,
     asked: &[u32],
     chunk: u32,
     number: u32,
     gate: &G,
-) -> Result<Vec<Verdict>, AllocError>
+) -> Result<Vec<F::Found>, AllocError>
     requires begins { number * chunk < length asked.now }
     requires places { All (λ place. place < length (F.index finder.now).packages) asked.now }
-    ensures { IfOk result (λ v. AnswersEach (IsFoundAs wanted (F.index finder.now)) (chunk_of asked.now chunk number) v.items) }
+    ensures { IfOk result (λ v. AnswersEach (F.finds finder.now) (chunk_of asked.now chunk number) v.items) }
 {
     gate.before(number);
     let rest = &asked[number as usize * chunk as usize..];
     let size = rest.len().min(chunk as usize);
-    let verdicts = verdicts_of(alloc, workspace, finder, wanted, &rest[..size])?;
+    let found = find_each(alloc, workspace, finder, &rest[..size])?;
     gate.after(number);
-    Ok(verdicts)
+    Ok(found)
 }

@@ -1,23 +1,26 @@
-//! The verdicts of many packages by workers that draw chunks of them from one shared counter: each chunk once, none left out, in every order of events.
-//! The counter is the board of `draw_board`, which has the gate, too, that is told of each chunk.
+//! What is found of many packages by workers that draw chunks of them from one board: each chunk once, none left out, in every order of events.
 //!
-//! To be read in this order:
+//! `specs/Drawing` has the rule that ties the drawers to the claim word, `specs/Board` what callers see of both. The modules, in reading order:
 //!
-//! - `chunks`: the verdicts of one chunk of the asked places, and what finds them.
+//! - `hand`: what a drawer knows; `board`: the board, which deals the numbers below its total, and its drawers, which split, draw, join and close.
+//! - `gate`: who is told of each number that was drawn, before and after what is done with it.
+//! - `chunks`: what is found of one chunk of the asked places, and what finds it.
 //! - `pieces`: what is made of the numbers that are drawn, and the order in which it is gathered.
 //! - `workers`: a worker, who draws until no number is left, and a crew of them.
-//! - `check`: all of it, from the asked places to their verdicts, or to as much of them as is wanted.
-//! - `cores`: all cores of many packages, by workers that draw nothing, but each take a part of the list.
+//! - `check`: all of it, from the asked places to what is found of them, by whatever finds it, and to their verdicts.
 #![tactic(auto)]
 
+mod board;
 mod check;
 mod chunks;
-mod cores;
+mod gate;
+mod hand;
 mod pieces;
 mod workers;
 
-pub use check::{check_all, check_told};
-pub use cores::find_cores;
-pub use draw_board::{Board, Drawer, Gate, OpenGate, WORKER_LIMIT, new_board};
+pub use board::{Board, Drawer, WORKER_LIMIT, new_board};
+pub use check::{check_all, check_each};
+pub use chunks::Finder;
+pub use gate::{Gate, OpenGate};
 pub use pieces::{Drawn, Piece, gather};
 pub use workers::{crew, draw_pieces};

@@ -1,35 +1,35 @@
 //! What is made of the numbers that are drawn, and the pieces of all workers in the order of their numbers.
 ghost use Rattle.std.specs.Prelude.{◌≡◌, IfOk, false, flat_map};
-ghost use Rattle.draw_board.specs.Drawing.{HoldsEachOnce};
+ghost use Rattle.work_draw.specs.Drawing.{HoldsEachOnce};
 ghost use Rattle.work_draw.specs.Pieces.{numbers_of, InOrderOfNumber};
 
+use crate::board::Drawer;
 use deb_verdict::Verdict;
-use draw_board::Drawer;
 use std::alloc::{AllocError, Global};
 
-/// The verdicts of one chunk.
+/// The verdicts of one chunk, or what else is found of its packages.
 #[derive(Drop)]
-pub struct Piece {
+pub struct Piece<T = Verdict> {
     /// The chunk's number, from 0.
     pub number: u32,
     /// One verdict for each place of the chunk, in the order in which they were asked.
-    pub verdicts: Vec<Verdict>,
+    pub verdicts: Vec<T>,
 }
 
 /// What one worker leaves.
 #[derive(Drop)]
-pub struct Drawn {
+pub struct Drawn<T = Verdict> {
     /// The worker's drawer, with the numbers that it drew.
     pub drawer: Drawer,
     /// A piece for each number that was drawn in the call, in the order of the draws; none for those that the drawer had before.
-    pub pieces: Vec<Piece>,
+    pub pieces: Vec<Piece<T>>,
     /// Whether memory was refused; then the worker stopped, and the last number drawn may lack its piece.
     pub refused: bool,
 }
 
-impl Drawn {
+impl<T: Drop> Drawn<T> {
     /// The drawer and the pieces, unless memory was refused.
-    pub(crate) fn whole(self) -> Result<(Drawer, Vec<Piece>), AllocError>
+    pub(crate) fn whole(self) -> Result<(Drawer, Vec<Piece<T>>), AllocError>
         ensures { IfOk result (λ r. (self.refused ≡ false) × (r.0 ≡ self.drawer) × (r.1 ≡ self.pieces)) }
     {
         if self.refused {
@@ -42,7 +42,11 @@ impl Drawn {
 
 /// The verdicts of the pieces by rising number, where each number below `total` stands once and no other does.
 /// The pieces are consumed, also where memory is refused.
-pub fn gather(alloc: Global, total: u32, mut pieces: Vec<Piece>) -> Result<Vec<Verdict>, AllocError>
+pub fn gather<T: Drop>(
+    alloc: Global,
+    total: u32,
+    mut pieces: Vec<Piece<T>>,
+) -> Result<Vec<T>, AllocError>
     requires { HoldsEachOnce total (numbers_of pieces.items) }
     ensures { IfOk result (λ all. InOrderOfNumber total pieces.items all.items) }
 {
@@ -50,7 +54,7 @@ pub fn gather(alloc: Global, total: u32, mut pieces: Vec<Piece>) -> Result<Vec<V
     concatenated(alloc, pieces)
 }
 
-fn concatenated(alloc: Global, pieces: Vec<Piece>) -> Result<Vec<Verdict>, AllocError>
+fn concatenated<T: Drop>(alloc: Global, pieces: Vec<Piece<T>>) -> Result<Vec<T>, AllocError>
     ensures { IfOk result (λ all. all.items ≡ flat_map (λ p. p.verdicts.items) pieces.items) }
 {
     let mut all = Vec::new(alloc);

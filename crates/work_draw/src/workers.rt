@@ -1,15 +1,16 @@
-//! Workers that draw chunks and find their verdicts.
+//! Workers that draw chunks and find what is asked of their packages.
 ghost use Rattle.std.specs.Prelude.{◌≡◌, ◌+◌, ◌<◌, ◌≤◌, ◌++◌, [], true, false, All, IfOk, OnOk, length};
 ghost use Rattle.std.specs.Thread.{IsSync};
-ghost use Rattle.draw_board.specs.Board.{both_drawers};
-ghost use Rattle.work_draw.specs.Checks.{IsFoundAs, chunk_count};
+ghost use Rattle.work_draw.specs.Board.{both_drawers};
+ghost use Rattle.work_draw.specs.Checks.{chunk_count};
 ghost use Rattle.work_draw.specs.Pieces.{AreFound, Find, Gains, GainsButLast, GainsInAll, IsLeftBy, IsReady, after_crew};
 
-use crate::chunks::{Finder, check_chunk};
+use crate::board::{Board, Drawer};
+use crate::chunks::{Finder, find_chunk};
+use crate::gate::Gate;
 use crate::pieces::{Drawn, Piece};
 use deb_index::Index;
-use deb_verdict::{Groundwork, Wanted, Workspace};
-use draw_board::{Board, Drawer, Gate};
+use deb_verdict::{Groundwork, Workspace};
 use std::alloc::{AllocError, Global};
 use std::thread;
 use std::thread::Threads;
@@ -19,12 +20,11 @@ fn draw_each<F: Finder, G: Gate>(
     alloc: Global,
     workspace: &mut Workspace,
     finder: &F,
-    wanted: Wanted,
     asked: &[u32],
     chunk: u32,
     board: &Board,
     drawer: &mut Drawer,
-    pieces: &mut Vec<Piece>,
+    pieces: &mut Vec<Piece<F::Found>>,
     gate: &G,
 ) -> Result<(), AllocError>
     requires ready { IsReady (F.index finder.now) asked.now chunk board.now drawer.old 1 }
@@ -32,31 +32,30 @@ fn draw_each<F: Finder, G: Gate>(
     ensures same { drawer.new ≡ record drawer.old { numbers = drawer.new.numbers; past = drawer.new.past; done = drawer.new.done } }
     ensures gained { OnOk result ((drawer.new.done ≡ true) × Gains drawer.old.numbers pieces.new.items drawer.new.numbers) }
     ensures refused { GainsButLast drawer.old.numbers pieces.new.items drawer.new.numbers }
-    ensures found { Find (IsFoundAs wanted (F.index finder.now)) asked.now chunk pieces.new.items }
+    ensures found { Find (F.finds finder.now) asked.now chunk pieces.new.items }
 {
     while let Some(number) = board.draw(drawer) {
-        let verdicts = check_chunk(alloc, workspace, finder, wanted, asked, chunk, number, gate)?;
+        let verdicts = find_chunk(alloc, workspace, finder, asked, chunk, number, gate)?;
         pieces.push(Piece { number, verdicts })?;
     }
     Ok(())
 }
 
-/// What each worker of a crew runs: as `draw_pieces`, of as much of the verdicts as is wanted.
-fn draw_told<F: Finder, G: Gate>(
+/// What each worker of a crew runs: as `draw_pieces`, of what the finder finds.
+fn draw_found<F: Finder, G: Gate>(
     alloc: Global,
     finder: &F,
-    wanted: Wanted,
     asked: &[u32],
     chunk: u32,
     board: &Board,
     drawer: Drawer,
     gate: &G,
-) -> Drawn
+) -> Drawn<F::Found>
     requires { IsReady (F.index finder.now) asked.now chunk board.now drawer 1 }
     ensures same { result.drawer ≡ record drawer { numbers = result.drawer.numbers; past = result.drawer.past; done = result.drawer.done } }
     ensures gained { result.refused ≡ false → (result.drawer.done ≡ true) × Gains drawer.numbers result.pieces.items result.drawer.numbers }
     ensures refused { GainsButLast drawer.numbers result.pieces.items result.drawer.numbers }
-    ensures found { Find (IsFoundAs wanted (F.index finder.now)) asked.now chunk result.pieces.items }
+    ensures found { Find (F.finds finder.now) asked.now chunk result.pieces.items }
 {
     let mut drawn = Drawn {
         drawer,
@@ -68,7 +67,6 @@ fn draw_told<F: Finder, G: Gate>(
             alloc,
             &mut workspace,
             finder,
-            wanted,
             asked,
             chunk,
             board,
@@ -110,23 +108,13 @@ pub fn draw_pieces<G: Gate>(
             refused: true,
         };
     };
-    let wanted = Wanted::everything();
-    let drawn = draw_told(
-        alloc,
-        &groundwork,
-        wanted,
-        asked,
-        chunk,
-        board,
-        drawer,
-        gate,
-    );
+    let drawn = draw_found(alloc, &groundwork, asked, chunk, board, drawer, gate);
     drop(groundwork);
     drawn
 }
 
 /// What two crews of one board leave, as one. Memory is refused, too, where there is none for the pieces of both in one list.
-fn joined(board: &Board, first: Drawn, second: Drawn) -> Drawn
+fn joined<T: Drop>(board: &Board, first: Drawn<T>, second: Drawn<T>) -> Drawn<T>
     requires first { first.drawer.board ≡ board.now }
     requires second { second.drawer.board ≡ board.now }
     ensures drawer { result.drawer ≡ both_drawers first.drawer second.drawer }
@@ -147,46 +135,39 @@ fn joined(board: &Board, first: Drawn, second: Drawn) -> Drawn
     }
 }
 
-/// What the crew of `crew` leaves, for as much of the verdicts as is wanted.
-pub(crate) fn crew_told<F: Finder + Sync, G: Gate + Sync, R: Threads + Sync>(
+/// What the crew of `crew` leaves, of what the finder finds.
+pub(crate) fn crew_found<F: Finder + Sync, G: Gate + Sync, R: Threads + Sync>(
     rt: &R,
     alloc: Global,
     finder: &F,
-    wanted: Wanted,
     asked: &[u32],
     chunk: u32,
     board: &Board,
     drawer: Drawer,
     workers: u32,
     gate: &G,
-) -> Drawn
+) -> Drawn<F::Found>
+where
+    F::Found: Send,
     requires ready { IsReady (F.index finder.now) asked.now chunk board.now drawer workers }
-    ensures { IsLeftBy (IsFoundAs wanted (F.index finder.now)) asked.now chunk drawer workers result }
+    ensures { IsLeftBy (F.finds finder.now) asked.now chunk drawer workers result }
 {
     if workers == 1 {
-        return draw_told(alloc, finder, wanted, asked, chunk, board, drawer, gate);
+        return draw_found(alloc, finder, asked, chunk, board, drawer, gate);
     }
     let half = workers / 2;
     let rest = workers - half;
     let (mine, theirs) = board.split(drawer, half - 1);
     let (first, second) = thread::join(
         rt,
-        move || -> Drawn
+        move || -> Drawn<F::Found>
             requires { IsSync R.row × IsSync F.row × IsSync G.row × IsReady (F.index finder.now) asked.now chunk board.now theirs half }
-            ensures { IsLeftBy (IsFoundAs wanted (F.index finder.entry.now)) asked.entry.now chunk theirs half result }
-        {
-            crew_told(
-                rt, alloc, finder, wanted, asked, chunk, board, theirs, half, gate,
-            )
-        },
-        move || -> Drawn
+            ensures { IsLeftBy (F.finds finder.entry.now) asked.entry.now chunk theirs half result }
+        { crew_found(rt, alloc, finder, asked, chunk, board, theirs, half, gate) },
+        move || -> Drawn<F::Found>
             requires { IsSync R.row × IsSync F.row × IsSync G.row × IsReady (F.index finder.now) asked.now chunk board.now mine rest }
-            ensures { IsLeftBy (IsFoundAs wanted (F.index finder.entry.now)) asked.entry.now chunk mine rest result }
-        {
-            crew_told(
-                rt, alloc, finder, wanted, asked, chunk, board, mine, rest, gate,
-            )
-        },
+            ensures { IsLeftBy (F.finds finder.entry.now) asked.entry.now chunk mine rest result }
+        { crew_found(rt, alloc, finder, asked, chunk, board, mine, rest, gate) },
     );
     joined(board, second, first)
 }
@@ -214,12 +195,10 @@ pub fn crew<G: Gate + Sync, R: Threads + Sync>(
     ensures found { IfOk result (λ r. AreFound index.now asked.now chunk r.1.items) }
 {
     let groundwork = Groundwork::new(alloc, index)?;
-    let wanted = Wanted::everything();
-    let drawn = crew_told(
+    let drawn = crew_found(
         rt,
         alloc,
         &groundwork,
-        wanted,
         asked,
         chunk,
         board,

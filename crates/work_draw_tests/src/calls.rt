@@ -3,17 +3,16 @@
 ghost use Rattle.std.specs.Prelude.{◌≡◌, ◌<◌, ◌≤◌, All, length};
 
 use crate::examples::{check_places, ground_of, index_of};
-use crate::found::finds_cores;
-use crate::pieces::{are_both, are_pieces_behind, are_sets, are_statuses};
+use crate::found::finds_written;
+use crate::pieces::{are_both, are_pieces_behind, are_sets};
 use crate::tally::{Hold, Tally};
 use deb_index::Index;
-use deb_verdict::{Groundwork, Wanted};
+use deb_verdict::Wanted;
 use std::alloc::AllocError;
 use std::process::Abort;
 use std::thread::Threads;
 use work_draw::{
-    Board, Drawer, Drawn, Gate, OpenGate, Piece, check_all, check_told, crew, draw_pieces,
-    new_board,
+    Board, Drawer, Drawn, Gate, OpenGate, Piece, check_all, crew, draw_pieces, new_board,
 };
 
 /// A call on asked places, and what it gives.
@@ -27,10 +26,8 @@ pub enum Call<'a> {
     Pieces,
     /// `crew` of two on the same board: both pieces.
     PiecesByTwo,
-    /// `check_told` where no set and no core is wanted: statuses.
-    Statuses(&'a [bool]),
-    /// `find_cores` by so many workers: cores that are written so at each place of the index.
-    Cores(u32, &'a [&'a str]),
+    /// `check_each` by so many workers, of what is wanted: what is written so at each place of the index.
+    Told(u32, Wanted, &'a [&'a str]),
 }
 
 /// Whether the call has its answer, and no memory was wanted.
@@ -73,28 +70,24 @@ fn answers_on(
         Call::HeldSets(hold) => finds_held_sets(rt, index, asked, hold),
         Call::Pieces => finds_pieces(rt, index),
         Call::PiecesByTwo => finds_pieces_by_two(rt, index),
-        Call::Statuses(_) | Call::Cores(..) => answers_on_ground(rt, index, asked, call),
+        Call::Told(workers, wanted, texts) => tells(rt, index, asked, workers, wanted, texts),
     }
 }
 
-/// The same of a call on the groundwork of the index.
-fn answers_on_ground(
+fn tells(
     rt: &(impl Threads + Sync + AllocGlobal),
     index: &Index,
     asked: &[u32],
-    call: Call<'_>,
+    workers: u32,
+    wanted: Wanted,
+    texts: &[&str],
 ) -> Result<bool, AllocError>
     requires places { All (λ place. place < length index.now.packages) asked.now }
     requires few { length asked.now ≤ 100 }
 {
+    let workers = workers.clamp(1, 64);
     let groundwork = ground_of(rt.alloc(), index, asked)?;
-    let outcome = match call {
-        Call::Statuses(wanted) => finds_statuses(rt, &groundwork, asked, wanted),
-        Call::Cores(workers, written) if 0 < workers && workers <= 64 => {
-            finds_cores(rt, &groundwork, asked, workers, written)
-        }
-        _ => Ok(false),
-    };
+    let outcome = finds_written(rt, &groundwork, wanted, asked, workers, texts);
     drop(groundwork);
     outcome
 }
@@ -130,23 +123,6 @@ fn finds_held_sets(
     } else {
         Ok(false)
     }
-}
-
-fn finds_statuses(
-    rt: &(impl Threads + Sync + AllocGlobal),
-    groundwork: &Groundwork<'_>,
-    asked: &[u32],
-    statuses: &[bool],
-) -> Result<bool, AllocError>
-    requires places { All (λ place. place < length groundwork.now.index.now.packages) asked.now }
-    requires few { length asked.now ≤ 100 }
-{
-    let wanted = Wanted {
-        sets: false,
-        cores: false,
-    };
-    let found = check_told(rt, rt.alloc(), groundwork, wanted, asked, 2, 1, &OpenGate)?;
-    Ok(are_statuses(&found, statuses))
 }
 
 /// Whether a worker on a board of two numbers, of which so many were drawn before, made the other pieces and closed the board. One that was refused memory

@@ -1,6 +1,7 @@
 //! All cores of packages by several workers, compared with answers that were found by hand.
 
 use crate::calls::{Call, holds};
+use deb_verdict::{Cores, Wanted};
 
 /// Packages of none, one, one, two, one and three causes.
 const CAUSES: &[u8] = b"Package: sound
@@ -35,14 +36,14 @@ Pre-Depends: x
 Depends: sound, y, z
 ";
 
-/// What the cores of each place of `CAUSES` are written as.
+/// What is told of each place of `CAUSES`.
 const OF_CAUSES: &[&str] = &[
-    "[]",
-    "[[Need(1, 1), Need(2, 0)]]",
-    "[[Need(2, 0)]]",
-    "[[Need(3, 0), Apart(4, 0)], [Need(3, 0), Need(4, 0)]]",
-    "[[Need(4, 0)]]",
-    "[[Need(5, 3)], [Need(5, 2)], [Need(5, 0)]]",
+    "ok",
+    "broken [[Need(1, 1), Need(2, 0)]]",
+    "broken [[Need(2, 0)]]",
+    "broken [[Need(3, 0), Apart(4, 0)], [Need(3, 0), Need(4, 0)]]",
+    "broken [[Need(4, 0)]]",
+    "broken [[Need(5, 3)], [Need(5, 2)], [Need(5, 0)]]",
 ];
 
 /// Two conflicts keep out both versions of what one package needs, and a third an essential one.
@@ -68,10 +69,10 @@ Essential: yes
 ";
 
 const OF_SEVERAL: &[&str] = &[
-    "[[Need(0, 0), Apart(0, 0), Apart(0, 1)], [Essential(2), Apart(0, 2)]]",
-    "[]",
-    "[]",
-    "[]",
+    "broken [[Need(0, 0), Apart(0, 0), Apart(0, 1)], [Essential(2), Apart(0, 2)]]",
+    "ok",
+    "ok",
+    "ok",
 ];
 
 /// A hundred places, which go through an index of six packages now forwards, now backwards.
@@ -99,11 +100,16 @@ static CASES: [(&str, &[u8], &[u32], &[&str]); 8] = [
     ("several constraints", SEVERAL, &[2, 0, 3, 1, 0], OF_SEVERAL),
 ];
 
+const CORES: Wanted = Wanted {
+    sets: false,
+    cores: Cores::All,
+};
+
 #[test]
 fn each_crew_finds_all_cores(rt: HostRuntime) {
     for (name, text, asked, written) in &CASES {
-        for workers in 1..=64u32 {
-            let call = Call::Cores(workers, *written);
+        for workers in [1, 2, 3, 5, 64] {
+            let call = Call::Told(workers, CORES, *written);
             assert!(rt;
                 holds(&rt, *text, *asked, call),
                 "{name}, {workers} workers"

@@ -5,6 +5,7 @@ use crate::calls::{Call, answers};
 use crate::examples::THREE_PACKAGES;
 use crate::pieces::{are_sets, piece_of};
 use crate::tally::Hold;
+use deb_verdict::{Cores, Wanted};
 use std::alloc::AllocError;
 use std::process::Abort;
 use std::thread::Threads;
@@ -71,17 +72,16 @@ Architecture: all
 Depends: absent
 ";
 
-/// Where no set and no core is wanted, none is told.
+/// Statuses, and a set and a core, by two workers.
 #[test]
-fn of_check_told(rt: HostRuntime) -> Result<(), AllocError> {
-    let call = Call::Statuses(&[false, true, false]);
-    expect(&rt, SOUND_AND_BROKEN, &[1, 0, 1], call)
-}
-
-/// One worker finds the cores of one place, the other those of two.
-#[test]
-fn of_find_cores(rt: HostRuntime) -> Result<(), AllocError> {
-    let call = Call::Cores(2, &["[]", "[[Need(1, 0)]]"]);
+fn of_check_each(rt: HostRuntime) -> Result<(), AllocError> {
+    let statuses = Wanted {
+        sets: false,
+        cores: Cores::None,
+    };
+    let call = Call::Told(2, statuses, &["ok", "broken []"]);
+    expect(&rt, SOUND_AND_BROKEN, &[1, 0, 1], call)?;
+    let call = Call::Told(2, Wanted::verdict(), &["[0]", "broken [[Need(1, 0)]]"]);
     expect(&rt, SOUND_AND_BROKEN, &[1, 0, 1], call)
 }
 

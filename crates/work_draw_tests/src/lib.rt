@@ -1,7 +1,7 @@
 //! Tests of the public calls of `work_draw`.
 //!
 //! `examples` has an index and its places, `pieces` looks at what is made of the numbers, `tally` is a gate that counts the chunks and may hold
-//! workers back, `found` sees whether cores are those that are wanted, and `calls` asks a call of an index. `boards` draws from boards, `gates` holds
+//! workers back, `found` sees whether what is told is what is wanted, and `calls` asks a call of an index. `boards` draws from boards, `gates` holds
 //! workers back at a gate, `cores` has several workers find all cores of packages, and `growths` has a test for each call that can want memory.
 #![tactic(auto)]
 

@@ -25,27 +25,6 @@ pub fn are_sets(found: &[Verdict], wanted: &[&[u32]]) -> bool {
     true
 }
 
-/// Whether a verdict tells a status alone.
-fn is_status(found: &Verdict, sound: bool) -> bool {
-    match found {
-        Verdict::Ok(places) => sound && places.is_empty(),
-        Verdict::Broken(core) => !sound && core.is_empty(),
-    }
-}
-
-/// Whether verdicts tell these statuses and nothing else.
-pub fn are_statuses(found: &[Verdict], sound: &[bool]) -> bool {
-    if found.len() != sound.len() {
-        return false;
-    }
-    for (verdict, is_sound) in found.iter().zip(sound.iter()) {
-        if !is_status(verdict, *is_sound) {
-            return false;
-        }
-    }
-    true
-}
-
 /// Whether this is the piece with this number of three asked packages, two to a chunk.
 fn is_piece(piece: &Piece, number: usize) -> bool {
     let wanted: &[&[u32]] = if number == 0 {

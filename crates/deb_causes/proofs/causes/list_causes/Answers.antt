@@ -2,8 +2,8 @@ use Rattle.std.proofs.Common.{◌<◌, ◌++◌, ◌∷◌, [], ◌∙◌, All, 
 use Rattle.std.proofs.lemmas.List.{map-append, take_all}
 use Rattle.deb_index.specs.declared.constraint.Constraint.{Constraint}
 use Rattle.deb_index.specs.Constraints.{IsOfIndex}
-use Rattle.list_steps.proofs.AtomSteps.{map_more}
-use Rattle.list_steps.proofs.ListLemmas.{all_item}
+use Rattle.number_sets.proofs.AtomSteps.{map_more}
+use Rattle.number_sets.proofs.ListLemmas.{all_item}
 use Rattle.deb_causes.specs.declared.gathered.Part.{Part}
 use Rattle.deb_causes.specs.Causes.{cause_view}
 use Rattle.deb_causes.specs.Gathered.{cause_from}

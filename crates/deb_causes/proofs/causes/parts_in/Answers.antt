@@ -2,7 +2,7 @@ use Rattle.std.proofs.Common.{◌≡◌, ℕ, ◌<◌, List, All, ap, length, ma
 use Rattle.std.specs.List.{flat_map}
 use Rattle.std.proofs.lemmas.List.Elements.{All-same, All-map}
 use Rattle.deb_index.specs.Constraints.{IsOfIndex, below}
-use Rattle.deb_health.specs.Verdicts.{VerdictView}
+use Rattle.deb_health.specs.Verdicts.{ToldView}
 use Rattle.deb_causes.specs.declared.numbered.NumberedCore.{NumberedCore}
 use Rattle.deb_causes.specs.declared.numbered.NumberedPackage.{NumberedPackage}
 use Rattle.deb_causes.specs.Causes.{by_first, cores_of}
@@ -10,7 +10,6 @@ use Rattle.deb_causes.specs.Gathered.{cause_from}
 use Rattle.deb_causes.specs.Gathering.{part_of, part_view}
 use Rattle.deb_causes.specs.Numbered.{package_view}
 use Rattle.deb_health.specs.Shown.{IsAskedOf, shown_view}
-use Rattle.deb_causes.specs.Later.{later_view}
 use Rattle.deb_causes.specs.Wrongs.{causes_of}
 use Rattle.deb_causes.proofs.GatheredCauses.{cores-own, numbers-below, numbers-within, parts-causes, parts-some, parts-within, some-cores, told-within}
 use Rattle.deb_causes.proofs.causes.parts_in.Goals as goal
@@ -45,11 +44,10 @@ pub returns-clause-within : goal.returns-clause-within
 returns-clause-within c =
     let packages = map package_view c.in_ok-packages.packages.items in
     let index = c.args.index.now in
-    let later = later_view c.args.later.now in
-    let told : List (ℕ × VerdictView) = map shown_view c.args.broken.now in
+    let told : List (ℕ × ToldView) = map shown_view c.args.broken.now in
     let views : map part_view c.in_ok-parts.parts.items ≡ map (part_of packages) (below c.count.result) =
     c.in_ok-parts.ensures ∙ ap (λ ps. map (part_of (map package_view ps)) (below c.count.result)) c.as_slice.ensures.value in
-    let within : All (All (IsOfIndex index)) (flat_map (λ one. one.1) (map (cores_of later) told)) =
-    told-within index later told c.requires.later (All-map (IsAskedOf index) shown_view c.args.broken.now c.requires.broken) in
+    let within : All (All (IsOfIndex index)) (flat_map (λ one. one.1) (map cores_of told)) =
+    told-within index told (All-map (IsAskedOf index) shown_view c.args.broken.now c.requires) in
     cores-own index c.in_ok-parts.parts.items _ views
     (parts-within index packages c.count.result (subst (λ broken. All (All (IsOfIndex index)) (flat_map (λ one. one.1) broken)) (sym c.in_ok-packages.ensures.cores) within))

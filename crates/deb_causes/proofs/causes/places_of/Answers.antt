@@ -1,6 +1,6 @@
 use Rattle.std.proofs.Common.{◌≡◌, ◌++◌, ◌∷◌, [], ◌∙◌, ℕ, Bool, ap, arith, false, get_or, map, sym, take}
 use Rattle.std.proofs.lemmas.List.{map-append, take_all}
-use Rattle.list_steps.proofs.AtomSteps.{map_more}
+use Rattle.number_sets.proofs.AtomSteps.{map_more}
 use Rattle.deb_causes.specs.declared.gathered.Share.{Share}
 use Rattle.deb_causes.specs.Gathering.{share_view}
 use Rattle.deb_causes.proofs.causes.places_of.Goals as goal

@@ -4,7 +4,7 @@ use Rattle.std.proofs.lemmas.List.Folds.{list_any_more}
 use Rattle.deb_index.specs.declared.constraint.Constraint.{Constraint}
 use Rattle.deb_index.specs.declared.constraint.Constraint.TheVariants.{Essential}
 use Rattle.number_sets.specs.Sets.{members_of}
-use Rattle.list_steps.proofs.ListLemmas.{or_assoc, or_false}
+use Rattle.number_sets.proofs.ListLemmas.{or_assoc, or_false}
 use Rattle.deb_causes.specs.Causes.{is_answer_to}
 use Rattle.deb_causes.proofs.CoreLemmas.{answer-added, no-answer, no-need-from}
 use Rattle.deb_causes.proofs.cores.add_answers.Goals as goal

@@ -1,6 +1,6 @@
 use Rattle.std.proofs.Common.{◌∙◌, ◌∷◌, [], ◌++◌, ap, ap₂, arith, map, Some, slice_get, sym}
 use Rattle.std.proofs.lemmas.List.{map-append, take_all}
-use Rattle.list_steps.proofs.AtomSteps.{map_more}
+use Rattle.number_sets.proofs.AtomSteps.{map_more}
 use Rattle.deb_index.specs.Constraints.{constraints_of}
 use Rattle.deb_causes.proofs.cores.constraints_at.Goals as goal
 

@@ -4,7 +4,7 @@ use Rattle.deb_index.specs.declared.constraint.Constraint.{Constraint}
 use Rattle.deb_index.specs.declared.constraint.Constraint.TheVariants.{Essential}
 use Rattle.deb_index.specs.Packages.{first_of_each}
 use Rattle.deb_health.specs.Causes.{cause_in, is_final}
-use Rattle.list_steps.proofs.ListLemmas.{filter_fails, filter_passes}
+use Rattle.number_sets.proofs.ListLemmas.{filter_fails, filter_passes}
 use Rattle.deb_causes.specs.Causes.{says, says_same}
 use Rattle.deb_causes.specs.Numbering.{texts_of, with_text}
 use Rattle.deb_causes.proofs.CoreLemmas.{wrong-known, wrong-new}

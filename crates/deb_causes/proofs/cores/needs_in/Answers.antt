@@ -6,7 +6,7 @@ use Rattle.std.proofs.lemmas.Result.{IfOk-weaker}
 use Rattle.deb_index.specs.declared.constraint.Constraint.{Constraint}
 use Rattle.deb_index.specs.Constraints.{constraints_of}
 use Rattle.deb_health.specs.Causes.{cause_in}
-use Rattle.list_steps.proofs.AtomSteps.{map_more}
+use Rattle.number_sets.proofs.AtomSteps.{map_more}
 use Rattle.deb_causes.specs.Causes.{needs_in}
 use Rattle.deb_causes.specs.Positions.{is_need_at}
 use Rattle.deb_causes.proofs.CoreLemmas.{both-needs, needs-are, needs-within}

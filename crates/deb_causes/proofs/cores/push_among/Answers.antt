@@ -3,7 +3,7 @@ use Rattle.std.proofs.lemmas.Bool.{eqb-true, false≢true}
 use Rattle.std.proofs.lemmas.List.{take_all}
 use Rattle.std.proofs.lemmas.List.Folds.{list_any-append}
 use Rattle.number_sets.specs.Sets.{members_of}
-use Rattle.list_steps.proofs.ListLemmas.{or_false}
+use Rattle.number_sets.proofs.ListLemmas.{or_false}
 use Rattle.number_sets.proofs.MembersLemmas.{members-more}
 use Rattle.deb_causes.proofs.cores.push_among.Goals as goal
 use Rattle.deb_causes.proofs.cores.push_among.Goals.{then-contains+in_ok-push, else-contains}

@@ -4,7 +4,7 @@ use Rattle.deb_index.specs.declared.constraint.Constraint.{Constraint}
 use Rattle.deb_index.specs.declared.constraint.Constraint.TheVariants.{Essential}
 use Rattle.deb_health.specs.Causes.{cause_in, is_final}
 use Rattle.number_sets.specs.Sets.{members_of}
-use Rattle.list_steps.proofs.ListLemmas.{filter_fails, filter_passes}
+use Rattle.number_sets.proofs.ListLemmas.{filter_fails, filter_passes}
 use Rattle.deb_causes.specs.Positions.{is_need_at}
 use Rattle.deb_causes.proofs.CoreLemmas.{need-passed, need-pushed, no-need-from}
 use Rattle.deb_causes.proofs.cores.push_needs.Goals as goal

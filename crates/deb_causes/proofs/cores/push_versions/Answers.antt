@@ -5,7 +5,7 @@ use Rattle.std.proofs.lemmas.List.Folds.{list_any_more}
 use Rattle.deb_index.specs.declared.constraint.Constraint.{Constraint}
 use Rattle.deb_index.specs.declared.constraint.Constraint.TheVariants.{Essential}
 use Rattle.number_sets.specs.Sets.{members_of}
-use Rattle.list_steps.proofs.ListLemmas.{or_false}
+use Rattle.number_sets.proofs.ListLemmas.{or_false}
 use Rattle.deb_causes.specs.Causes.{is_version_of}
 use Rattle.deb_causes.proofs.CoreLemmas.{no-only-from, no-version, version-added}
 use Rattle.deb_causes.proofs.cores.push_versions.Goals as goal

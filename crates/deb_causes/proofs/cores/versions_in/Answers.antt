@@ -3,7 +3,7 @@ use Rattle.std.specs.List.{list_any}
 use Rattle.std.proofs.lemmas.Bool.{and_left}
 use Rattle.std.proofs.lemmas.List.{get_or_default, take_all}
 use Rattle.deb_index.specs.declared.constraint.Constraint.{Constraint}
-use Rattle.list_steps.proofs.ListLemmas.{any_more, or_false}
+use Rattle.number_sets.proofs.ListLemmas.{any_more, or_false}
 use Rattle.deb_causes.specs.Causes.{is_answer_to, is_version_in, is_version_of}
 use Rattle.deb_causes.proofs.CoreLemmas.{no-versions, version-in, versions-are}
 use Rattle.deb_causes.proofs.cores.versions_in.Goals as goal

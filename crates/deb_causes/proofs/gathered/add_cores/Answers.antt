@@ -1,7 +1,7 @@
 use Rattle.std.proofs.Common.{◌≡◌, ◌∙◌, ◌<◌, ◌∷◌, [], ◌++◌, Bor, List, ap, arith, get_or, length, map, refl, take, ◌+◌}
 use Rattle.std.proofs.lemmas.List.{length-set, map-append}
 use Rattle.deb_index.specs.declared.constraint.Constraint.{Constraint}
-use Rattle.list_steps.proofs.AtomSteps.{map_more}
+use Rattle.number_sets.proofs.AtomSteps.{map_more}
 use Rattle.deb_causes.specs.declared.numbered.NumberedCore.{NumberedCore}
 use Rattle.deb_causes.specs.declared.gathered.Part.{Part}
 use Rattle.deb_causes.specs.Gathering.{part_view, with_cores}

@@ -2,7 +2,7 @@ use Rattle.std.proofs.Common.{◌≡◌, ◌==◌, ◌++◌, ◌∷◌, [], ◌�
 use Rattle.std.proofs.lemmas.List.{map-append, take_all}
 use Rattle.deb_index.specs.declared.constraint.Constraint.{Constraint}
 use Rattle.deb_index.proofs.FirstLemmas.{any-map}
-use Rattle.list_steps.proofs.AtomSteps.{map_more}
+use Rattle.number_sets.proofs.AtomSteps.{map_more}
 use Rattle.number_sets.specs.Sets.{members_of}
 use Rattle.std.specs.List.{list_any}
 use Rattle.deb_causes.specs.declared.numbered.NumberedCore.{NumberedCore}

@@ -2,7 +2,7 @@ use Rattle.std.proofs.Common.{◌≡◌, ◌∙◌, ◌∷◌, [], ◌++◌, Bor
 use Rattle.std.proofs.lemmas.List.{map-append}
 use Rattle.deb_index.specs.declared.constraint.Constraint.{Constraint}
 use Rattle.deb_index.specs.Constraints.{below}
-use Rattle.list_steps.proofs.ListLemmas.{range_more}
+use Rattle.number_sets.proofs.ListLemmas.{range_more}
 use Rattle.deb_causes.specs.declared.gathered.Part.{Part}
 use Rattle.deb_causes.specs.Gathering.{part_of, part_view, share_view}
 use Rattle.deb_causes.proofs.gathered.no_parts.Goals as goal

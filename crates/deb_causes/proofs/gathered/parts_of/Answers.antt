@@ -1,8 +1,8 @@
 use Rattle.std.proofs.Common.{◌≡◌, ◌∙◌, ◌<◌, ◌∷◌, [], ◌++◌, All, ℕ, ap, arith, length, map, subst, sym, take, ◌+◌}
 use Rattle.std.proofs.lemmas.List.{length-map, take_all}
 use Rattle.deb_index.specs.Constraints.{below}
-use Rattle.list_steps.proofs.AtomSteps.{map_more}
-use Rattle.list_steps.proofs.ListLemmas.{all_item}
+use Rattle.number_sets.proofs.AtomSteps.{map_more}
+use Rattle.number_sets.proofs.ListLemmas.{all_item}
 use Rattle.deb_causes.specs.declared.numbered.NumberedCore.{NumberedCore}
 use Rattle.deb_causes.specs.declared.numbered.NumberedPackage.{NumberedPackage}
 use Rattle.deb_causes.specs.Gathering.{part_of, part_view}

@@ -3,13 +3,12 @@ use Rattle.std.specs.List.{flat_map}
 use Rattle.deb_causes.specs.Causes.{cores_of}
 use Rattle.deb_causes.specs.Numbered.{package_view, unnumbered}
 use Rattle.deb_health.specs.Shown.{shown_view}
-use Rattle.deb_causes.specs.Later.{later_view}
 use Rattle.deb_causes.specs.Wrongs.{AreNumbered}
 use Rattle.deb_causes.proofs.numbered.number_packages.Given as goal
 
 abbrev pub invariant-loop-one : goal.invariant-loop-one
 invariant-loop-one l =
     record {
-      cores : map unnumbered (map package_view l.packages.items) ≡ map (cores_of (later_view l.later)) (map shown_view (take l.one-index l.broken));
+      cores : map unnumbered (map package_view l.packages.items) ≡ map cores_of (map shown_view (take l.one-index l.broken));
       numbers : AreNumbered l.index l.initial.wrongs l.wrongs (flat_map (λ one. one.1) (map package_view l.packages.items));
     }

@@ -1,7 +1,7 @@
 use Rattle.std.proofs.Common.{◌∙◌, Bool}
 use Rattle.std.proofs.lemmas.Result.{IfOk-weaker}
 use Rattle.deb_index.specs.Packages.{need_at}
-use Rattle.deb_near.proofs.MissingLemmas.{missing-where}
+use Rattle.deb_causes.proofs.MissingLemmas.{missing-where}
 use Rattle.deb_causes.proofs.wrongs.is_final.Goals as goal
 
 pub returns-in-Need : goal.returns-in-Need

@@ -3,7 +3,7 @@ use Rattle.std.proofs.lemmas.List.{map-append, take_all, take_more}
 use Rattle.deb_index.specs.declared.constraint.Constraint.{Constraint}
 use Rattle.deb_index.specs.declared.constraint.Constraint.TheVariants.{Essential}
 use Rattle.deb_health.specs.Causes.{cause_in, is_final}
-use Rattle.list_steps.proofs.ListLemmas.{filter_fails, filter_passes}
+use Rattle.number_sets.proofs.ListLemmas.{filter_fails, filter_passes}
 use Rattle.deb_causes.specs.Causes.{says}
 use Rattle.deb_causes.specs.Numbering.{Grows, texts_of}
 use Rattle.deb_causes.specs.Said.{number_said}

@@ -1,5 +1,5 @@
 use Rattle.std.proofs.Common.{◌≡◌, ◌∙◌, Bool, List, length, ap, subst, sym}
-use Rattle.list_steps.proofs.ListLemmas.{front_of}
+use Rattle.number_sets.proofs.ListLemmas.{front_of}
 use Rattle.number_sets.specs.Sets.{MarksOnly}
 use Rattle.deb_health.specs.Health.{IsInstallable}
 use Rattle.deb_groundwork.proofs.InstallableLemmas.{none_marked}

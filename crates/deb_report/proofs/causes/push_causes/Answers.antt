@@ -1,8 +1,8 @@
 use Rattle.std.proofs.Common.{append_assoc}
 use Rattle.std.proofs.lemmas.List.{length-map}
 use Rattle.deb_causes.specs.Causes.{cause_view}
-use Rattle.deb_reasons.proofs.FormLemmas.{elements_map}
-use Rattle.deb_reasons.specs.declared.form.Lead.TheVariants.{Tall}
+use Rattle.deb_report.proofs.FormLemmas.{elements_map}
+use Rattle.deb_report.specs.declared.form.Lead.TheVariants.{Tall}
 use Rattle.deb_report.specs.CauseText.{cause_in}
 use Rattle.deb_report.proofs.causes.push_causes.Goals as goal
 

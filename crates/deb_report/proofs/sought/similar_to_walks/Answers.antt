@@ -1,7 +1,7 @@
 use Rattle.std.proofs.Common.{◌∙◌, All, subst, sym}
 use Rattle.deb_index.specs.Constraints.{IsOfIndex}
-use Rattle.deb_near.specs.Similar.{stems_in}
-use Rattle.deb_near.specs.Stems.{AreSought}
+use Rattle.deb_causes.specs.Similar.{stems_in}
+use Rattle.deb_causes.specs.Stems.{AreSought}
 use Rattle.deb_report.proofs.SoughtLemmas.{blocks-walked, final-within}
 use Rattle.deb_report.proofs.sought.similar_to_walks.Goals as goal
 

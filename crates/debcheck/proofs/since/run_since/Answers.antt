@@ -2,7 +2,7 @@ use Rattle.std.proofs.Common.{◌∙◌, Some, map, refl, subst, sym}
 use Rattle.std.proofs.lemmas.Bool.{false≢true}
 use Rattle.std.proofs.lemmas.Result.{IfErr-weaker, err_from_is_err_and}
 use Rattle.run_settings.specs.Settings.{settings_of}
-use Rattle.deb_outcome.specs.Since.{broken_view}
+use Rattle.deb_report.specs.Since.{broken_view}
 use Rattle.deb_input.specs.declared.fault.RunFault.{RunFault}
 use Rattle.deb_input.specs.Inputs.{input}
 use Rattle.debcheck.specs.Run.{FailsToIndex}

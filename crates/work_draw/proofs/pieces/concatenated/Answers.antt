@@ -2,15 +2,14 @@ use Rattle.std.proofs.Common.{rules, List, [], ◌∷◌, ◌++◌, ◌∙◌, a
 use Rattle.std.proofs.lemmas.Grind.{flat_map-append}
 use Rattle.std.proofs.lemmas.Iterator.Adapters.{YieldsList-from_vec}
 use Rattle.std.proofs.lemmas.Iterator.Consumers.{YieldsList-end}
-use Rattle.deb_health.specs.declared.answer.Verdict.{Verdict}
 use Rattle.work_draw.specs.declared.pieces.Piece.{Piece}
 use Rattle.work_draw.proofs.pieces.concatenated.Goals as goal
 
-abbrev verdicts_in : Piece → List Verdict
+abbrev verdicts_in : {T : Type 0} → Piece T → List T
 verdicts_in piece = piece.verdicts.items
 
 pub loop-piece-preserved : goal.loop-piece-preserved
-loop-piece-preserved c =
+loop-piece-preserved g c =
     let before = c.loop-piece.yielded in
     let piece = c.in-Some.piece in
     c.in_ok-append.ensures.items
@@ -18,7 +17,7 @@ loop-piece-preserved c =
     ∙ sym (flat_map-append verdicts_in before (piece ∷ []) ∙ ap (λ back. flat_map verdicts_in before ++ back) (append-nil (verdicts_in piece)))
 
 pub returns : goal.returns
-returns c =
+returns g c =
     let gives = c.into_iter-piece-iterator.ensures.into_iter_gives in
     let end = YieldsList-end (YieldsList-from_vec {s = c.into_iter-piece-iterator.result} c.args.pieces.items gives.0 (search rules))
     c.loop-piece.yielded c.loop-piece.piece-iterator c.loop-piece.yielded_by c.next.result c.next.new.self c.in-None.is c.next.ensures.steps in

@@ -1,8 +1,8 @@
 use Rattle.std.proofs.Common.{◌≡◌, length, [], ◌∷◌, ◌++◌, sym, subst, ◌∙◌, ap, arith}
 use Rattle.std.proofs.lemmas.List.{append-nil}
 use Rattle.std.proofs.lemmas.List.Elements.{All-push}
-use Rattle.work_draw.specs.Checks.{AnswersEach, IsFoundAs, chunk_of}
-use Rattle.draw_board.specs.Board.{DrawerView}
+use Rattle.work_draw.specs.Checks.{AnswersEach, chunk_of}
+use Rattle.work_draw.specs.Board.{DrawerView}
 use Rattle.work_draw.specs.declared.pieces.Piece.{Piece}
 use Rattle.work_draw.specs.Pieces.{Find, numbers_of}
 use Rattle.work_draw.proofs.Answered.{chunk_begins}
@@ -27,12 +27,12 @@ returns-in_err-push-clause-refused g c =
 
 pub loop-number-preserved : goal.loop-number-preserved
 loop-number-preserved g c =
-    let piece : Piece = record { number = c.in-Some.number; verdicts = c.in_ok-verdicts.verdicts } in
-    let found = IsFoundAs c.args.wanted (g.F.Finder.index c.args.finder.now) in
+    let piece : Piece _ = record { number = c.in-Some.number; verdicts = c.in_ok-verdicts.verdicts } in
+    let found = g.F.Finder.finds c.args.finder.now in
     record {
       same = same_but_numbers c.args.drawer.now c.loop-number.drawer c.draw.new.drawer (c.loop-number.drawer.numbers ++ c.in-Some.number ∷ []) c.loop-number.invariant.same c.in-Some.ensures.drawn;
       gained = with_piece c.args.drawer.now.numbers c.loop-number.drawer.numbers c.draw.new.drawer.numbers c.loop-number.pieces.items piece c.loop-number.invariant.gained (ap (λ (d : DrawerView). d.numbers) c.in-Some.ensures.drawn) ∙ ap (λ items. c.args.drawer.now.numbers ++ numbers_of items) (sym c.in_ok-push.ensures.items);
-      found = subst (λ items. Find (IsFoundAs c.args.wanted (g.F.Finder.index c.args.finder.now)) c.args.asked.now c.args.chunk items) (sym c.in_ok-push.ensures.items) (All-push (λ (p : Piece). AnswersEach found (chunk_of c.args.asked.now c.args.chunk p.number) p.verdicts.items) c.loop-number.pieces.items piece c.loop-number.invariant.found c.in_ok-verdicts.ensures);
+      found = subst (λ items. Find (g.F.Finder.finds c.args.finder.now) c.args.asked.now c.args.chunk items) (sym c.in_ok-push.ensures.items) (All-push (λ p. AnswersEach found (chunk_of c.args.asked.now c.args.chunk p.number) p.verdicts.items) c.loop-number.pieces.items piece c.loop-number.invariant.found c.in_ok-verdicts.ensures);
     }
 
 pub returns-clause-refused : goal.returns-clause-refused
@@ -40,8 +40,8 @@ returns-clause-refused g c =
     let same : c.draw.new.drawer.numbers ≡ c.loop-number.drawer.numbers = ap (λ (d : DrawerView). d.numbers) c.in_default.ensures.none in
     ([], omega arith, same ∙ (c.loop-number.invariant.gained ∙ sym (append-nil (c.args.drawer.now.numbers ++ numbers_of c.loop-number.pieces.items))))
 
-pub check_chunk-requires : goal.check_chunk-requires
-check_chunk-requires g c =
+pub find_chunk-requires : goal.find_chunk-requires
+find_chunk-requires g c =
     let ready = c.requires.ready in
     record {
       begins = chunk_begins c.args.board.now.total c.in-Some.number c.args.chunk (length c.args.asked.now) ready.2 ready.3 c.in-Some.ensures.below;

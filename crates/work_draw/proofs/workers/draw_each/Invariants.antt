@@ -1,5 +1,4 @@
 use Rattle.std.proofs.Common.{◌≡◌, ◌-◌}
-use Rattle.work_draw.specs.Checks.{IsFoundAs}
 use Rattle.work_draw.specs.Pieces.{Find, Gains}
 use Rattle.work_draw.proofs.Bounds.{bound_of}
 use Rattle.work_draw.proofs.workers.draw_each.Given as goal
@@ -8,7 +7,7 @@ abbrev pub invariant-loop-number : goal.invariant-loop-number
 invariant-loop-number g l = record {
   same : l.drawer ≡ record l.fn.drawer { numbers = l.drawer.numbers };
   gained : Gains l.fn.drawer.numbers l.pieces.items l.drawer.numbers;
-  found : Find (IsFoundAs l.wanted (g.F.Finder.index l.finder)) l.asked l.chunk l.pieces.items;
+  found : Find (g.F.Finder.finds l.finder) l.asked l.chunk l.pieces.items;
 }
 
 abbrev pub decreases-loop-number : goal.decreases-loop-number

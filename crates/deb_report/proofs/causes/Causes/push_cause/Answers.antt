@@ -1,10 +1,10 @@
 use Rattle.std.proofs.Common.{◌∙◌, ◌∷◌, [], Bor, List, ℕ, ap, codes, length, refl, sym}
-use Rattle.deb_near.specs.Near.{near_misses, near_view, similar_names}
-use Rattle.deb_reasons.proofs.FormLemmas.{some_map}
-use Rattle.deb_reasons.specs.Forms.{block_end, list_in, name_in, number_in, some_in}
-use Rattle.deb_reasons.specs.Hits.{hits_of}
-use Rattle.deb_reasons.specs.Reasons.{near_in, place_in}
-use Rattle.deb_reasons.specs.declared.form.Lead.TheVariants.{Block, Within}
+use Rattle.deb_causes.specs.Near.{near_misses, near_view, similar_names}
+use Rattle.deb_report.proofs.FormLemmas.{some_map}
+use Rattle.deb_report.specs.Forms.{block_end, list_in, name_in, number_in, some_in}
+use Rattle.deb_report.specs.Hits.{hits_of}
+use Rattle.deb_report.specs.Reasons.{near_in, place_in}
+use Rattle.deb_report.specs.declared.form.Lead.TheVariants.{Block, Within}
 use Rattle.deb_report.specs.CauseText.{cause_in, needed_in, wrong_in}
 use Rattle.deb_report.proofs.JoinLemmas.{added, in-order}
 use Rattle.deb_report.proofs.causes.Causes.push_cause.Goals as goal

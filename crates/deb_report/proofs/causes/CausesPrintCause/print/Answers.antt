@@ -1,6 +1,6 @@
 use Rattle.std.proofs.Common.{◌∙◌, Bor, List, ℕ, ap, map}
-use Rattle.deb_near.specs.Near.{near_misses, near_view, similar_names}
-use Rattle.deb_reasons.specs.Hits.{hits_of}
+use Rattle.deb_causes.specs.Near.{near_misses, near_view, similar_names}
+use Rattle.deb_report.specs.Hits.{hits_of}
 use Rattle.deb_report.proofs.causes.CausesPrintCause.print.Goals as goal
 
 pub hits_of-requires : goal.hits_of-requires

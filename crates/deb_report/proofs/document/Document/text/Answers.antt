@@ -1,10 +1,10 @@
 use Rattle.std.proofs.Common.{codes, refl}
-use Rattle.list_steps.proofs.JoinLemmas.{lines_map}
+use Rattle.deb_relation.proofs.JoinLemmas.{lines_map}
 use Rattle.deb_health.specs.Shown.{shown_view}
-use Rattle.deb_outcome.specs.Outcome.{number_view}
-use Rattle.deb_outcome.specs.Since.{amends_view}
-use Rattle.deb_reasons.proofs.FormLemmas.{list_map}
-use Rattle.deb_reasons.specs.declared.form.Lead.TheVariants.{Tall}
+use Rattle.deb_report.specs.Outcome.{number_view}
+use Rattle.deb_report.specs.Since.{amends_view}
+use Rattle.deb_report.proofs.FormLemmas.{list_map}
+use Rattle.deb_report.specs.declared.form.Lead.TheVariants.{Tall}
 use Rattle.deb_report.specs.Document.{amended_in, block_in, counted_in, text_in}
 use Rattle.deb_report.specs.Told.{telling_view}
 use Rattle.deb_report.proofs.document.Document.text.Goals as goal
@@ -12,7 +12,7 @@ use Rattle.deb_report.proofs.document.Document.text.Goals as goal
 pub push_list-requires : goal.push_list-requires
 push_list-requires c =
     rw c.as_slice-blocks.ensures.value
-    (λ k d below. record { asked = c.requires.content.blocks k d below; later = c.requires.later; walked = c.requires.walked k d below })
+    (λ k d below. record { asked = c.requires.content.blocks k d below; walked = c.requires.walked k d below })
 
 pub returns : goal.returns
 unfolding text_in

@@ -1,10 +1,10 @@
 use Rattle.std.proofs.Common.{◌≡◌, ◌∙◌, ◌++◌, Bool, true, List, ℕ, [], ap, append_assoc, codes, if◌then◌else◌, refl}
 use Rattle.deb_index.specs.Packages.{package_view}
 use Rattle.deb_health.specs.Shown.{shown_view}
-use Rattle.deb_health.specs.Verdicts.{verdict_view}
-use Rattle.deb_outcome.specs.Outcome.{status_of}
-use Rattle.deb_reasons.specs.Forms.{block_end, string_in}
-use Rattle.deb_reasons.specs.declared.form.Lead.TheVariants.{Block, Within}
+use Rattle.deb_health.specs.Verdicts.{told_view}
+use Rattle.deb_report.specs.Outcome.{status_of}
+use Rattle.deb_report.specs.Forms.{block_end, string_in}
+use Rattle.deb_report.specs.declared.form.Lead.TheVariants.{Block, Within}
 use Rattle.deb_report.specs.Document.{block_in, explanation_in}
 use Rattle.deb_report.specs.Told.{telling_view}
 use Rattle.deb_report.proofs.document.DocumentPrintShown.print.Goals as goal
@@ -32,7 +32,7 @@ returns c =
     let name = string_in form Block (codes "package") deb.name in
     let version = string_in form Within (codes "version") deb.version in
     let architecture = string_in form Within (codes "architecture") deb.architecture in
-    let status = string_in form Within (codes "status") (status_of (verdict_view c.args.shown.now.verdict.now)) in
+    let status = string_in form Within (codes "status") (status_of (told_view c.args.shown.now.told.now)) in
     elim c.if-self.branch [
       | then-self+in_ok-push_explanation w ↦
           let told = explanation_in form c.args.self.now.writer.index.now telling (shown_view c.args.shown.now) in

@@ -1,8 +1,8 @@
 use Rattle.std.proofs.Common.{Bor}
-use Rattle.deb_outcome.specs.declared.broken.BrokenPackage.{BrokenPackage}
-use Rattle.deb_outcome.specs.Since.{broken_view}
-use Rattle.deb_reasons.proofs.FormLemmas.{list_map}
-use Rattle.deb_reasons.specs.declared.form.Lead.TheVariants.{Other}
+use Rattle.deb_report.specs.declared.broken.BrokenPackage.{BrokenPackage}
+use Rattle.deb_report.specs.Since.{broken_view}
+use Rattle.deb_report.proofs.FormLemmas.{list_map}
+use Rattle.deb_report.specs.declared.form.Lead.TheVariants.{Other}
 use Rattle.deb_report.specs.Document.{broken_in}
 use Rattle.deb_report.proofs.numbers.DocumentPrintAmends.print.Goals as goal
 

@@ -1,4 +1,0 @@
-mod NearLemmas
-pub mod SimilarLemmas
-mod StemLemmas
-pub mod MissingLemmas

@@ -1,4 +1,0 @@
-pub mod Near
-pub mod Stems
-pub mod Similar
-pub mod Missing

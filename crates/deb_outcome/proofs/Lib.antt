@@ -1,3 +1,0 @@
-mod AskedLemmas
-mod MarkLemmas
-pub mod ShownLemmas

@@ -1,6 +1,0 @@
-use Rattle.std.proofs.Common.{◌≡◌, None, find, map, take}
-use Rattle.deb_outcome.specs.Asked.{is_unknown}
-use Rattle.deb_outcome.proofs.asked.first_unknown.Given as goal
-
-abbrev pub invariant-loop-name : goal.invariant-loop-name
-invariant-loop-name l = find (is_unknown l.index) (map (λ name. name.items) (take l.name-index l.names)) ≡ None

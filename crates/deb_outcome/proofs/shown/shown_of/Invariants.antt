@@ -1,8 +1,0 @@
-use Rattle.std.proofs.Common.{◌≡◌, map, take}
-use Rattle.deb_health.specs.Verdicts.{verdict_view}
-use Rattle.deb_outcome.specs.Outcome.{shown_of}
-use Rattle.deb_health.specs.Shown.{shown_view}
-use Rattle.deb_outcome.proofs.shown.shown_of.Given as goal
-
-abbrev pub invariant-loop-i : goal.invariant-loop-i
-invariant-loop-i l = map shown_view l.shown.items ≡ shown_of l.show (take l.i l.asked) (map verdict_view (take l.i l.verdicts))

@@ -1,3 +1,0 @@
-pub mod Asked
-pub mod Outcome
-pub mod Since

@@ -1,6 +1,0 @@
-use Rattle.std.proofs.Common.{take}
-use Rattle.deb_reasons.specs.Own.{IsTableOf}
-use Rattle.deb_reasons.proofs.own.OwnTable.new.Given as goal
-
-abbrev pub invariant-loop-constraint : goal.invariant-loop-constraint
-invariant-loop-constraint l = IsTableOf (take l.constraint-index l.core) l.lists

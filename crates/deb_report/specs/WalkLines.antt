@@ -1,0 +1,108 @@
+-- A core as it is walked from the package, in lines.
+use Rattle.std.specs.Prelude.{ℕ, ◌==◌, Bool, true, false, not, ◌||◌, List, [], ◌∷◌, ◌++◌, codes, if◌then◌else◌, length}
+use Prim.Native.Nat.{zero, suc}
+use Rattle.std.specs.List.{flat_map, join_by}
+use Rattle.number_sets.specs.Sets.{NumberSet, members_of}
+use Rattle.deb_relation.specs.Relationship.{AtomText}
+use Rattle.deb_index.specs.declared.constraint.Constraint.{Constraint}
+use Rattle.deb_index.specs.declared.constraint.Constraint.TheVariants.{Essential, Need, Apart, Only}
+use Rattle.deb_index.specs.Packages.{IndexView, PackageView, apart_at, name_at, need_at, package_at}
+use Rattle.deb_causes.specs.Near.{NearMissView, near_misses, similar_names}
+use Rattle.deb_report.specs.declared.walk.Step.{Step}
+use Rattle.deb_report.specs.declared.walk.Step.TheVariants.{Begin, Meet, Tell}
+use Rattle.deb_report.specs.Answers.{met_by}
+use Rattle.deb_report.specs.Walk.{are_told, brought, comers, first_steps, hits_in, own_steps, step_limit, versions_coming, walk}
+use Rattle.deb_report.specs.Forms.{part_line}
+use Rattle.deb_report.specs.Reasons.{asked_parts, entry_field, group_field, near_parts, package_part}
+use Rattle.deb_relation.specs.Texts.{told_if}
+use Rattle.deb_causes.specs.Missing.{is_missing}
+
+-- ---- what a step tells
+
+-- two blanks for each depth
+unfoldable pub blanks : ℕ → List ℕ
+blanks zero = []
+blanks (suc depth) = blanks depth ++ codes "  "
+
+-- what stands before a line
+unfoldable pub lead : ℕ → List ℕ
+lead depth = blanks depth ++ codes "   - "
+
+-- what was told already
+unfoldable pub above_text : Bool → List ℕ
+above_text told = if told then codes " (above)" else []
+
+-- a package that may be told already
+unfoldable pub seen_text : IndexView → NumberSet → ℕ → List ℕ
+seen_text index told place = part_line (package_part (package_at index place)) ++ above_text (told place)
+
+-- some of them, one after the other
+abbrev pub seen_texts : IndexView → NumberSet → List ℕ → List ℕ
+seen_texts index told places = join_by (seen_text index told) (codes ", ") places
+
+-- a near miss
+unfoldable pub near_text : NearMissView → List ℕ
+near_text miss = flat_map part_line (near_parts miss)
+
+-- what a package asks for
+abbrev pub asked_text : PackageView → List ℕ → List AtomText → List ℕ
+asked_text deb field relation = flat_map part_line (asked_parts deb field relation)
+
+-- what comes near to a need
+unfoldable pub present_text : List NearMissView → List ℕ
+present_text misses = told_if (codes "; present: ") near_text misses
+
+-- names that are similar to those of a need
+unfoldable pub similar_text : List (List ℕ) → List ℕ
+similar_text names = told_if (codes "; similar: ") (λ name. name) names
+
+-- a need that nothing meets, with what comes near, and the names that are similar
+unfoldable pub missing_text : List NearMissView → List (List ℕ) → List ℕ
+missing_text misses names = codes " missing" ++ present_text misses ++ similar_text names
+
+-- what an entry hits
+unfoldable pub hits_text : IndexView → NumberSet → List ℕ → List ℕ
+hits_text index told places = told_if (codes " hits ") (seen_text index told) places
+
+-- how a need ends
+unfoldable pub need_ending : IndexView → NumberSet → Constraint → List AtomText → List ℕ
+need_ending index told constraint group = if is_missing index group
+    then missing_text (near_misses index (constraint ∷ [])) (similar_names index (constraint ∷ []))
+    else above_text (are_told told (brought index constraint))
+
+-- what the core says
+unfoldable pub constraint_text : IndexView → NumberSet → NumberSet → Constraint → List ℕ
+constraint_text index coming told (Essential name) = codes "essential: " ++ name_at index name ++ above_text (are_told told (brought index (Essential name)))
+constraint_text index coming told (Need place number) = let deb = package_at index place in let group = need_at index place number in
+    asked_text deb (group_field deb number) group ++ need_ending index told (Need place number) group
+constraint_text index coming told (Apart place number) = let deb = package_at index place in let entry = apart_at index place number in
+    asked_text deb (entry_field deb number) (entry ∷ []) ++ hits_text index told (hits_in index coming place entry)
+constraint_text index coming told (Only name) = codes "versions: " ++ seen_texts index told (versions_coming index coming name)
+
+-- the line of a package, with the entry of Provides by which it is met
+unfoldable pub package_line : IndexView → ℕ → ℕ → List AtomText → Bool → List ℕ
+package_line index depth place entries told = lead depth ++ near_text (record { deb = package_at index place; provides = entries }) ++ above_text told ++ codes "\n"
+
+-- a package has a line of its own where the core says nothing of it, or where it is met by Provides
+unfoldable pub package_text : IndexView → List Constraint → ℕ → ℕ → List AtomText → List ℕ
+package_text index core depth place entries =
+    if length (own_steps core depth place) == 0 || not (length entries == 0) then package_line index depth place entries false else []
+
+-- what a step tells
+unfoldable pub step_text : IndexView → List Constraint → NumberSet → NumberSet → Step → List ℕ
+step_text index core coming told (Begin place) = if told place then [] else package_text index core 0 place []
+step_text index core coming told (Meet depth place constraint) =
+    if told place then package_line index depth place (met_by index constraint place) true
+    else package_text index core depth place (met_by index constraint place)
+step_text index core coming told (Tell depth constraint) = lead depth ++ constraint_text index coming told constraint ++ codes "\n"
+
+-- ---- the walk
+
+-- what the steps of a walk tell, as they are gone
+abbrev pub walk_text : ℕ → IndexView → List Constraint → NumberSet → NumberSet → List Step → List ℕ
+walk_text count index core coming told steps = flat_map (λ gone. step_text index core coming gone.0 gone.1) (walk count index core told steps)
+
+-- the lines of a core as it is walked from the package at a place
+unfoldable pub walk_lines : IndexView → ℕ → List Constraint → List ℕ
+walk_lines index place core =
+    walk_text step_limit index core (members_of (comers index core place)) (members_of []) (first_steps core place)

@@ -1,0 +1,158 @@
+//! What is told of packages and constraints, whatever its form.
+
+ghost use Rattle.std.specs.Prelude.{◌≡◌, ◌++◌, ◌<◌, OnOk, length};
+ghost use Rattle.deb_relation.specs.AtomView.{atom_view};
+ghost use Rattle.deb_relation.specs.Relationship.{printed};
+ghost use Rattle.deb_index.specs.Constraints.{IsOfIndex};
+ghost use Rattle.deb_index.specs.Packages.{package_view};
+ghost use Rattle.deb_causes.specs.Near.{near_view};
+ghost use Rattle.deb_report.specs.Forms.{name_in};
+ghost use Rattle.deb_report.specs.Reasons.{entry_field, group_field, near_in, place_in, reason_front, reason_in};
+
+use crate::form::{Lead, Writer};
+use crate::parts::{Part, package_part};
+use deb_causes::{NearMiss, is_missing};
+use deb_index::{Constraint, Package, RelField};
+use deb_relation::{Atom, Print};
+use std::alloc::AllocError;
+use std::slice;
+
+/// The field that a group stands in.
+#[tactic(auto, unfolding(crate::specs::Reasons::group_field))]
+pub fn group_field(deb: &Package, number: u32) -> &'static str
+    ensures { result.now ≡ group_field (package_view deb.now) number }
+{
+    if (number as usize) < deb.pre_depends.len() {
+        RelField::PreDepends.name()
+    } else {
+        RelField::Depends.name()
+    }
+}
+
+/// The field that an entry stands in.
+#[tactic(auto, unfolding(crate::specs::Reasons::entry_field))]
+pub(crate) fn entry_field(deb: &Package, number: u32) -> &'static str
+    ensures { result.now ≡ entry_field (package_view deb.now) number }
+{
+    if (number as usize) < deb.conflicts.len() {
+        RelField::Conflicts.name()
+    } else {
+        RelField::Breaks.name()
+    }
+}
+
+impl<'i> Writer<'i> {
+    /// Adds what a constraint is told by, up to the end of its item.
+    #[tactic(auto, unfolding(crate::specs::Reasons::reason_parts))]
+    pub fn push_reason_front(
+        &self,
+        out: &mut Vec<u8>,
+        constraint: Constraint,
+    ) -> Result<(), AllocError>
+        requires { IsOfIndex self.now.index.now constraint }
+        ensures { OnOk result (out.new.items ≡ out.old.items ++ reason_front self.now.format self.now.index.now constraint) }
+    {
+        match constraint {
+            Constraint::Essential(name) => {
+                let name = Part::Name(self.index.name_text(name));
+                self.push_front(out, Lead::Within, &[Part::Kind(b"essential"), name])?;
+            }
+            Constraint::Need(place, number) => {
+                let missing = is_missing(self.alloc, self.index, place, number)?;
+                let kind: &[u8] = if missing { b"missing" } else { b"depends" };
+                let deb = self.index.package(place);
+                let field = Part::Field(group_field(deb, number).as_bytes());
+                let relation = Part::Relation(self.index.need(place, number));
+                self.push_front(
+                    out,
+                    Lead::Within,
+                    &[Part::Kind(kind), package_part(deb), field, relation],
+                )?;
+            }
+            Constraint::Apart(place, number) => {
+                let deb = self.index.package(place);
+                let field = Part::Field(entry_field(deb, number).as_bytes());
+                let relation = Part::Relation(slice::from_ref(self.index.apart(place, number)));
+                self.push_front(
+                    out,
+                    Lead::Within,
+                    &[Part::Kind(b"conflict"), package_part(deb), field, relation],
+                )?;
+            }
+            Constraint::Only(name) => {
+                let name = Part::Name(self.index.name_text(name));
+                self.push_front(out, Lead::Within, &[Part::Kind(b"versions"), name])?;
+            }
+        }
+        Ok(())
+    }
+}
+
+impl<'i> Print<Constraint> for Writer<'i> {
+    ghost fits = { λ writer constraint. IsOfIndex writer.index.now constraint };
+
+    ghost text = { λ writer constraint. reason_in writer.format writer.index.now constraint };
+
+    fn print(&self, out: &mut Vec<u8>, constraint: &Constraint) -> Result<(), AllocError> {
+        self.push_reason_front(out, *constraint)?;
+        self.push_item_end(out)?;
+        Ok(())
+    }
+}
+
+impl<'i> Print<u32> for Writer<'i> {
+    ghost fits = { λ writer place. place < length writer.index.now.packages };
+
+    ghost text = { λ writer place. place_in writer.format writer.index.now place };
+
+    fn print(&self, out: &mut Vec<u8>, place: &u32) -> Result<(), AllocError> {
+        self.push_item(
+            out,
+            Lead::Within,
+            &[package_part(self.index.package(*place))],
+        )?;
+        Ok(())
+    }
+}
+
+impl<'i, 'm> Print<NearMiss<'m>> for Writer<'i> {
+    ghost fits = { λ _ _. Unit {0} };
+
+    ghost text = { λ writer miss. near_in writer.format (near_view miss) };
+
+    #[tactic(auto, unfolding(crate::specs::Reasons::near_parts))]
+    fn print(&self, out: &mut Vec<u8>, miss: &NearMiss<'m>) -> Result<(), AllocError> {
+        let deb = miss.deb;
+        if miss.provides.is_empty() {
+            self.push_item(out, Lead::Within, &[package_part(deb)])?;
+        } else {
+            let provides = Part::Provides(&miss.provides);
+            self.push_item(out, Lead::Within, &[package_part(deb), provides])?;
+        }
+        Ok(())
+    }
+}
+
+impl<'i> Print<Atom> for Writer<'i> {
+    ghost fits = { λ _ _. Unit {0} };
+
+    ghost text = { λ writer atom. name_in writer.format (printed (atom_view atom)) };
+
+    fn print(&self, out: &mut Vec<u8>, atom: &Atom) -> Result<(), AllocError> {
+        let mut text = Vec::new(self.alloc);
+        atom.append_to(&mut text)?;
+        self.push_name(out, text.as_slice())?;
+        Ok(())
+    }
+}
+
+impl<'i, 'n> Print<&'n [u8]> for Writer<'i> {
+    ghost fits = { λ _ _. Unit {0} };
+
+    ghost text = { λ writer name. name_in writer.format name.now };
+
+    fn print(&self, out: &mut Vec<u8>, name: &&'n [u8]) -> Result<(), AllocError> {
+        self.push_name(out, name)?;
+        Ok(())
+    }
+}

@@ -1,4 +1,0 @@
-pub mod AtomSteps
-pub mod JoinLemmas
-pub mod ListLemmas
-pub mod PlaceLemmas
