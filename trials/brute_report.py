@@ -10,20 +10,20 @@ WORDS = ("causes", "all_reasons", "why")
 
 
 class Telling(NamedTuple):
-    """How blocks are told, and the options that a document names, None where it names none."""
+    """How blocks are told, whether all causes are found, and the options that a document names."""
     explain: bool
     also: bool
+    finds_all: bool
     why: bool
     options: list
 
 
 def telling_of(words):
-    new = [word for word in WORDS if getattr(words, word)]
     explain = words.explain or words.all_reasons or words.why
     asked = [("explain", explain), ("failures", words.show == "failures"), ("successes", words.show == "successes"),
              ("ignore-essential", not words.essential), ("checkonly", words.only is not None), ("bg", words.background), ("since", words.since)]
-    options = [name for name, is_asked in asked if is_asked] + [word.replace("_", "-") for word in new]
-    return Telling(explain, words.all_reasons, words.why, options if new else None)
+    asked += [(word.replace("_", "-"), getattr(words, word)) for word in WORDS]
+    return Telling(explain, words.all_reasons, words.causes, words.why, [name for name, is_asked in asked if is_asked])
 
 
 class Block(NamedTuple):
@@ -46,13 +46,18 @@ class Block(NamedTuple):
         if telling.explain and self.members is not None:
             yield from listed("installation-set", self.members)
         elif telling.explain:
-            yield from self.walked() if telling.why else listed("reasons", self.cores[0])
+            yield from self.core("why" if telling.why else "reasons", self.cores[0], telling)
             for core in self.cores[1:] if telling.also else []:
-                yield from listed("also", core)
+                yield from self.core("also", core, telling)
+            if self.further(telling):
+                yield "  further: %d" % self.further(telling)
 
-    def walked(self):
-        yield "  why:"
-        yield from Walk(self.index, self.place, self.cores[0]).text
+    def core(self, title, core, telling):
+        return ["  %s:" % title, *Walk(self.index, self.place, core).text] if telling.why else listed(title, core)
+
+    def further(self, telling):
+        """How many cores are found and not told."""
+        return len(self.cores) - 1 if telling.finds_all and not telling.also else 0
 
     def value(self, telling):
         told = {**self.package.value(), "architecture": self.package.arch, "status": self.status()}
@@ -61,7 +66,7 @@ class Block(NamedTuple):
         elif telling.explain:
             cores = [walked_values(self.index, core) if telling.why else values(core) for core in self.cores]
             told["reasons"] = cores[0]
-            told.update({"also": cores[1:]} if telling.also else {})
+            told.update({"also": cores[1:]} if telling.also else {"further": self.further(telling)} if self.further(telling) else {})
         return told
 
 
@@ -125,8 +130,8 @@ class Report(NamedTuple):
         return "".join(line + "\n" for line in lines)
 
     def document(self):
-        head = "" if self.telling.options is None else '"format":1,"options":%s,' % dense(self.telling.options)
-        text = '{%s"architecture":"%s","report":[\n' % (head, ARCH) + rows(block.value(self.telling) for block in self.blocks)
+        head = '{"format":2,"options":%s,"architecture":"%s","report":[\n' % (dense(self.telling.options), ARCH)
+        text = head + rows(block.value(self.telling) for block in self.blocks)
         text += "]," + ",".join('"%s":%d' % pair for pair in self.counts)
         text += "".join(',"%s":%s' % (title, dense(values(packages))) for title, packages in self.lists)
         if self.causes is not None:

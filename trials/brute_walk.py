@@ -105,14 +105,16 @@ def above(is_told):
 
 def walked_values(index, core):
     """The constraints of a core in JSON, each with the packages that it speaks of."""
-    return [{**one.value(), **walked_member(index.packages, one)} for one in core]
+    return [{**one.value(), **walked_member(index, one)} for one in core]
 
 
-def walked_member(packages, one):
+def walked_member(index, one):
+    packages = index.packages
     if one.kind == "depends":
         told = [(packages[place], met_by(packages[place], one)) for place in bits(one.row)]
         return {"met-by": [{**package.value(), **({"provides": entries} if entries else {})} for package, entries in told]}
     if one.kind == "missing":
-        return {"alternatives": one.relation.split(" | ")}
+        near = [miss.value() for miss in near_misses(index, one.wanted)]
+        return {"alternatives": one.relation.split(" | "), "present": near, "similar": similar_names(index, one.wanted)}
     title = {"conflict": "hits", "versions": "versions"}.get(one.kind)
     return {title: [packages[place].value() for place in bits(one.row)]} if title else {}

@@ -164,35 +164,33 @@ def at(value, path):
     return value
 
 
-# A list may be empty where this is its key, but for the lists of a walk.
-MAY_BE_EMPTY = {"report", "mended", "gone", "also", "causes", "needed-by", "hits", "versions", "present", "similar"}
+# A list may be empty where this is its key, but for those of a walk.
+MAY_BE_EMPTY = {"options", "report", "mended", "gone", "also", "causes", "needed-by", "hits", "versions", "present", "similar"}
 OF_A_WALK = {"met-by", "hits", "versions", "alternatives"}
 COUNTS = ("stanzas", "skipped", "duplicates", "background", "asked", "broken", "newly-broken", "frees")
 OTHERS = {
     "package": ["", "-a", "a b", 1, None], "name": ["", "+a", 2], "version": ["", "1_2", "1-", ":1", "a:1", "1:", 1.0],
     "architecture": ["", "a b", None], "status": ["Ok", "", "unknown"], "kind": ["missed", "", 1], "field": ["Recommends", "depends", "Provides"],
     "relation": ["", "b |", "b (1)", "b (< 1)", "b, c", "b  | c", ["b"]], "packages": [0, -1, "1", 1.5],
-    "format": [0, 2, "1", None], **{it: [-1, "1", 0.5, None] for it in COUNTS},
+    "format": [0, 1, "2", None], "further": [0, "1", 0.5, None], **{it: [-1, "1", 0.5, None] for it in COUNTS},
 }
 
 
-def may_go(document, value, key):
-    """Whether the document stays a report without the key of the object."""
-    if "options" not in document and (key == "background" or "status" in value):
-        return key in ("background", "installation-set", "reasons")
-    return key == "provides"
+def may_go(key):
+    """Whether a document stays a report without the key of an object."""
+    return key in ("provides", "further")
 
 
 def spoiled_options(document):
     """Yields what is spoiled and a document with just that spoiled among its options."""
-    options = document.get("options", [])
+    options = document["options"]
     explained = [it for it in document["report"] if "reasons" in it]
     tied = {"explain": document["report"], "all-reasons": explained, "why": explained, "causes": True, "bg": True, "since": True}
     for option in options:
         if tied.get(option):
             yield f"options without {option}", {**document, "options": [it for it in options if it != option]}
         yield f"options with {option} twice", {**document, "options": [*options, option]}
-    for option in [it for it in ("causes", "bg", "since", "workers") if options and it not in options]:
+    for option in [it for it in ("causes", "bg", "since", "workers") if it not in options]:
         yield f"options with {option}", {**document, "options": [*options, option]}
 
 
@@ -214,9 +212,9 @@ def spoiled(document):
 
 def spoiled_keys(document, value):
     """Yields what of an object is spoiled, and how."""
-    yield "with a further key", lambda it: it.update(further=1)
+    yield "with another key", lambda it: it.update(more=1)
     for key in value:
-        if not may_go(document, value, key):
+        if not may_go(key):
             yield f"without {key}", lambda it, key=key: it.pop(key)
         for other in OTHERS.get(key, []) if not isinstance(value[key], list) else ["", None, {}]:
             yield f"with {key} {other!r}", lambda it, key=key, other=other: it.update({key: other})
@@ -270,7 +268,7 @@ WANTED = {
     *[("document", it) for it in ("background", "causes")], *[("kind", it) for it in ("missing", "depends", "conflict", "versions", "essential")],
     *[("field", it) for it in ("Pre-Depends", "Depends", "Conflicts", "Breaks")], ("status", "ok"), ("status", "broken"), ("key", "provides"),
     *[("key", it) for it in ("installation-set", "reasons", "also", "present", "similar", "needed-by", "frees", "hits", "versions")],
-    *[("key", it) for it in ("met-by", "alternatives", "newly-broken", "mended", "gone")], ("document", "format"),
+    *[("key", it) for it in ("met-by", "alternatives", "newly-broken", "mended", "gone", "further")],
 }
 
 
@@ -281,7 +279,7 @@ def misplaced(documents, schema):
         for value in (at(document, path) for path in places(document)):
             if isinstance(value, dict) and not in_order(value, orders):
                 yield f"keys in another order: {[*value]}"
-        options = document.get("options", [])
+        options = document["options"]
         if options != [it for it in OPTIONS if it in options]:
             yield f"options in another order: {options}"
 
@@ -301,10 +299,10 @@ def read_all(validator):
 
 
 def each_part(documents):
-    """Yields reports that together have each part that some report has, with options and without."""
+    """Yields reports that together have each part that some report has."""
     met = set()
     for document in sorted(documents, key=lambda it: len(json.dumps(it))):
-        parts = {("options" in document, *it) for it in kinds_met([document])} | {("option", it) for it in document.get("options", [])}
+        parts = kinds_met([document]) | {("option", it) for it in document["options"]}
         if not parts <= met:
             met |= parts
             yield document

@@ -126,7 +126,7 @@ def told(package: Json, packages: Packages) -> Json:
 
 def write_report(rest: Json, shown: list[Json]) -> None:
     """The program's document, each package on a line of its own."""
-    head = {key: rest[key] for key in ("format", "options", "architecture") if key in rest}
+    head = {key: rest[key] for key in ("format", "options", "architecture")}
     tail = {key: value for key, value in rest.items() if key not in head}
     sys.stdout.writelines(
         parts(json.dumps(head)[:-1], [json.dumps(package) for package in shown], json.dumps(tail)[1:])

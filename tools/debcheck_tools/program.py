@@ -19,7 +19,7 @@ BUILT = os.path.join(TOP, "crates", "debcheck_program", "out", "debcheck_program
 STANZA_FAULT = re.compile(r"debcheck: (?:(background|earlier index): )?stanza (\d+): (.*)")
 
 # The format that docs/report.schema.json describes.
-FORMAT = 1
+FORMAT = 2
 
 # As many workers as there are processors for this process.
 WORKERS = ("--workers", str(min(64, len(os.sched_getaffinity(0)))))
@@ -65,8 +65,8 @@ class Report:
 
     def lines(self) -> Iterator[Json]:
         self.rest = json.loads(self.text.readline() + b"]}")
-        if self.rest.get("format", FORMAT) != FORMAT:
-            raise ValueError(f"its format is {self.rest['format']}, and these tools read {FORMAT}")
+        if self.rest.get("format") != FORMAT:
+            raise ValueError(f"its format is {self.rest.get('format', 1)}, and these tools read {FORMAT}")
         del self.rest["report"]
         for line in self.text:
             if line.startswith(b"],"):

@@ -31,7 +31,7 @@ def test_a_report_of_several_files_and_a_background(write: Write) -> None:
         report.rest["broken"],
         report.rest["background"],
         report.rest["format"],
-    ) == (1, 2, 1, 1, 1)
+    ) == (1, 2, 1, 1, 2)
 
 
 def test_no_package_is_shown(write: Write) -> None:
@@ -103,8 +103,9 @@ OTHERS = {
         "echo \"error: unexpected argument '--all-reasons' found\" >&2; exit 64",
         "is another release than these tools",
     ),
-    "newer": ('echo \'{"format":2,"report":[\'', "its format is 2, and these tools read 1"),
-    "half": ('printf \'{"format":1,"architecture":"amd64","report":[\\n{"package":"a"},\\n\'', "isn't whole"),
+    "earlier": ('echo \'{"architecture":"amd64","report":[\'', "its format is 1, and these tools read 2"),
+    "newer": ('echo \'{"format":3,"report":[\'', "its format is 3, and these tools read 2"),
+    "half": ('printf \'{"format":2,"architecture":"amd64","report":[\\n{"package":"a"},\\n\'', "isn't whole"),
     "another": ("echo hello", "isn't whole, or of another form"),
 }
 
@@ -117,4 +118,4 @@ def test_another_program(monkeypatch: pytest.MonkeyPatch, tmp_path: Path, write:
     with pytest.raises(Fault, match=says) as fault:
         Program().check("amd64", index(write, stanza("a")), None, ["--all-reasons"]).read()
     assert fault.value.status == PROGRAM
-    assert os.environ["DEBCHECK"] in fault.value.line or name in ("newer", "half", "another")
+    assert os.environ["DEBCHECK"] in fault.value.line or name in ("earlier", "newer", "half", "another")

@@ -3,10 +3,9 @@ use Rattle.std.specs.Prelude.{ℕ, List, [], ◌∷◌, ◌++◌, Option, None, 
 use Rattle.deb_index.specs.declared.constraint.Constraint.{Constraint}
 use Rattle.deb_index.specs.declared.constraint.Constraint.TheVariants.{Need}
 use Rattle.deb_index.specs.Packages.{IndexView, need_at, package_at}
-use Rattle.deb_causes.specs.Near.{near_misses, similar_names}
-use Rattle.deb_report.specs.Forms.{PartView, OfKind, OfRelation, block_end, elements_in, item_in, list_in, name_in, number_in, some_in, title_in}
+use Rattle.deb_report.specs.Forms.{PartView, OfKind, OfRelation, block_end, elements_in, item_in, list_in, number_in, some_in, title_in}
 use Rattle.deb_report.specs.Hits.{hits_of}
-use Rattle.deb_report.specs.Reasons.{asked_parts, group_field, near_in, place_in, reason_parts}
+use Rattle.deb_report.specs.Reasons.{asked_parts, group_field, near_to_in, place_in, reason_parts}
 use Rattle.deb_report.specs.declared.form.Lead.TheVariants.{Block, Tall, Within}
 use Rattle.deb_causes.specs.Causes.{CauseView}
 use Rattle.run_settings.specs.declared.config.Format.{Format}
@@ -36,8 +35,7 @@ cause_in form index cause = number_in form Block (codes "packages") (length caus
     ++ some_in form (codes "needed-by") (needed_in form index) cause.needs
     ++ some_in form (codes "hits") (place_in form index) (hits_of index cause.constraints)
     ++ some_in form (codes "versions") (place_in form index) cause.versions
-    ++ some_in form (codes "present") (near_in form) (near_misses index cause.constraints)
-    ++ some_in form (codes "similar") (name_in form) (similar_names index cause.constraints)
+    ++ near_to_in form index cause.constraints
     ++ list_in form Within (codes "broken") (place_in form index) cause.places
     ++ block_end form
 

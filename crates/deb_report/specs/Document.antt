@@ -8,9 +8,9 @@ use Rattle.deb_report.specs.Outcome.{status_of}
 use Rattle.deb_report.specs.Since.{BrokenView}
 use Rattle.deb_report.specs.Forms.{OfPackage, block_end, elements_in, item_end, item_in, list_in, number_in, quoted, string_in, title_in}
 use Rattle.deb_report.specs.Links.{links_in}
-use Rattle.deb_report.specs.Reasons.{place_in, reason_front, reason_in}
+use Rattle.deb_report.specs.Reasons.{place_in, reason_front}
 use Rattle.deb_report.specs.WalkLines.{walk_lines}
-use Rattle.deb_report.specs.declared.form.Lead.TheVariants.{Block, First, Other, Tall, Within}
+use Rattle.deb_report.specs.declared.form.Lead.TheVariants.{Block, Other, Tall, Within}
 use Rattle.deb_report.specs.CauseText.{causes_in}
 use Rattle.deb_report.specs.Content.{ContentView}
 use Rattle.deb_report.specs.Report.{TellingView}
@@ -28,27 +28,35 @@ abbrev pub is_walked : Format → Bool → Bool
 is_walked Text why = why
 is_walked Json why = false
 
--- the first core of the package at a place
-unfoldable pub first_core : Format → IndexView → TellingView → ℕ → List Constraint → List ℕ
-first_core form index telling place core =
-    if is_walked form telling.why then title_in form Within (codes "why") ++ codes "\n" ++ walk_lines index place core
-    else list_in form Within (codes "reasons") (told_in form index telling) core
+-- a core of the package at a place, under a title
+unfoldable pub core_in : Format → IndexView → TellingView → ℕ → List ℕ → List Constraint → List ℕ
+core_in form index telling place title core =
+    if is_walked form telling.why then title_in form Within title ++ codes "\n" ++ walk_lines index place core
+    else list_in form Within title (told_in form index telling) core
+
+-- the title of the first core
+abbrev pub first_title : Bool → List ℕ
+first_title walked = if walked then codes "why" else codes "reasons"
 
 -- a core behind the first
-unfoldable pub later_core : Format → IndexView → TellingView → List Constraint → List ℕ
-later_core Text index telling core = list_in Text Within (codes "also") (reason_in Text index) core
-later_core Json index telling core = elements_in Json Within (told_in Json index telling) core
+unfoldable pub later_core : Format → IndexView → TellingView → ℕ → List Constraint → List ℕ
+later_core Text index telling place core = core_in Text index telling place (codes "also") core
+later_core Json index telling place core = elements_in Json Within (told_in Json index telling) core
 
 -- those behind the first
-unfoldable pub later_cores : Format → IndexView → TellingView → List (List Constraint) → List ℕ
-later_cores Text index telling later = flat_map (later_core Text index telling) later
-later_cores Json index telling later = list_in Json Within (codes "also") (later_core Json index telling) later
+unfoldable pub later_cores : Format → IndexView → TellingView → ℕ → List (List Constraint) → List ℕ
+later_cores Text index telling place later = flat_map (later_core Text index telling place) later
+later_cores Json index telling place later = list_in Json Within (codes "also") (later_core Json index telling place) later
 
--- the first core of the package at a place, and where they are told those behind it
+-- how many there are behind the first
+unfoldable pub further_in : Format → ℕ → List ℕ
+further_in form count = if count == 0 then [] else number_in form Within (codes "further") count
+
+-- the first core of the package at a place, and those behind it, or how many they are
 unfoldable pub all_cores : Format → IndexView → TellingView → ℕ → List (List Constraint) → List ℕ
 all_cores form index telling place [] = []
-all_cores form index telling place (core ∷ later) = first_core form index telling place core
-    ++ (if telling.also then later_cores form index telling later else [])
+all_cores form index telling place (core ∷ later) = core_in form index telling place (first_title (is_walked form telling.why)) core
+    ++ (if telling.also then later_cores form index telling place later else further_in form (length later))
 
 -- the set that was found, or what stands against each set
 unfoldable pub explanation_in : Format → IndexView → TellingView → ℕ × ToldView → List ℕ
@@ -79,10 +87,10 @@ counted_in form number = number_in form Other number.0 number.1
 abbrev pub amended_in : Format → List ℕ × List BrokenView → List ℕ
 amended_in form list = list_in form Other list.0 (broken_in form) list.1
 
--- what a document begins with: where words are told, the number of its form, and the words
+-- what a document begins with: the number of its form, and the words that it is made under
 unfoldable pub head_in : Format → List (List ℕ) → List ℕ
 head_in Text options = []
-head_in Json options = codes "{" ++ (if length options == 0 then [] else codes "\"format\":1" ++ list_in Json Other (codes "options") quoted options ++ codes ",")
+head_in Json options = codes "{\"format\":2" ++ list_in Json Other (codes "options") quoted options
 
 unfoldable pub report_end : Format → List ℕ
 report_end Text = []
@@ -91,7 +99,7 @@ report_end Json = codes "}\n"
 -- the report: its head, the blocks, the numbers, the lists, the causes
 unfoldable pub text_in : Format → IndexView → TellingView → ContentView → List ℕ
 text_in form index telling content = head_in form telling.options
-    ++ string_in form First (codes "architecture") index.arch
+    ++ string_in form Other (codes "architecture") index.arch
     ++ list_in form Tall (codes "report") (block_in form index telling) content.blocks
     ++ flat_map (counted_in form) content.numbers
     ++ flat_map (amended_in form) content.lists

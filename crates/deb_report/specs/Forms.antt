@@ -7,7 +7,7 @@ use Rattle.deb_relation.specs.Texts.{group_text}
 use Rattle.run_settings.specs.declared.config.Format.{Format}
 use Rattle.run_settings.specs.declared.config.Format.TheVariants.{Json, Text}
 use Rattle.deb_report.specs.declared.form.Lead.{Lead}
-use Rattle.deb_report.specs.declared.form.Lead.TheVariants.{Block, First, Tall, Within}
+use Rattle.deb_report.specs.declared.form.Lead.TheVariants.{Block, Tall, Within}
 
 -- ---- strings of JSON
 
@@ -32,13 +32,12 @@ member title text = codes "\"" ++ title ++ codes "\":" ++ quoted text
 
 -- ---- members of a report and of its blocks
 
--- what stands before a member, by its place: the first of the report, another, one that has blocks; the first of a block, another
+-- what stands before a member, by its place: one of the report, one that has blocks; the first of a block, another
 unfoldable pub lead_of : Format → Lead → List ℕ
 lead_of Text Block = codes " -\n  "
 lead_of Text Within = codes "  "
 lead_of Text lead = []
 lead_of Json Block = codes "\n{"
-lead_of Json First = []
 lead_of Json lead = codes ","
 
 -- its title

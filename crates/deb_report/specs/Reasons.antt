@@ -1,12 +1,12 @@
 -- What is told of packages and constraints, whatever its form.
-use Rattle.std.specs.Prelude.{ℕ, ◌==◌, nat_lt, List, [], ◌∷◌, length, codes, if◌then◌else◌}
+use Rattle.std.specs.Prelude.{ℕ, ◌==◌, nat_lt, List, [], ◌∷◌, ◌++◌, length, codes, if◌then◌else◌}
 use Rattle.deb_relation.specs.Relationship.{AtomText}
 use Rattle.deb_index.specs.declared.constraint.Constraint.{Constraint}
 use Rattle.deb_index.specs.declared.constraint.Constraint.TheVariants.{Essential, Need, Apart, Only}
 use Rattle.deb_index.specs.Packages.{IndexView, PackageView, package_at, name_at, need_at, apart_at}
 use Rattle.deb_causes.specs.Missing.{is_missing}
-use Rattle.deb_causes.specs.Near.{NearMissView}
-use Rattle.deb_report.specs.Forms.{PartView, OfField, OfKind, OfName, OfPackage, OfProvides, OfRelation, item_front, item_in}
+use Rattle.deb_causes.specs.Near.{NearMissView, near_misses, similar_names}
+use Rattle.deb_report.specs.Forms.{PartView, OfField, OfKind, OfName, OfPackage, OfProvides, OfRelation, item_front, item_in, name_in, some_in}
 use Rattle.deb_report.specs.declared.form.Lead.TheVariants.{Within}
 use Rattle.run_settings.specs.declared.config.Format.{Format}
 
@@ -25,6 +25,11 @@ near_parts miss = package_part miss.deb ∷ (if length miss.provides == 0 then [
 
 abbrev pub near_in : Format → NearMissView → List ℕ
 near_in form miss = item_in form Within (near_parts miss)
+
+-- what comes near to the needs among constraints, and the names that are similar to theirs
+unfoldable pub near_to_in : Format → IndexView → List Constraint → List ℕ
+near_to_in form index constraints = some_in form (codes "present") (near_in form) (near_misses index constraints)
+    ++ some_in form (codes "similar") (name_in form) (similar_names index constraints)
 
 -- ---- constraints
 

@@ -1,9 +1,9 @@
 -- The report on an index.
-use Rattle.std.specs.Prelude.{ℕ, Bool, List, [], if◌then◌else◌}
-use Rattle.run_settings.specs.Settings.{Settings, options_of, tells_options}
+use Rattle.std.specs.Prelude.{ℕ, Bool, List}
+use Rattle.run_settings.specs.Settings.{Settings, options_of}
 
--- what is told of packages: whether a block explains; whether the cores behind the first are told; whether the first core is told as it is walked;
--- and the words that a document begins with, where it tells any
+-- what is told of packages: whether a block explains; whether the cores behind the first are told; whether a core is told as it is walked; and the words
+-- that the document is made under
 pub record TellingView : Type 0 where
   pub explain : Bool
   pub also : Bool
@@ -16,5 +16,5 @@ telling_of settings since = record {
   explain = settings.explain;
   also = settings.all_reasons;
   why = settings.why;
-  options = if tells_options settings then options_of settings since else [];
+  options = options_of settings since;
 }

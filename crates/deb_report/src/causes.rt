@@ -2,7 +2,6 @@
 
 ghost use Rattle.std.specs.Prelude.{◌≡◌, ◌++◌, ◌<◌, All, OnOk, Some, length, map};
 ghost use Rattle.deb_index.specs.Constraints.{IsOfIndex};
-ghost use Rattle.deb_causes.specs.Near.{near_misses, near_view, similar_names};
 ghost use Rattle.deb_report.specs.Hits.{hits_of};
 ghost use Rattle.deb_causes.specs.Causes.{IsCauseOf, cause_view};
 ghost use Rattle.deb_report.specs.CauseText.{cause_in, causes_in, count_in, needed_in, wrong_in};
@@ -13,7 +12,7 @@ use crate::hits::hits_of;
 use crate::parts::{Part, package_part};
 use crate::reasons::group_field;
 use crate::sought::similar_to_causes;
-use deb_causes::{Cause, NearMiss, Similar, near_misses};
+use deb_causes::{Cause, Similar};
 use deb_index::Constraint;
 use deb_relation::{Print, push_texts};
 use run_settings::Format;
@@ -84,19 +83,10 @@ struct Causes<'p, 'i> {
 
 impl<'p, 'i> Causes<'p, 'i> {
     /// Adds a cause: what is wrong, who needs it, the packages that stand in the way, what comes near, and what is broken.
-    fn push_cause(
-        &self,
-        out: &mut Vec<u8>,
-        cause: &Cause,
-        hits: &[u32],
-        misses: &[NearMiss<'_>],
-        names: &[&[u8]],
-    ) -> Result<(), AllocError>
-        requires cause { IsCauseOf self.now.writer.now.index.now (cause_view cause.now) }
+    fn push_cause(&self, out: &mut Vec<u8>, cause: &Cause, hits: &[u32]) -> Result<(), AllocError>
+        requires cause { FitsCause self.now.writer.now.index.now self.now.similar cause.now }
         requires hits { hits.now ≡ hits_of self.now.writer.now.index.now cause.now.constraints.items }
         requires within { All (λ place. place < length self.now.writer.now.index.now.packages) hits.now }
-        requires misses { map near_view misses.now ≡ near_misses self.now.writer.now.index.now cause.now.constraints.items }
-        requires names { map (λ name. name.now) names.now ≡ similar_names self.now.writer.now.index.now cause.now.constraints.items }
         ensures { OnOk result (out.new.items ≡ out.old.items ++ cause_in self.now.writer.now.format self.now.writer.now.index.now (cause_view cause.now)) }
     {
         let writer = self.writer;
@@ -112,8 +102,7 @@ impl<'p, 'i> Causes<'p, 'i> {
         push_some(form, out, "needed-by", &Needed { writer }, needs)?;
         push_some(form, out, "hits", writer, hits)?;
         push_some(form, out, "versions", writer, versions)?;
-        push_some(form, out, "present", writer, misses)?;
-        push_some(form, out, "similar", writer, names)?;
+        writer.push_near_to(out, &self.similar, constraints)?;
         push_list(form, out, Lead::Within, "broken", writer, places)?;
         writer.push_block_end(out)?;
         Ok(())
@@ -129,9 +118,7 @@ impl<'p, 'i> Print<Cause> for Causes<'p, 'i> {
         let writer = self.writer;
         let constraints = cause.constraints.as_slice();
         let hits = hits_of(writer.alloc, writer.index, constraints)?;
-        let misses = near_misses(writer.alloc, writer.index, constraints)?;
-        let names = self.similar.names(writer.alloc, writer.index, constraints)?;
-        self.push_cause(out, cause, &hits, &misses, &names)?;
+        self.push_cause(out, cause, &hits)?;
         Ok(())
     }
 }

@@ -1,26 +1,23 @@
 //! The report in its form: lines, or one JSON document (RFC 8259).
 
-ghost use Rattle.std.specs.Prelude.{◌≡◌, ◌++◌, ◌<◌, [], All, IfOk, OnOk, codes, length, map, slice_index_or, true};
-ghost use Rattle.deb_index.specs.Constraints.{IsOfIndex};
-ghost use Rattle.deb_report.specs.Forms.{list_in, quoted};
+ghost use Rattle.std.specs.Prelude.{◌≡◌, ◌++◌, All, IfOk, OnOk, map, true};
 ghost use Rattle.deb_report.specs.FitsWalk.{FitsWalk};
-ghost use Rattle.deb_report.specs.declared.form.Lead.TheVariants.{Other};
 ghost use Rattle.deb_health.specs.Shown.{IsAskedOf, shown_view};
+ghost use Rattle.deb_health.specs.Verdicts.{cores_in};
 ghost use Rattle.deb_report.specs.CauseText.{causes_in};
-ghost use Rattle.deb_report.specs.Document.{all_cores, block_in, explanation_in, first_core, head_in, later_core, later_cores, report_end, text_in, told_in};
-ghost use Rattle.deb_report.specs.Sought.{FitsBlock, IsWalked, core_in};
+ghost use Rattle.deb_report.specs.Document.{block_in, explanation_in, head_in, report_end, text_in};
+ghost use Rattle.deb_report.specs.Sought.{FitsBlock, IsWalked};
 ghost use Rattle.deb_report.specs.Told.{IsContentOf, content_view, telling_view};
 
 use crate::causes::push_causes;
 use crate::content::Content;
-use crate::form::{Lead, Writer, push_elements, push_list, push_title};
+use crate::form::{Lead, Writer, push_list};
 use crate::shown::status_text;
 use crate::sought::similar_to_walks;
 use crate::telling::Telling;
-use crate::walk_lines::push_walk;
 use deb_causes::Similar;
 use deb_health::{Shown, Told};
-use deb_index::{Constraint, Index};
+use deb_index::Index;
 use deb_relation::{Print, push_all};
 use run_settings::Format;
 use std::alloc::{AllocError, Global};
@@ -29,117 +26,18 @@ use std::alloc::{AllocError, Global};
 #[derive(Drop)]
 pub(crate) struct Document<'i> {
     pub(crate) writer: Writer<'i>,
-    telling: Telling<'i>,
+    pub(crate) telling: Telling<'i>,
     /// The names that walks tell as similar.
-    similar: &'i Similar,
-}
-
-impl<'i> Print<Constraint> for Document<'i> {
-    ghost fits = { λ document constraint. IsOfIndex document.writer.index.now constraint };
-
-    ghost text = { λ document constraint. told_in document.writer.format document.writer.index.now (telling_view document.telling) constraint };
-
-    #[tactic(auto, unfolding(crate::specs::Document::told_in))]
-    fn print(&self, out: &mut Vec<u8>, constraint: &Constraint) -> Result<(), AllocError> {
-        self.writer.push_reason_front(out, *constraint)?;
-        if self.telling.config.why {
-            self.writer.push_links(out, *constraint)?;
-        }
-        self.writer.push_item_end(out)?;
-        Ok(())
-    }
-}
-
-impl<'i> Print<Vec<Constraint>> for Document<'i> {
-    ghost fits = { λ document core. All (IsOfIndex document.writer.index.now) core.items };
-
-    ghost text = { λ document core. later_core document.writer.format document.writer.index.now (telling_view document.telling) core.items };
-
-    #[tactic(auto, unfolding(crate::specs::Document::later_core))]
-    fn print(&self, out: &mut Vec<u8>, core: &Vec<Constraint>) -> Result<(), AllocError> {
-        let writer = &self.writer;
-        let form = writer.format;
-        let core = core.as_slice();
-        match form {
-            Format::Text => push_list(form, out, Lead::Within, "also", writer, core)?,
-            Format::Json => push_elements(form, out, Lead::Within, self, core)?,
-        }
-        Ok(())
-    }
+    pub(crate) similar: &'i Similar,
 }
 
 impl<'i> Document<'i> {
-    /// Adds the first core of the package at a place.
-    #[tactic(auto, unfolding(crate::specs::Document::first_core))]
-    fn push_first(
-        &self,
-        out: &mut Vec<u8>,
-        place: u32,
-        core: &[Constraint],
-    ) -> Result<(), AllocError>
-        requires place { place < length self.now.writer.index.now.packages }
-        requires core { All (IsOfIndex self.now.writer.index.now) core.now }
-        requires walked { self.now.telling.config.now.why ≡ true → All (FitsWalk self.now.writer.index.now self.now.similar.now) core.now }
-        ensures { OnOk result (out.new.items ≡
-            out.old.items ++ first_core self.now.writer.format self.now.writer.index.now (telling_view self.now.telling) place core.now) }
-    {
-        let writer = &self.writer;
-        let form = writer.format;
-        if form == Format::Text && self.telling.config.why {
-            push_title(form, out, Lead::Within, "why")?;
-            out.extend_from_slice(b"\n")?;
-            push_walk(writer.alloc, out, writer.index, self.similar, place, core)?;
-        } else {
-            push_list(form, out, Lead::Within, "reasons", self, core)?;
-        }
-        Ok(())
-    }
-
-    /// Adds the cores behind the first.
-    #[tactic(auto, unfolding(crate::specs::Document::later_cores))]
-    fn push_later(&self, out: &mut Vec<u8>, later: &[Vec<Constraint>]) -> Result<(), AllocError>
-        requires { All (λ core. All (IsOfIndex self.now.writer.index.now) core.items) later.now }
-        ensures { OnOk result (out.new.items ≡ out.old.items
-            ++ later_cores self.now.writer.format self.now.writer.index.now (telling_view self.now.telling) (map (λ core. core.items) later.now)) }
-    {
-        let form = self.writer.format;
-        match form {
-            Format::Text => push_all(out, self, later)?,
-            Format::Json => push_list(form, out, Lead::Within, "also", self, later)?,
-        }
-        Ok(())
-    }
-
-    /// Adds the first core of the package at a place, and where they are told those behind it.
-    #[tactic(auto, unfolding(crate::specs::Document::all_cores))]
-    fn push_cores(
-        &self,
-        out: &mut Vec<u8>,
-        place: u32,
-        cores: &[Vec<Constraint>],
-    ) -> Result<(), AllocError>
-        requires place { place < length self.now.writer.index.now.packages }
-        requires cores { All (λ core. All (IsOfIndex self.now.writer.index.now) core.items) cores.now }
-        requires walked { self.now.telling.config.now.why ≡ true
-            → All (FitsWalk self.now.writer.index.now self.now.similar.now) (slice_index_or (map (λ core. core.items) cores.now) 0 []) }
-        ensures { OnOk result (out.new.items ≡ out.old.items
-            ++ all_cores self.now.writer.format self.now.writer.index.now (telling_view self.now.telling) place (map (λ core. core.items) cores.now)) }
-    {
-        if let [core, later @ ..] = cores {
-            self.push_first(out, place, core.as_slice())?;
-            if self.telling.config.all_reasons {
-                self.push_later(out, later)?;
-            }
-        }
-        Ok(())
-    }
-
     /// Adds what explains a status.
     #[tactic(auto, unfolding(crate::specs::Document::explanation_in))]
     fn push_explanation(&self, out: &mut Vec<u8>, shown: &Shown<'_>) -> Result<(), AllocError>
         requires asked { IsAskedOf self.now.writer.index.now (shown_view shown.now) }
         requires walked { self.now.telling.config.now.why ≡ true
-            → All (FitsWalk self.now.writer.index.now self.now.similar.now) (core_in (shown_view shown.now)) }
+            → All (All (FitsWalk self.now.writer.index.now self.now.similar.now)) (cores_in (shown_view shown.now).1) }
         ensures { OnOk result (out.new.items ≡
             out.old.items ++ explanation_in self.now.writer.format self.now.writer.index.now (telling_view self.now.telling) (shown_view shown.now)) }
     {
@@ -180,34 +78,16 @@ impl<'i, 'v> Print<Shown<'v>> for Document<'i> {
 }
 
 impl<'i> Document<'i> {
-    /// Adds the words that the document is made under.
-    #[tactic(auto, using(crate::proofs::FormLemmas::list_map))]
-    fn push_options(&self, out: &mut Vec<u8>, options: &[&'static str]) -> Result<(), AllocError>
-        ensures { OnOk result (out.new.items ≡
-            out.old.items ++ list_in self.now.writer.format Other (codes "options") quoted (map (λ one. one.now) options.now)) }
-    {
-        push_list(
-            self.writer.format,
-            out,
-            Lead::Other,
-            "options",
-            self,
-            options,
-        )?;
-        Ok(())
-    }
-
     /// Adds what a document begins with.
     #[tactic(auto, unfolding(crate::specs::Document::head_in))]
     fn push_head(&self, out: &mut Vec<u8>, options: &[&'static str]) -> Result<(), AllocError>
         ensures { OnOk result (out.new.items ≡ out.old.items ++ head_in self.now.writer.format (map (λ one. one.now) options.now)) }
     {
-        if self.writer.format == Format::Json {
-            out.extend_from_slice(b"{")?;
-            if !options.is_empty() {
-                out.extend_from_slice(b"\"format\":1")?;
-                self.push_options(out, options)?;
-                out.extend_from_slice(b",")?;
+        match self.writer.format {
+            Format::Text => (),
+            Format::Json => {
+                out.extend_from_slice(b"{\"format\":2")?;
+                push_list(Format::Json, out, Lead::Other, "options", self, options)?;
             }
         }
         Ok(())
@@ -244,7 +124,7 @@ impl<'i> Document<'i> {
         let mut out = Vec::new(self.writer.alloc);
         self.push_head(&mut out, options)?;
         self.writer
-            .push_string(&mut out, Lead::First, "architecture", arch)?;
+            .push_string(&mut out, Lead::Other, "architecture", arch)?;
         push_list(form, &mut out, Lead::Tall, "report", self, blocks)?;
         push_all(&mut out, self, content.numbers.as_slice())?;
         push_all(&mut out, self, content.lists.as_slice())?;

@@ -14,9 +14,7 @@ use std::alloc::{AllocError, Global};
 /// Where a member stands.
 #[derive(Clone, Copy)]
 pub enum Lead {
-    /// First in the report.
-    First,
-    /// Behind others of the report.
+    /// In the report, behind what it begins with.
     Other,
     /// Likewise, and blocks are its elements.
     Tall,
@@ -33,12 +31,11 @@ fn lead_of(format: Format, lead: Lead) -> &'static str
 {
     match format {
         Format::Text => match lead {
-            Lead::First | Lead::Other | Lead::Tall => "",
+            Lead::Other | Lead::Tall => "",
             Lead::Block => " -\n  ",
             Lead::Within => "  ",
         },
         Format::Json => match lead {
-            Lead::First => "",
             Lead::Other | Lead::Tall | Lead::Within => ",",
             Lead::Block => "\n{",
         },
@@ -52,7 +49,7 @@ fn end_of(lead: Lead) -> &'static str
 {
     match lead {
         Lead::Tall => "\n]",
-        Lead::First | Lead::Other | Lead::Block | Lead::Within => "]",
+        Lead::Other | Lead::Block | Lead::Within => "]",
     }
 }
 

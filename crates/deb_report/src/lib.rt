@@ -7,8 +7,8 @@
 //! - `asked`: the places that are asked; `shown`: those that are shown, with what is told of them (`told`); `summary`: what a run counts.
 //! - `broken`: the broken packages of an earlier index; `before`: these, by which it is told of a package whether it is newly broken; `amends`: those
 //!   that are mended or gone; `marks`: marks on names.
-//! - `document`: a report in its form, with its `numbers`; `causes`: the blocks of causes; `sought`: which names that differ in numbers alone are looked
-//!   for.
+//! - `document`: a report in its form, with its `numbers`; `cores`: those of a package; `causes`: the blocks of causes; `sought`: which names that differ
+//!   in numbers alone are looked for.
 //! - `form`: how members, lists and items are written in each form; `parts`: what items are told by; `json_text`: the strings of JSON.
 //! - `walk`: the steps of a core as it is walked from its package, over a table of what the core says of each package (`own`); `hits`: the packages that
 //!   entries hit; `answers`: what answers a need.
@@ -22,6 +22,7 @@ mod before;
 mod broken;
 mod causes;
 mod content;
+mod cores;
 mod document;
 mod form;
 mod hits;

@@ -1,17 +1,19 @@
 //! What is told of packages and constraints, whatever its form.
 
-ghost use Rattle.std.specs.Prelude.{◌≡◌, ◌++◌, ◌<◌, OnOk, length};
+ghost use Rattle.std.specs.Prelude.{◌≡◌, ◌++◌, ◌<◌, All, OnOk, length};
 ghost use Rattle.deb_relation.specs.AtomView.{atom_view};
 ghost use Rattle.deb_relation.specs.Relationship.{printed};
 ghost use Rattle.deb_index.specs.Constraints.{IsOfIndex};
 ghost use Rattle.deb_index.specs.Packages.{package_view};
 ghost use Rattle.deb_causes.specs.Near.{near_view};
+ghost use Rattle.deb_causes.specs.Similar.{IsSimilarOf, stems_in};
+ghost use Rattle.deb_causes.specs.Stems.{AreSought};
 ghost use Rattle.deb_report.specs.Forms.{name_in};
-ghost use Rattle.deb_report.specs.Reasons.{entry_field, group_field, near_in, place_in, reason_front, reason_in};
+ghost use Rattle.deb_report.specs.Reasons.{entry_field, group_field, near_in, near_to_in, place_in, reason_front, reason_in};
 
-use crate::form::{Lead, Writer};
+use crate::form::{Lead, Writer, push_some};
 use crate::parts::{Part, package_part};
-use deb_causes::{NearMiss, is_missing};
+use deb_causes::{NearMiss, Similar, is_missing, near_misses};
 use deb_index::{Constraint, Package, RelField};
 use deb_relation::{Atom, Print};
 use std::alloc::AllocError;
@@ -153,6 +155,28 @@ impl<'i, 'n> Print<&'n [u8]> for Writer<'i> {
 
     fn print(&self, out: &mut Vec<u8>, name: &&'n [u8]) -> Result<(), AllocError> {
         self.push_name(out, name)?;
+        Ok(())
+    }
+}
+
+impl<'i> Writer<'i> {
+    /// Adds what comes near to the needs among constraints, and the names that are similar to theirs.
+    #[tactic(auto, using(crate::proofs::FormLemmas::some_map), unfolding(crate::specs::Reasons::near_to_in))]
+    pub(crate) fn push_near_to(
+        &self,
+        out: &mut Vec<u8>,
+        similar: &Similar,
+        constraints: &[Constraint],
+    ) -> Result<(), AllocError>
+        requires within { All (IsOfIndex self.now.index.now) constraints.now }
+        requires found { IsSimilarOf self.now.index.now similar.now }
+        requires sought { AreSought self.now.index.now (stems_in similar.now) constraints.now }
+        ensures { OnOk result (out.new.items ≡ out.old.items ++ near_to_in self.now.format self.now.index.now constraints.now) }
+    {
+        let misses = near_misses(self.alloc, self.index, constraints)?;
+        let names = similar.names(self.alloc, self.index, constraints)?;
+        push_some(self.format, out, "present", self, misses.as_slice())?;
+        push_some(self.format, out, "similar", self, names.as_slice())?;
         Ok(())
     }
 }

@@ -1,16 +1,14 @@
 //! What similar names are looked for: those of causes, and those of the cores that are walked.
 
-ghost use Rattle.std.specs.Prelude.{◌≡◌, ◌++◌, All, IfOk, OnOk};
+ghost use Rattle.std.specs.Prelude.{◌≡◌, ◌++◌, All, IfOk, OnOk, map};
 ghost use Rattle.std.specs.List.{flat_map};
-ghost use Rattle.deb_index.specs.Constraints.{IsOfIndex};
-ghost use Rattle.deb_health.specs.Causes.{cause_in};
 ghost use Rattle.deb_causes.specs.Causes.{IsCauseOf, cause_view};
 ghost use Rattle.deb_report.specs.Similar.{FitsCause};
-ghost use Rattle.deb_report.specs.Sought.{IsWalked, core_in};
+ghost use Rattle.deb_report.specs.Sought.{IsWalked, constraints_in};
 ghost use Rattle.deb_health.specs.Shown.{IsAskedOf, shown_view};
 
 use crate::telling::Telling;
-use deb_causes::{Cause, Similar, is_final};
+use deb_causes::{Cause, Similar};
 use deb_health::Shown;
 use deb_index::{Constraint, Index};
 use std::alloc::{AllocError, Global};
@@ -40,38 +38,26 @@ pub(crate) fn similar_to_causes(
     Ok(similar)
 }
 
-/// Adds those of a core's constraints that are no needs that some package of the index meets.
-fn push_final(
-    alloc: Global,
-    index: &Index,
-    core: &[Constraint],
+/// Adds the constraints of cores, one after the other.
+fn push_constraints(
+    cores: &[Vec<Constraint>],
     constraints: &mut Vec<Constraint>,
 ) -> Result<(), AllocError>
-    requires { All (IsOfIndex index.now) core.now }
-    ensures { OnOk result (constraints.new.items ≡ constraints.old.items ++ cause_in index.now core.now) }
+    ensures { OnOk result (constraints.new.items ≡ constraints.old.items ++ flat_map (λ core. core) (map (λ core. core.items) cores.now)) }
 {
-    for constraint in core {
-        if is_final(alloc, index, *constraint)? {
-            constraints.push(*constraint)?;
-        }
+    for core in cores {
+        constraints.extend_from_slice(core.as_slice())?;
     }
     Ok(())
 }
 
-/// Those of the first cores of blocks.
-fn final_in(
-    alloc: Global,
-    index: &Index,
-    blocks: &[Shown<'_>],
-) -> Result<Vec<Constraint>, AllocError>
-    requires { All (λ one. IsAskedOf index.now (shown_view one)) blocks.now }
-    ensures { IfOk result (λ constraints. constraints.items ≡ flat_map (λ one. cause_in index.now (core_in (shown_view one))) blocks.now) }
+/// The constraints of the cores of blocks.
+fn constraints_told(alloc: Global, blocks: &[Shown<'_>]) -> Result<Vec<Constraint>, AllocError>
+    ensures { IfOk result (λ constraints. constraints.items ≡ flat_map (λ one. constraints_in (shown_view one)) blocks.now) }
 {
     let mut constraints = Vec::new(alloc);
     for one in blocks {
-        if let [core, ..] = one.told.cores() {
-            push_final(alloc, index, core.as_slice(), &mut constraints)?;
-        }
+        push_constraints(one.told.cores(), &mut constraints)?;
     }
     Ok(constraints)
 }
@@ -87,7 +73,7 @@ pub(crate) fn similar_to_walks(
     ensures { IfOk result (λ similar. All (IsWalked index.now telling.entry similar) blocks.now) }
 {
     if telling.config.explain && telling.config.why {
-        let constraints = final_in(alloc, index, blocks)?;
+        let constraints = constraints_told(alloc, blocks)?;
         let similar = Similar::find(alloc, index, constraints.as_slice())?;
         return Ok(similar);
     }

@@ -16,14 +16,10 @@ pub(crate) struct Telling<'c> {
 }
 
 impl<'c> Telling<'c> {
-    /// The words that a document begins with, where it tells any.
+    /// The words that the document is made under.
     pub(crate) fn options(&self, alloc: Global) -> Result<Vec<&'static str>, AllocError>
         ensures { IfOk result (λ options. map (λ one. one.now) options.items ≡ (telling_view self.now).options) }
     {
-        if self.config.tells_options() {
-            options_of(alloc, self.config, self.since)
-        } else {
-            Ok(Vec::new(alloc))
-        }
+        options_of(alloc, self.config, self.since)
     }
 }

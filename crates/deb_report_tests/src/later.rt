@@ -81,7 +81,7 @@ const SHORT_BLOCKS: &str = " -
 ";
 
 const DOCUMENT_HEAD: &str =
-    r#"{"format":1,"options":["explain","all-reasons"],"architecture":"amd64","report":[
+    r#"{"format":2,"options":["explain","all-reasons"],"architecture":"amd64","report":[
 {"package":"a","version":"1","architecture":"all","status":"broken","reasons":[{"kind":"missing","package":"a","version":"1","field":"Depends","relation":"y"}],"also":"#;
 
 const DOCUMENT_ALSO: &str =
@@ -98,11 +98,40 @@ const DOCUMENT_TAIL: &str = r#"},
 ],"stanzas":3,"skipped":0,"duplicates":0,"asked":3,"broken":2}
 "#;
 
+const COUNTED: &str =
+    r#"{"format":2,"options":["explain","failures"],"architecture":"amd64","report":[
+{"package":"a","version":"1","architecture":"all","status":"broken","reasons":[{"kind":"missing","package":"a","version":"1","field":"Depends","relation":"y"}],"further":1},
+{"package":"b","version":"1","architecture":"all","status":"broken","reasons":[{"kind":"missing","package":"b","version":"1","field":"Depends","relation":"z"}]}
+],"stanzas":3,"skipped":0,"duplicates":0,"asked":3,"broken":2}
+"#;
+
+/// A package with a cause of its own, and one of another package, which stand near other names.
+const FAR: &str = "a 1 {Depends: b, y1} / b 1 {Depends: x (>= 2)} / x 1 / y2 1";
+
+const WALKED: &str = "architecture: amd64
+report:
+ -
+  package: a
+  version: 1
+  architecture: all
+  status: broken
+  why:
+   - a 1 Depends: y1 missing; similar: y2
+  also:
+   - a 1 Depends: b
+   - b 1 Depends: x (>= 2) missing; present: x 1
+stanzas: 4
+skipped: 0
+duplicates: 0
+asked: 1
+broken: 1
+";
+
 const MANY_WORDS: &str =
-    r#"{"format":1,"options":["explain","failures","ignore-essential","checkonly","bg","since","all-reasons","why"],"architecture":"amd64","report":["#;
+    r#"{"format":2,"options":["explain","failures","ignore-essential","checkonly","bg","since","all-reasons","why"],"architecture":"amd64","report":["#;
 
 const FEW_WORDS: &str =
-    r#"{"format":1,"options":["successes","since","why"],"architecture":"amd64","report":["#;
+    r#"{"format":2,"options":["successes","since","why"],"architecture":"amd64","report":["#;
 
 /// The document where the later cores of the first place alone are known.
 pub const FIRST_IN_JSON: Case = Case {
@@ -138,10 +167,42 @@ const CASES: &[Case] = &[
         ..REPORT
     },
     Case {
-        name: "later cores that are not asked for",
+        name: "later cores that are not asked for are counted",
         text: MISSING,
         call: Call::Told(3),
-        wanted: Wanted::Whole(&[HEAD, FIRST, SECOND, THIRD, TAIL]),
+        wanted: Wanted::Whole(&[
+            HEAD,
+            FIRST,
+            "  further: 1\n",
+            SECOND,
+            "  further: 2\n",
+            THIRD,
+            TAIL,
+        ]),
+        ..REPORT
+    },
+    Case {
+        name: "in JSON, those that are known",
+        text: MISSING,
+        call: Call::Told(1),
+        asked: Asked {
+            show: Show::Failures,
+            format: Format::Json,
+            ..USUAL
+        },
+        wanted: Wanted::Whole(&[COUNTED]),
+        ..REPORT
+    },
+    Case {
+        name: "later cores are walked, too",
+        text: FAR,
+        call: Call::Told(1),
+        asked: Asked {
+            only: Some(&[b"a"]),
+            why: true,
+            ..ALL_REASONS
+        },
+        wanted: Wanted::Whole(&[WALKED]),
         ..REPORT
     },
     Case {
@@ -208,7 +269,7 @@ const CASES: &[Case] = &[
         ..REPORT
     },
     Case {
-        name: "where no new word is said, a document is as it always was",
+        name: "a document begins so without causes and reasons, too",
         text: MISSING,
         call: Call::Since(""),
         asked: Asked {
@@ -216,7 +277,9 @@ const CASES: &[Case] = &[
             format: Format::Json,
             ..USUAL
         },
-        wanted: Wanted::Start(r#"{"architecture":"amd64","report":["#),
+        wanted: Wanted::Start(
+            r#"{"format":2,"options":["explain","bg","since"],"architecture":"amd64","report":["#,
+        ),
         ..REPORT
     },
 ];

@@ -68,7 +68,7 @@ const SHORT_BLOCKS: &str = " -
   status: broken
 ";
 
-const DOCUMENT: &str = r#"{"architecture":"amd64","report":[
+const DOCUMENT: &str = r#"{"format":2,"options":["since"],"architecture":"amd64","report":[
 {"package":"c","version":"1","architecture":"amd64","status":"broken"},
 {"package":"d","version":"1","architecture":"all","status":"broken"}
 ],"stanzas":3,"skipped":0,"duplicates":0,"asked":3,"broken":2,"newly-broken":2,"mended":[{"package":"a","version":"1"}],"gone":[{"package":"b","version":"2"}]}
@@ -207,7 +207,7 @@ pub const SINCE: Case = Case {
 };
 
 const SINCE_DOCUMENT: &str =
-    r#"{"format":1,"options":["explain","since","causes"],"architecture":"amd64","report":[
+    r#"{"format":2,"options":["explain","since","causes"],"architecture":"amd64","report":[
 {"package":"c","version":"1","architecture":"amd64","status":"broken","reasons":[{"kind":"missing","package":"c","version":"1","field":"Depends","relation":"lib"}]},
 {"package":"d","version":"1","architecture":"all","status":"broken","reasons":[{"kind":"missing","package":"c","version":"1","field":"Depends","relation":"lib"},{"kind":"depends","package":"d","version":"1","field":"Depends","relation":"c"}]}
 ],"stanzas":3,"skipped":0,"duplicates":0,"asked":3,"broken":2,"newly-broken":2,"mended":[{"package":"a","version":"1"}],"gone":[{"package":"b","version":"2"}],"causes":[

@@ -59,7 +59,7 @@ pub fn expect_reasons<'x>(
         ..USUAL
     };
     let wanted = [
-        r#"{"format":1,"options":["explain","checkonly","why"],"architecture":"amd64","report":["#,
+        r#"{"format":2,"options":["explain","checkonly","why"],"architecture":"amd64","report":["#,
         "\n",
         r#"{"package":""#,
         walked.name,
@@ -253,7 +253,7 @@ static REASONS: &[(&Walked<'static>, &str)] = &[
     (
         &PROVIDED,
         "{\"kind\":\"depends\",\"package\":\"app\",\"version\":\"1\",\"field\":\"Depends\",\"relation\":\"v (= 1)\",\"met-by\":[{\"package\":\"lib\",\"version\":\"2\",\"provides\":[\"v (= 1)\"]}]},\
-{\"kind\":\"missing\",\"package\":\"lib\",\"version\":\"2\",\"field\":\"Depends\",\"relation\":\"gone\",\"alternatives\":[\"gone\"]}",
+{\"kind\":\"missing\",\"package\":\"lib\",\"version\":\"2\",\"field\":\"Depends\",\"relation\":\"gone\",\"alternatives\":[\"gone\"],\"present\":[],\"similar\":[]}",
     ),
     // All versions of the name.
     (
@@ -263,11 +263,18 @@ static REASONS: &[(&Walked<'static>, &str)] = &[
 {\"kind\":\"depends\",\"package\":\"r\",\"version\":\"1\",\"field\":\"Depends\",\"relation\":\"q (= 2)\",\"met-by\":[{\"package\":\"q\",\"version\":\"2\"}]},\
 {\"kind\":\"versions\",\"name\":\"q\",\"versions\":[{\"package\":\"q\",\"version\":\"1\"},{\"package\":\"q\",\"version\":\"2\"},{\"package\":\"q\",\"version\":\"3\"}]}",
     ),
-    // Each alternative of a need that nothing meets.
+    // Each alternative of a need that nothing meets, and what comes near.
     (
         &MISSING,
         "{\"kind\":\"depends\",\"package\":\"a\",\"version\":\"1\",\"field\":\"Pre-Depends\",\"relation\":\"b\",\"met-by\":[{\"package\":\"b\",\"version\":\"1\"}]},\
-{\"kind\":\"missing\",\"package\":\"b\",\"version\":\"1\",\"field\":\"Depends\",\"relation\":\"c (>= 2) | d (>= 4)\",\"alternatives\":[\"c (>= 2)\",\"d (>= 4)\"]}",
+{\"kind\":\"missing\",\"package\":\"b\",\"version\":\"1\",\"field\":\"Depends\",\"relation\":\"c (>= 2) | d (>= 4)\",\"alternatives\":[\"c (>= 2)\",\"d (>= 4)\"],\
+\"present\":[{\"package\":\"c\",\"version\":\"1\"},{\"package\":\"e\",\"version\":\"1\",\"provides\":[\"c\",\"d (= 3)\"]}],\"similar\":[]}",
+    ),
+    // The names that are similar.
+    (
+        &NEWER,
+        "{\"kind\":\"missing\",\"package\":\"player\",\"version\":\"1\",\"field\":\"Depends\",\"relation\":\"libbluray2 (>= 2)\",\"alternatives\":[\"libbluray2 (>= 2)\"],\
+\"present\":[{\"package\":\"libbluray2\",\"version\":\"1.4\"}],\"similar\":[\"libbluray3\",\"libbluray4\"]}",
     ),
     // An essential name has no member more.
     (

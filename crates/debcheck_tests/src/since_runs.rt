@@ -235,7 +235,7 @@ report:
   why:
    - b 1 Depends: c (>= 2) missing; present: c 1
   also:
-   - missing: b 1 Depends: y
+   - b 1 Depends: y missing
 stanzas: 4
 skipped: 0
 duplicates: 0
@@ -281,7 +281,7 @@ const IN_JSON: Case<'static> = Case {
 };
 
 const DOCUMENT: &[u8] =
-    br#"{"format":1,"options":["explain","bg","since","causes","all-reasons"],"architecture":"amd64","report":[
+    br#"{"format":2,"options":["explain","bg","since","causes","all-reasons"],"architecture":"amd64","report":[
 {"package":"b","version":"1","architecture":"all","status":"broken","reasons":[{"kind":"missing","package":"b","version":"1","field":"Depends","relation":"c (>= 2)"}],"also":[[{"kind":"missing","package":"b","version":"1","field":"Depends","relation":"y"}]]}
 ],"stanzas":4,"skipped":0,"duplicates":0,"background":1,"asked":3,"broken":2,"newly-broken":1,"mended":[],"gone":[],"causes":[
 {"packages":1,"frees":0,"reasons":[{"kind":"missing","relation":"c (>= 2)"}],"needed-by":[{"package":"b","version":"1","field":"Depends","relation":"c (>= 2)"}],"hits":[],"versions":[],"present":[{"package":"c","version":"1"}],"similar":[],"broken":[{"package":"b","version":"1"}]},

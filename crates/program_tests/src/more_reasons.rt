@@ -11,7 +11,7 @@ b 1: broken {missing: a 1 Depends: y / depends: b 1 Depends: a} also {missing: a
 stanzas 3, skipped 0, duplicates 0, asked 3, broken 2
 ====
 |--all-reasons|--arch|amd64|--format=json|--checkonly|a,c gives 1
-{"format":1,"options":["explain","checkonly","all-reasons"],"architecture":"amd64","report":[
+{"format":2,"options":["explain","checkonly","all-reasons"],"architecture":"amd64","report":[
 {"package":"a","version":"1","architecture":"all","status":"broken","reasons":[{"kind":"missing","package":"a","version":"1","field":"Depends","relation":"y"}],"also":[[{"kind":"missing","package":"a","version":"1","field":"Depends","relation":"x"}]]},
 {"package":"c","version":"1","architecture":"all","status":"ok","installation-set":[{"package":"c","version":"1"}]}
 ],"stanzas":3,"skipped":0,"duplicates":0,"asked":2,"broken":1}
@@ -41,6 +41,6 @@ editor 2.1 amd64: broken why {editor 2.1 Depends: gui / gui 4.0 / editor 2.1 Dep
 stanzas 4, skipped 0, duplicates 0, asked 4, broken 1
 ====
 |--why|--arch|amd64|--format|json|--failures gives 1
-{"format":1,"options":["explain","failures","why"],"architecture":"amd64","report":[
+{"format":2,"options":["explain","failures","why"],"architecture":"amd64","report":[
 {"package":"editor","version":"2.1","architecture":"amd64","status":"broken","reasons":[{"kind":"conflict","package":"dictionary","version":"1","field":"Conflicts","relation":"gui (<< 5)","hits":[{"package":"gui","version":"4.0"}]},{"kind":"depends","package":"editor","version":"2.1","field":"Depends","relation":"gui","met-by":[{"package":"gui","version":"4.0"}]},{"kind":"depends","package":"editor","version":"2.1","field":"Depends","relation":"speller (>= 3)","met-by":[{"package":"speller","version":"3.2"}]},{"kind":"depends","package":"speller","version":"3.2","field":"Depends","relation":"word-list | dictionary","met-by":[{"package":"dictionary","version":"1"}]}]}
 ],"stanzas":4,"skipped":0,"duplicates":0,"asked":4,"broken":1}"#;

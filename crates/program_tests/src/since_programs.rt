@@ -91,7 +91,7 @@ e 1: broken
 stanzas 4, skipped 0, duplicates 0, asked 4, broken 3, newly-broken 2, mended {a 1}, gone {b 2}
 ====
 |--arch|amd64|--since|old|--format|json gives 1
-{"architecture":"amd64","report":[
+{"format":2,"options":["since"],"architecture":"amd64","report":[
 {"package":"d","version":"1","architecture":"all","status":"broken"},
 {"package":"e","version":"1","architecture":"all","status":"broken"}
 ],"stanzas":4,"skipped":0,"duplicates":0,"asked":4,"broken":3,"newly-broken":2,"mended":[{"package":"a","version":"1"}],"gone":[{"package":"b","version":"2"}]}

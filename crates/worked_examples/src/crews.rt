@@ -111,7 +111,7 @@ a 1 {Depends: b}
 with
 b 1 {Depends: c} / b 2
 gives 0
-{"architecture":"amd64","report":[
+{"format":2,"options":["explain","bg"],"architecture":"amd64","report":[
 {"package":"a","version":"1","architecture":"all","status":"ok","installation-set":[{"package":"a","version":"1"},{"package":"b","version":"2"}]}
 ],"stanzas":3,"skipped":0,"duplicates":0,"background":2,"asked":1,"broken":0}
 ====

@@ -10,13 +10,13 @@ use std::alloc::{AllocError, Global};
 pub static EXAMPLES: &str = r#"empty_index under --arch amd64 --format json --explain
 
 gives 0
-{"architecture":"amd64","report":[
+{"format":2,"options":["explain"],"architecture":"amd64","report":[
 ],"stanzas":0,"skipped":0,"duplicates":0,"asked":0,"broken":0}
 ====
 nothing_broken under --arch amd64 --format json --explain
 a 1 amd64
 gives 0
-{"architecture":"amd64","report":[
+{"format":2,"options":["explain"],"architecture":"amd64","report":[
 {"package":"a","version":"1","architecture":"amd64","status":"ok","installation-set":[{"package":"a","version":"1"}]}
 ],"stanzas":1,"skipped":0,"duplicates":0,"asked":1,"broken":0}
 ====
@@ -24,7 +24,7 @@ all_kinds_of_reasons under --arch amd64 --format json --explain
 e 1 {Essential: yes} / x 1 {Conflicts: e} / m 1 {Depends: gone (>= 2) | gone-too} / n 1 / n 2 amd64 / q 1 {Pre-Depends: n (= 1); Depends: r} /
 r 1:1.0~b-1 {Depends: n (= 2)}
 gives 1
-{"architecture":"amd64","report":[
+{"format":2,"options":["explain"],"architecture":"amd64","report":[
 {"package":"e","version":"1","architecture":"all","status":"ok","installation-set":[{"package":"e","version":"1"}]},
 {"package":"x","version":"1","architecture":"all","status":"broken","reasons":[{"kind":"essential","name":"e"},{"kind":"conflict","package":"x","version":"1","field":"Conflicts","relation":"e"}]},
 {"package":"m","version":"1","architecture":"all","status":"broken","reasons":[{"kind":"missing","package":"m","version":"1","field":"Depends","relation":"gone (>= 2) | gone-too"}]},
@@ -37,7 +37,7 @@ gives 1
 without_explanations under --arch amd64 --format json
 a 1 {Depends: b} / b 1 {Depends: c (>= 2)} / c 1
 gives 1
-{"architecture":"amd64","report":[
+{"format":2,"options":[],"architecture":"amd64","report":[
 {"package":"a","version":"1","architecture":"all","status":"broken"},
 {"package":"b","version":"1","architecture":"all","status":"broken"},
 {"package":"c","version":"1","architecture":"all","status":"ok"}
@@ -46,20 +46,20 @@ gives 1
 no_failures under --arch amd64 --format json --explain --failures
 a 1 amd64
 gives 0
-{"architecture":"amd64","report":[
+{"format":2,"options":["explain","failures"],"architecture":"amd64","report":[
 ],"stanzas":1,"skipped":0,"duplicates":0,"asked":1,"broken":0}
 ====
 successes under --arch amd64 --format json --explain --successes
 a 1 {Depends: b} / b 1 {Depends: c (>= 2)} / c 1
 gives 1
-{"architecture":"amd64","report":[
+{"format":2,"options":["explain","successes"],"architecture":"amd64","report":[
 {"package":"c","version":"1","architecture":"all","status":"ok","installation-set":[{"package":"c","version":"1"}]}
 ],"stanzas":3,"skipped":0,"duplicates":0,"asked":3,"broken":2}
 ====
 causes under --arch amd64 --format json --failures --causes
 a 1 {Depends: b} / b 1 {Depends: c (>= 2)} / c 1
 gives 1
-{"format":1,"options":["failures","causes"],"architecture":"amd64","report":[
+{"format":2,"options":["failures","causes"],"architecture":"amd64","report":[
 {"package":"a","version":"1","architecture":"all","status":"broken"},
 {"package":"b","version":"1","architecture":"all","status":"broken"}
 ],"stanzas":3,"skipped":0,"duplicates":0,"asked":3,"broken":2,"causes":[
@@ -70,7 +70,7 @@ causes_of_all_kinds under --arch amd64 --format json --successes --causes --chec
 e 1 {Essential: yes} / x 1 {Conflicts: e} / m 1 {Depends: gone (>= 2) | gone-too} / n 1 / n 2 amd64 / q 1 {Pre-Depends: n (= 1); Depends: r} /
 r 1:1.0~b-1 {Depends: n (= 2)}
 gives 1
-{"format":1,"options":["successes","checkonly","causes"],"architecture":"amd64","report":[
+{"format":2,"options":["successes","checkonly","causes"],"architecture":"amd64","report":[
 {"package":"r","version":"1:1.0~b-1","architecture":"all","status":"ok"}
 ],"stanzas":7,"skipped":0,"duplicates":0,"asked":4,"broken":3,"causes":[
 {"packages":1,"frees":1,"reasons":[{"kind":"essential","name":"e"},{"kind":"conflict","package":"x","version":"1","field":"Conflicts","relation":"e"}],"needed-by":[],"hits":[{"package":"e","version":"1"}],"versions":[],"present":[],"similar":[],"broken":[{"package":"x","version":"1"}]},
@@ -81,7 +81,7 @@ gives 1
 near_by_provides under --arch amd64 --format json --failures --causes
 a 1 {Depends: v (>= 3)} / p 1 {Provides: v (= 1), other, v} / v 1 {Provides: v (= 2)}
 gives 1
-{"format":1,"options":["failures","causes"],"architecture":"amd64","report":[
+{"format":2,"options":["failures","causes"],"architecture":"amd64","report":[
 {"package":"a","version":"1","architecture":"all","status":"broken"}
 ],"stanzas":3,"skipped":0,"duplicates":0,"asked":3,"broken":1,"causes":[
 {"packages":1,"frees":1,"reasons":[{"kind":"missing","relation":"v (>= 3)"}],"needed-by":[{"package":"a","version":"1","field":"Depends","relation":"v (>= 3)"}],"hits":[],"versions":[],"present":[{"package":"p","version":"1","provides":["v (= 1)","v"]},{"package":"v","version":"1"}],"similar":[],"broken":[{"package":"a","version":"1"}]}
@@ -90,14 +90,14 @@ gives 1
 no_causes_in_an_empty_index under --arch amd64 --format json --causes
 
 gives 0
-{"format":1,"options":["causes"],"architecture":"amd64","report":[
+{"format":2,"options":["causes"],"architecture":"amd64","report":[
 ],"stanzas":0,"skipped":0,"duplicates":0,"asked":0,"broken":0,"causes":[
 ]}
 ====
 no_causes under --arch amd64 --format json --successes --causes
 a 1 amd64
 gives 0
-{"format":1,"options":["successes","causes"],"architecture":"amd64","report":[
+{"format":2,"options":["successes","causes"],"architecture":"amd64","report":[
 {"package":"a","version":"1","architecture":"amd64","status":"ok"}
 ],"stanzas":1,"skipped":0,"duplicates":0,"asked":1,"broken":0,"causes":[
 ]}
@@ -112,7 +112,7 @@ Version: 1
 Architecture: a\"\\\u{1}\u{1f}\u{e9}
 ";
 
-const STRANGE_REPORT: &str = r#"{"architecture":"a\"\\\u0001\u001fé","report":[
+const STRANGE_REPORT: &str = r#"{"format":2,"options":[],"architecture":"a\"\\\u0001\u001fé","report":[
 {"package":"p","version":"1","architecture":"a\"\\\u0001\u001fé","status":"ok"}
 ],"stanzas":1,"skipped":0,"duplicates":0,"asked":1,"broken":0}
 "#;

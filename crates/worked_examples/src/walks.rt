@@ -9,8 +9,8 @@ stanzas 2, skipped 0, duplicates 0, asked 1, broken 1
 own_version_does_not_meet_in_JSON under --arch amd64 --why --checkonly p --format json
 p 1 {Depends: a (>= 2) | b} / a 1 {Provides: b; Depends: gone}
 gives 1
-{"format":1,"options":["explain","checkonly","why"],"architecture":"amd64","report":[
-{"package":"p","version":"1","architecture":"all","status":"broken","reasons":[{"kind":"depends","package":"p","version":"1","field":"Depends","relation":"a (>= 2) | b","met-by":[{"package":"a","version":"1","provides":["b"]}]},{"kind":"missing","package":"a","version":"1","field":"Depends","relation":"gone","alternatives":["gone"]}]}
+{"format":2,"options":["explain","checkonly","why"],"architecture":"amd64","report":[
+{"package":"p","version":"1","architecture":"all","status":"broken","reasons":[{"kind":"depends","package":"p","version":"1","field":"Depends","relation":"a (>= 2) | b","met-by":[{"package":"a","version":"1","provides":["b"]}]},{"kind":"missing","package":"a","version":"1","field":"Depends","relation":"gone","alternatives":["gone"],"present":[],"similar":[]}]}
 ],"stanzas":2,"skipped":0,"duplicates":0,"asked":1,"broken":1}
 ====
 own_name_lacks_the_mark under --arch amd64 --why --checkonly p

@@ -2,13 +2,13 @@ use Rattle.std.proofs.Common.{◌∙◌, All, subst, sym}
 use Rattle.deb_index.specs.Constraints.{IsOfIndex}
 use Rattle.deb_causes.specs.Similar.{stems_in}
 use Rattle.deb_causes.specs.Stems.{AreSought}
-use Rattle.deb_report.proofs.SoughtLemmas.{blocks-walked, final-within}
+use Rattle.deb_report.proofs.SoughtLemmas.{blocks-walked, constraints-within}
 use Rattle.deb_report.proofs.sought.similar_to_walks.Goals as goal
 
 pub find-requires : goal.find-requires
 find-requires c =
     let index = c.args.index.now in
-    subst (All (IsOfIndex index)) (sym (c.as_slice.ensures.value ∙ c.in_ok-constraints.ensures)) (final-within index c.args.blocks.now c.requires)
+    subst (All (IsOfIndex index)) (sym (c.as_slice.ensures.value ∙ c.in_ok-constraints.ensures)) (constraints-within index c.args.blocks.now c.requires)
 
 pub returns-then-telling-2 : goal.returns-then-telling-2
 returns-then-telling-2 c =

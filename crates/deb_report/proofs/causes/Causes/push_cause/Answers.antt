@@ -1,13 +1,17 @@
-use Rattle.std.proofs.Common.{◌∙◌, ◌∷◌, [], Bor, List, ℕ, ap, codes, length, refl, sym}
-use Rattle.deb_causes.specs.Near.{near_misses, near_view, similar_names}
-use Rattle.deb_report.proofs.FormLemmas.{some_map}
-use Rattle.deb_report.specs.Forms.{block_end, list_in, name_in, number_in, some_in}
+use Rattle.std.proofs.Common.{◌∙◌, ◌∷◌, [], List, ℕ, ap, codes, length, refl}
+use Rattle.deb_report.specs.Forms.{block_end, list_in, number_in, some_in}
 use Rattle.deb_report.specs.Hits.{hits_of}
-use Rattle.deb_report.specs.Reasons.{near_in, place_in}
+use Rattle.deb_report.specs.Reasons.{near_to_in, place_in}
 use Rattle.deb_report.specs.declared.form.Lead.TheVariants.{Block, Within}
 use Rattle.deb_report.specs.CauseText.{cause_in, needed_in, wrong_in}
 use Rattle.deb_report.proofs.JoinLemmas.{added, in-order}
 use Rattle.deb_report.proofs.causes.Causes.push_cause.Goals as goal
+
+pub push_near_to-requires-clause-within : goal.push_near_to-requires-clause-within
+push_near_to-requires-clause-within c = rw c.as_slice-constraints.ensures.value c.requires.cause.of_index.constraints
+
+pub push_near_to-requires-clause-sought : goal.push_near_to-requires-clause-sought
+push_near_to-requires-clause-sought c = rw c.as_slice-constraints.ensures.value c.requires.cause.sought
 
 pub returns : goal.returns
 unfolding cause_in
@@ -23,18 +27,14 @@ returns c =
     let needs = added c.in_ok-push_some.ensures reasons (ap (some_in form (codes "needed-by") (needed_in form index)) c.as_slice-needs.ensures.value) in
     let hits = added c.in_ok-push_some-2.ensures needs (ap (some_in form (codes "hits") (place_in form index)) c.requires.hits) in
     let versions = added c.in_ok-push_some-3.ensures hits (ap (some_in form (codes "versions") (place_in form index)) c.as_slice-versions.ensures.value) in
-    let present = added c.in_ok-push_some-4.ensures versions
-    (sym (some_map form (codes "present") (near_in form) near_view c.args.misses.now) ∙ ap (some_in form (codes "present") (near_in form)) c.requires.misses) in
-    let similar = added c.in_ok-push_some-5.ensures present
-    (sym (some_map form (codes "similar") (name_in form) (λ (name : Bor (List ℕ)). name.now) c.args.names.now) ∙ ap (some_in form (codes "similar") (name_in form)) c.requires.names) in
-    let broken = added c.in_ok-push_list-2.ensures similar (ap (list_in form Within (codes "broken") (place_in form index)) c.as_slice-places.ensures.value) in
+    let near = added c.in_ok-push_near_to.ensures versions (ap (near_to_in form index) c.as_slice-constraints.ensures.value) in
+    let broken = added c.in_ok-push_list-2.ensures near (ap (list_in form Within (codes "broken") (place_in form index)) c.as_slice-places.ensures.value) in
     added c.in_ok-push_block_end.ensures broken refl
     ∙ in-order c.args.out.now.items (number_in form Block (codes "packages") (length places)) (number_in form Within (codes "frees") cause.frees
     ∷ list_in form Within (codes "reasons") (wrong_in form index) constraints
     ∷ some_in form (codes "needed-by") (needed_in form index) cause.needs.items
     ∷ some_in form (codes "hits") (place_in form index) (hits_of index constraints)
     ∷ some_in form (codes "versions") (place_in form index) cause.versions.items
-    ∷ some_in form (codes "present") (near_in form) (near_misses index constraints)
-    ∷ some_in form (codes "similar") (name_in form) (similar_names index constraints)
+    ∷ near_to_in form index constraints
     ∷ list_in form Within (codes "broken") (place_in form index) places
     ∷ block_end form ∷ [])

@@ -1,17 +1,16 @@
-use Rattle.std.proofs.Common.{◌∙◌, All, Global, Vec, ap, drop, refl, subst, sym}
+use Rattle.std.proofs.Common.{All, Global, Vec, drop, subst, sym}
 use Rattle.std.proofs.lemmas.List.Elements.{All-drop, All-take}
 use Rattle.deb_index.specs.declared.constraint.Constraint.{Constraint}
-use Rattle.deb_index.specs.Constraints.{IsOfIndex}
-use Rattle.deb_report.specs.FitsWalk.{FitsWalk}
-use Rattle.deb_report.proofs.SoughtLemmas.{first-told}
+use Rattle.deb_report.specs.Sought.{IsTold}
 use Rattle.deb_report.proofs.document.Document.push_cores.Goals as goal
 
-pub push_first-requires-clause-walked : goal.push_first-requires-clause-walked
-push_first-requires-clause-walked c = λ why.
+pub push_core-requires-clause-core : goal.push_core-requires-clause-core
+push_core-requires-clause-core c =
+    let told = IsTold c.args.self.now.writer.index.now c.args.self.now.telling c.args.self.now.similar.now in
     rw c.as_slice.ensures.value
-    (subst (All (FitsWalk c.args.self.now.writer.index.now c.args.self.now.similar.now)) (first-told c.args.cores.now _ _ c.in-len1-up.len_at_least refl ∙ ap (λ core. core.items) (sym c.core-item.is)) (c.requires.walked why))
+    (subst (λ (core : Vec Constraint Global). All told core.items) (sym c.core-item.is) (c.requires.cores 0 _ c.in-len1-up.len_at_least))
 
-pub push_later-requires : goal.push_later-requires
-push_later-requires c =
-    let P = λ (core : Vec Constraint Global). All (IsOfIndex c.args.self.now.writer.index.now) core.items in
+pub push_later-requires-clause-cores : goal.push_later-requires-clause-cores
+push_later-requires-clause-cores c =
+    let P = λ (core : Vec Constraint Global). All (IsTold c.args.self.now.writer.index.now c.args.self.now.telling c.args.self.now.similar.now) core.items in
     All-take P _ (drop 1 c.args.cores.now) (All-drop P 1 c.args.cores.now c.requires.cores)
