@@ -81,6 +81,8 @@ class Report:
                 self.fail("a line of the set or of the reasons")
             while not ok and self.line == "  also:":
                 self.some_of("  also:", REASONS)
+            if not ok and (self.line or "").startswith("  further: "):
+                self.value("  further: ", "[1-9][0-9]*")
         return name, version, ok
 
     def some_of(self, title, forms):

@@ -72,7 +72,7 @@ pub fn report(
 }
 
 /// The report on the asked places, as `report` gives it, of as much as is told of each, with its numbers: with `all_reasons` a block tells all cores
-/// that are told, and causes are those of all of them.
+/// that are told, else how many stand behind the first, and causes are those of all of them.
 ///
 /// Where packages that were broken in an earlier index are given, a block and a cause have the newly broken packages alone, whatever is to be shown:
 /// those of whose name no package was broken before. Behind the numbers, the last of which is theirs, stand the packages that were broken and are

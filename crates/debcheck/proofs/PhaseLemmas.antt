@@ -1,16 +1,17 @@
 -- From the phases of a run to the whole run.
-use Rattle.std.proofs.Common.{◌≡◌, ◌⊎◌, ◌∙◌, ℕ, ◌≤◌, Bool, true, false, List, [], Option, Some, None, Result, Ok, Err, IfSome, if◌then◌else◌, ◌++◌, append-nil, ap, inl, inr, length, refl, sym, subst}
-use Rattle.std.specs.Io.KnownBytes.{Appends, Consumes, IsAtEnd, Keeps}
+use Rattle.std.proofs.Common.{◌≡◌, ◌∙◌, ℕ, ◌≤◌, Bool, true, false, List, [], Option, Some, None, Result, Ok, Err, IfSome, if◌then◌else◌, ◌++◌, append-nil, ap, inl, inr, length, refl, sym, subst}
+use Rattle.std.specs.Io.KnownBytes.{Consumes, IsAtEnd, Keeps}
 use Rattle.deb_index.specs.Packages.{IndexView}
 use Rattle.deb_index.specs.Reading.{byte_limit, index_of, index_of_both}
 use Rattle.deb_index.specs.declared.error.BothError.TheVariants.{Back}
+use Rattle.deb_index.specs.declared.error.IndexError.{IndexError}
 use Rattle.deb_input.specs.declared.fault.RunFault.{RunFault}
 use Rattle.deb_input.specs.declared.fault.RunFault.TheVariants.{Read, TooLong, BackgroundRead, BackgroundTooLong, EarlierRead, EarlierTooLong, NamesRead, NamesTooLong, BadNameLine, Index, Background, Earlier, UnknownAsked, Slipped, Memory, Write}
 use Rattle.deb_report.specs.declared.summary.Summary.{Summary}
 use Rattle.deb_report.specs.Since.{BrokenView}
 use Rattle.run_settings.specs.Settings.{Settings}
-use Rattle.deb_input.specs.Inputs.{FailsToAccept, FailsToRead, Input, IsRead, IsReadAs, input, is_unread}
-use Rattle.debcheck.specs.Run.{Fails, FailsAlone, FailsEarlier, FailsToIndex, FailsToReadBehind, FailsToReport, FailsToWrite, HasAsked, HasIndex, IfAllTold, IfIndexed, IfTold, IsReport, IsReportOn, ReadsAs, RunsOn, Tells, WereBroken, Written, behind, earlier_fault}
+use Rattle.deb_input.specs.Inputs.{FailsToAccept, Input, IsRead, IsReadAs, input, is_unread}
+use Rattle.debcheck.specs.Run.{Fails, FailsAlone, FailsEarlier, FailsToIndex, FailsToReadBehind, FailsToReport, FailsToWrite, HasAsked, HasIndex, IfAllTold, IfIndexed, IfTold, IsOfEarlier, IsReport, IsReportOn, ReadsAs, RunsOn, Tells, WereBroken, Written, behind, earlier_fault}
 use Rattle.debcheck.proofs.BackgroundLemmas.{back-asked}
 use Rattle.deb_input.proofs.IndexLemmas.{both-fore}
 
@@ -232,6 +233,16 @@ all-read settings index w fault (inl h) =
 all-read settings index w fault (inr h) =
     let is = h.0 in
     (ap is_unread is, (λ e. absurd cc), (λ e. absurd cc))
+
+-- and no fault is one of an earlier index, where a cause is none
+pub none-of-earlier : (P : RunFault → Type 0) → (P EarlierRead → ⊥) → (P EarlierTooLong → ⊥) → ((cause : IndexError) → P (Earlier cause) → ⊥) → (fault : RunFault) → P fault → IsOfEarlier fault → ⊥
+none-of-earlier P read long cause fault h (inl is) = read (subst P is h)
+none-of-earlier P read long cause fault h (inr (inl is)) = long (subst P is h)
+none-of-earlier P read long cause fault h (inr (inr is)) = cause is.0 (subst P is.1 h)
+
+pub write-of-none : (settings : Settings) (index : IndexView) (w : Bool) (fault : RunFault) → FailsToWrite settings index w fault → IsOfEarlier fault → ⊥
+write-of-none settings index w fault (inl h) = none-of-earlier (FailsToReport settings index) (λ h. h) (λ h. h) (λ cause h. h) fault h
+write-of-none settings index w fault (inr h) = none-of-earlier (λ f. f ≡ Write) (λ e. absurd cc) (λ e. absurd cc) (λ cause e. absurd cc) fault h.0
 
 -- ---- an earlier index
 

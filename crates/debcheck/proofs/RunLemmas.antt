@@ -1,5 +1,5 @@
 -- Lemmas on what a run answers.
-use Rattle.std.proofs.Common.{◌≡◌, ◌∙◌, ℕ, ◌⊎◌, false, List, [], Option, Some, None, Ok, Err, option_map, refl, ap, sym, subst, arith, inl, inr}
+use Rattle.std.proofs.Common.{◌≡◌, ◌∙◌, ℕ, false, List, [], Option, Some, None, Ok, Err, option_map, refl, ap, sym, subst, arith, inl, inr}
 use Rattle.std.proofs.lemmas.Bool.{cases_Bool}
 use Rattle.deb_index.specs.Packages.{IndexView}
 use Rattle.deb_input.specs.declared.fault.RunFault.{RunFault}

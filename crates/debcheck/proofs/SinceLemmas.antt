@@ -1,5 +1,5 @@
 -- Of a text that is read in pieces, in front of a background that was read before.
-use Rattle.std.proofs.Common.{◌≡◌, ◌⊎◌, ◌∙◌, Bool, false, List, Option, Ok, inl, inr, ℕ}
+use Rattle.std.proofs.Common.{◌≡◌, ◌∙◌, Bool, false, List, Option, Ok, inl, inr, ℕ}
 use Rattle.deb_index.specs.Packages.{IndexView}
 use Rattle.deb_index.specs.Reading.{byte_limit, index_of_both}
 use Rattle.run_settings.specs.Settings.{Settings}

@@ -1,5 +1,5 @@
 -- What is told of asked places.
-use Rattle.std.proofs.Common.{◌≡◌, ◌<◌, ◌∙◌, ℕ, zero, suc, Bool, false, true, List, [], ◌∷◌, All, None, Option, Some, ap, is_some, length, map, refl, slice_get, subst, sym}
+use Rattle.std.proofs.Common.{◌≡◌, ◌∙◌, ℕ, zero, suc, Bool, false, true, List, [], ◌∷◌, All, None, Option, Some, inl, inr, ap, is_some, length, map, refl, slice_get, subst, sym}
 use Rattle.std.specs.Borrow.{Bor}
 use Rattle.std.specs.Prelude.{slice_index_or}
 use Rattle.std.proofs.lemmas.Bool.{false_from_ne_true, false≢true}
@@ -7,7 +7,7 @@ use Rattle.deb_index.specs.Packages.{IndexView}
 use Rattle.deb_health.specs.declared.told.Told.{Told}
 use Rattle.deb_health.specs.declared.told.Wanted.{Wanted}
 use Rattle.deb_health.specs.Health.{IsInstallable}
-use Rattle.deb_health.specs.Verdicts.{Installable, IsTold, SpeaksOf, told_view}
+use Rattle.deb_health.specs.Verdicts.{Installable, IsTold, SpeaksOf, ToldView, told_view}
 use Rattle.deb_report.specs.declared.before.Before.{Before}
 use Rattle.deb_report.specs.declared.summary.Summary.{Summary}
 use Rattle.deb_report.specs.Since.{BrokenView, summary_of}
@@ -17,7 +17,7 @@ use Rattle.run_settings.specs.Settings.{Settings}
 use Rattle.work_draw.specs.Checks.{AnswersEach}
 use Rattle.work_draw.proofs.Answered.{AnswersEach-All, AnswersEach-length, AnswersEach-map}
 use Rattle.debcheck.specs.Run.{IsAsked, IsReportOn}
-use Rattle.debcheck.specs.Telling.{IsToldAt, wanted_at, wanted_by}
+use Rattle.debcheck.specs.Telling.{IsFoundAt, IsToldAt, wanted_at, wanted_by}
 
 -- a mark that is read is one of the list
 pub mark_read : (marks : List Bool) (place : ℕ) → slice_index_or marks place false ≡ true → slice_get marks place ≡ Some true
@@ -30,11 +30,19 @@ sets-at : (wanted : Wanted) (index : IndexView) (before : Option (List BrokenVie
 sets-at wanted index None place = refl
 sets-at wanted index (Some packages) place = refl
 
-pub marked-told : (wanted : Wanted) (index : IndexView) (before : Option (List BrokenView)) (place : ℕ) (marks : List Bool) → (wanted.sets ≡ true → marks ≡ [])
+marked-told : (wanted : Wanted) (index : IndexView) (before : Option (List BrokenView)) (place : ℕ) (marks : List Bool) → (wanted.sets ≡ true → marks ≡ [])
     → slice_index_or marks place false ≡ true → IsInstallable index place → IsTold (wanted_at wanted index before place) index place Installable × SpeaksOf index Installable
 marked-told wanted index before place marks none marked installable =
     let unshown : wanted.sets ≡ false = false_from_ne_true wanted.sets (λ shown. false≢true (subst (λ (list : List Bool). slice_index_or list place false ≡ true) (none shown) marked)) in
     ((sets-at wanted index before place ∙ unshown, installable), tt)
+
+-- what is found where marks are looked up first, is what is told
+pub found-told : (wanted : Wanted) (index : IndexView) (before : Option (List BrokenView)) (marks : List Bool) (place : ℕ) (told : Told) → (wanted.sets ≡ true → marks ≡ [])
+    → ((place : ℕ) → slice_index_or marks place false ≡ true → IsInstallable index place) → IsFoundAt marks wanted index before place told → IsToldAt wanted index before place told
+found-told wanted index before marks place told none only (inr is) = is
+found-told wanted index before marks place told none only (inl h) =
+    subst (λ (view : ToldView). IsTold (wanted_at wanted index before place) index place view × SpeaksOf index view) (sym h.1)
+    (marked-told wanted index before place marks none h.0 (only place h.0))
 
 module _ (wanted : Wanted) (index : IndexView) (before : Option (List BrokenView)) (asked : List ℕ) (told : List Told) (each : AnswersEach (IsToldAt wanted index before) asked told) where
   pub told-each : AnswersEach (λ place. IsTold (wanted_at wanted index before place) index place) asked (map told_view told)

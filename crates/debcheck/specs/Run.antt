@@ -6,6 +6,7 @@ use Rattle.deb_index.specs.Reading.{byte_limit, index_of, index_of_both}
 use Rattle.deb_health.specs.Verdicts.{IsTold, ToldView}
 use Rattle.work_draw.specs.Checks.{AnswersEach}
 use Rattle.deb_index.specs.declared.error.BothError.TheVariants.{Back}
+use Rattle.deb_index.specs.declared.error.IndexError.{IndexError}
 use Rattle.deb_index.specs.declared.error.IndexError.TheVariants as index_error
 use Rattle.deb_input.specs.Inputs.{Input, IsRead, IsTooLong, input}
 use Rattle.deb_input.specs.declared.fault.RunFault.{RunFault}
@@ -177,6 +178,10 @@ earlier_fault Read = EarlierRead
 earlier_fault TooLong = EarlierTooLong
 earlier_fault (Index fault) = Earlier fault
 earlier_fault fault = fault
+
+-- the fault is one of the earlier index
+abbrev pub IsOfEarlier : RunFault → Type 0
+IsOfEarlier fault = (fault ≡ EarlierRead) ⊎ (fault ≡ EarlierTooLong) ⊎ ((cause : IndexError) × (fault ≡ Earlier cause))
 
 -- why there is no earlier index: for a reason why a text has none
 abbrev pub FailsEarlier : Settings → Input → Input → RunFault → Type 0

@@ -1,7 +1,7 @@
 -- What a report tells of packages.
-use Rattle.std.specs.Prelude.{ℕ, Bool, false, true, not, ◌&&◌, ◌||◌, List, [], Option, None, Some, if◌then◌else◌}
+use Rattle.std.specs.Prelude.{◌≡◌, ◌⊎◌, ℕ, Bool, false, true, not, ◌&&◌, ◌||◌, List, [], Option, None, Some, if◌then◌else◌, slice_index_or}
 use Rattle.deb_index.specs.Packages.{IndexView}
-use Rattle.deb_health.specs.Verdicts.{Blocked, IsTold, SpeaksOf, told_view}
+use Rattle.deb_health.specs.Verdicts.{Blocked, Installable, IsTold, SpeaksOf, told_view}
 use Rattle.deb_health.specs.declared.told.Cores.{Cores}
 use Rattle.deb_health.specs.declared.told.Cores.TheVariants as cores_are
 use Rattle.deb_health.specs.declared.told.Told.{Told}
@@ -31,3 +31,8 @@ statuses = record { sets = false; cores = cores_are.None }
 -- what is found of the package at a place is what is told of it, and speaks of what the index has
 abbrev pub IsToldAt : Wanted → IndexView → Option (List BrokenView) → ℕ → Told → Type 0
 IsToldAt wanted index before place told = IsTold (wanted_at wanted index before place) index place (told_view told) × SpeaksOf index (told_view told)
+
+-- the same where marks, by place, are looked up first: of a marked one, that it can be installed
+abbrev pub IsFoundAt : List Bool → Wanted → IndexView → Option (List BrokenView) → ℕ → Told → Type 0
+IsFoundAt marks wanted index before place told =
+    ((slice_index_or marks place false ≡ true) × (told_view told ≡ Installable)) ⊎ IsToldAt wanted index before place told

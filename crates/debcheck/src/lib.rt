@@ -4,8 +4,8 @@
 //! `deb_input`; the report that it writes is `deb_report`'s; what it reads from and writes to are `devices`.
 //! The modules, in reading order:
 //!
-//! - `phases`: a run, from bytes to bytes; `since`: one that reads an earlier index first; `asked`: the places that are asked in it; `verdicts`:
-//!   what is told of them, and the report of that.
+//! - `phases`: a run, from bytes to bytes, and the `job` that its parts share; `since`: one that reads an earlier index first; `asked`: the places that
+//!   are asked in it; `verdicts`: what is told of them, and the report of that.
 //! - `hints`: what is guessed of inputs and of a run is noted, and told on a screen, in a line that begins with `hint: `. Of a guess nothing is promised, and
 //!   what a run answers and writes is the same without it. `input` has the inputs that are told of, and the texts of lines; `lines` the lines and fields of a
 //!   text; `beginning` what the first bytes of an input tell; `stanza` of which package the stanza is for whose fault it is refused; `architecture` that it
@@ -24,6 +24,7 @@ mod beginning;
 mod exit_status;
 mod hints;
 mod input;
+mod job;
 pub mod laws;
 mod lines;
 mod name;

@@ -10,6 +10,7 @@ ghost use Rattle.debcheck.specs.Run.{FailsToIndex, FailsToReadBehind, FailsToRep
 use crate::asked::asked_places;
 use crate::hints::{note, note_unknown};
 use crate::input::Input;
+use crate::job::Job;
 use crate::reading::reading_text;
 use crate::verdicts::check_and_tell;
 use deb_index::{Index, TEXT_LIMIT};
@@ -66,10 +67,8 @@ fn read_behind<B: Source>(
 }
 
 /// Reads an input as an index, piece by piece, and what stands behind it. What is guessed of them is noted on the reader.
-pub(crate) fn read_index<S: Source, B: Source, R: Threads + Sync>(
-    rt: &R,
-    alloc: Global,
-    config: &Config,
+pub(crate) fn read_index<S: Source, B: Source, G: Gate + Sync, R: Threads + Sync>(
+    job: &Job<'_, G, R>,
     of: Input,
     reader: &mut S,
     background: &mut B,
@@ -77,30 +76,37 @@ pub(crate) fn read_index<S: Source, B: Source, R: Threads + Sync>(
     requires reader { S.failed reader.old ≡ false }
     requires background { B.failed background.old ≡ false }
     ensures end { OnOk result (IsAtEnd (S.remaining reader.new)) }
-    ensures background_end { OnOk result ((settings_of config.now).background ≡ true → IsAtEnd (B.remaining background.new)) }
-    ensures spared { (settings_of config.now).background ≡ false → background.new ≡ background.old }
+    ensures background_end { OnOk result ((settings_of job.now.config.now).background ≡ true → IsAtEnd (B.remaining background.new)) }
+    ensures spared { (settings_of job.now.config.now).background ≡ false → background.new ≡ background.old }
     ensures unbegun { IfErr result (λ fault. is_unread fault ≡ true → background.new ≡ background.old) }
     ensures unfailed { OnOk result ((S.failed reader.new ≡ false) × (B.failed background.new ≡ false)) }
-    ensures index { IfOk result (λ r. ReadsAs (settings_of config.now)
+    ensures index { IfOk result (λ r. ReadsAs (settings_of job.now.config.now)
         (input (S.remaining reader.old) (S.failed reader.new)) (input (B.remaining background.old) (B.failed background.new)) r.0) }
     ensures behind { IfOk result (λ r.
-        IsReadAs (behind (settings_of config.now) (input (B.remaining background.old) (B.failed background.new))) r.1.items) }
-    ensures refused { IfErr result (FailsToIndex (settings_of config.now)
+        IsReadAs (behind (settings_of job.now.config.now) (input (B.remaining background.old) (B.failed background.new))) r.1.items) }
+    ensures refused { IfErr result (FailsToIndex (settings_of job.now.config.now)
         (input (S.remaining reader.old) (S.failed reader.new)) (input (B.remaining background.old) (B.failed background.new))) }
     ensures may_fail { IfErr result (λ fault. fault ≡ RunFault.BackgroundRead → B.may_fail background.old ≡ true) }
     ensures read_may_fail { IfErr result (λ fault. fault ≡ RunFault.Read → S.may_fail reader.old ≡ true) }
 {
     let size = reader.piece();
-    let TextRead { outcome, last } = read_text(rt, alloc, config, reader, size)?;
-    let more = match read_behind(alloc, config, background) {
+    let TextRead { outcome, last } = read_text(job.rt, job.alloc, job.config, reader, size)?;
+    let more = match read_behind(job.alloc, job.config, background) {
         Ok(more) => more,
         Err(fault) => {
             drop(outcome);
             return Err(fault);
         }
     };
-    let read = finish(rt, alloc, config, outcome, more.as_slice());
-    let text = reading_text(alloc, config, of, &read, last.as_slice(), more.as_slice());
+    let read = finish(job.rt, job.alloc, job.config, outcome, more.as_slice());
+    let text = reading_text(
+        job.alloc,
+        job.config,
+        of,
+        &read,
+        last.as_slice(),
+        more.as_slice(),
+    );
     note(reader, text);
     let index = read?;
     Ok((index, more))
@@ -108,45 +114,35 @@ pub(crate) fn read_index<S: Source, B: Source, R: Threads + Sync>(
 
 // Checks the asked places and makes the report; since these packages were broken, where an earlier index is told of.
 fn check_and_report<G: Gate + Sync, R: Threads + Sync>(
-    rt: &R,
-    alloc: Global,
-    config: &Config,
+    job: &Job<'_, G, R>,
     index: &Index,
     before: Option<&[BrokenPackage]>,
-    gate: &G,
 ) -> Result<(Vec<u8>, Summary), RunFault>
-    requires workers { (0 < config.now.workers) × (config.now.workers ≤ 64) }
-    requires chunk { 0 < config.now.chunk }
     ensures report { IfOk result (λ r.
-        IsReportOn (option_map (λ list. map broken_view list.now) before.entry) (settings_of config.now) index.now r.0.items r.1) }
-    ensures refused { IfErr result (FailsToReport (settings_of config.now) index.now) }
+        IsReportOn (option_map (λ list. map broken_view list.now) before.entry) (settings_of job.now.config.now) index.now r.0.items r.1) }
+    ensures refused { IfErr result (FailsToReport (settings_of job.now.config.now) index.now) }
 {
-    let asked = asked_places(alloc, index, config)?;
-    let told = check_and_tell(rt, alloc, config, index, asked.as_slice(), before, gate)?;
+    let asked = asked_places(job.alloc, index, job.config)?;
+    let told = check_and_tell(job, index, asked.as_slice(), before)?;
     Ok(told)
 }
 
 /// Checks the asked places of an index, writes the report and flushes. The index is let go; what a name is that is asked in vain, is noted on the reader.
 pub(crate) fn report_and_write<S: Source, K: Sink, G: Gate + Sync, R: Threads + Sync>(
-    rt: &R,
-    alloc: Global,
-    config: &Config,
+    job: &Job<'_, G, R>,
     reader: &S,
     index: Index,
     before: Option<&[BrokenPackage]>,
     writer: &mut K,
-    gate: &G,
     after: After,
 ) -> Result<Summary, RunFault>
-    requires workers { (0 < config.now.workers) × (config.now.workers ≤ 64) }
-    requires chunk { 0 < config.now.chunk }
     requires writer { K.failed writer.old ≡ false }
-    ensures tells { Tells (option_map (λ list. map broken_view list.now) before.entry) (settings_of config.now) index
+    ensures tells { Tells (option_map (λ list. map broken_view list.now) before.entry) (settings_of job.now.config.now) index
         (written (K.contents writer.old) (K.contents writer.new) (K.failed writer.new) (K.flushed writer.new) (K.abandoned writer.new)) result }
     ensures untouched { IfErr result (λ fault. fault ≢ RunFault.Write → writer.new ≡ writer.old) }
 {
-    let told = check_and_report(rt, alloc, config, &index, before, gate);
-    note_unknown(alloc, reader, &index, &told);
+    let told = check_and_report(job, &index, before);
+    note_unknown(job.alloc, reader, &index, &told);
     let_go(index, after);
     let (output, summary) = told?;
     match write_all(writer, output.as_slice()) {
@@ -157,33 +153,28 @@ pub(crate) fn report_and_write<S: Source, K: Sink, G: Gate + Sync, R: Threads + 
 
 /// `run`, which ends as `after` says.
 pub(crate) fn run_ending<S: Source, B: Source, K: Sink, G: Gate + Sync, R: Threads + Sync>(
-    rt: &R,
-    alloc: Global,
-    config: &Config,
+    job: &Job<'_, G, R>,
     reader: &mut S,
     background: &mut B,
     writer: &mut K,
-    gate: &G,
     after: After,
 ) -> Result<Summary, RunFault>
-    requires workers { (0 < config.now.workers) × (config.now.workers ≤ 64) }
-    requires chunk { 0 < config.now.chunk }
     requires reader { S.failed reader.old ≡ false }
     requires background { B.failed background.old ≡ false }
     requires writer { K.failed writer.old ≡ false }
     ensures end { OnOk result (IsAtEnd (S.remaining reader.new)) }
-    ensures background_end { OnOk result ((settings_of config.now).background ≡ true → IsAtEnd (B.remaining background.new)) }
-    ensures spared { (settings_of config.now).background ≡ false → background.new ≡ background.old }
+    ensures background_end { OnOk result ((settings_of job.now.config.now).background ≡ true → IsAtEnd (B.remaining background.new)) }
+    ensures spared { (settings_of job.now.config.now).background ≡ false → background.new ≡ background.old }
     ensures unbegun { IfErr result (λ fault. is_unread fault ≡ true → background.new ≡ background.old) }
     ensures untouched { IfErr result (λ fault. fault ≢ RunFault.Write → writer.new ≡ writer.old) }
-    ensures runs { RunsOn (settings_of config.now) None
+    ensures runs { RunsOn (settings_of job.now.config.now) None
         (input (S.remaining reader.old) (S.failed reader.new)) (input (B.remaining background.old) (B.failed background.new))
         (written (K.contents writer.old) (K.contents writer.new) (K.failed writer.new) (K.flushed writer.new) (K.abandoned writer.new)) result }
     ensures may_fail { IfErr result (λ fault. fault ≡ RunFault.BackgroundRead → B.may_fail background.old ≡ true) }
 {
-    let (index, more) = read_index(rt, alloc, config, Input::Index, reader, background)?;
+    let (index, more) = read_index(job, Input::Index, reader, background)?;
     drop(more);
-    report_and_write(rt, alloc, config, reader, index, None, writer, gate, after)
+    report_and_write(job, reader, index, None, writer, after)
 }
 
 /// Reads the index to its end, and with `bg` the background; checks each asked package of the index, writes the report and flushes. It may wait
@@ -221,6 +212,11 @@ pub fn run<S: Source, B: Source, K: Sink, G: Gate + Sync, R: Threads + Sync>(
         (input (S.remaining reader.old) (S.failed reader.new)) (input (B.remaining background.old) (B.failed background.new))
         (written (K.contents writer.old) (K.contents writer.new) (K.failed writer.new) (K.flushed writer.new) (K.abandoned writer.new)) result }
 {
-    let after = After::Caller;
-    run_ending(rt, alloc, config, reader, background, writer, gate, after)
+    let job = Job {
+        rt,
+        alloc,
+        config,
+        gate,
+    };
+    run_ending(&job, reader, background, writer, After::Caller)
 }

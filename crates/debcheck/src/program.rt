@@ -5,12 +5,13 @@ ghost use Rattle.std.specs.Process.{exit_status};
 ghost use Rattle.std.specs.Result.{result_map_both};
 ghost use Rattle.run_settings.specs.Settings.{settings_of};
 ghost use Rattle.deb_input.specs.Inputs.{input};
-ghost use Rattle.debcheck.specs.Program.{Asks, Ends, EndsSomehow, FailsToTake, Runs, RunsBehind, RunsNamed, RunsTo, TakesNames};
+ghost use Rattle.debcheck.specs.Program.{Asks, Ends, EndsSomehow, FailsToTake, Runs, RunsBehind, RunsNamed, TakesNames};
 ghost use Rattle.debcheck.specs.Run.{written};
 
 use crate::exit_status::status;
 use crate::hints::{note_input, tell_hint};
 use crate::input::Input;
+use crate::job::Job;
 use crate::output::{refuse, tell_outcome};
 use crate::phases::{After, run_ending};
 use crate::progress::Progress;
@@ -39,45 +40,38 @@ pub struct Ended<K> {
 }
 
 // The run on an opened background. The earlier index's file is opened before anything is read.
-fn run_behind<
-    O: Opener,
-    S: Source,
-    B: Source,
-    K: Sink,
-    G: Gate + Sync,
-    R: Threads + Sync + AllocGlobal,
->(
-    rt: &R,
-    config: &Config,
+fn run_behind<O: Opener, S: Source, B: Source, K: Sink, G: Gate + Sync, R: Threads + Sync>(
+    job: &Job<'_, G, R>,
     files: &O,
     reader: &mut S,
     background: &mut B,
     output: &mut K,
-    gate: &G,
 ) -> Result<Summary, RunFault>
-    requires workers { (0 < config.now.workers) × (config.now.workers ≤ 64) }
-    requires chunk { 0 < config.now.chunk }
     requires reader { S.failed reader.old ≡ false }
     requires background { B.failed background.old ≡ false }
     requires output { K.failed output.old ≡ false }
-    ensures runs { RunsBehind (settings_of config.now) (O.named files.now) (option_map string_bytes config.now.since)
+    ensures runs { RunsBehind (settings_of job.now.config.now) (O.named files.now) (option_map string_bytes job.now.config.now.since)
         (input (S.remaining reader.old) (S.failed reader.new)) (input (B.remaining background.old) (B.failed background.new)) (S.remaining reader.new)
         (written (K.contents output.old) (K.contents output.new) (K.failed output.new) (K.flushed output.new) (K.abandoned output.new)) result }
     ensures may_fail { IfErr result (λ fault. fault ≡ RunFault.BackgroundRead → B.may_fail background.old ≡ true) }
 {
-    let alloc = rt.alloc();
-    let Some(file) = &config.since else {
-        let after = After::End;
-        return run_ending(rt, alloc, config, reader, background, output, gate, after);
+    let Some(file) = &job.config.since else {
+        return run_ending(job, reader, background, output, After::End);
     };
     match files.open(file.as_str()) {
         Ok(mut earlier) => {
-            let from = &mut earlier;
-            let after = After::End;
             let outcome = run_since(
-                rt, alloc, config, reader, background, from, output, gate, after,
+                job.rt,
+                job.alloc,
+                job.config,
+                reader,
+                background,
+                &mut earlier,
+                output,
+                job.gate,
+                After::End,
             );
-            note_input(alloc, reader, &outcome, Input::Earlier, &earlier);
+            note_input(job.alloc, reader, &outcome, Input::Earlier, &earlier);
             outcome
         }
         Err(OpenFault::Memory) => Err(RunFault::Memory),
@@ -86,30 +80,27 @@ fn run_behind<
 }
 
 // The run under a configuration. The background's file is opened before anything is read, and before that of the earlier index.
-fn open_and_run<O: Opener, S: Source, K: Sink, G: Gate + Sync, R: Threads + Sync + AllocGlobal>(
-    rt: &R,
-    config: &Config,
+fn open_and_run<O: Opener, S: Source, K: Sink, G: Gate + Sync, R: Threads + Sync>(
+    job: &Job<'_, G, R>,
     files: &O,
     reader: &mut S,
     output: &mut K,
-    gate: &G,
 ) -> Result<Summary, RunFault>
-    requires workers { (0 < config.now.workers) × (config.now.workers ≤ 64) }
-    requires chunk { 0 < config.now.chunk }
     requires reader { S.failed reader.old ≡ false }
     requires output { K.failed output.old ≡ false }
-    ensures { Runs (settings_of config.now) (O.named files.now) (option_map string_bytes config.now.bg) (option_map string_bytes config.now.since)
+    ensures { Runs (settings_of job.now.config.now) (O.named files.now)
+        (option_map string_bytes job.now.config.now.bg) (option_map string_bytes job.now.config.now.since)
         (input (S.remaining reader.old) (S.failed reader.new)) (S.remaining reader.new)
         (written (K.contents output.old) (K.contents output.new) (K.failed output.new) (K.flushed output.new) (K.abandoned output.new)) result }
 {
-    let Some(name) = &config.bg else {
+    let Some(name) = &job.config.bg else {
         let mut nothing = Std::new([].as_slice());
-        return run_behind(rt, config, files, reader, &mut nothing, output, gate);
+        return run_behind(job, files, reader, &mut nothing, output);
     };
     match files.open(name.as_str()) {
         Ok(mut background) => {
-            let outcome = run_behind(rt, config, files, reader, &mut background, output, gate);
-            note_input(rt.alloc(), reader, &outcome, Input::Background, &background);
+            let outcome = run_behind(job, files, reader, &mut background, output);
+            note_input(job.alloc, reader, &outcome, Input::Background, &background);
             outcome
         }
         Err(OpenFault::Memory) => Err(RunFault::Memory),
@@ -159,47 +150,16 @@ fn name_and_run<O: Opener, S: Source, K: Sink, G: Gate + Sync, R: Threads + Sync
         (written (K.contents output.old) (K.contents output.new) (K.failed output.new) (K.flushed output.new) (K.abandoned output.new)) result }
 {
     match take_names(rt.alloc(), files, config) {
-        Ok(()) => open_and_run(rt, config, files, reader, output, gate),
+        Ok(()) => {
+            let job = Job {
+                rt,
+                alloc: rt.alloc(),
+                config,
+                gate,
+            };
+            open_and_run(&job, files, reader, output)
+        }
         Err(fault) => Err(fault),
-    }
-}
-
-// The program under a configuration.
-fn run_asked<
-    O: Opener,
-    S: Source + IsTerminal,
-    K: Sink,
-    E: Sink,
-    T: IsTerminal + Write + Copy + Sync,
-    R: Clock + Threads + Sync + AllocGlobal,
->(
-    rt: &R,
-    config: Config,
-    files: &O,
-    reader: &mut S,
-    output: K,
-    errors: &mut E,
-    screen: T,
-) -> Ended<K>
-    requires workers { (0 < config.workers) × (config.workers ≤ 64) }
-    requires chunk { 0 < config.chunk }
-    requires reader { S.failed reader.old ≡ false }
-    requires output { K.failed output ≡ false }
-    ensures { RunsTo config (O.named files.now) (input (S.remaining reader.old) (S.failed reader.new)) (S.remaining reader.new)
-        (written (K.contents output) (K.contents result.output) (K.failed result.output) (K.flushed result.output) (K.abandoned result.output))
-        (written (E.contents errors.old) (E.contents errors.new) (E.failed errors.new) (E.flushed errors.new) (E.abandoned errors.new)) result.status }
-{
-    let mut config = config;
-    let progress = Progress::new(rt, screen, &config);
-    let mut output = Wiping::new(&progress, output);
-    progress.tell_reading(reader.is_terminal());
-    let outcome = name_and_run(rt, &mut config, files, reader, &mut output, &progress);
-    progress.wipe();
-    tell_outcome(rt.alloc(), errors, &outcome, output.is_abandoned());
-    tell_hint(rt.alloc(), screen, &config, files, reader, &outcome);
-    Ended {
-        status: status(&outcome),
-        output: output.into_inner(),
     }
 }
 
@@ -253,7 +213,20 @@ pub fn run_program<
         (written (E.contents errors.old) (E.contents errors.new) (E.failed errors.new) (E.flushed errors.new) (E.abandoned errors.new)) result.status }
 {
     match config_of(rt.alloc(), words) {
-        Ok(config) => run_asked(rt, config, files, reader, output, errors, screen),
+        Ok(config) => {
+            let mut config = config;
+            let progress = Progress::new(rt, screen, &config);
+            let mut output = Wiping::new(&progress, output);
+            progress.tell_reading(reader.is_terminal());
+            let outcome = name_and_run(rt, &mut config, files, reader, &mut output, &progress);
+            progress.wipe();
+            tell_outcome(rt.alloc(), errors, &outcome, output.is_abandoned());
+            tell_hint(rt.alloc(), screen, &config, files, reader, &outcome);
+            Ended {
+                status: status(&outcome),
+                output: output.into_inner(),
+            }
+        }
         Err(fault) => {
             let mut output = output;
             let status = refuse(rt.alloc(), &mut output, errors, &fault);

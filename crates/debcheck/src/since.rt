@@ -6,9 +6,10 @@ ghost use Rattle.deb_index.specs.Reading.{byte_limit};
 ghost use Rattle.run_settings.specs.Settings.{settings_of};
 ghost use Rattle.deb_report.specs.Since.{broken_view};
 ghost use Rattle.deb_input.specs.Inputs.{Input, IsReadAs, input};
-ghost use Rattle.debcheck.specs.Run.{FailsEarlier, FailsToIndex, IfIndexed, ReadsAs, RunsOn, WereBroken, behind, earlier_fault, written};
+ghost use Rattle.debcheck.specs.Run.{FailsEarlier, FailsToIndex, IfIndexed, IsOfEarlier, ReadsAs, RunsOn, WereBroken, behind, earlier_fault, written};
 
 use crate::hints::note;
+use crate::job::Job;
 use crate::phases::{After, read_index, report_and_write};
 use crate::reading::reading_text;
 use crate::verdicts::find_broken_packages;
@@ -35,41 +36,29 @@ fn as_earlier(fault: RunFault) -> RunFault
 
 // Reads the earlier index and the background behind it, and tells what is broken in it, and what the background has. The earlier index is given back.
 fn read_before<E: Source, B: Source, G: Gate + Sync, R: Threads + Sync>(
-    rt: &R,
-    alloc: Global,
-    config: &Config,
+    job: &Job<'_, G, R>,
     earlier: &mut E,
     background: &mut B,
-    gate: &G,
 ) -> Result<(Vec<BrokenPackage>, Vec<u8>), RunFault>
-    requires workers { (0 < config.now.workers) × (config.now.workers ≤ 64) }
-    requires chunk { 0 < config.now.chunk }
     requires earlier { E.failed earlier.old ≡ false }
     requires background { B.failed background.old ≡ false }
     ensures end { OnOk result (IsAtEnd (E.remaining earlier.new)) }
-    ensures background_end { OnOk result ((settings_of config.now).background ≡ true → IsAtEnd (B.remaining background.new)) }
-    ensures spared { (settings_of config.now).background ≡ false → background.new ≡ background.old }
+    ensures background_end { OnOk result ((settings_of job.now.config.now).background ≡ true → IsAtEnd (B.remaining background.new)) }
+    ensures spared { (settings_of job.now.config.now).background ≡ false → background.new ≡ background.old }
     ensures unfailed { OnOk result ((E.failed earlier.new ≡ false) × (B.failed background.new ≡ false)) }
-    ensures broken { IfOk result (λ r. IfIndexed (settings_of config.now)
+    ensures broken { IfOk result (λ r. IfIndexed (settings_of job.now.config.now)
         (input (E.remaining earlier.old) (E.failed earlier.new)) (input (B.remaining background.old) (B.failed background.new))
-        (WereBroken (settings_of config.now) (map broken_view r.0.items))) }
+        (WereBroken (settings_of job.now.config.now) (map broken_view r.0.items))) }
     ensures behind { IfOk result (λ r.
-        IsReadAs (behind (settings_of config.now) (input (B.remaining background.old) (B.failed background.new))) r.1.items) }
-    ensures refused { IfErr result (FailsEarlier (settings_of config.now)
+        IsReadAs (behind (settings_of job.now.config.now) (input (B.remaining background.old) (B.failed background.new))) r.1.items) }
+    ensures refused { IfErr result (FailsEarlier (settings_of job.now.config.now)
         (input (E.remaining earlier.old) (E.failed earlier.new)) (input (B.remaining background.old) (B.failed background.new))) }
     ensures may_fail { IfErr result (λ fault. fault ≡ RunFault.BackgroundRead → B.may_fail background.old ≡ true) }
     ensures earlier_may_fail { IfErr result (λ fault. fault ≡ RunFault.EarlierRead → E.may_fail earlier.old ≡ true) }
 {
-    match read_index(
-        rt,
-        alloc,
-        config,
-        crate::input::Input::Earlier,
-        earlier,
-        background,
-    ) {
+    match read_index(job, crate::input::Input::Earlier, earlier, background) {
         Ok((index, more)) => {
-            let broken = find_broken_packages(rt, alloc, config, &index, gate);
+            let broken = find_broken_packages(job, &index);
             drop(index);
             Ok((broken?, more))
         }
@@ -78,10 +67,8 @@ fn read_before<E: Source, B: Source, G: Gate + Sync, R: Threads + Sync>(
 }
 
 // Reads the index, piece by piece, in front of a background that was read before. What is guessed of it is noted on the reader.
-fn read_now<S: Source, R: Threads + Sync>(
-    rt: &R,
-    alloc: Global,
-    config: &Config,
+fn read_now<S: Source, G: Gate + Sync, R: Threads + Sync>(
+    job: &Job<'_, G, R>,
     reader: &mut S,
     more: &[u8],
 ) -> Result<Index, RunFault>
@@ -89,26 +76,17 @@ fn read_now<S: Source, R: Threads + Sync>(
     requires more { length more.now ≤ byte_limit }
     ensures end { OnOk result (IsAtEnd (S.remaining reader.new)) }
     ensures unfailed { OnOk result (S.failed reader.new ≡ false) }
-    ensures index { IfOk result (λ index. (background : Input) → IsReadAs (behind (settings_of config.now) background) more.now
-        → ReadsAs (settings_of config.now) (input (S.remaining reader.old) (S.failed reader.new)) background index) }
-    ensures refused { IfErr result (λ fault. (background : Input) → IsReadAs (behind (settings_of config.now) background) more.now
-        → FailsToIndex (settings_of config.now) (input (S.remaining reader.old) (S.failed reader.new)) background fault) }
+    ensures index { IfOk result (λ index. (background : Input) → IsReadAs (behind (settings_of job.now.config.now) background) more.now
+        → ReadsAs (settings_of job.now.config.now) (input (S.remaining reader.old) (S.failed reader.new)) background index) }
+    ensures refused { IfErr result (λ fault. (background : Input) → IsReadAs (behind (settings_of job.now.config.now) background) more.now
+        → FailsToIndex (settings_of job.now.config.now) (input (S.remaining reader.old) (S.failed reader.new)) background fault) }
 {
     let size = reader.piece();
-    let TextRead { outcome, last } = read_text(rt, alloc, config, reader, size)?;
-    let index = finish(rt, alloc, config, outcome, more);
-    let piece = last.as_slice();
-    note(
-        reader,
-        reading_text(
-            alloc,
-            config,
-            crate::input::Input::Index,
-            &index,
-            piece,
-            more,
-        ),
-    );
+    let TextRead { outcome, last } = read_text(job.rt, job.alloc, job.config, reader, size)?;
+    let index = finish(job.rt, job.alloc, job.config, outcome, more);
+    let (of, piece) = (crate::input::Input::Index, last.as_slice());
+    let text = reading_text(job.alloc, job.config, of, &index, piece, more);
+    note(reader, text);
     index
 }
 
@@ -139,6 +117,7 @@ pub fn run_since<S: Source, B: Source, E: Source, K: Sink, G: Gate + Sync, R: Th
     ensures background_end { OnOk result ((settings_of config.now).background ≡ true → IsAtEnd (B.remaining background.new)) }
     ensures earlier_end { OnOk result (IsAtEnd (E.remaining earlier.new)) }
     ensures spared { (settings_of config.now).background ≡ false → background.new ≡ background.old }
+    ensures unbegun { IfErr result (λ fault. IsOfEarlier fault → reader.new ≡ reader.old) }
     ensures untouched { IfErr result (λ fault. fault ≢ RunFault.Write → writer.new ≡ writer.old) }
     ensures runs { RunsOn (settings_of config.now) (Some (input (E.remaining earlier.old) (E.failed earlier.new)))
         (input (S.remaining reader.old) (S.failed reader.new)) (input (B.remaining background.old) (B.failed background.new))
@@ -146,11 +125,15 @@ pub fn run_since<S: Source, B: Source, E: Source, K: Sink, G: Gate + Sync, R: Th
     ensures may_fail { IfErr result (λ fault. fault ≡ RunFault.BackgroundRead → B.may_fail background.old ≡ true) }
     ensures earlier_may_fail { IfErr result (λ fault. fault ≡ RunFault.EarlierRead → E.may_fail earlier.old ≡ true) }
 {
-    let (before, more) = read_before(rt, alloc, config, earlier, background, gate)?;
-    let index = read_now(rt, alloc, config, reader, more.as_slice())?;
+    let job = Job {
+        rt,
+        alloc,
+        config,
+        gate,
+    };
+    let (before, more) = read_before(&job, earlier, background)?;
+    let index = read_now(&job, reader, more.as_slice())?;
     drop(more);
     let before = Some(before.as_slice());
-    report_and_write(
-        rt, alloc, config, reader, index, before, writer, gate, after,
-    )
+    report_and_write(&job, reader, index, before, writer, after)
 }

@@ -1,10 +1,9 @@
 //! What a report tells of packages. Where it tells no set, none is looked for, and where it tells no core, none either; since an earlier index cores are
 //! looked for of the newly broken alone.
 
-ghost use Rattle.std.specs.Prelude.{◌≡◌, ◌^◌, ◌<◌, ◌≤◌, ℕ, [], All, IfOk, false, length, map, slice_index_or, true};
+ghost use Rattle.std.specs.Prelude.{◌≡◌, ◌^◌, ◌<◌, ℕ, [], All, IfOk, false, length, map, slice_index_or, true};
 ghost use Rattle.std.specs.Option.{ForSome, option_map};
 ghost use Rattle.deb_health.specs.Health.{IsInstallable};
-ghost use Rattle.deb_health.specs.Verdicts.{told_view};
 ghost use Rattle.deb_report.specs.Told.{before_view};
 ghost use Rattle.run_settings.specs.Settings.{settings_of};
 ghost use Rattle.deb_report.specs.Since.{broken_view};
@@ -12,6 +11,7 @@ ghost use Rattle.work_draw.specs.Checks.{AnswersEach};
 ghost use Rattle.debcheck.specs.Run.{IsAsked, IsReportOn, WereBroken};
 ghost use Rattle.debcheck.specs.Telling.{IsToldAt, wanted_by};
 
+use crate::job::Job;
 use deb_health::Told;
 use deb_index::Index;
 use deb_report::{Before, BrokenPackage, Summary, broken_packages, earlier_places, report_told};
@@ -19,7 +19,7 @@ use deb_verdict::{Cores, Groundwork, Wanted, Workspace, find_installable, told_i
 use run_settings::{Config, Show};
 use std::alloc::{AllocError, Global};
 use std::thread::Threads;
-use work_draw::{Finder, Gate, check_each};
+use work_draw::{Chunks, Finder, Gate, check_each};
 
 /// Finds what is told of a package; shared between workers.
 #[derive(Drop)]
@@ -31,8 +31,6 @@ struct Teller<'t> {
     /// Marks, by place, on what is known to be installable, where no set is told.
     installable: &'t [bool],
     ghost before_is: { ForSome before (λ before. before.now.index.now ≡ groundwork.now.index.now) },
-    ghost no_set: { wanted.sets ≡ true → installable.now ≡ [] },
-    ghost marked: { (place : ℕ) → slice_index_or installable.now place false ≡ true → IsInstallable groundwork.now.index.now place },
 }
 
 impl Teller<'_> {
@@ -67,14 +65,15 @@ impl Teller<'_> {
 }
 
 impl Finder for Teller<'_> {
+    ghost use Rattle.std.specs.Prelude.{length};
     ghost use Rattle.deb_report.specs.Told.{before_view};
-    ghost use Rattle.debcheck.specs.Telling.{IsToldAt};
+    ghost use Rattle.debcheck.specs.Telling.{IsFoundAt};
 
     type Found = Told;
 
-    ghost index = { λ teller. teller.groundwork.now.index.now };
+    ghost limit = { λ teller. length teller.groundwork.now.index.now.packages };
 
-    ghost finds = { λ teller. IsToldAt teller.wanted teller.groundwork.now.index.now (before_view teller.before) };
+    ghost finds = { λ teller. IsFoundAt teller.installable.now teller.wanted teller.groundwork.now.index.now (before_view teller.before) };
 
     fn find(
         &self,
@@ -130,112 +129,90 @@ fn marks_for(
 }
 
 // What is told of the asked places of a groundwork's index, in their order. Where no set is, what `find_installable` marks is looked up.
-fn tell_on<G: Gate + Sync, R: Threads + Sync>(
-    rt: &R,
-    alloc: Global,
-    config: &Config,
-    groundwork: &Groundwork<'_>,
+fn tell_on<'t, G: Gate + Sync, R: Threads + Sync>(
+    job: &Job<'_, G, R>,
+    groundwork: &'t Groundwork<'t>,
     asked: &[u32],
-    before: Option<&Before<'_>>,
+    before: Option<&'t Before<'t>>,
     wanted: Wanted,
-    gate: &G,
 ) -> Result<Vec<Told>, AllocError>
     requires places { All (λ place. place < length groundwork.now.index.now.packages) asked.now }
     requires few { length asked.now < 2 ^ 32 }
-    requires workers { (0 < config.now.workers) × (config.now.workers ≤ 64) }
-    requires chunk { 0 < config.now.chunk }
     requires before { ForSome before (λ before. before.now.index.now ≡ groundwork.now.index.now) }
     ensures { IfOk result (λ told. AnswersEach (IsToldAt wanted groundwork.now.index.now (before_view before.entry)) asked.now told.items) }
 {
-    let installable = marks_for(alloc, groundwork, asked, wanted.sets)?;
+    let installable = marks_for(job.alloc, groundwork, asked, wanted.sets)?;
     let teller = Teller {
         groundwork,
         wanted,
         before,
         installable: installable.as_slice(),
     };
-    gate.start(0, asked.len() as u32);
-    check_each(
-        rt,
-        alloc,
-        &teller,
+    job.gate.start(0, asked.len() as u32);
+    let chunks = Chunks {
+        finder: &teller,
         asked,
-        config.workers,
-        config.chunk,
-        gate,
-    )
+        chunk: job.config.chunk,
+        gate: job.gate,
+    };
+    check_each(job.rt, job.alloc, &chunks, job.config.workers)
 }
 
 // The same of an index, on one groundwork for all of them.
 fn tell_each<G: Gate + Sync, R: Threads + Sync>(
-    rt: &R,
-    alloc: Global,
-    config: &Config,
+    job: &Job<'_, G, R>,
     index: &Index,
     asked: &[u32],
     before: Option<&Before<'_>>,
     wanted: Wanted,
-    gate: &G,
 ) -> Result<Vec<Told>, AllocError>
     requires places { All (λ place. place < length index.now.packages) asked.now }
     requires few { length asked.now < 2 ^ 32 }
-    requires workers { (0 < config.now.workers) × (config.now.workers ≤ 64) }
-    requires chunk { 0 < config.now.chunk }
     requires before { ForSome before (λ before. before.now.index.now ≡ index.now) }
     ensures { IfOk result (λ told. AnswersEach (IsToldAt wanted index.now (before_view before.entry)) asked.now told.items) }
 {
-    let groundwork = Groundwork::new(alloc, index)?;
-    let told = tell_on(rt, alloc, config, &groundwork, asked, before, wanted, gate);
+    let groundwork = Groundwork::new(job.alloc, index)?;
+    let told = tell_on(job, &groundwork, asked, before, wanted);
     drop(groundwork);
     told
 }
 
 // Checks the asked places, and makes the report on these.
 fn report_on<G: Gate + Sync, R: Threads + Sync>(
-    rt: &R,
-    alloc: Global,
-    config: &Config,
+    job: &Job<'_, G, R>,
     index: &Index,
     asked: &[u32],
     before: Option<&Before<'_>>,
-    gate: &G,
 ) -> Result<(Vec<u8>, Summary), AllocError>
-    requires asked { IsAsked (settings_of config.now) index.now asked.now }
+    requires asked { IsAsked (settings_of job.now.config.now) index.now asked.now }
     requires within { All (λ place. place < length index.now.packages) asked.now }
     requires few { length asked.now < 2 ^ 32 }
-    requires workers { (0 < config.now.workers) × (config.now.workers ≤ 64) }
-    requires chunk { 0 < config.now.chunk }
     requires before { ForSome before (λ before. before.now.index.now ≡ index.now) }
-    ensures { IfOk result (λ r. IsReportOn (before_view before.entry) (settings_of config.now) index.now r.0.items r.1) }
+    ensures { IfOk result (λ r. IsReportOn (before_view before.entry) (settings_of job.now.config.now) index.now r.0.items r.1) }
 {
-    let wanted = wanted_of(config, before.is_some());
-    let told = tell_each(rt, alloc, config, index, asked, before, wanted, gate)?;
-    report_told(alloc, index, asked, told.as_slice(), before, config)
+    let wanted = wanted_of(job.config, before.is_some());
+    let told = tell_each(job, index, asked, before, wanted)?;
+    report_told(job.alloc, index, asked, told.as_slice(), before, job.config)
 }
 
 // The same, since these packages were broken, where an earlier index is told of.
 pub(crate) fn check_and_tell<G: Gate + Sync, R: Threads + Sync>(
-    rt: &R,
-    alloc: Global,
-    config: &Config,
+    job: &Job<'_, G, R>,
     index: &Index,
     asked: &[u32],
     before: Option<&[BrokenPackage]>,
-    gate: &G,
 ) -> Result<(Vec<u8>, Summary), AllocError>
-    requires asked { IsAsked (settings_of config.now) index.now asked.now }
+    requires asked { IsAsked (settings_of job.now.config.now) index.now asked.now }
     requires within { All (λ place. place < length index.now.packages) asked.now }
     requires few { length asked.now < 2 ^ 32 }
-    requires workers { (0 < config.now.workers) × (config.now.workers ≤ 64) }
-    requires chunk { 0 < config.now.chunk }
-    ensures report { IfOk result (λ r.
-        IsReportOn (option_map (λ list. map broken_view list.now) before.entry) (settings_of config.now) index.now r.0.items r.1) }
+    ensures { IfOk result (λ r.
+        IsReportOn (option_map (λ list. map broken_view list.now) before.entry) (settings_of job.now.config.now) index.now r.0.items r.1) }
 {
     match before {
-        None => report_on(rt, alloc, config, index, asked, None, gate),
+        None => report_on(job, index, asked, None),
         Some(packages) => {
-            let before = Before::new(alloc, index, packages)?;
-            let told = report_on(rt, alloc, config, index, asked, Some(&before), gate);
+            let before = Before::new(job.alloc, index, packages)?;
+            let told = report_on(job, index, asked, Some(&before));
             drop(before);
             told
         }
@@ -244,22 +221,17 @@ pub(crate) fn check_and_tell<G: Gate + Sync, R: Threads + Sync>(
 
 // The packages that are broken in an earlier index, of those that are asked in it.
 pub(crate) fn find_broken_packages<G: Gate + Sync, R: Threads + Sync>(
-    rt: &R,
-    alloc: Global,
-    config: &Config,
+    job: &Job<'_, G, R>,
     index: &Index,
-    gate: &G,
 ) -> Result<Vec<BrokenPackage>, AllocError>
-    requires workers { (0 < config.now.workers) × (config.now.workers ≤ 64) }
-    requires chunk { 0 < config.now.chunk }
-    ensures broken { IfOk result (λ before. WereBroken (settings_of config.now) (map broken_view before.items) index.now) }
+    ensures { IfOk result (λ before. WereBroken (settings_of job.now.config.now) (map broken_view before.items) index.now) }
 {
-    let asked = earlier_places(alloc, index, config)?;
+    let asked = earlier_places(job.alloc, index, job.config)?;
     let asked = asked.as_slice();
     let statuses = Wanted {
         sets: false,
         cores: Cores::None,
     };
-    let told = tell_each(rt, alloc, config, index, asked, None, statuses, gate)?;
-    broken_packages(alloc, index, asked, told.as_slice())
+    let told = tell_each(job, index, asked, None, statuses)?;
+    broken_packages(job.alloc, index, asked, told.as_slice())
 }

@@ -136,8 +136,8 @@ fn workers_meet_where_no_set_is_told(rt: HostRuntime) {
     assert!(rt; matches!(checks_of(&rt, Show::Failures, false, false), Ok((1, 0))));
 }
 
-/// Since an earlier index: one of that, one of the index, and one that looks for the cores of the newly broken.
+/// Since an earlier index: one of that, and one of the index, with the cores of the newly broken.
 #[test]
 fn workers_meet_where_news_are_explained(rt: HostRuntime) {
-    assert!(rt; matches!(checks_of(&rt, Show::All, true, true), Ok((3, 0))));
+    assert!(rt; matches!(checks_of(&rt, Show::All, true, true), Ok((2, 0))));
 }

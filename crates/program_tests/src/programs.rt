@@ -44,7 +44,7 @@ const CAUSES_IN_JSON: Case<'static> = Case {
     words: "|--arch|amd64|--format|json|--causes|--bg=others",
     index: INDEX,
     status: 1,
-    told: b"{\"format\":1,\"options\":[\"bg\",\"causes\"],\"architecture\":\"amd64\",\"report\":[
+    told: b"{\"format\":2,\"options\":[\"bg\",\"causes\"],\"architecture\":\"amd64\",\"report\":[
 {\"package\":\"a\",\"version\":\"1\",\"architecture\":\"all\",\"status\":\"ok\"},
 {\"package\":\"c\",\"version\":\"1\",\"architecture\":\"all\",\"status\":\"broken\"}
 ],\"stanzas\":4,\"skipped\":0,\"duplicates\":0,\"background\":2,\"asked\":2,\"broken\":1,\"causes\":[

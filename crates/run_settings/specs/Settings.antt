@@ -58,10 +58,6 @@ shows_sets settings = settings.explain && shows_installable settings.show
 abbrev pub tells_all_causes : Settings → Bool
 tells_all_causes settings = settings.causes || settings.all_reasons
 
--- whether a document begins with the words that it was made under
-abbrev pub tells_options : Settings → Bool
-tells_options settings = tells_all_causes settings || settings.why
-
 -- a word, where it is said
 abbrev pub word_if : Bool → List ℕ → List (List ℕ)
 word_if said word = if said then word ∷ [] else []

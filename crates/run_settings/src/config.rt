@@ -1,7 +1,7 @@
 //! What is asked of a run.
 
 ghost use Rattle.std.specs.Prelude.{◌≡◌, IfOk, false};
-ghost use Rattle.run_settings.specs.Settings.{settings_of, shows_sets, tells_all_causes, tells_options, usual_settings};
+ghost use Rattle.run_settings.specs.Settings.{settings_of, shows_sets, tells_all_causes, usual_settings};
 
 use std::alloc::{AllocError, Global};
 
@@ -100,13 +100,6 @@ impl Config {
         ensures { result ≡ tells_all_causes (settings_of self.now) }
     {
         self.causes || self.all_reasons
-    }
-
-    /// Whether a document begins with the words that it is made under.
-    pub fn tells_options(&self) -> bool
-        ensures { result ≡ tells_options (settings_of self.now) }
-    {
-        self.tells_all_causes() || self.why
     }
 
     /// Whether the report may tell a set that was found: blocks explain, and packages that can be installed have one.

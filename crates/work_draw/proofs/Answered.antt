@@ -20,7 +20,7 @@ module _ {A B : Type 0} (R : A → B → Type 0) where
   AnswersEach_more xs i d ys y lt h here = subst (λ (l : List A). AnswersEach R l (ys ++ y ∷ [])) (sym (take_more xs i d lt)) (AnswersEach-append (take i xs) (get_or xs i d ∷ []) ys (y ∷ []) h (here, tt))
 
   -- the pieces numbered from a on answer what is asked from a * size on
-  from_chunk : (items_of : Piece B → List B) (asked : List A) (size a n : ℕ) (ps : List (Piece B)) → numbers_of ps ≡ range_with_len a n → length asked ≤ (a + n) * size
+  from_chunk : {V : Type 0} (items_of : Piece V → List B) (asked : List A) (size a n : ℕ) (ps : List (Piece V)) → numbers_of ps ≡ range_with_len a n → length asked ≤ (a + n) * size
       → All (λ p. AnswersEach R (chunk_of asked size p.number) (items_of p)) ps → AnswersEach R (drop (a * size) asked) (flat_map (λ p. items_of p) ps)
   from_chunk items_of asked size a zero [] e enough h = subst (λ (l : List A). AnswersEach R l []) (sym (drop_of_length-le asked {i = a * size} (omega arith))) tt
   from_chunk items_of asked size a zero (p ∷ ps) e enough h = absurd (cc)
@@ -35,7 +35,7 @@ module _ {A B : Type 0} (R : A → B → Type 0) where
       subst (λ (l : List A). AnswersEach R l (items_of p ++ flat_map (λ q. items_of q) ps)) (ap (λ (l : List A). take size (drop (a * size) asked) ++ l) next ∙ take-append-drop size (drop (a * size) asked)) both
 
   -- pieces in order answer all that is asked
-  pub answers_in_order : (items_of : Piece B → List B) (asked : List A) (size n : ℕ) (ps : List (Piece B)) → numbers_of ps ≡ range_with_len 0 n → length asked ≤ n * size
+  pub answers_in_order : {V : Type 0} (items_of : Piece V → List B) (asked : List A) (size n : ℕ) (ps : List (Piece V)) → numbers_of ps ≡ range_with_len 0 n → length asked ≤ n * size
       → All (λ p. AnswersEach R (chunk_of asked size p.number) (items_of p)) ps → AnswersEach R asked (flat_map (λ p. items_of p) ps)
   answers_in_order items_of asked size n ps e enough h = let none : 0 * size ≡ 0 = omega arith in subst (λ (k : ℕ). AnswersEach R (drop k asked) (flat_map (λ p. items_of p) ps)) none (from_chunk items_of asked size 0 n ps e (omega arith) h)
 

@@ -2,8 +2,6 @@
 use Rattle.std.proofs.Common.{◌≡◌, ℕ, ◌+◌, ◌-◌, ◌<◌, Bool, true, false, List, [], ◌++◌, ◌∙◌, ap, ap₂, sym, subst, arith}
 use Rattle.std.proofs.lemmas.List.Elements.{All-append}
 use mathlib.Core.List.{map-append}
-use Rattle.deb_index.specs.Packages.{IndexView}
-use Rattle.work_draw.specs.Checks.{AnswersEach, chunk_of}
 use Rattle.work_draw.specs.declared.pieces.Drawn.{Drawn}
 use Rattle.work_draw.specs.declared.pieces.Piece.{Piece}
 use Rattle.work_draw.specs.Board.{BoardView, DrawerView, both_drawers, new_drawer}
@@ -40,24 +38,24 @@ drawers_joined before mine theirs first second board workers half rest all kept 
     ∙ ap₂ (λ (spare held : ℕ). with_crew before (first.numbers ++ second.numbers) (first.past + second.past) spare held) (omega arith) (omega arith))
 
 -- each half of the workers can begin with its part of a drawer with which all of them can
-module _ (index : IndexView) (asked : List ℕ) (size : ℕ) (board : BoardView) (before : DrawerView) (workers half rest : ℕ) (all : half + rest ≡ workers) (some : 0 < half) (others : 0 < rest)
-    (ready : IsReady index asked size board before workers) where
-  pub theirs_ready : (theirs : DrawerView) → theirs ≡ new_drawer board (half - 1) before.done → IsReady index asked size board theirs half
+module _ (total : ℕ) (board : BoardView) (before : DrawerView) (workers half rest : ℕ) (all : half + rest ≡ workers) (some : 0 < half) (others : 0 < rest)
+    (ready : IsReady total board before workers) where
+  pub theirs_ready : (theirs : DrawerView) → theirs ≡ new_drawer board (half - 1) before.done → IsReady total board theirs half
   theirs_ready theirs given =
       let spare : theirs.spare ≡ half - 1 = ap (λ (d : DrawerView). d.spare) given in
-      (ap (λ (d : DrawerView). d.board) given, ready.1, ready.2, ready.3, some, omega arith)
+      (ap (λ (d : DrawerView). d.board) given, ready.1, some, omega arith)
 
-  pub mine_ready : (mine : DrawerView) → mine ≡ record before { spare = before.spare - 1 - (half - 1) } → IsReady index asked size board mine rest
+  pub mine_ready : (mine : DrawerView) → mine ≡ record before { spare = before.spare - 1 - (half - 1) } → IsReady total board mine rest
   mine_ready mine kept =
       let spare : mine.spare ≡ before.spare - 1 - (half - 1) = ap (λ (d : DrawerView). d.spare) kept in
-      let room = ready.5 in
-      (ap (λ (d : DrawerView). d.board) kept ∙ ready.0, ready.1, ready.2, ready.3, others, omega arith)
+      let room = ready.3 in
+      (ap (λ (d : DrawerView). d.board) kept ∙ ready.0, ready.1, others, omega arith)
 
-module _ {T : Type 0} (IsSo : ℕ → T → Type 0) (asked : List ℕ) (size : ℕ) (before : DrawerView) where
+module _ {V : Type 0} (IsSo : ℕ → V → Type 0) (before : DrawerView) where
   -- what a worker leaves is what a crew of one does
-  pub left_by_one : (drawn : Drawn T) → drawn.drawer ≡ record before { numbers = drawn.drawer.numbers; past = drawn.drawer.past; done = drawn.drawer.done }
-      → (drawn.refused ≡ false → (drawn.drawer.done ≡ true) × Gains before.numbers drawn.pieces.items drawn.drawer.numbers) → Find IsSo asked size drawn.pieces.items
-      → IsLeftBy IsSo asked size before 1 drawn
+  pub left_by_one : (drawn : Drawn V) → drawn.drawer ≡ record before { numbers = drawn.drawer.numbers; past = drawn.drawer.past; done = drawn.drawer.done }
+      → (drawn.refused ≡ false → (drawn.drawer.done ≡ true) × Gains before.numbers drawn.pieces.items drawn.drawer.numbers) → Find IsSo drawn.pieces.items
+      → IsLeftBy IsSo before 1 drawn
   left_by_one drawn same gained found = record {
     same_board = ap (λ (d : DrawerView). d.board) same;
     done = λ fine.
@@ -70,10 +68,10 @@ module _ {T : Type 0} (IsSo : ℕ → T → Type 0) (asked : List ℕ) (size : �
 
   -- what two crews leave, of which the second began with a new drawer, is what a crew of all does
   pub left_by_both : (mine theirs : DrawerView) (board : BoardView) (workers half rest : ℕ) → half + rest ≡ workers → mine ≡ record before { spare = before.spare - 1 - (half - 1) }
-      → theirs ≡ new_drawer board (half - 1) before.done → 0 < half → 0 < rest → (first second both : Drawn T) → IsLeftBy IsSo asked size mine rest first
-      → IsLeftBy IsSo asked size theirs half second → both.drawer ≡ both_drawers first.drawer second.drawer
+      → theirs ≡ new_drawer board (half - 1) before.done → 0 < half → 0 < rest → (first second both : Drawn V) → IsLeftBy IsSo mine rest first
+      → IsLeftBy IsSo theirs half second → both.drawer ≡ both_drawers first.drawer second.drawer
       → (both.refused ≡ false → (first.refused ≡ false) × (second.refused ≡ false))
-      → (both.refused ≡ false → both.pieces.items ≡ first.pieces.items ++ second.pieces.items) → IsLeftBy IsSo asked size before workers both
+      → (both.refused ≡ false → both.pieces.items ≡ first.pieces.items ++ second.pieces.items) → IsLeftBy IsSo before workers both
   left_by_both mine theirs board workers half rest all kept given some others first second both one two drawer fine pieces = record {
     same_board = ap (λ (d : DrawerView). d.board) drawer ∙ (one.same_board ∙ ap (λ (d : DrawerView). d.board) kept);
     done = λ r.
@@ -86,8 +84,8 @@ module _ {T : Type 0} (IsSo : ℕ → T → Type 0) (asked : List ℕ) (size : �
         let new = subst (λ (b : List ℕ). GainsInAll b second.pieces.items second.drawer.numbers) (ap (λ (d : DrawerView). d.numbers) given) (two.gained (fine r).1) in
         let joined = gains_joined before.numbers first.pieces.items second.pieces.items first.drawer.numbers second.drawer.numbers begun new in
         subst (λ (n : List ℕ). GainsInAll before.numbers both.pieces.items n) (sym (ap (λ (d : DrawerView). d.numbers) drawer))
-        (subst (λ (p : List (Piece T)). GainsInAll before.numbers p (first.drawer.numbers ++ second.drawer.numbers)) (sym (pieces r)) joined);
+        (subst (λ (p : List (Piece V)). GainsInAll before.numbers p (first.drawer.numbers ++ second.drawer.numbers)) (sym (pieces r)) joined);
     found = λ r.
-        subst (λ (p : List (Piece T)). Find IsSo asked size p) (sym (pieces r))
-        (All-append (λ (p : Piece T). AnswersEach IsSo (chunk_of asked size p.number) p.verdicts.items) first.pieces.items second.pieces.items (one.found (fine r).0) (two.found (fine r).1));
+        subst (λ (p : List (Piece V)). Find IsSo p) (sym (pieces r))
+        (All-append (λ (p : Piece V). IsSo p.number p.verdicts) first.pieces.items second.pieces.items (one.found (fine r).0) (two.found (fine r).1));
   }

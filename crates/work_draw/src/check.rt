@@ -4,7 +4,7 @@ ghost use Rattle.deb_health.specs.Verdicts.{IsVerdict, SpeaksOf, verdict_view};
 ghost use Rattle.work_draw.specs.Checks.{AnswersEach};
 
 use crate::board::new_board;
-use crate::chunks::Finder;
+use crate::chunks::{Chunks, Finder};
 use crate::gate::Gate;
 use crate::pieces::gather;
 use crate::workers::crew_found;
@@ -13,30 +13,22 @@ use deb_verdict::{Groundwork, Verdict};
 use std::alloc::{AllocError, Global};
 use std::thread::Threads;
 
-/// What the finder finds of each asked place, in the order of the list, for 1 to 64 workers, who share the finder, and any chunk from 1. What else
-/// there is to say, `check_all` says.
+/// What is found of each asked place, in the order of the list, for 1 to 64 workers, who share the finder. What else there is to say, `check_all` says.
 pub fn check_each<F: Finder + Sync, G: Gate + Sync, R: Threads + Sync>(
     rt: &R,
     alloc: Global,
-    finder: &F,
-    asked: &[u32],
+    chunks: &Chunks<'_, F, G>,
     workers: u32,
-    chunk: u32,
-    gate: &G,
 ) -> Result<Vec<F::Found>, AllocError>
 where
     F::Found: Send,
-    requires places { All (λ place. place < length (F.index finder.now).packages) asked.now }
-    requires few { length asked.now < 2 ^ 32 }
+    requires few { length chunks.now.asked.now < 2 ^ 32 }
     requires workers { (0 < workers) × (workers ≤ 64) }
-    requires chunk { 0 < chunk }
-    ensures { IfOk result (λ found. AnswersEach (F.finds finder.now) asked.now found.items) }
+    ensures { IfOk result (λ found. AnswersEach (F.finds chunks.now.finder.now) chunks.now.asked.now found.items) }
 {
-    let total = asked.len().div_ceil(chunk as usize) as u32;
+    let total = chunks.asked.len().div_ceil(chunks.chunk as usize) as u32;
     let (board, drawer) = new_board(alloc, total)?;
-    let drawn = crew_found(
-        rt, alloc, finder, asked, chunk, &board, drawer, workers, gate,
-    );
+    let drawn = crew_found(rt, alloc, chunks, &board, drawer, workers);
     let complete = board.close(drawn.drawer);
     if drawn.refused {
         return Err(AllocError);
@@ -66,7 +58,13 @@ pub fn check_all<G: Gate + Sync, R: Threads + Sync>(
     ensures within { IfOk result (λ v. All (SpeaksOf index.now) (map verdict_view v.items)) }
 {
     let groundwork = Groundwork::new(alloc, index)?;
-    let found = check_each(rt, alloc, &groundwork, asked, workers, chunk, gate);
+    let chunks = Chunks {
+        finder: &groundwork,
+        asked,
+        chunk,
+        gate,
+    };
+    let found = check_each(rt, alloc, &chunks, workers);
     drop(groundwork);
     found
 }

@@ -1,39 +1,38 @@
 //! What is found of one chunk of the asked places, and what finds it.
-ghost use Rattle.std.specs.Prelude.{◌<◌, ◌*◌, ℕ, All, IfOk, length};
-ghost use Rattle.deb_index.specs.Packages.{IndexView};
-ghost use Rattle.work_draw.specs.Checks.{AnswersEach, IsFound, chunk_of};
+ghost use Rattle.std.specs.Prelude.{◌<◌, ℕ, All, IfOk, length};
+ghost use Rattle.work_draw.specs.Checks.{AnswersEach, IsFound, chunk_count, chunk_of};
 
 use crate::gate::Gate;
 use deb_verdict::{Groundwork, Verdict, Workspace, verdict_in};
 use std::alloc::{AllocError, Global};
 
-/// Finds something of each package of an index; shared between threads.
+/// Finds something of each of its numbers, as of the places of an index; shared between threads.
 pub trait Finder {
-    /// What is found of a package.
+    /// What is found of a number.
     type Found: Drop;
 
-    // The index whose packages are asked.
-    ghost index: { Self → IndexView };
+    // How many numbers there are, from 0.
+    ghost limit: { Self → ℕ };
 
-    // What may be found of the package at a place.
+    // What may be found of a number.
     ghost finds: { Self → ℕ → Self.Found → Type 0 };
 
-    /// What is found of the package at a place, in the buffers of an earlier answer.
+    /// What is found of a number, in the buffers of an earlier answer.
     fn find(
         &self,
         alloc: Global,
         workspace: &mut Workspace,
-        place: u32,
+        number: u32,
     ) -> Result<Self::Found, AllocError>
-        requires { place < length (index self.now).packages }
-        ensures { IfOk result (finds self.now place) };
+        requires { number < limit self.now }
+        ensures { IfOk result (finds self.now number) };
 }
 
-/// A groundwork finds verdicts.
+/// A groundwork finds the verdicts of the places of its index.
 impl Finder for Groundwork<'_> {
     type Found = Verdict;
 
-    ghost index = { λ groundwork. groundwork.index.now };
+    ghost limit = { λ groundwork. length groundwork.index.now.packages };
 
     ghost finds = { λ groundwork. IsFound groundwork.index.now };
 
@@ -54,7 +53,7 @@ fn find_each<F: Finder>(
     finder: &F,
     places: &[u32],
 ) -> Result<Vec<F::Found>, AllocError>
-    requires { All (λ place. place < length (F.index finder.now).packages) places.now }
+    requires { All (λ place. place < F.limit finder.now) places.now }
     ensures { IfOk result (λ v. AnswersEach (F.finds finder.now) places.now v.items) }
 {
     let mut found = Vec::with_capacity(alloc, places.len())?;
@@ -65,24 +64,38 @@ fn find_each<F: Finder>(
     Ok(found)
 }
 
-/// What is found of the chunk with a number. The gate is told of the chunk before and, if all was found, after.
-pub(crate) fn find_chunk<F: Finder, G: Gate>(
-    alloc: Global,
-    workspace: &mut Workspace,
-    finder: &F,
-    asked: &[u32],
-    chunk: u32,
-    number: u32,
-    gate: &G,
-) -> Result<Vec<F::Found>, AllocError>
-    requires begins { number * chunk < length asked.now }
-    requires places { All (λ place. place < length (F.index finder.now).packages) asked.now }
-    ensures { IfOk result (λ v. AnswersEach (F.finds finder.now) (chunk_of asked.now chunk number) v.items) }
-{
-    gate.before(number);
-    let rest = &asked[number as usize * chunk as usize..];
-    let size = rest.len().min(chunk as usize);
-    let found = find_each(alloc, workspace, finder, &rest[..size])?;
-    gate.after(number);
-    Ok(found)
+/// Asked places in chunks of `chunk` places, the last of which may be smaller.
+#[derive(Drop)]
+pub struct Chunks<'a, F: Finder, G> {
+    /// Finds something of each place.
+    pub finder: &'a F,
+    pub asked: &'a [u32],
+    pub chunk: u32,
+    /// Is told of each chunk before and, if all was found, after.
+    pub gate: &'a G,
+    ghost places: { All (λ place. place < F.limit finder.now) asked.now },
+    ghost some: { 0 < chunk },
+}
+
+/// Chunks find what is found of their places.
+impl<F: Finder, G: Gate> Finder for Chunks<'_, F, G> {
+    type Found = Vec<F::Found>;
+
+    ghost limit = { λ chunks. chunk_count chunks.asked.now chunks.chunk };
+
+    ghost finds = { λ chunks number found. AnswersEach (F.finds chunks.finder.now) (chunk_of chunks.asked.now chunks.chunk number) found.items };
+
+    fn find(
+        &self,
+        alloc: Global,
+        workspace: &mut Workspace,
+        number: u32,
+    ) -> Result<Vec<F::Found>, AllocError> {
+        self.gate.before(number);
+        let rest = &self.asked[number as usize * self.chunk as usize..];
+        let size = rest.len().min(self.chunk as usize);
+        let found = find_each(alloc, workspace, self.finder, &rest[..size])?;
+        self.gate.after(number);
+        Ok(found)
+    }
 }

@@ -4,7 +4,7 @@
 //!
 //! - `hand`: what a drawer knows; `board`: the board, which deals the numbers below its total, and its drawers, which split, draw, join and close.
 //! - `gate`: who is told of each number that was drawn, before and after what is done with it.
-//! - `chunks`: what is found of one chunk of the asked places, and what finds it.
+//! - `chunks`: what finds something of places, and so of chunks of the asked ones.
 //! - `pieces`: what is made of the numbers that are drawn, and the order in which it is gathered.
 //! - `workers`: a worker, who draws until no number is left, and a crew of them.
 //! - `check`: all of it, from the asked places to what is found of them, by whatever finds it, and to their verdicts.
@@ -20,7 +20,7 @@ mod workers;
 
 pub use board::{Board, Drawer, WORKER_LIMIT, new_board};
 pub use check::{check_all, check_each};
-pub use chunks::Finder;
+pub use chunks::{Chunks, Finder};
 pub use gate::{Gate, OpenGate};
 pub use pieces::{Drawn, Piece, gather};
 pub use workers::{crew, draw_pieces};

@@ -7,29 +7,29 @@ use crate::board::Drawer;
 use deb_verdict::Verdict;
 use std::alloc::{AllocError, Global};
 
-/// The verdicts of one chunk, or what else is found of its packages.
+/// The verdicts of one chunk, or what else is found of a number.
 #[derive(Drop)]
-pub struct Piece<T = Verdict> {
+pub struct Piece<V = Vec<Verdict>> {
     /// The chunk's number, from 0.
     pub number: u32,
     /// One verdict for each place of the chunk, in the order in which they were asked.
-    pub verdicts: Vec<T>,
+    pub verdicts: V,
 }
 
 /// What one worker leaves.
 #[derive(Drop)]
-pub struct Drawn<T = Verdict> {
+pub struct Drawn<V = Vec<Verdict>> {
     /// The worker's drawer, with the numbers that it drew.
     pub drawer: Drawer,
     /// A piece for each number that was drawn in the call, in the order of the draws; none for those that the drawer had before.
-    pub pieces: Vec<Piece<T>>,
+    pub pieces: Vec<Piece<V>>,
     /// Whether memory was refused; then the worker stopped, and the last number drawn may lack its piece.
     pub refused: bool,
 }
 
-impl<T: Drop> Drawn<T> {
+impl<V: Drop> Drawn<V> {
     /// The drawer and the pieces, unless memory was refused.
-    pub(crate) fn whole(self) -> Result<(Drawer, Vec<Piece<T>>), AllocError>
+    pub(crate) fn whole(self) -> Result<(Drawer, Vec<Piece<V>>), AllocError>
         ensures { IfOk result (λ r. (self.refused ≡ false) × (r.0 ≡ self.drawer) × (r.1 ≡ self.pieces)) }
     {
         if self.refused {
@@ -45,7 +45,7 @@ impl<T: Drop> Drawn<T> {
 pub fn gather<T: Drop>(
     alloc: Global,
     total: u32,
-    mut pieces: Vec<Piece<T>>,
+    mut pieces: Vec<Piece<Vec<T>>>,
 ) -> Result<Vec<T>, AllocError>
     requires { HoldsEachOnce total (numbers_of pieces.items) }
     ensures { IfOk result (λ all. InOrderOfNumber total pieces.items all.items) }
@@ -54,7 +54,7 @@ pub fn gather<T: Drop>(
     concatenated(alloc, pieces)
 }
 
-fn concatenated<T: Drop>(alloc: Global, pieces: Vec<Piece<T>>) -> Result<Vec<T>, AllocError>
+fn concatenated<T: Drop>(alloc: Global, pieces: Vec<Piece<Vec<T>>>) -> Result<Vec<T>, AllocError>
     ensures { IfOk result (λ all. all.items ≡ flat_map (λ p. p.verdicts.items) pieces.items) }
 {
     let mut all = Vec::new(alloc);

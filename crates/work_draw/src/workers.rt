@@ -6,7 +6,7 @@ ghost use Rattle.work_draw.specs.Checks.{chunk_count};
 ghost use Rattle.work_draw.specs.Pieces.{AreFound, Find, Gains, GainsButLast, GainsInAll, IsLeftBy, IsReady, after_crew};
 
 use crate::board::{Board, Drawer};
-use crate::chunks::{Finder, find_chunk};
+use crate::chunks::{Chunks, Finder};
 use crate::gate::Gate;
 use crate::pieces::{Drawn, Piece};
 use deb_index::Index;
@@ -16,46 +16,40 @@ use std::thread;
 use std::thread::Threads;
 
 /// Draws until no number is left, and makes a piece of each, in the order of the draws.
-fn draw_each<F: Finder, G: Gate>(
+fn draw_each<F: Finder>(
     alloc: Global,
     workspace: &mut Workspace,
     finder: &F,
-    asked: &[u32],
-    chunk: u32,
     board: &Board,
     drawer: &mut Drawer,
     pieces: &mut Vec<Piece<F::Found>>,
-    gate: &G,
 ) -> Result<(), AllocError>
-    requires ready { IsReady (F.index finder.now) asked.now chunk board.now drawer.old 1 }
+    requires ready { IsReady (F.limit finder.now) board.now drawer.old 1 }
     requires empty { pieces.old.items ≡ [] }
     ensures same { drawer.new ≡ record drawer.old { numbers = drawer.new.numbers; past = drawer.new.past; done = drawer.new.done } }
     ensures gained { OnOk result ((drawer.new.done ≡ true) × Gains drawer.old.numbers pieces.new.items drawer.new.numbers) }
     ensures refused { GainsButLast drawer.old.numbers pieces.new.items drawer.new.numbers }
-    ensures found { Find (F.finds finder.now) asked.now chunk pieces.new.items }
+    ensures found { Find (F.finds finder.now) pieces.new.items }
 {
     while let Some(number) = board.draw(drawer) {
-        let verdicts = find_chunk(alloc, workspace, finder, asked, chunk, number, gate)?;
+        let verdicts = finder.find(alloc, workspace, number)?;
         pieces.push(Piece { number, verdicts })?;
     }
     Ok(())
 }
 
 /// What each worker of a crew runs: as `draw_pieces`, of what the finder finds.
-fn draw_found<F: Finder, G: Gate>(
+fn draw_found<F: Finder>(
     alloc: Global,
     finder: &F,
-    asked: &[u32],
-    chunk: u32,
     board: &Board,
     drawer: Drawer,
-    gate: &G,
 ) -> Drawn<F::Found>
-    requires { IsReady (F.index finder.now) asked.now chunk board.now drawer 1 }
+    requires { IsReady (F.limit finder.now) board.now drawer 1 }
     ensures same { result.drawer ≡ record drawer { numbers = result.drawer.numbers; past = result.drawer.past; done = result.drawer.done } }
     ensures gained { result.refused ≡ false → (result.drawer.done ≡ true) × Gains drawer.numbers result.pieces.items result.drawer.numbers }
     ensures refused { GainsButLast drawer.numbers result.pieces.items result.drawer.numbers }
-    ensures found { Find (F.finds finder.now) asked.now chunk result.pieces.items }
+    ensures found { Find (F.finds finder.now) result.pieces.items }
 {
     let mut drawn = Drawn {
         drawer,
@@ -63,18 +57,9 @@ fn draw_found<F: Finder, G: Gate>(
         refused: true,
     };
     if let Ok(mut workspace) = Workspace::new(alloc) {
-        drawn.refused = draw_each(
-            alloc,
-            &mut workspace,
-            finder,
-            asked,
-            chunk,
-            board,
-            &mut drawn.drawer,
-            &mut drawn.pieces,
-            gate,
-        )
-        .is_err();
+        let Drawn { drawer, pieces, .. } = &mut drawn;
+        let outcome = draw_each(alloc, &mut workspace, finder, board, drawer, pieces);
+        drawn.refused = outcome.is_err();
         drop(workspace);
     }
     drawn
@@ -108,13 +93,19 @@ pub fn draw_pieces<G: Gate>(
             refused: true,
         };
     };
-    let drawn = draw_found(alloc, &groundwork, asked, chunk, board, drawer, gate);
+    let chunks = Chunks {
+        finder: &groundwork,
+        asked,
+        chunk,
+        gate,
+    };
+    let drawn = draw_found(alloc, &chunks, board, drawer);
     drop(groundwork);
     drawn
 }
 
 /// What two crews of one board leave, as one. Memory is refused, too, where there is none for the pieces of both in one list.
-fn joined<T: Drop>(board: &Board, first: Drawn<T>, second: Drawn<T>) -> Drawn<T>
+fn joined<V: Drop>(board: &Board, first: Drawn<V>, second: Drawn<V>) -> Drawn<V>
     requires first { first.drawer.board ≡ board.now }
     requires second { second.drawer.board ≡ board.now }
     ensures drawer { result.drawer ≡ both_drawers first.drawer second.drawer }
@@ -136,24 +127,21 @@ fn joined<T: Drop>(board: &Board, first: Drawn<T>, second: Drawn<T>) -> Drawn<T>
 }
 
 /// What the crew of `crew` leaves, of what the finder finds.
-pub(crate) fn crew_found<F: Finder + Sync, G: Gate + Sync, R: Threads + Sync>(
+pub(crate) fn crew_found<F: Finder + Sync, R: Threads + Sync>(
     rt: &R,
     alloc: Global,
     finder: &F,
-    asked: &[u32],
-    chunk: u32,
     board: &Board,
     drawer: Drawer,
     workers: u32,
-    gate: &G,
 ) -> Drawn<F::Found>
 where
     F::Found: Send,
-    requires ready { IsReady (F.index finder.now) asked.now chunk board.now drawer workers }
-    ensures { IsLeftBy (F.finds finder.now) asked.now chunk drawer workers result }
+    requires ready { IsReady (F.limit finder.now) board.now drawer workers }
+    ensures { IsLeftBy (F.finds finder.now) drawer workers result }
 {
     if workers == 1 {
-        return draw_found(alloc, finder, asked, chunk, board, drawer, gate);
+        return draw_found(alloc, finder, board, drawer);
     }
     let half = workers / 2;
     let rest = workers - half;
@@ -161,13 +149,13 @@ where
     let (first, second) = thread::join(
         rt,
         move || -> Drawn<F::Found>
-            requires { IsSync R.row × IsSync F.row × IsSync G.row × IsReady (F.index finder.now) asked.now chunk board.now theirs half }
-            ensures { IsLeftBy (F.finds finder.entry.now) asked.entry.now chunk theirs half result }
-        { crew_found(rt, alloc, finder, asked, chunk, board, theirs, half, gate) },
+            requires { IsSync R.row × IsSync F.row × IsReady (F.limit finder.now) board.now theirs half }
+            ensures { IsLeftBy (F.finds finder.entry.now) theirs half result }
+        { crew_found(rt, alloc, finder, board, theirs, half) },
         move || -> Drawn<F::Found>
-            requires { IsSync R.row × IsSync F.row × IsSync G.row × IsReady (F.index finder.now) asked.now chunk board.now mine rest }
-            ensures { IsLeftBy (F.finds finder.entry.now) asked.entry.now chunk mine rest result }
-        { crew_found(rt, alloc, finder, asked, chunk, board, mine, rest, gate) },
+            requires { IsSync R.row × IsSync F.row × IsReady (F.limit finder.now) board.now mine rest }
+            ensures { IsLeftBy (F.finds finder.entry.now) mine rest result }
+        { crew_found(rt, alloc, finder, board, mine, rest) },
     );
     joined(board, second, first)
 }
@@ -195,17 +183,13 @@ pub fn crew<G: Gate + Sync, R: Threads + Sync>(
     ensures found { IfOk result (λ r. AreFound index.now asked.now chunk r.1.items) }
 {
     let groundwork = Groundwork::new(alloc, index)?;
-    let drawn = crew_found(
-        rt,
-        alloc,
-        &groundwork,
+    let chunks = Chunks {
+        finder: &groundwork,
         asked,
         chunk,
-        board,
-        drawer,
-        workers,
         gate,
-    );
+    };
+    let drawn = crew_found(rt, alloc, &chunks, board, drawer, workers);
     drop(groundwork);
     drawn.whole()
 }

@@ -5,7 +5,7 @@ ghost use Rattle.std.specs.Prelude.{◌<◌, ◌≤◌, All, length};
 use deb_verdict::{Groundwork, Told, Wanted, Workspace, told_in};
 use std::alloc::{AllocError, Global};
 use std::thread::Threads;
-use work_draw::{Finder, OpenGate, check_each};
+use work_draw::{Chunks, Finder, OpenGate, check_each};
 
 /// Finds what is wanted of a package.
 #[derive(Drop)]
@@ -15,11 +15,12 @@ struct Asking<'g> {
 }
 
 impl Finder for Asking<'_> {
+    ghost use Rattle.std.specs.Prelude.{length};
     ghost use Rattle.deb_health.specs.Verdicts.{IsTold, told_view};
 
     type Found = Told;
 
-    ghost index = { λ asking. asking.groundwork.now.index.now };
+    ghost limit = { λ asking. length asking.groundwork.now.index.now.packages };
 
     ghost finds = { λ asking place told. IsTold asking.wanted asking.groundwork.now.index.now place (told_view told) };
 
@@ -56,7 +57,13 @@ pub fn finds_written(
     requires workers { (0 < workers) × (workers ≤ 64) }
 {
     let asking = Asking { groundwork, wanted };
-    let found = check_each(rt, rt.alloc(), &asking, asked, workers, 1, &OpenGate)?;
+    let chunks = Chunks {
+        finder: &asking,
+        asked,
+        chunk: 1,
+        gate: &OpenGate,
+    };
+    let found = check_each(rt, rt.alloc(), &chunks, workers)?;
     let mut fine = found.len() == asked.len();
     for (place, told) in asked.iter().zip(found.iter()) {
         let text = written(rt.alloc(), told)?;

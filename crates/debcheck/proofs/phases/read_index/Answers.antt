@@ -15,7 +15,7 @@ returns-clause-index g c =
     let first = read_whole (g.S.Source.remaining c.args.reader.now) (g.S.Source.remaining c.read_text.new.reader) (g.S.Source.failed c.read_text.new.reader) read.0
     read.1.consumes read.1.ends (read.1.unfailed ∙ c.requires.reader) read.1.within in
     let makes = rw c.in_ok-index.was at c.finish-read.ensures.index in
-    accepted-as (settings_of c.args.config.now) text background read.0 c.as_slice.result.now c.in_ok-index.index first (rw c.as_slice.ensures.value c.in-Ok.ensures.bytes) (makes read.0 read.2)
+    accepted-as (settings_of c.args.job.now.config.now) text background read.0 c.as_slice.result.now c.in_ok-index.index first (rw c.as_slice.ensures.value c.in-Ok.ensures.bytes) (makes read.0 read.2)
 
 pub returns-in_err-index-clause-refused : goal.returns-in_err-index-clause-refused
 returns-in_err-index-clause-refused g c =
@@ -26,7 +26,7 @@ returns-in_err-index-clause-refused g c =
     let first = read_whole (g.S.Source.remaining c.args.reader.now) (g.S.Source.remaining c.read_text.new.reader) (g.S.Source.failed c.read_text.new.reader) read.0
     read.1.consumes read.1.ends (read.1.unfailed ∙ c.requires.reader) read.1.within in
     let fails = rw c.in_err-index.was at c.finish-read.ensures.refused in
-    rw (p.1, p.2) (accept-fails (settings_of c.args.config.now) text background read.0 c.as_slice.result.now c.in_err-index.field-0.0 first (rw c.as_slice.ensures.value c.in-Ok.ensures.bytes) (fails read.0 read.2))
+    rw (p.1, p.2) (accept-fails (settings_of c.args.job.now.config.now) text background read.0 c.as_slice.result.now c.in_err-index.field-0.0 first (rw c.as_slice.ensures.value c.in-Ok.ensures.bytes) (fails read.0 read.2))
 
 pub returns-in_err-index-clause-unbegun : goal.returns-in_err-index-clause-unbegun
 returns-in_err-index-clause-unbegun g c =
@@ -39,14 +39,14 @@ returns-in_err-index-clause-may_fail g c =
     let p = err_from_is_err_and c.from_residual-in_err-index.result c.from_residual-in_err-index.ensures.1 in
     let read = c.in_ok-outcome.ensures.text in
     let fails = rw c.in_err-index.was at c.finish-read.ensures.refused in
-    rw (p.1, p.2) (λ e. absurd (subst (λ (f : RunFault). FailsToAccept (settings_of c.args.config.now) read.0 c.as_slice.result.now f) e (fails read.0 read.2)))
+    rw (p.1, p.2) (λ e. absurd (subst (λ (f : RunFault). FailsToAccept (settings_of c.args.job.now.config.now) read.0 c.as_slice.result.now f) e (fails read.0 read.2)))
 
 pub returns-in_err-index-clause-read_may_fail : goal.returns-in_err-index-clause-read_may_fail
 returns-in_err-index-clause-read_may_fail g c =
     let p = err_from_is_err_and c.from_residual-in_err-index.result c.from_residual-in_err-index.ensures.1 in
     let read = c.in_ok-outcome.ensures.text in
     let fails = rw c.in_err-index.was at c.finish-read.ensures.refused in
-    rw (p.1, p.2) (λ e. absurd (subst (λ (f : RunFault). FailsToAccept (settings_of c.args.config.now) read.0 c.as_slice.result.now f) e (fails read.0 read.2)))
+    rw (p.1, p.2) (λ e. absurd (subst (λ (f : RunFault). FailsToAccept (settings_of c.args.job.now.config.now) read.0 c.as_slice.result.now f) e (fails read.0 read.2)))
 
 pub returns-in-Err-clause-refused : goal.returns-in-Err-clause-refused
 returns-in-Err-clause-refused g c =
@@ -55,7 +55,7 @@ returns-in-Err-clause-refused g c =
     let read = c.in_ok-outcome.ensures.text in
     let first = read_whole (g.S.Source.remaining c.args.reader.now) (g.S.Source.remaining c.read_text.new.reader) (g.S.Source.failed c.read_text.new.reader) read.0
     read.1.consumes read.1.ends (read.1.unfailed ∙ c.requires.reader) read.1.within in
-    (behind-fails (settings_of c.args.config.now) text background c.in-Err.fault (read-as text read.0 first) c.in-Err.ensures.refused).0
+    (behind-fails (settings_of c.args.job.now.config.now) text background c.in-Err.fault (read-as text read.0 first) c.in-Err.ensures.refused).0
 
 pub returns-in-Err-clause-unbegun : goal.returns-in-Err-clause-unbegun
 returns-in-Err-clause-unbegun g c unread =
@@ -64,4 +64,4 @@ returns-in-Err-clause-unbegun g c unread =
     let read = c.in_ok-outcome.ensures.text in
     let first = read_whole (g.S.Source.remaining c.args.reader.now) (g.S.Source.remaining c.read_text.new.reader) (g.S.Source.failed c.read_text.new.reader) read.0
     read.1.consumes read.1.ends (read.1.unfailed ∙ c.requires.reader) read.1.within in
-    absurd (false≢true (sym (behind-fails (settings_of c.args.config.now) text background c.in-Err.fault (read-as text read.0 first) c.in-Err.ensures.refused).1 ∙ unread))
+    absurd (false≢true (sym (behind-fails (settings_of c.args.job.now.config.now) text background c.in-Err.fault (read-as text read.0 first) c.in-Err.ensures.refused).1 ∙ unread))

@@ -8,8 +8,8 @@ returns-in_default g c = runs_named _ (g.O.Opener.named c.args.files.now) _ _ _ 
 pub returns-in-Ok : goal.returns-in-Ok
 returns-in-Ok g c =
     runs_named _ (g.O.Opener.named c.args.files.now) _ _ _ _ _ _ c.run_behind-outcome.result
-    (named_by (g.O.Opener.named c.args.files.now) (option_map string_bytes c.args.config.now.bg) c.as_str.result.now (string_bytes c.in-Some.name) _ (rw c.in-Some.is refl) c.as_str.ensures.value c.in-Ok.ensures.opened)
-    (may_behind (g.O.Opener.named c.args.files.now) (option_map string_bytes c.args.config.now.bg) c.as_str.result.now (string_bytes c.in-Some.name) _ c.run_behind-outcome.result (rw c.in-Some.is refl) c.as_str.ensures.value c.in-Ok.ensures.may_fail c.run_behind-outcome.ensures.may_fail)
+    (named_by (g.O.Opener.named c.args.files.now) (option_map string_bytes c.args.job.now.config.now.bg) c.as_str.result.now (string_bytes c.in-Some.name) _ (rw c.in-Some.is refl) c.as_str.ensures.value c.in-Ok.ensures.opened)
+    (may_behind (g.O.Opener.named c.args.files.now) (option_map string_bytes c.args.job.now.config.now.bg) c.as_str.result.now (string_bytes c.in-Some.name) _ c.run_behind-outcome.result (rw c.in-Some.is refl) c.as_str.ensures.value c.in-Ok.ensures.may_fail c.run_behind-outcome.ensures.may_fail)
     c.run_behind-outcome.ensures.runs
 
 pub returns-in-Err-Memory : goal.returns-in-Err-Memory

@@ -8,7 +8,7 @@ returns-in_default-clause-runs g c =
 
 pub returns-in-Ok-clause-runs : goal.returns-in-Ok-clause-runs
 returns-in-Ok-clause-runs g c =
-    runs_since _ (g.O.Opener.named c.args.files.now) (option_map string_bytes c.args.config.now.since) c.as_str.result.now (string_bytes c.in-Some.file) _ _ _ _ _ _ c.run_since-outcome.result (rw c.in-Some.is refl) c.as_str.ensures.value c.in-Ok.ensures.opened
+    runs_since _ (g.O.Opener.named c.args.files.now) (option_map string_bytes c.args.job.now.config.now.since) c.as_str.result.now (string_bytes c.in-Some.file) _ _ _ _ _ _ c.run_since-outcome.result (rw c.in-Some.is refl) c.as_str.ensures.value c.in-Ok.ensures.opened
     c.in-Ok.ensures.may_fail c.run_since-outcome.ensures.earlier_may_fail c.run_since-outcome.ensures.runs
 
 pub returns-in-Err-Memory-clause-runs : goal.returns-in-Err-Memory-clause-runs

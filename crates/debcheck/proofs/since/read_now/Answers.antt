@@ -6,7 +6,7 @@ use Rattle.debcheck.proofs.since.read_now.Goals as goal
 
 pub returns-clause-index : goal.returns-clause-index
 returns-clause-index g c =
-    let settings = settings_of c.args.config.now in
+    let settings = settings_of c.args.job.now.config.now in
     let old = g.S.Source.remaining c.args.reader.now in
     let new = g.S.Source.remaining c.read_text.new.reader in
     let before = g.S.Source.failed c.args.reader.now in
@@ -18,7 +18,7 @@ returns-clause-index g c =
 
 pub returns-clause-refused : goal.returns-clause-refused
 returns-clause-refused g c =
-    let settings = settings_of c.args.config.now in
+    let settings = settings_of c.args.job.now.config.now in
     let old = g.S.Source.remaining c.args.reader.now in
     let new = g.S.Source.remaining c.read_text.new.reader in
     let before = g.S.Source.failed c.args.reader.now in

@@ -6,7 +6,7 @@ use Rattle.deb_report.specs.Since.{broken_view}
 use Rattle.deb_input.specs.declared.fault.RunFault.{RunFault}
 use Rattle.deb_input.specs.Inputs.{input}
 use Rattle.debcheck.specs.Run.{FailsToIndex}
-use Rattle.debcheck.proofs.PhaseLemmas.{all-read, kept-itself, runs-behind, runs-indexed, runs-unindexed}
+use Rattle.debcheck.proofs.PhaseLemmas.{all-read, kept-itself, none-of-earlier, runs-behind, runs-indexed, runs-unindexed, write-of-none}
 use Rattle.debcheck.proofs.since.run_since.Goals as goal
 
 pub returns-in_err-before-clause-runs : goal.returns-in_err-before-clause-runs
@@ -16,6 +16,11 @@ returns-in_err-before-clause-runs g c =
     let text = input (g.S.Source.remaining c.args.reader.now) (g.S.Source.failed c.args.reader.now) in
     let background = input (g.B.Source.remaining c.args.background.now) (g.B.Source.failed c.read_before.new.background) in
     rw (p.1, p.2) (runs-behind (settings_of c.args.config.now) earlier text background _ c.in_err-before.field-0.0 c.requires.reader c.in_err-before.ensures.refused (kept-itself _))
+
+pub returns-in_err-before-clause-unbegun : goal.returns-in_err-before-clause-unbegun
+returns-in_err-before-clause-unbegun g c =
+    let p = err_from_is_err_and c.from_residual.result c.from_residual.ensures.1 in
+    rw (p.1, p.2) (λ of. refl)
 
 pub returns-in_err-before-clause-untouched : goal.returns-in_err-before-clause-untouched
 returns-in_err-before-clause-untouched g c =
@@ -43,6 +48,15 @@ returns-in_err-index-clause-runs g c =
     let second = rw (← c.as_slice.ensures.value) at c.in_ok-before.ensures.behind in
     rw (p.1, p.2) (runs-unindexed settings (Some earlier) text background (Some broken) _ c.in_err-index.field-0.0
     (broken, refl, c.in_ok-before.ensures.broken) (c.in_err-index.ensures.refused background second) (kept-itself _))
+
+pub returns-in_err-index-clause-unbegun : goal.returns-in_err-index-clause-unbegun
+returns-in_err-index-clause-unbegun g c =
+    let p = err_from_is_err_and c.from_residual-in_err-index.result c.from_residual-in_err-index.ensures.1 in
+    let settings = settings_of c.args.config.now in
+    let text = input (g.S.Source.remaining c.args.reader.now) (g.S.Source.failed c.read_now.new.reader) in
+    let background = input (g.B.Source.remaining c.args.background.now) (g.B.Source.failed c.read_before.new.background) in
+    let second = rw (← c.as_slice.ensures.value) at c.in_ok-before.ensures.behind in
+    rw (p.1, p.2) (λ of. absurd (none-of-earlier (FailsToIndex settings text background) (λ h. h) (λ h. h) (λ cause h. h) c.in_err-index.field-0.0 (c.in_err-index.ensures.refused background second) of))
 
 pub returns-in_err-index-clause-untouched : goal.returns-in_err-index-clause-untouched
 returns-in_err-index-clause-untouched g c =
@@ -81,6 +95,11 @@ returns-clause-runs g c =
     let tells = rw c.as_slice-2.ensures.value at c.report_and_write.ensures.tells in
     runs-indexed settings (Some earlier) text background (Some broken) c.in_ok-index.index _ c.report_and_write.result
     (broken, refl, c.in_ok-before.ensures.broken) (c.in_ok-index.ensures.index background second) c.in_ok-before.ensures.unfailed.1 c.in_ok-before.ensures.unfailed.0 tells
+
+pub returns-clause-unbegun : goal.returns-clause-unbegun
+returns-clause-unbegun g c =
+    IfErr-weaker c.report_and_write.result _ _
+    (λ fault h of. absurd (write-of-none (settings_of c.args.config.now) c.in_ok-index.index _ fault h of)) c.report_and_write.ensures.tells.refused
 
 pub returns-clause-may_fail : goal.returns-clause-may_fail
 returns-clause-may_fail g c =

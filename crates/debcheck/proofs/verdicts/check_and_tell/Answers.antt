@@ -6,10 +6,7 @@ use Rattle.debcheck.proofs.verdicts.check_and_tell.Goals as goal
 
 pub report_on-told-requires-clause-before : goal.report_on-told-requires-clause-before
 report_on-told-requires-clause-before g c κs within =
-    λ known is. subst (λ (before : Bor Before). before.now.index.now ≡ c.args.index.now) (same_Some _ known is) c.in_ok-before.ensures.index
+    λ known is. subst (λ (before : Bor Before). before.now.index.now ≡ c.args.index.now) (same_Some _ known is) c.in_ok-before-in-Some.ensures.index
 
 pub returns-in-None : goal.returns-in-None
 returns-in-None g c = rw c.in-None.is c.report_on.ensures
-
-pub returns : goal.returns
-returns g c = rw c.in-Some.is (rw c.in_ok-before.ensures.packages at c.report_on-told.ensures)

@@ -1,4 +1,4 @@
-use Rattle.std.proofs.Common.{◌∙◌, Global, List, None, Vec, ap, length, map, subst, sym, ℕ}
+use Rattle.std.proofs.Common.{◌∙◌, Global, List, None, Vec, ap, ap₂, length, map, subst, sym, ℕ}
 use Rattle.std.proofs.lemmas.Result.{IfOk-weaker}
 use Rattle.deb_health.specs.Verdicts.{told_view}
 use Rattle.deb_health.specs.declared.told.Told.{Told}
@@ -8,12 +8,6 @@ use Rattle.work_draw.specs.Checks.{AnswersEach}
 use Rattle.debcheck.specs.Telling.{IsToldAt, statuses}
 use Rattle.debcheck.proofs.TellLemmas.{told-each, told-length}
 use Rattle.debcheck.proofs.verdicts.find_broken_packages.Goals as goal
-
-pub tell_each-told-requires-clause-places : goal.tell_each-told-requires-clause-places
-tell_each-told-requires-clause-places g c κs within = rw c.as_slice-asked.ensures.value c.in_ok-asked.ensures.within
-
-pub tell_each-told-requires-clause-few : goal.tell_each-told-requires-clause-few
-tell_each-told-requires-clause-few g c κs within = rw c.as_slice-asked.ensures.value c.in_ok-asked.ensures.few
 
 pub broken_packages-requires-clause-same : goal.broken_packages-requires-clause-same
 broken_packages-requires-clause-same g c =
@@ -33,7 +27,6 @@ returns g c =
     record {
       told = map told_view found;
       are_told = told-each statuses index None _ found each;
-      are_broken = are ∙ ap (λ (asked : List ℕ). broken_of index asked (map told_view c.as_slice.result.now)) places
-          ∙ ap (λ (list : List Told). broken_of index _ (map told_view list)) c.as_slice.ensures.value;
+      are_broken = are ∙ ap₂ (λ (asked : List ℕ) (list : List Told). broken_of index asked (map told_view list)) places c.as_slice.ensures.value;
     })
     c.broken_packages.ensures

@@ -20,7 +20,7 @@ report_told-requires-clause-within g c =
 
 pub returns : goal.returns
 returns g c =
-    let settings = settings_of c.args.config.now in
+    let settings = settings_of c.args.job.now.config.now in
     let index = c.args.index.now in
     let asked = c.args.asked.now in
     let before = before_view c.args.before in

@@ -7,9 +7,11 @@ use Rattle.work_draw.specs.Checks.{AnswersEach, IsFound}
 use Rattle.work_draw.proofs.Answered.{AnswersEach-All, AnswersEach-length, AnswersEach-map}
 use Rattle.work_draw.proofs.check.check_all.Goals as goal
 
-pub check_each-found-requires-clause-places : goal.check_each-found-requires-clause-places
-check_each-found-requires-clause-places g c κs within =
-    subst (λ (index : IndexView). All (λ place. place < length index.packages) c.args.asked.now) (sym c.in_ok-groundwork.ensures) c.requires.places
+pub invariant_of-chunks : goal.invariant_of-chunks
+invariant_of-chunks g c = record {
+  places = subst (λ (index : IndexView). All (λ place. place < length index.packages) c.args.asked.now) (sym c.in_ok-groundwork.ensures) c.requires.places;
+  some = c.requires.chunk;
+}
 
 pub returns : goal.returns
 returns g c =

@@ -23,14 +23,15 @@ gather-requires g c =
 
 pub returns : goal.returns
 returns g c =
-    let asked = c.args.asked.now in
+    let chunks = c.args.chunks.now in
+    let asked = chunks.asked.now in
     let pieces = c.crew_found-drawn.result.pieces.items in
-    let found = g.F.Finder.finds c.args.finder.now in
+    let found = g.F.Finder.finds chunks.finder.now in
     let total = c.div_ceil-total.result in
-    let enough : length asked ≤ total * c.args.chunk = subst (λ (n : ℕ). length asked ≤ n * c.args.chunk) (sym c.div_ceil-total.ensures) (div_ceil_times (length asked) c.args.chunk c.requires.chunk).0 in
+    let enough : length asked ≤ total * chunks.chunk = subst (λ (n : ℕ). length asked ≤ n * chunks.chunk) (sym c.div_ceil-total.ensures) (div_ceil_times (length asked) chunks.chunk chunks.some).0 in
     IfOk-weaker c.gather.result _ _
     (λ all o.
     subst (AnswersEach found asked) (sym o.3)
-    (answers_in_order found (λ p. p.verdicts.items) asked c.args.chunk total o.0 o.2 enough
-    (All-permutation (λ p. AnswersEach found (chunk_of asked c.args.chunk p.number) p.verdicts.items) pieces o.0 o.1 (c.crew_found-drawn.ensures.found c.if-drawn.false))))
+    (answers_in_order found (λ p. p.verdicts.items) asked chunks.chunk total o.0 o.2 enough
+    (All-permutation (λ p. AnswersEach found (chunk_of asked chunks.chunk p.number) p.verdicts.items) pieces o.0 o.1 (c.crew_found-drawn.ensures.found c.if-drawn.false))))
     c.gather.ensures

@@ -1,11 +1,11 @@
-use Rattle.std.proofs.Common.{rules, List, [], ◌∷◌, ◌++◌, ◌∙◌, ap, append-nil, flat_map, map-id, sym}
+use Rattle.std.proofs.Common.{rules, Global, List, Vec, [], ◌∷◌, ◌++◌, ◌∙◌, ap, append-nil, flat_map, map-id, sym}
 use Rattle.std.proofs.lemmas.Grind.{flat_map-append}
 use Rattle.std.proofs.lemmas.Iterator.Adapters.{YieldsList-from_vec}
 use Rattle.std.proofs.lemmas.Iterator.Consumers.{YieldsList-end}
 use Rattle.work_draw.specs.declared.pieces.Piece.{Piece}
 use Rattle.work_draw.proofs.pieces.concatenated.Goals as goal
 
-abbrev verdicts_in : {T : Type 0} → Piece T → List T
+abbrev verdicts_in : {T : Type 0} → Piece (Vec T Global) → List T
 verdicts_in piece = piece.verdicts.items
 
 pub loop-piece-preserved : goal.loop-piece-preserved

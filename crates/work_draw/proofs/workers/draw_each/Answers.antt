@@ -1,11 +1,9 @@
-use Rattle.std.proofs.Common.{◌≡◌, length, [], ◌∷◌, ◌++◌, sym, subst, ◌∙◌, ap, arith}
+use Rattle.std.proofs.Common.{◌≡◌, [], ◌∷◌, ◌++◌, sym, subst, ◌∙◌, ap, arith}
 use Rattle.std.proofs.lemmas.List.{append-nil}
 use Rattle.std.proofs.lemmas.List.Elements.{All-push}
-use Rattle.work_draw.specs.Checks.{AnswersEach, chunk_of}
 use Rattle.work_draw.specs.Board.{DrawerView}
 use Rattle.work_draw.specs.declared.pieces.Piece.{Piece}
 use Rattle.work_draw.specs.Pieces.{Find, numbers_of}
-use Rattle.work_draw.proofs.Answered.{chunk_begins}
 use Rattle.work_draw.proofs.Bounds.{falls_by_push}
 use Rattle.work_draw.proofs.GainLemmas.{without_piece, with_piece, same_but_numbers}
 use Rattle.work_draw.proofs.workers.draw_each.Goals as goal
@@ -32,7 +30,7 @@ loop-number-preserved g c =
     record {
       same = same_but_numbers c.args.drawer.now c.loop-number.drawer c.draw.new.drawer (c.loop-number.drawer.numbers ++ c.in-Some.number ∷ []) c.loop-number.invariant.same c.in-Some.ensures.drawn;
       gained = with_piece c.args.drawer.now.numbers c.loop-number.drawer.numbers c.draw.new.drawer.numbers c.loop-number.pieces.items piece c.loop-number.invariant.gained (ap (λ (d : DrawerView). d.numbers) c.in-Some.ensures.drawn) ∙ ap (λ items. c.args.drawer.now.numbers ++ numbers_of items) (sym c.in_ok-push.ensures.items);
-      found = subst (λ items. Find (g.F.Finder.finds c.args.finder.now) c.args.asked.now c.args.chunk items) (sym c.in_ok-push.ensures.items) (All-push (λ p. AnswersEach found (chunk_of c.args.asked.now c.args.chunk p.number) p.verdicts.items) c.loop-number.pieces.items piece c.loop-number.invariant.found c.in_ok-verdicts.ensures);
+      found = subst (λ items. Find found items) (sym c.in_ok-push.ensures.items) (All-push (λ p. found p.number p.verdicts) c.loop-number.pieces.items piece c.loop-number.invariant.found c.in_ok-verdicts.ensures);
     }
 
 pub returns-clause-refused : goal.returns-clause-refused
@@ -40,10 +38,5 @@ returns-clause-refused g c =
     let same : c.draw.new.drawer.numbers ≡ c.loop-number.drawer.numbers = ap (λ (d : DrawerView). d.numbers) c.in_default.ensures.none in
     ([], omega arith, same ∙ (c.loop-number.invariant.gained ∙ sym (append-nil (c.args.drawer.now.numbers ++ numbers_of c.loop-number.pieces.items))))
 
-pub find_chunk-requires : goal.find_chunk-requires
-find_chunk-requires g c =
-    let ready = c.requires.ready in
-    record {
-      begins = chunk_begins c.args.board.now.total c.in-Some.number c.args.chunk (length c.args.asked.now) ready.2 ready.3 c.in-Some.ensures.below;
-      places = ready.1;
-    }
+pub find-requires : goal.find-requires
+find-requires g c = let total = c.requires.ready.1 in let below = c.in-Some.ensures.below in omega arith

@@ -7,7 +7,7 @@ abbrev pub invariant-loop-number : goal.invariant-loop-number
 invariant-loop-number g l = record {
   same : l.drawer ≡ record l.fn.drawer { numbers = l.drawer.numbers };
   gained : Gains l.fn.drawer.numbers l.pieces.items l.drawer.numbers;
-  found : Find (g.F.Finder.finds l.finder) l.asked l.chunk l.pieces.items;
+  found : Find (g.F.Finder.finds l.finder) l.pieces.items;
 }
 
 abbrev pub decreases-loop-number : goal.decreases-loop-number
