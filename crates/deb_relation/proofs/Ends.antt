@@ -66,18 +66,11 @@ module _ {A : Type 0} where
   pub length-several : (xs : List A) (ends : List ℕ) → 0 < length ends → length (lists_in xs ends) ≡ length ends
   length-several xs ends some = ap length (lists-several xs ends some) ∙ length-lists 0 xs ends
 
-  pub length-single : (xs : List A) (ends : List ℕ) → length ends ≡ 0 → length (lists_in xs ends) ≡ length xs
-  length-single xs ends none = ap length (lists-single xs ends none) ∙ length-map xs (λ x. x ∷ [])
-
   -- of all ends that are put down
   pub lists-ended : (xs : List A) (ends : List ℕ) → AreEnds 0 (length xs) ends → lists_in xs ends ≡ lists_from 0 xs ends
   lists-ended [] [] h = refl
   lists-ended (x ∷ xs) [] h = absurd (omega (arith, h))
   lists-ended xs (e ∷ ends) h = refl
-
-pub may-be-ends : (count : ℕ) (ends : List ℕ) → AreEnds 0 count ends → MayBeEnds count ends
-may-be-ends count [] h = tt
-may-be-ends count (e ∷ ends) h = h
 
 are-ends : (count : ℕ) (ends : List ℕ) → 0 < length ends → MayBeEnds count ends → AreEnds 0 count ends
 are-ends count [] some h = absurd (omega arith)

@@ -1,7 +1,7 @@
 -- Rows by their numbers in a store.
-use Rattle.std.proofs.Common.{◌≡◌, ◌<◌, ◌≤◌, ◌+◌, ℕ, List, [], ◌∷◌, ◌++◌, length, map, get_or, Option, None, All, refl, sym, ap, ◌∙◌, arith}
+use Rattle.std.proofs.Common.{◌≡◌, ◌<◌, ◌≤◌, ◌+◌, ℕ, List, [], ◌∷◌, ◌++◌, length, map, get_or, Option, None, All, refl, ap, ◌∙◌, arith}
 use Rattle.std.proofs.Math.Seq.{get_or-append_seam}
-use Rattle.std.proofs.lemmas.List.{get_or-append-add, get_or-map, get_or_append_left, length-append, length-map, map-append}
+use Rattle.std.proofs.lemmas.List.{get_or-append-add, get_or_append_left, length-append, length-map, map-append}
 use Rattle.std.proofs.lemmas.List.Elements.{All-append, All-cons, All-head, All-map, All-nil, All-tail}
 use Rattle.number_sets.specs.Rows.{rows_by}
 
@@ -46,18 +46,3 @@ pub number-more : (stored more : ℕ) (numbers : List ℕ) (n : ℕ) → All (λ
 number-more stored more numbers n all longer inside few =
     let last = All-cons (λ m. m < more) n [] inside (All-nil (λ m. m < more)) in
     (All-append (λ m. m < more) numbers (n ∷ []) (λ k d less. omega (arith, all k d less)) last, omega (arith, few, length-append numbers (n ∷ [])))
-
--- the row with a number
-module _ (store : List Row) (numbers : List ℕ) (rows : List Row) (seen : rows_by store numbers ≡ rows) where
-  pub as-many : length numbers ≡ length rows
-  as-many = sym (length-map numbers (λ n. get_or store n None)) ∙ ap length seen
-
-  module _ (i n : ℕ) (less : i < length rows) (at : n ≡ get_or numbers i n) where
-    number-there : i < length numbers
-    number-there = omega (arith, less, as-many)
-
-    pub number-stored : All (λ m. m < length store) numbers → n < length store
-    number-stored stored = omega (arith, at, stored i n number-there)
-
-    pub row-with : get_or store n None ≡ get_or rows i None
-    row-with = ap (λ m. get_or store m None) at ∙ sym (get_or-map (λ m. get_or store m None) numbers i n None number-there) ∙ ap (λ rs. get_or rs i None) seen

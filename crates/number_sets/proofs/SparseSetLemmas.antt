@@ -5,7 +5,7 @@ use Rattle.std.specs.List.Sorted.{IsStrictlyIncreasing, IsPermutation, IsSorted}
 use Rattle.std.specs.Ordering.{nat_cmp}
 use Rattle.std.specs.Cmp.{nat_eq_equiv}
 use Rattle.std.proofs.lemmas.Bool.{both_ways, cases_lt, false_from_ne_true, eqb-true, eqb-false, eq-eqb, ne_eqb, or_parts, or_from}
-use Rattle.std.proofs.lemmas.List.{length-append, length_push, length-set, get_or_append_left, get_or_push, get_or-set_same, get_or-set_other, get_or_default}
+use Rattle.std.proofs.lemmas.List.{length_push, length-set, get_or_append_left, get_or_push, get_or-set_same, get_or-set_other, get_or_default}
 use Rattle.std.proofs.lemmas.List.FromFn.{length-range_with_len, get_or-range_with_len}
 use Rattle.std.proofs.lemmas.List.Folds.{Any-from_list_any, list_any_at}
 use Rattle.std.proofs.lemmas.List.Sorted.{All-permutation, IsNonDecreasingBy-from_sort}
@@ -120,19 +120,6 @@ numbered_push places numbers q numbered is_new inside = record {
         ap (slice_get (set numbers q (length places))) here ∙ (written_same numbers q (length places) inside ∙ ap (λ x. Some x) last)
   ];
   few = let same = length-set numbers q (length places) in omega (arith, same, numbered.few);
-}
-
--- more behind the numbers changes none of them
-pub numbered_longer : (places numbers more longer : List ℕ) → longer ≡ numbers ++ more → length longer ≤ 2 ^ 32 → IsNumbered places numbers
-    → IsNumbered places longer
-numbered_longer places numbers more longer is few numbered = record {
-  at = λ k below.
-      let place = get_or places k 0 in
-      let inside : place < length numbers = slice_get_within numbers place k (numbered.at k below) in
-      slice_get-get_or longer place 0 (omega (arith, inside, ap length is, length-append numbers more))
-      ∙ ap (λ x. Some x) (ap (λ ns. get_or ns place 0) is ∙ get_or_append_left numbers more 0 place inside)
-      ∙ (sym (slice_get-get_or numbers place 0 inside) ∙ numbered.at k below);
-  few = few;
 }
 
 -- the first places of a list have their numbers

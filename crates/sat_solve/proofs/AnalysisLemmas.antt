@@ -212,10 +212,6 @@ value_back (step ∷ newer) older var value fresh found = value_in_kept step (ne
 parted : (trail : List Step) (count : ℕ) → reverse (drop count trail) ++ reverse (take count trail) ≡ reverse trail
 parted trail count = sym (reverse-append (take count trail) (drop count trail)) ∙ ap reverse (take-append-drop count trail)
 
--- one step stands at a place
-pub same_at : (trail : List Step) (place : ℕ) (a b : Step) → IsAt trail place a → IsAt trail place b → a ≡ b
-same_at trail place a b at there = sym at.1 ∙ (get_or_default trail place a b at.0 ∙ there.1)
-
 module _ (trail : List Step) (fresh : AllFresh (reverse trail)) where
   fresh_to : (count : ℕ) → AllFresh (reverse (take count trail))
   fresh_to count = fresh_back (reverse (drop count trail)) (reverse (take count trail)) (subst AllFresh (sym (parted trail count)) fresh)
@@ -302,11 +298,6 @@ module _ (trail : List Step) (fresh : AllFresh (reverse trail)) where
       fail = tt;
     }
     jump_here (first ∷ second ∷ rest) place one decided cut = absurd (omega arith)
-
--- a clause that has literals takes a further one
-pub taken_later : (trail : List Step) (marks : List Bool) (clause : List Lit) (target place : ℕ) → length clause ≢ 0 → IsTaken trail marks clause target place (Some (place, target))
-taken_later trail marks [] target place some = absurd (some refl)
-taken_later trail marks (first ∷ rest) target place some = (refl, refl)
 
 -- what is said of a clause of no literals is said of this one, if it has none
 pub taken_first : (trail : List Step) (marks : List Bool) (clause : List Lit) (target place : ℕ) (on : Option (ℕ × ℕ)) → length clause ≡ 0 → IsTaken trail marks [] target place on → IsTaken trail marks clause target place on

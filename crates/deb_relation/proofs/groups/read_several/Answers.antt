@@ -1,4 +1,4 @@
-use Rattle.std.proofs.Common.{◌≡◌, ◌++◌, ◌∷◌, ◌∙◌, [], Ok, ap, arith, false, length, map, refl, sym, true}
+use Rattle.std.proofs.Common.{◌≡◌, ◌++◌, ◌∷◌, ◌∙◌, [], Ok, ap, arith, false, length, map, sym, true}
 use Rattle.std.proofs.lemmas.List.{length-append, length-map}
 use Rattle.std.proofs.lemmas.Result.{err_from_is_err_and}
 use Rattle.std.specs.Option.{option_copied}
@@ -7,8 +7,8 @@ use Rattle.deb_relation.specs.Bytes.{comma}
 use Rattle.deb_relation.specs.Groups.{lists_from}
 use Rattle.deb_relation.specs.Parts.{parts_of}
 use Rattle.deb_relation.specs.Relationship.{group_in, groups_of, is_blank}
-use Rattle.deb_relation.proofs.Ends.{ends-more, list-put, lists-ended, may-be-ends}
-use Rattle.deb_relation.proofs.Gather.{each-ends, filled-blank, filled-fails, filled-more, front-fails, front-ok, rest-shorter, with-nothing}
+use Rattle.deb_relation.proofs.Ends.{ends-more, list-put, lists-ended}
+use Rattle.deb_relation.proofs.Gather.{each-ends, filled-blank, filled-fails, filled-more, front-fails, front-ok}
 use Rattle.deb_relation.proofs.groups.read_several.Goals as goal
 
 pub returns-in_err-add_group : goal.returns-in_err-add_group
@@ -51,17 +51,3 @@ returns c =
     rw (c.shrink_to_fit.ensures.items, c.shrink_to_fit-2.ensures.items)
     (each-ends group_in (lists_from 0 (map atom_view c.elements.atoms.items) c.elements.ends.items) (groups_of c.args.text.now) (rw c.in_default.is at c.elements.invariant.0)
     ∙ ap Ok (sym (lists-ended (map atom_view c.elements.atoms.items) c.elements.ends.items c.elements.invariant.1)))
-
-pub elements-smaller-in_ok-push : goal.elements-smaller-in_ok-push
-elements-smaller-in_ok-push c = rw c.in-Some.is (rest-shorter c.cut.result.1 c.in-Some.left.now c.cut.ensures.shorter)
-
-pub elements-smaller : goal.elements-smaller
-elements-smaller c = rw c.in-Some.is (rest-shorter c.cut.result.1 c.in-Some.left.now c.cut.ensures.shorter)
-
-pub invariant_of-result : goal.invariant_of-result
-invariant_of-result c =
-    let ends = may-be-ends (length (map atom_view c.elements.atoms.items)) c.elements.ends.items c.elements.invariant.1 in
-    rw (c.shrink_to_fit.ensures.items, c.shrink_to_fit-2.ensures.items) (rw length-map at ends)
-
-pub elements-init : goal.elements-init
-elements-init c = rw (c.in_ok-atoms.ensures.items, c.in_ok-ends.ensures.items) (with-nothing (groups_of c.args.text.now), refl)

@@ -10,10 +10,3 @@ returns-in_ok-bound-in-40 c =
     let read = c.in_ok-op-in-40 in
     bound-read text read.rest.now (read.op, read.version) _ first c.in-40.len_at_least read.ensures c.if-is_blank.ensures
     ∙ ap (λ bound. Ok (Some bound)) (sym c.in_ok-bound-in-40.ensures.ok)
-
-pub returns-else-is_blank : goal.returns-else-is_blank
-returns-else-is_blank c =
-    let text = c.args.text.now in
-    let first : get_or text 0 0 ≡ open_parenthesis = omega arith in
-    let read = c.in_ok-op-in-40 in
-    bound-read text read.rest.now (read.op, read.version) _ first c.in-40.len_at_least read.ensures c.if-is_blank.ensures

@@ -3,9 +3,6 @@ use Rattle.deb_relation.specs.Relationship.{op_text}
 use Rattle.deb_relation.proofs.Extended.{extends_both, extends_itself, extends_last, extends_more, last_pushed, pushed_more}
 use Rattle.deb_relation.proofs.atom.Atom.write_bound.Goals as goal
 
-pub returns-in-None-clause-kept : goal.returns-in-None-clause-kept
-returns-in-None-clause-kept c = extends_itself c.args.out.now.items
-
 pub returns-in_err-extend_from_slice-in-Some-clause-kept : goal.returns-in_err-extend_from_slice-in-Some-clause-kept
 returns-in_err-extend_from_slice-in-Some-clause-kept c = rw c.in_err-extend_from_slice-in-Some.ensures.items (extends_itself c.args.out.now.items)
 

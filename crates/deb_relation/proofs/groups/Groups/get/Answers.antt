@@ -74,10 +74,3 @@ offset_bounds-deref-number c =
     let none : length r.ends.items ≡ 0 = omega (arith, eqb-true r.ends.len 0 (sym c.if-is_empty.ensures), r.ends.ok.0) in
     let inside = single-within atom_view r.atoms.items r.ends.items c.args.self.now c.args.number c.self.view_is c.requires none in
     omega (arith, inside, ap length c.deref.ensures.value, c.deref.type_inv.1)
-
-pub slice_bounds-result-end : goal.slice_bounds-result-end
-slice_bounds-result-end c =
-    let r = c.self.inside in
-    let none : length r.ends.items ≡ 0 = omega (arith, eqb-true r.ends.len 0 (sym c.if-is_empty.ensures), r.ends.ok.0) in
-    let inside = single-within atom_view r.atoms.items r.ends.items c.args.self.now c.args.number c.self.view_is c.requires none in
-    search (rules, inside)

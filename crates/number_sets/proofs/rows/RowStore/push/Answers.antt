@@ -28,7 +28,3 @@ returns-clause-ok c =
     rw (c.push_reserved.ensures.items, c.push_reserved-2.ensures.items, c.reserve.ensures.items, c.reserve-2.ensures.items, c.in_ok-extend_from_slice.ensures.items)
     (row-next r.places.items r.ends.items r.kept.items c.self.invariant.0 c.self.invariant.1 c.len.result (λ r. r.now) c.args.row _ _ c.is_some.result c.unwrap_or.ensures refl c.is_some.ensures end
     ∙ ap (λ rows. rows ++ option_map (λ r. r.now) c.args.row ∷ []) c.self.view_is)
-
-pub invariant_of-self-in_err-extend_from_slice : goal.invariant_of-self-in_err-extend_from_slice
-invariant_of-self-in_err-extend_from_slice c =
-    rw (c.reserve.ensures.items, c.reserve-2.ensures.items, c.in_err-extend_from_slice.ensures.items) c.self.invariant

@@ -1,6 +1,6 @@
-use Rattle.std.proofs.Common.{◌+◌, ◌++◌, ◌∙◌, ℕ, List, ap, arith, map}
+use Rattle.std.proofs.Common.{◌+◌, ◌++◌, ◌∙◌, ℕ, List, ap, map}
 use Rattle.number_sets.specs.Rows.{rows_by}
-use Rattle.number_sets.proofs.ShareLemmas.{as-many, rows-two, still-few, still-stored}
+use Rattle.number_sets.proofs.ShareLemmas.{rows-two, still-few, still-stored}
 use Rattle.number_sets.proofs.rows.Rows.followed_by.Goals as goal
 
 pub invariant_of-result : goal.invariant_of-result
@@ -20,17 +20,3 @@ returns c =
     (λ i. rows_by (c.in_ok-append.ensures i) (numbers i))
     ∙ rows-two r.store more.store r.numbers.items more.numbers.items c.self.invariant.0 c.len.result c.len.ensures
     ∙ (λ i. c.self.view_is i ++ c.more.view_is i)
-
-pub push_behind-requires : goal.push_behind-requires
-push_behind-requires c =
-    let r = c.self.inside in
-    let more = c.more.inside in
-    let own = as-many r.store r.numbers.items c.args.self c.self.view_is in
-    let others = as-many more.store more.numbers.items c.args.more.now c.more.view_is in
-    rw c.deref.ensures.value
-    (λ k d less. omega (arith, c.more.invariant.0 k d less, c.len.ensures, c.self.invariant.1, c.more.invariant.1, own, others, c.requires))
-
-pub overflow_cast-len : goal.overflow_cast-len
-overflow_cast-len c =
-    let r = c.self.inside in
-    omega (arith, c.len.ensures, c.self.invariant.1, as-many r.store r.numbers.items c.args.self c.self.view_is, c.requires)

@@ -1,6 +1,6 @@
 use Rattle.std.proofs.Common.{◌++◌, ◌∷◌, ◌∙◌, [], ap, arith, length, length-append}
 use Rattle.std.specs.Option.{option_map}
-use Rattle.number_sets.proofs.ShareLemmas.{as-many, number-more, rows-new}
+use Rattle.number_sets.proofs.ShareLemmas.{number-more, rows-new}
 use Rattle.number_sets.proofs.rows.Rows.push.Goals as goal
 
 pub invariant_of-self : goal.invariant_of-self
@@ -21,8 +21,3 @@ invariant_of-self-2 c =
     rw (c.push_reserved.ensures.items, c.reserve.ensures.items, c.in_ok-push.ensures.ok)
     (number-more (length r.store) (length (r.store ++ row ∷ [])) r.numbers.items c.len-number.result c.self.invariant.0 (omega (arith, longer))
     (omega (arith, longer, c.len-number.ensures)) (omega (arith, longer, c.self.invariant.1)))
-
-pub overflow_cast-number : goal.overflow_cast-number
-overflow_cast-number c =
-    let r = c.self.inside in
-    omega (arith, c.len-number.ensures, c.self.invariant.1, as-many r.store r.numbers.items c.args.self.now c.self.view_is, c.requires)

@@ -1,5 +1,4 @@
-use Rattle.std.proofs.Common.{◌≡◌, ◌∙◌, sym, ap, arith, drop, eqb, length}
-use Rattle.std.proofs.lemmas.List.{take_at}
+use Rattle.std.proofs.Common.{◌∙◌, sym, ap, eqb}
 use Rattle.std.proofs.lemmas.List.Sorted.{list_any-IsPermutation}
 use Rattle.number_sets.specs.Sets.{members_of}
 use Rattle.number_sets.proofs.SparseSetLemmas.{sorted_rises, sorted_within}
@@ -19,16 +18,3 @@ pub returns-clause-same : goal.returns-clause-same
 returns-clause-same c q =
     sym (list_any-IsPermutation (λ member. eqb member q) c.self.inside.numbers.items c.sort_unstable.new.self.items c.sort_unstable.ensures.permutation)
     ∙ ap (λ places. members_of places q) c.self.view_is
-
-pub invariant_of-self : goal.invariant_of-self
-invariant_of-self c =
-    let positions = c.self.inside.positions in
-    let written = c.write_positions.new.positions in
-    let same : length written ≡ positions.len = omega (arith, c.write_positions.auto.positions, ap length c.deref_mut.ensures.value, positions.ok.0) in
-    let whole = take_at written (drop (length written) positions.items) positions.len same in
-    rw whole (rw c.deref.ensures.value at c.write_positions.ensures)
-
-pub returns-clause-rising : goal.returns-clause-rising
-returns-clause-rising c =
-    sorted_rises c.self.inside.numbers.items c.self.inside.positions.items c.sort_unstable.new.self.items c.self.invariant
-    c.sort_unstable.ensures.permutation c.sort_unstable.ensures.sorted

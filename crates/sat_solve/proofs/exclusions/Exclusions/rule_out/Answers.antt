@@ -11,8 +11,5 @@ links-preserved c =
       | in_default-begin w ↦ rw w.solver-is c.links.invariant
     ]
 
-pub examine_pairs-requires : goal.examine_pairs-requires
-examine_pairs-requires c = record { problem = c.requires.problem; solver = c.links.invariant.solver }
-
 pub returns-then-is_some : goal.returns-then-is_some
 returns-then-is_some c = goes_on c.args.problem.now c.args.solver.now c.links.solver c.examine_pairs.new.solver None _ c.links.invariant c.in_ok-conflict.ensures

@@ -3,14 +3,6 @@ use Rattle.sat_solve.specs.SolverState.{GoesOn}
 use Rattle.sat_solve.proofs.watches.Watches.propagate.Goals as goal
 use Rattle.sat_solve.proofs.watches.Watches.propagate.Goals.{then-step+in_ok-conflict-2+else-is_some-2, else-step}
 
-pub visit-requires : goal.visit-requires
-visit-requires c =
-    let is = c.steps.invariant.solver in
-    record {
-      problem = c.requires.problem;
-      solver = record { linked = is.linked; vars = is.vars; sound = is.sound; reasoned = is.reasoned; parts = is.parts; below = is.below; used = is.used; learnt = is.learnt };
-    }
-
 pub rule_out-requires : goal.rule_out-requires
 rule_out-requires c = record { problem = c.requires.problem; solver = c.in_ok-conflict.ensures.solver }
 
