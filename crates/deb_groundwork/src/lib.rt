@@ -9,14 +9,15 @@
 //! - `installable` finds many packages that some healthy set has, for which no set need be shown: an `installation` grows without a search, and is
 //!   looked up by `check`.
 //! - Whether a part admits none with a package. `witness` sees that some set meets it: that is the `growth` of a set on the base set, by a `choice` of
-//!   one answer for each need, and `check` looks it up. `propagation` refutes it by what the package asks for with no choice; `derivation` has the
-//!   steps of such a refutation, and checks them.
+//!   one answer for each need, and `check` looks it up. `propagation` refutes it by what the package asks for with no choice, down to a
+//!   `conflict`; `derivation` has the steps of such a refutation, and checks them.
 #![tactic(auto)]
 
 mod answering;
 mod base_set;
 mod check;
 mod choice;
+mod conflict;
 mod derivation;
 mod forced;
 mod groundwork;

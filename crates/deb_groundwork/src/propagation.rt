@@ -2,13 +2,12 @@
 //! passed over, since each has what it asks for. Where memory is wanting no contradiction is seen.
 
 ghost use Rattle.std.specs.Prelude.{◌≡◌, ◌<◌, true, false, length};
-ghost use Rattle.deb_index.specs.Packages.{aparts_at};
 ghost use Rattle.deb_groundwork.specs.Parts.{IsRefutedBy};
 
 use crate::base_set::BaseSet;
+use crate::conflict::conflict_in;
 use crate::derivation::{Outcome, Step, is_refutation, name_outcome, need_outcome};
 use crate::part::Part;
-use crate::rows::other_in;
 use deb_index::Index;
 use number_sets::SparseSet;
 use std::alloc::Global;
@@ -31,62 +30,8 @@ pub struct Propagation {
     positions: Vec<u32>,
     /// How many of the forced places were visited without a contradiction.
     visited: usize,
-    /// The package for which they are, if they are forced by all constraints that aren't taken out.
-    whole: Option<u32>,
-}
-
-/// Another place that is in and that an entry hits. `None` where what it hits is too much for a row.
-fn hit_in(index: &Index, place: u32, number: u32, forced: &SparseSet) -> Option<u32>
-    requires place { place < length index.now.packages }
-    requires number { number < length (aparts_at index.now place) }
-{
-    match index.hit_row(place, number) {
-        Some(row) => other_in(forced, row, place),
-        None => None,
-    }
-}
-
-/// Another place of the name that is in. `None` where the name has more places than are in.
-fn version_in(index: &Index, place: u32, forced: &SparseSet) -> Option<u32>
-    requires { place < length index.now.packages }
-{
-    let row = index.versions_of(place);
-    if row.len() > forced.as_slice().len() {
-        return None;
-    }
-    other_in(forced, row, place)
-}
-
-/// A constraint of the part that keeps a place that is in from another one.
-fn conflict_of(part: &Part<'_>, place: u32, forced: &SparseSet) -> Option<Step>
-    requires { place < length part.now.index.now.packages }
-{
-    let index = part.index;
-    for number in 0..index.apart_count(place) {
-        if let Some(other) = hit_in(index, place, number, forced) {
-            if part.has(index.apart_position(place, number)) {
-                return Some(Step::Apart(place, number, other));
-            }
-        }
-    }
-    if !part.has(index.only_position(index.name_of(place))) {
-        return None;
-    }
-    let other = version_in(index, place, forced)?;
-    Some(Step::Only(place, other))
-}
-
-/// A constraint of the part that keeps two places apart that are in.
-fn conflict_in(part: &Part<'_>, forced: &SparseSet) -> Option<Step> {
-    for place in forced.as_slice() {
-        if *place >= part.index.len() {
-            return None;
-        }
-        if let Some(step) = conflict_of(part, *place, forced) {
-            return Some(step);
-        }
-    }
-    None
+    /// The package for which they are, and how many members the base set has, if they are forced by all constraints that aren't taken out.
+    whole: Option<(u32, usize)>,
 }
 
 /// Marks the step that forced a place; the first place needs none.
@@ -213,11 +158,11 @@ impl Propagation {
     /// Begins with the package at a place. Where only constraints that force nothing were taken out since, it goes on where the last contradiction was
     /// seen. `false` for want of memory.
     fn begin(&mut self, part: &Part<'_>, base: &BaseSet, p: u32) -> bool {
-        let is_whole = part.rest == 0 && !base.members.as_slice().is_empty();
-        if is_whole && !part.out.is_empty() && self.whole == Some(p) {
+        let whole = (p, base.members.as_slice().len());
+        if part.rest == 0 && !part.out.is_empty() && self.whole == Some(whole) {
             return true;
         }
-        self.whole = if is_whole { Some(p) } else { None };
+        self.whole = if part.rest == 0 { Some(whole) } else { None };
         self.visited = 0;
         self.forced.clear();
         self.causes.clear();

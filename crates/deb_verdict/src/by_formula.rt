@@ -13,6 +13,7 @@ use crate::core_formula::CoreFormula;
 use crate::first_set::count_of;
 use crate::kept_positions::{list_constraints, list_positions};
 use crate::known::Known;
+use crate::limits::SHARE;
 use crate::reach::reach;
 use crate::workspace::Workspace;
 use deb_encode::{Play, encode_each};
@@ -112,20 +113,19 @@ fn refute_described(
     Ok(true)
 }
 
-/// Lists constraints of a part each of which every refutation of it needs, by sets that are come by from the last one, if that lacks the
-/// constraint at this position alone.
+/// Lists constraints of a part each of which every refutation of it needs, by sets that are come by from the last one, if that lacks the first
+/// constraint of the rest alone.
 fn list_needed(
     alloc: Global,
     part: &Part<'_>,
     p: u32,
     described: &CoreFormula,
-    last: u32,
     workspace: &mut Workspace,
 ) -> Result<(), AllocError>
     requires { Tells part.now.index.now p described.now }
     ensures { OnOk result (AreNeeded part.now.index.now p (positions_in part.now) workspace.new.needed.items) }
 {
-    let group = match described.positions.binary_search(&last) {
+    let group = match described.positions.binary_search(&part.rest) {
         Ok(group) => group,
         Err(group) => group,
     };
@@ -147,24 +147,19 @@ fn list_needed(
     Ok(())
 }
 
-/// Whether a position is the first that the last refutation used behind the kept ones. It is a hint.
-fn is_next(used: &[u32], kept: &[u32], position: u32) -> bool {
-    let behind = match kept.last() {
-        Some(last) => last.saturating_add(1),
-        None => 0,
-    };
-    match used.binary_search(&behind) {
-        Ok(place) => used.get(place) == Some(&position),
-        Err(place) => used.get(place) == Some(&position),
+/// Whether a formula may tell of enough constraints at once that they are needed: where the last refutation used a good part of its own.
+pub(crate) fn tells_more(formula: &Option<CoreFormula>, used: &[u32]) -> bool {
+    match formula {
+        Some(described) => described.positions.len() / SHARE <= used.len(),
+        None => true,
     }
 }
 
-/// Takes in what is needed of what is left, where a set was found for a part of it without one constraint.
+/// Takes in what is needed of a part, where a set was found for it without the first constraint of its rest.
 pub(crate) fn learn(
     alloc: Global,
     part: &Part<'_>,
     p: u32,
-    used: &[u32],
     formula: &Option<CoreFormula>,
     known: &mut Known,
     workspace: &mut Workspace,
@@ -176,21 +171,11 @@ pub(crate) fn learn(
     let Some(described) = formula else {
         return Ok(());
     };
-    if part.rest == 0 || workspace.set.is_empty() {
+    if workspace.set.is_empty() {
         return Ok(());
     }
-    let last = part.rest - 1;
-    if !is_next(used, part.kept, last) {
-        return Ok(());
-    }
-    let left = Part {
-        index: part.index,
-        kept: part.kept,
-        rest: last,
-        out: part.out,
-    };
-    list_needed(alloc, &left, p, described, last, workspace)?;
-    known.take(alloc, part.kept, last, &workspace.needed)
+    list_needed(alloc, part, p, described, workspace)?;
+    known.take(alloc, part.kept, part.rest, &workspace.needed)
 }
 
 /// Takes the formula of a package, which is made where it isn't there yet.

@@ -28,6 +28,7 @@ mod installability;
 mod kept_positions;
 mod known;
 pub mod laws;
+mod limits;
 mod question;
 mod reach;
 mod workspace;

@@ -11,9 +11,10 @@ ghost use Rattle.deb_groundwork.specs.Parts.{positions_in, IsRefutedBy};
 ghost use Rattle.deb_verdict.specs.Formulas.{Tells};
 ghost use Rattle.deb_verdict.specs.Known.{AreKnown};
 
-use crate::by_formula::{learn, refute_by_formula};
+use crate::by_formula::{learn, refute_by_formula, tells_more};
 use crate::core_formula::CoreFormula;
 use crate::known::Known;
+use crate::limits::MANY;
 use crate::workspace::Workspace;
 use core_extract::{Question, next_of};
 use deb_groundwork::{BaseSet, Groundwork, Part, is_seen_to_admit, refute_by_forcing};
@@ -42,13 +43,18 @@ pub(crate) fn refute_part(
 {
     let propagation = &mut workspace.propagation;
     let used = &mut workspace.used;
-    // Each package whose core is looked for is broken, so only without some constraints is there a set.
+    // Each package whose core is looked for is broken, so only without some constraints is there a set. Where all are asked about but those of
+    // earlier causes, forcing goes on from where it was.
     let may_admit = part.may_lack_one();
-    if may_admit && is_seen_to_admit(part, p, base, lacking, &mut workspace.witness) {
+    let goes_on = part.rest == 0;
+    if !goes_on && is_seen_to_admit(part, p, base, lacking, &mut workspace.witness) {
         return Ok(false);
     }
     if refute_by_forcing(part, p, base, propagation, used) {
         return Ok(true);
+    }
+    if goes_on && may_admit && is_seen_to_admit(part, p, base, lacking, &mut workspace.witness) {
+        return Ok(false);
     }
     // What the package asks for may be at odds with the base set.
     let nothing = &mut workspace.nothing;
@@ -65,16 +71,18 @@ pub(crate) fn refute_part(
     refute_by_formula(alloc, part, p, formula, workspace)
 }
 
-/// After so many questions about a package the others are put to its formula alone, which may tell of several constraints that they are needed.
-const MANY: u32 = 32;
+/// Whether a question is put to the formula alone, where so many were asked before.
+fn is_for_formula(formula: &Option<CoreFormula>, used: &[u32], asked: u32) -> bool {
+    asked >= MANY && tells_more(formula, used)
+}
 
-/// What `refute_part` says, where so many questions were asked before.
+/// What `refute_part` says, or the package's formula alone.
 fn refute_next(
     alloc: Global,
     part: &Part<'_>,
     p: u32,
     groundwork: &Groundwork<'_>,
-    asked: u32,
+    alone: bool,
     formula: &mut Option<CoreFormula>,
     workspace: &mut Workspace,
 ) -> Result<bool, AllocError>
@@ -86,7 +94,7 @@ fn refute_next(
     ensures admitted { IfOk result (λ refuted. refuted ≡ false → AdmitsNone part.now.index.now p (positions_in part.now) → ⊥) }
 {
     workspace.set.clear();
-    if asked >= MANY {
+    if alone {
         return refute_by_formula(alloc, part, p, formula, workspace);
     }
     let base = &groundwork.base;
@@ -99,6 +107,22 @@ fn refute_next(
         formula,
         workspace,
     )
+}
+
+/// The number before the rest, if the last refutation used it as the first behind the kept ones, and the formula may tell of more. It is a hint.
+fn next_told(formula: &Option<CoreFormula>, used: &[u32], kept: &[u32], rest: u32) -> Option<u32>
+    requires { IsStrictlyIncreasing used.now }
+{
+    let last = rest.checked_sub(1)?;
+    let behind = match kept.last() {
+        Some(number) => number.saturating_add(1),
+        None => 0,
+    };
+    if next_of(used, behind) == Some(last) && tells_more(formula, used) {
+        Some(last)
+    } else {
+        None
+    }
 }
 
 /// Takes over what a refutation used, in rising order. `found` is then a buffer.
@@ -161,22 +185,31 @@ impl<'a> Question for Blocking<'a> {
             rest,
             out: self.out,
         };
+        let alone = is_for_formula(&self.formula, &self.used, self.asked);
         let refuted = refute_next(
             alloc,
             &part,
             self.p,
             self.groundwork,
-            self.asked,
+            alone,
             &mut self.formula,
             self.workspace,
         )?;
         self.asked = self.asked.saturating_add(1);
         if !refuted {
+            let Some(last) = next_told(&self.formula, &self.used, kept, rest) else {
+                return Ok(false);
+            };
+            let more = Part {
+                index,
+                kept,
+                rest: last,
+                out: self.out,
+            };
             learn(
                 alloc,
-                &part,
+                &more,
                 self.p,
-                &self.used,
                 &self.formula,
                 &mut self.known,
                 self.workspace,

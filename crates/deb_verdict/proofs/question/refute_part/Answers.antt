@@ -37,13 +37,25 @@ pub returns-then-is_seen_to_admit-2-clause-refuted : goal.returns-then-is_seen_t
 returns-then-is_seen_to_admit-2-clause-refuted c = λ is. absurd (false≢true is)
 
 pub returns-then-is_seen_to_admit-2-clause-admitted : goal.returns-then-is_seen_to_admit-2-clause-admitted
-returns-then-is_seen_to_admit-2-clause-admitted c = λ _ none. none (c.is_seen_to_admit-then-may_admit-2.ensures c.if-is_seen_to_admit-2.true)
+returns-then-is_seen_to_admit-2-clause-admitted c = λ _ none. none (c.is_seen_to_admit-then-may_admit.ensures c.if-is_seen_to_admit-2.true)
 
 pub returns-then-is_seen_to_admit-2-clause-still : goal.returns-then-is_seen_to_admit-2-clause-still
 returns-then-is_seen_to_admit-2-clause-still c = λ _. c.refute_by_forcing.ensures.still c.if-refute_by_forcing.false
 
 pub returns-then-is_seen_to_admit-2-clause-formula : goal.returns-then-is_seen_to_admit-2-clause-formula
 returns-then-is_seen_to_admit-2-clause-formula c = c.requires.formula
+
+pub returns-then-is_seen_to_admit-3-clause-refuted : goal.returns-then-is_seen_to_admit-3-clause-refuted
+returns-then-is_seen_to_admit-3-clause-refuted c = λ is. absurd (false≢true is)
+
+pub returns-then-is_seen_to_admit-3-clause-admitted : goal.returns-then-is_seen_to_admit-3-clause-admitted
+returns-then-is_seen_to_admit-3-clause-admitted c = λ _ none. none (c.is_seen_to_admit-then-may_admit-2.ensures c.if-is_seen_to_admit-3.true)
+
+pub returns-then-is_seen_to_admit-3-clause-still : goal.returns-then-is_seen_to_admit-3-clause-still
+returns-then-is_seen_to_admit-3-clause-still c = λ _. c.refute_by_forcing.ensures.still c.if-refute_by_forcing.false
+
+pub returns-then-is_seen_to_admit-3-clause-formula : goal.returns-then-is_seen_to_admit-3-clause-formula
+returns-then-is_seen_to_admit-3-clause-formula c = c.requires.formula
 
 pub returns-then-refute_by_forcing-2-clause-refuted : goal.returns-then-refute_by_forcing-2-clause-refuted
 returns-then-refute_by_forcing-2-clause-refuted c = λ _. c.refute_by_forcing-then-lacks_room.ensures.refuted c.if-refute_by_forcing-2.true
