@@ -1,13 +1,11 @@
 -- Lemmas on bytes that are read.
-use Rattle.std.proofs.Common.{◌≡◌, ◌==◌, ℕ, ◌+◌, ◌<◌, ◌≤◌, false, List, [], ◌++◌, length, refl, ap, sym, ◌∙◌, append_assoc, append-nil, arith, length-append, IfSome, take, subst, ◌-◌}
+use Rattle.std.proofs.Common.{◌≡◌, ℕ, ◌+◌, ◌<◌, ◌≤◌, List, [], ◌++◌, length, refl, ap, sym, ◌∙◌, append_assoc, append-nil, arith, length-append, IfSome, take, subst, ◌-◌}
 use borrow.Rule.Slice.PartMut.{put_mid}
 use Rattle.std.proofs.Math.Seq.{take-append-add, take-take}
 use Rattle.std.proofs.lemmas.List.{take-append-le, length-take-le}
-use Rattle.std.proofs.lemmas.Bool.{eqb-true}
-use Rattle.std.proofs.lemmas.Bool.Decides.{nat_tests}
 use Rattle.std.specs.Prelude.{Option, Some, None}
-use Rattle.std.specs.Io.KnownBytes.{Consumes, IsAtEnd}
-use Rattle.deb_input.specs.Pieces.{HoldsMore, TellsFull}
+use Rattle.std.specs.Io.KnownBytes.{Consumes}
+use Rattle.deb_input.specs.Pieces.{HoldsMore}
 
 pub consumes_nothing : (a : Option (List ℕ)) → Consumes a a []
 consumes_nothing None = tt
@@ -57,16 +55,6 @@ pub held_more : (narrow room part held : List ℕ) (filled size n : ℕ) → tak
 held_more narrow room part held filled size n kept is within fits more =
     let front : take filled room ≡ held = sym (take-take filled (length narrow) room within) ∙ ap (take filled) kept ∙ is in
     filled_more room part filled size n fits more ∙ ap (λ bytes. bytes ++ take n part) front
-
--- whether a part was read that has so many bytes
-pub tells-full : (new : Option (List ℕ)) (held next part : List ℕ) (n count : ℕ) → next ≡ held ++ take n part → n ≤ length part → length part ≡ count → (n < length part → IsAtEnd new)
-    → TellsFull count held next new (n == count)
-tells-full new held next part n count is within size ends =
-    let long : length next ≡ length held + n = ap length is ∙ length-append held (take n part) ∙ ap (λ m. length held + m) (length-take-le n part within) in
-    let fewer : n == count ≡ false → n < count = λ less. grind (arith, nat_tests) in (
-      λ full. omega (arith, long, eqb-true n count full),
-      λ less. (omega (arith, long, fewer less), ends (omega (arith, fewer less))),
-    )
 
 pub consumes_filled : (a b c : Option (List ℕ)) (room part : List ℕ) (filled size n : ℕ) → Consumes a b (take filled room) → Consumes b c (take n part) → filled ≤ length room → n ≤ length part
     → Consumes a c (take (filled + n) (put_mid filled size room part))

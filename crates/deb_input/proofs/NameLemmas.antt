@@ -1,9 +1,9 @@
 -- The lines of a file of names.
-use Rattle.std.proofs.Common.{◌≡◌, ◌∙◌, ◌+◌, ◌++◌, ◌∷◌, ◌&&◌, ◌<◌, ℕ, Bool, Bor, List, [], ap, ap₂, arith, false, get_or, length, map, sym, take, true}
+use Rattle.std.proofs.Common.{◌≡◌, ◌∙◌, ◌+◌, ◌<◌, ℕ, Bool, Bor, List, ap, arith, false, get_or, length, map, sym, take, true}
 use Rattle.std.specs.List.{list_all, prefix_len}
 use Rattle.std.proofs.Math.ListN.{get_or-map}
-use Rattle.std.proofs.lemmas.List.{get_or-take, length-map, length-take-le, map-append, map_more, take-map}
-use Rattle.std.proofs.lemmas.List.Folds.{list_all-append, list_all_at}
+use Rattle.std.proofs.lemmas.List.{get_or-take, length-map, length-take-le, take-map}
+use Rattle.std.proofs.lemmas.List.Folds.{list_all_at}
 use Rattle.std.proofs.lemmas.List.Sums.{AllPass-from_list_all, prefix_len_is}
 use Rattle.deb_relation.specs.Relationship.{is_name}
 use Rattle.deb_input.specs.Names.{are_names, bad_line, lines_in}
@@ -31,16 +31,3 @@ bad-line text items names k n d f parts within same before bad counted =
     let few : length (take k items) ≡ k = length-take-le k items (omega (arith, within)) in
     let many : length names ≡ k = sym (length-map names f) ∙ ap length same ∙ length-map (take k items) (λ (line : Bor (List ℕ)). line.now) ∙ few in
     rw (← parts) (first.0, rw first.1 (omega (arith, many, counted)))
-
--- a further line, which is a name
-pub names-more : {V : Type 0} (f : V → List ℕ) (items : List (Bor (List ℕ))) (names more : List V) (name : V) (k : ℕ) (d : Bor (List ℕ)) → k < length items
-    → map f names ≡ map (λ line. line.now) (take k items) → list_all is_name (map (λ line. line.now) (take k items)) ≡ true → more ≡ names ++ name ∷ [] → f name ≡ (get_or items k d).now
-    → is_name (get_or items k d).now ≡ true
-    → (map f more ≡ map (λ line. line.now) (take (k + 1) items)) × (list_all is_name (map (λ line. line.now) (take (k + 1) items)) ≡ true)
-names-more f items names more name k d within same before pushed copied good =
-    let seen = map (λ (line : Bor (List ℕ)). line.now) (take k items) in
-    let line = (get_or items k d).now in
-    let next = map_more (λ (line : Bor (List ℕ)). line.now) items k d within in (
-      ap (map f) pushed ∙ map-append f names (name ∷ []) ∙ ap₂ (λ front back. front ++ back ∷ []) same copied ∙ sym next,
-      ap (list_all is_name) next ∙ list_all-append is_name seen (line ∷ []) ∙ ap₂ (λ front here. front && (here && true)) before good,
-    )

@@ -15,7 +15,7 @@ use Rattle.deb_input.specs.declared.fault.RunFault.TheVariants.{Read, TooLong, B
 use Rattle.deb_index.specs.Pieces.{Accepts, FrontView, IsFrontOf, Refuses}
 use Rattle.deb_input.specs.Pieces.{FailsInPieces, FailsToFinish, IsClosedFront, MakesIndex, ReadsAll, ReadsFront, ReadsText, RefusesPiece, TakesLast, TakesPiece}
 use Rattle.deb_input.specs.Inputs.{FailsAtRead, FailsToRead}
-use Rattle.deb_input.proofs.DeviceLemmas.{consumes_more, consumes_nothing, consumes_over}
+use Rattle.deb_input.proofs.DeviceLemmas.{consumes_more, consumes_nothing}
 use Rattle.deb_input.proofs.IndexLemmas.{fore-fails}
 
 -- ---- texts on whose end no stanza goes on
@@ -183,13 +183,6 @@ fails-behind old mid before marked failed bytes room limit (UnknownAsked name) c
 fails-behind old mid before marked failed bytes room limit (Slipped slip) consumes fits same h = absurd h
 fails-behind old mid before marked failed bytes room limit Memory consumes fits same h = h ∙ same
 fails-behind old mid before marked failed bytes room limit Write consumes fits same h = absurd h
-
--- more bytes than the limit were read
-pub fails-over : (settings : Settings) (old new : Option (List ℕ)) (before failed : Bool) (front : FrontView) (held : List ℕ) → ReadsFront settings old new front held → failed ≡ before
-    → byte_limit < front.size + length held → FailsToRead old before failed byte_limit TooLong
-fails-over settings old new before failed front held reads kept over =
-    let size = size-read settings old new front held reads in
-    (kept, consumes_over old new (reads.text ++ held) byte_limit reads.consumes (omega arith))
 
 -- reading the rest of a text with a fault fails
 pub fails-rest : (settings : Settings) (old mid : Option (List ℕ)) (before marked failed : Bool) (front : FrontView) (held : List ℕ) (room : ℕ) (fault : RunFault) → ReadsFront settings old mid front held

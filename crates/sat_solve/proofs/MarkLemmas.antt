@@ -1,7 +1,7 @@
 -- Marks on groups: more of them, and what the sets that meet the marked groups meet.
 use Rattle.std.proofs.Common.{◌≡◌, ℕ, ◌<◌, Bool, true, false, Vec, All, Option, Some, None, List, length, get_or, set, slice_get, refl, sym, ◌∙◌, ap, subst, inl, inr, get_or-set_same, get_or-set_other}
 use Rattle.std.proofs.lemmas.Bool.{false≢true, cases_lt, cases_eq}
-use Rattle.std.proofs.lemmas.List.{get_or_past, length-set}
+use Rattle.std.proofs.lemmas.List.{get_or_past}
 use Rattle.std.proofs.lemmas.Option.{slice_get-get_or, slice_get_within, get_or_from_slice_get}
 use Rattle.number_sets.specs.Sets.{NumberSet}
 use Rattle.std.specs.declared.alloc.Global.{Global}
@@ -30,15 +30,6 @@ marked_more marks group other found =
       | inl same ↦ subst (λ g. get_or (set marks g true) other false ≡ true) same (get_or-set_same marks other true false inside)
       | inr apart ↦ get_or-set_other marks group other true false apart ∙ there
     ])
-
-pub marked_used : (problem : Problem) (used : List Bool) (group : ℕ) → IsUsed problem used → get_or problem.keep.now group false ≡ true → IsUsed problem (set used group true)
-marked_used problem used group is kept = record {
-  sized = length-set used group true ∙ is.sized;
-  within = λ other found. elim (cases_eq other group) [
-    | inl same ↦ subst (λ g. slice_get problem.keep.now g ≡ Some true) (sym same) (there_if_read problem.keep.now group kept)
-    | inr apart ↦ is.within other (there_if_read used other (sym (get_or-set_other used group other true false apart) ∙ get_or_from_slice_get (set used group true) other true false found))
-  ];
-}
 
 -- where more groups are marked, fewer sets meet them
 pub fewer_meet : (problem : Problem) (old new : List Bool) (members : NumberSet) → AreWithin old new → IsMarkedSolution problem new members → IsMarkedSolution problem old members

@@ -1,11 +1,11 @@
 use Rattle.std.proofs.Common.{◌≡◌, ◌<◌, ◌≤◌, ◌++◌, ◌∷◌, [], ◌∙◌, ℕ, List, ap, arith, get_or, length, map, sym, take, ◌+◌}
-use Rattle.std.proofs.lemmas.List.{take_all, take_more}
+use Rattle.std.proofs.lemmas.List.{take_more}
 use Rattle.deb_index.specs.declared.constraint.Constraint.{Constraint}
 use Rattle.deb_index.specs.declared.constraint.Constraint.TheVariants.{Essential}
 use Rattle.deb_index.specs.Packages.{first_of_each}
 use Rattle.deb_health.specs.Causes.{cause_in, is_final}
 use Rattle.number_sets.proofs.ListLemmas.{filter_fails, filter_passes}
-use Rattle.deb_causes.specs.Causes.{says, says_same}
+use Rattle.deb_causes.specs.Causes.{says}
 use Rattle.deb_causes.specs.Numbering.{texts_of, with_text}
 use Rattle.deb_causes.proofs.CoreLemmas.{wrong-known, wrong-new}
 use Rattle.deb_causes.proofs.cores.first_said.Goals as goal
@@ -47,8 +47,3 @@ loop-constraint-preserved c =
           filter_fails (is_final index) (take i core) (take (i + 1) core) x (take_more core i (Essential 0) inside) (sym c.in_ok-is_final.ensures ∙ w.if-branch.false) in
           rw (w.said-is, w.wrongs-is, step) c.loop-constraint.invariant
     ]
-
-pub returns : goal.returns
-returns c =
-    let index = c.args.index.now in
-    c.loop-constraint.invariant.wrongs ∙ ap (λ core. first_of_each (says_same index) (cause_in index core)) (take_all _ _ (omega (arith, c.loop-constraint-test.false)))

@@ -1,29 +1,14 @@
-use Rattle.std.proofs.Common.{◌≡◌, ◌<◌, ◌∙◌, ◌||◌, [], Bor, List, ap, arith, get_or, length, map, slice_get, sym, take}
+use Rattle.std.proofs.Common.{◌≡◌, ◌<◌, ◌∙◌, Bor, List, ap, arith, length, map, slice_get, sym, take}
 use Rattle.std.specs.List.{flat_map}
-use Rattle.std.proofs.lemmas.List.{flat_map_more, take_all}
+use Rattle.std.proofs.lemmas.List.{take_all}
 use Rattle.std.proofs.lemmas.List.Elements.{All-same}
 use Rattle.std.proofs.lemmas.Result.{IfOk-weaker}
 use Rattle.deb_index.specs.declared.constraint.Constraint.{Constraint}
 use Rattle.deb_index.specs.Constraints.{constraints_of}
 use Rattle.deb_health.specs.Causes.{cause_in}
-use Rattle.number_sets.proofs.AtomSteps.{map_more}
 use Rattle.deb_causes.specs.Causes.{needs_in}
-use Rattle.deb_causes.specs.Positions.{is_need_at}
-use Rattle.deb_causes.proofs.CoreLemmas.{both-needs, needs-are, needs-within}
+use Rattle.deb_causes.proofs.CoreLemmas.{needs-are, needs-within}
 use Rattle.deb_causes.proofs.cores.needs_in.Goals as goal
-
-pub loop-core-preserved : goal.loop-core-preserved
-loop-core-preserved c = λ k.
-    let index = c.args.index.now in
-    let i = c.loop-core.core-index in
-    let none : Bor (List Constraint) = record { ref_ptr = (0, 0); now = [] } in
-    let core : List Constraint = (get_or c.args.cores.now i none).now in
-    let cores : List (List Constraint) = map (λ (core : Bor (List Constraint)). core.now) (take i c.args.cores.now) in
-    c.in_ok-push_needs.ensures k
-    ∙ ap (λ before. before || is_need_at index (cause_in index core) k) (c.loop-core.invariant k)
-    ∙ sym (both-needs index (flat_map (cause_in index) cores) (cause_in index core) k)
-    ∙ ap (λ constraints. is_need_at index constraints k)
-    (flat_map_more (cause_in index) [] cores core ∙ ap (flat_map (cause_in index)) (sym (map_more (λ (core : Bor (List Constraint)). core.now) c.args.cores.now i none c.loop-core-test.true)))
 
 pub constraints_at-requires : goal.constraints_at-requires
 constraints_at-requires c =

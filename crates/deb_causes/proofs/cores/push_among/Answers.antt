@@ -1,6 +1,5 @@
 use Rattle.std.proofs.Common.{◌≡◌, ◌==◌, ◌&&◌, ◌||◌, ◌<◌, ◌∷◌, [], ◌∙◌, Bool, ap, arith, false, get_or, length, refl, subst, sym, take, true}
 use Rattle.std.proofs.lemmas.Bool.{eqb-true, false≢true}
-use Rattle.std.proofs.lemmas.List.{take_all}
 use Rattle.std.proofs.lemmas.List.Folds.{list_any-append}
 use Rattle.number_sets.specs.Sets.{members_of}
 use Rattle.number_sets.proofs.ListLemmas.{or_false}
@@ -47,8 +46,3 @@ loop-place-preserved c =
           ∙ with_other (members_of old q) (members_of answering q) (members_of before q) (place == q) (λ same. subst (λ k. members_of answering k ≡ false) (eqb-true place q same) lacks)
           ∙ ap (λ back. members_of old q || (members_of answering q && back)) (sym (members-more places i q inside)))
     ]
-
-pub returns : goal.returns
-returns c = λ q.
-    c.loop-place.invariant q
-    ∙ ap (λ places. members_of c.args.versions.now.items q || (members_of c.args.answering.now q && members_of places q)) (take_all c.loop-place.place-index c.args.places.now (omega (arith, c.loop-place-test.false)))

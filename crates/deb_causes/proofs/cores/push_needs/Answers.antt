@@ -1,11 +1,10 @@
 use Rattle.std.proofs.Common.{◌≡◌, ◌<◌, ◌++◌, ◌∷◌, [], ◌∙◌, ◌||◌, ℕ, List, ap, arith, get_or, length, sym, take, ◌+◌}
-use Rattle.std.proofs.lemmas.List.{take_all, take_more}
+use Rattle.std.proofs.lemmas.List.{take_more}
 use Rattle.deb_index.specs.declared.constraint.Constraint.{Constraint}
 use Rattle.deb_index.specs.declared.constraint.Constraint.TheVariants.{Essential}
 use Rattle.deb_health.specs.Causes.{cause_in, is_final}
 use Rattle.number_sets.specs.Sets.{members_of}
 use Rattle.number_sets.proofs.ListLemmas.{filter_fails, filter_passes}
-use Rattle.deb_causes.specs.Positions.{is_need_at}
 use Rattle.deb_causes.proofs.CoreLemmas.{need-passed, need-pushed, no-need-from}
 use Rattle.deb_causes.proofs.cores.push_needs.Goals as goal
 use Rattle.deb_causes.proofs.cores.push_needs.Goals.{in-Need+in_ok-is_final+then-branch+in_ok-push, in-Need+in_ok-is_final+else-branch, in_default}
@@ -36,10 +35,3 @@ loop-constraint-preserved c =
           (c.loop-constraint.invariant k
           ∙ ap (λ b. members_of c.args.positions.now.items k || b) (sym (need-passed index (take i core) (take (i + 1) core) x k more (no-need-from x w.in_default.not-Need))))
     ]
-
-pub returns : goal.returns
-returns c = λ k.
-    let index = c.args.index.now in
-    let old = c.args.positions.now.items in
-    c.loop-constraint.invariant k
-    ∙ ap (λ core. members_of old k || is_need_at index (cause_in index core) k) (take_all c.loop-constraint.constraint-index c.args.core.now (omega (arith, c.loop-constraint-test.false)))

@@ -1,6 +1,5 @@
 use Rattle.std.proofs.Common.{◌<◌, ◌∙◌, ◌||◌, ◌&&◌, ℕ, List, ap, arith, get_or, length, sym, take}
 use Rattle.std.specs.List.{list_any}
-use Rattle.std.proofs.lemmas.List.{take_all}
 use Rattle.std.proofs.lemmas.List.Folds.{list_any_more}
 use Rattle.deb_index.specs.declared.constraint.Constraint.{Constraint}
 use Rattle.deb_index.specs.declared.constraint.Constraint.TheVariants.{Essential}
@@ -35,11 +34,3 @@ loop-constraint-preserved c =
           (sym (list_any_more (is_version_of index q) core i (Essential 0) inside ∙ ap (λ b. list_any (is_version_of index q) (take i core) || b) (no-version index q x (no-only-from x w.in_default.not-Only))
           ∙ or_false (list_any (is_version_of index q) (take i core)))))
     ]
-
-pub returns : goal.returns
-returns c = λ q.
-    let index = c.args.index.now in
-    let old = c.args.versions.now.items in
-    let answering = c.args.answering.now in
-    c.loop-constraint.invariant q
-    ∙ ap (λ core. members_of old q || (members_of answering q && list_any (is_version_of index q) core)) (take_all c.loop-constraint.constraint-index c.args.core.now (omega (arith, c.loop-constraint-test.false)))

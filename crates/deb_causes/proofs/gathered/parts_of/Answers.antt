@@ -1,5 +1,5 @@
 use Rattle.std.proofs.Common.{◌≡◌, ◌∙◌, ◌<◌, ◌∷◌, [], ◌++◌, All, ℕ, ap, arith, length, map, subst, sym, take, ◌+◌}
-use Rattle.std.proofs.lemmas.List.{length-map, take_all}
+use Rattle.std.proofs.lemmas.List.{length-map}
 use Rattle.deb_index.specs.Constraints.{below}
 use Rattle.number_sets.proofs.AtomSteps.{map_more}
 use Rattle.number_sets.proofs.ListLemmas.{all_item}
@@ -29,6 +29,3 @@ loop-one-preserved c =
     map_more package_view c.args.packages.now i one inside ∙ ap (λ (p : NumberedPackage). seen ++ package_view p ∷ []) (sym c.one-item.is) in
     c.in_ok-add_package.ensures.parts seen c.args.count c.loop-one.invariant
     ∙ ap (λ packages. map (part_of packages) (below c.args.count)) (sym more)
-
-pub returns : goal.returns
-returns c = c.loop-one.invariant ∙ ap (λ packages. map (part_of (map package_view packages)) (below c.args.count)) (take_all c.loop-one.one-index c.args.packages.now (omega (arith, c.loop-one-test.false)))

@@ -1,5 +1,5 @@
 use Rattle.std.proofs.Common.{◌≡◌, ◌∙◌, ◌<◌, ◌++◌, ◌∷◌, [], ℕ, List, Some, arith, ap, ap₂, get_or, length, map, subst, sym, take, ◌+◌}
-use Rattle.std.proofs.lemmas.List.{map-append, take_all, take_more}
+use Rattle.std.proofs.lemmas.List.{map-append, take_more}
 use Rattle.deb_index.specs.declared.constraint.Constraint.{Constraint}
 use Rattle.deb_index.specs.declared.constraint.Constraint.TheVariants.{Essential}
 use Rattle.deb_health.specs.Causes.{cause_in, is_final}
@@ -44,15 +44,3 @@ loop-constraint-preserved c =
           filter_fails (is_final index) (take i core) (take (i + 1) core) x (take_more core i (Essential 0) inside) (sym c.in_ok-is_final.ensures ∙ w.if-branch.false) in
           rw (w.said-is, w.numbers-is, step) c.loop-constraint.invariant
     ]
-
-pub returns-clause-numbers : goal.returns-clause-numbers
-returns-clause-numbers c = λ texts begins.
-    let index = c.args.index.now in
-    c.loop-constraint.invariant.numbers texts begins
-    ∙ ap (λ core. map (number_said index texts) (cause_in index core)) (take_all c.loop-constraint.constraint-index c.args.core.now (omega (arith, c.loop-constraint-test.false)))
-
-pub returns-clause-grown : goal.returns-clause-grown
-returns-clause-grown c =
-    let index = c.args.index.now in
-    subst (λ core. Grows (texts_of c.args.said.now) (texts_of c.loop-constraint.said) (map (says index) (cause_in index core)))
-    (take_all c.loop-constraint.constraint-index c.args.core.now (omega (arith, c.loop-constraint-test.false))) c.loop-constraint.invariant.grown

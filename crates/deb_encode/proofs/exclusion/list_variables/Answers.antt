@@ -1,6 +1,3 @@
-use Rattle.std.proofs.Common.{List, subst, ℕ}
-use Rattle.number_sets.proofs.ListMembers.{take_whole}
-use Rattle.deb_encode.specs.Exclusions.{AreNumbersOf}
 use Rattle.deb_encode.proofs.Excluding.{numbers_none, numbers_more, numbers_passed}
 use Rattle.deb_encode.proofs.exclusion.list_variables.Goals as goal
 use Rattle.deb_encode.proofs.exclusion.list_variables.Goals.{in-Some+in_ok-push, in_default}
@@ -19,8 +16,3 @@ loop-place-preserved c =
           rw w.list-is
           (numbers_passed c.args.play.now.candidates.now c.args.places.now c.loop-place.place-index c.loop-place-test.true c.loop-place.list.items w.in_default.ensures.none c.loop-place.invariant)
     ]
-
-pub returns : goal.returns
-returns c =
-    let For : List ℕ → Type 0 = λ places. AreNumbersOf c.args.play.now.candidates.now places c.loop-place.list.items in
-    subst For (take_whole c.args.places.now c.loop-place.place-index c.loop-place-test.false) c.loop-place.invariant

@@ -1,5 +1,4 @@
-use Rattle.std.proofs.Common.{[], ap, map, ◌∙◌}
-use Rattle.number_sets.proofs.ListMembers.{take_whole}
+use Rattle.std.proofs.Common.{[]}
 use Rattle.sat_solve.proofs.Appended.{appended_more}
 use Rattle.deb_encode.proofs.Excluding.{owner_of}
 use Rattle.deb_encode.proofs.exclusion.own_all.Goals as goal
@@ -7,6 +6,3 @@ use Rattle.deb_encode.proofs.exclusion.own_all.Goals as goal
 pub loop-var-preserved : goal.loop-var-preserved
 loop-var-preserved c =
     appended_more (owner_of c.args.group) c.args.list.now [] c.loop-var.var-index _ c.loop-var.owners.items c.push.new.self.items c.loop-var-test.true c.in_ok-push.ensures.items c.loop-var.invariant
-
-pub returns : goal.returns
-returns c = c.loop-var.invariant ∙ ap (map (owner_of c.args.group)) (take_whole c.args.list.now c.loop-var.var-index c.loop-var-test.false)

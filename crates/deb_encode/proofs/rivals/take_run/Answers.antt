@@ -1,18 +1,6 @@
-use Rattle.std.proofs.Common.{List, ℕ, arith, refl, subst, sym}
-use Rattle.deb_encode.specs.Exclusions.{IsRun}
-use Rattle.deb_encode.proofs.WideEntries.{run_more, run_none}
+use Rattle.std.proofs.Common.{arith}
+use Rattle.deb_encode.proofs.WideEntries.{run_more}
 use Rattle.deb_encode.proofs.rivals.take_run.Goals as goal
-
-pub loop-end-init : goal.loop-end-init
-loop-end-init c =
-    let Run : List ℕ → Type 0 = λ list. IsRun c.args.index.now c.args.entries.now c.args.start c.args.start list in
-    record {
-      past = omega arith;
-      within = omega (arith, c.requires.start);
-      run =
-          run_more c.args.index.now c.args.entries.now c.args.start c.args.start c.clear.new.self.items c.push.new.self.items (omega arith) refl
-          c.in_ok-push.ensures.items (subst Run (sym c.clear.ensures.items) (run_none c.args.index.now c.args.entries.now c.args.start));
-    }
 
 pub loop-end-preserved : goal.loop-end-preserved
 loop-end-preserved c = record {

@@ -6,7 +6,6 @@ use Rattle.deb_index.proofs.ConstraintLemmas.{where-short}
 use Rattle.deb_groundwork.specs.Parts.{MeetsAsked}
 use Rattle.deb_groundwork.proofs.RowLemmas.{more_below}
 use Rattle.deb_groundwork.proofs.WitnessLemmas.{essentials_held}
-use Rattle.std.proofs.lemmas.Bool.{false≢true}
 use Rattle.deb_groundwork.proofs.check.meets_essentials.Goals as goal
 
 pub overflow_cast-position : goal.overflow_cast-position
@@ -28,6 +27,3 @@ pub returns : goal.returns
 returns g c = λ _.
     essentials_held c.args.part.now (g.P.Places.members c.args.set.now) c.essential_names-name-items.result.now c.loop-position.position
     c.essential_names-name-items.ensures c.loop-position-test.false c.loop-position.invariant
-
-pub returns-then-not-meets_essential : goal.returns-then-not-meets_essential
-returns-then-not-meets_essential g c = λ holds. absurd (false≢true holds)

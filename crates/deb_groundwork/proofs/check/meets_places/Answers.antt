@@ -1,8 +1,7 @@
-use Rattle.std.proofs.Common.{ℕ, get_or, arith}
+use Rattle.std.proofs.Common.{ℕ, get_or}
 use Rattle.deb_groundwork.specs.Parts.{MeetsAskedOf}
 use Rattle.deb_groundwork.proofs.RowLemmas.{more_below}
 use Rattle.deb_groundwork.proofs.WitnessLemmas.{of_members}
-use Rattle.std.proofs.lemmas.Bool.{false≢true}
 use Rattle.deb_groundwork.proofs.check.meets_places.Goals as goal
 
 pub loop-place-preserved : goal.loop-place-preserved
@@ -13,9 +12,3 @@ loop-place-preserved g c =
 pub returns : goal.returns
 returns g c = λ _.
     of_members (MeetsAskedOf c.args.part.now (g.P.Places.members c.args.set.now)) c.args.places.now c.loop-place.place-index c.loop-place-test.false c.loop-place.invariant
-
-pub loop-place-init : goal.loop-place-init
-loop-place-init g c = λ k below. absurd (omega arith)
-
-pub returns-then-not-meets_place : goal.returns-then-not-meets_place
-returns-then-not-meets_place g c = λ holds. absurd (false≢true holds)

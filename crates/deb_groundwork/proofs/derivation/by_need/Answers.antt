@@ -7,6 +7,3 @@ pub returns : goal.returns
 returns c =
     need_gives c.args.index.now (members_of c.args.forced.now) c.args.place c.args.number c.need_position.result c.in_ok-outcome.outcome c.need_position.ensures
     (sym c.contains.ensures ∙ c.if-not-contains.false) c.in_ok-outcome.ensures
-
-pub need_position-requires-clause-number : goal.need_position-requires-clause-number
-need_position-requires-clause-number c = (c.has_need.ensures c.if-not-has_need.false).1

@@ -1,7 +1,6 @@
 use Rattle.std.proofs.Common.{◌<◌, ◌+◌, ◌-◌, length, get_or, refl, ap, arith}
 use Rattle.number_sets.proofs.Placing.{number_within}
 use Rattle.deb_groundwork.proofs.Forcing.{forced_both}
-use Rattle.number_sets.proofs.ListMembers.{at_members_of}
 use Rattle.deb_groundwork.proofs.forced.force_from.Goals as goal
 
 pub loop-visited-smaller : goal.loop-visited-smaller
@@ -15,8 +14,3 @@ loop-visited-smaller c =
 pub loop-visited-preserved : goal.loop-visited-preserved
 loop-visited-preserved c =
     forced_both c.args.index.now c.args.forced.now c.loop-visited.forced c.force_needs.new.forced c.loop-visited.invariant c.in_ok-force_needs.ensures
-
-pub force_needs-requires-clause-known : goal.force_needs-requires-clause-known
-force_needs-requires-clause-known c =
-    rw c.as_slice-in-loop-visited.ensures
-    (at_members_of c.loop-visited.forced c.loop-visited.visited (omega (arith, ap length c.as_slice.ensures, c.loop-visited-test.true)))

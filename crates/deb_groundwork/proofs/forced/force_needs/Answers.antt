@@ -19,6 +19,3 @@ loop-number-preserved c =
           (grows_keeps (length c.args.index.now.packages) c.args.forced.now c.loop-number.forced c.loop-number.invariant.grows c.args.place c.requires.known) w.in-Some.ensures.row w.in_ok-take_only.ensures))
       | in_default w ↦ forced_moved c.args.index.now c.args.forced.now c.match-answer_row.forced c.loop-number.forced w.forced-is c.loop-number.invariant
     ]
-
-pub loop-number-init : goal.loop-number-init
-loop-number-init c = forced_none c.args.index.now c.args.forced.now

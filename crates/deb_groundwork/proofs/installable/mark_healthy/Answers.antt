@@ -1,9 +1,8 @@
-use Rattle.std.proofs.Common.{◌∙◌, ℕ, List, true, get_or, subst, sym, length}
+use Rattle.std.proofs.Common.{◌∙◌, ℕ, List, true, get_or, subst, sym}
 use Rattle.std.proofs.lemmas.List.{length-set}
 use Rattle.number_sets.specs.Sets.{members_of}
 use Rattle.deb_health.specs.Health.{IsHealthy, IsInstallable}
 use Rattle.deb_groundwork.proofs.InstallableLemmas.{marks_set, members_installable}
-use Rattle.deb_groundwork.proofs.RowLemmas.{place_at}
 use Rattle.deb_groundwork.proofs.installable.mark_healthy.Goals as goal
 
 pub loop-place-preserved : goal.loop-place-preserved
@@ -16,9 +15,3 @@ loop-place-preserved c =
       marks_set (IsInstallable index) c.loop-place.marks place
           (members_installable index set healthy c.loop-place.place-index 0 c.loop-place-test.true) c.loop-place.invariant.1,
     )
-
-pub bounds-marks-place : goal.bounds-marks-place
-bounds-marks-place c =
-    rw c.loop-place.invariant.0
-    (place_at (length c.args.index.now.packages) c.as_slice-place-items.result.now _ c.loop-place.place-index
-    c.as_slice-place-items.ensures c.requires.set c.loop-place-test.true)

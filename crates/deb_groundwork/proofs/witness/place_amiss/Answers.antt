@@ -1,4 +1,4 @@
-use Rattle.std.proofs.Common.{◌≡◌, ℕ, List, true, get_or, subst, arith}
+use Rattle.std.proofs.Common.{◌≡◌, ℕ, List, true, get_or, subst}
 use Rattle.number_sets.specs.Sets.{NumberSet, members_of}
 use Rattle.deb_health.specs.Causes.{either}
 use Rattle.deb_groundwork.specs.BaseSets.{HasRoom}
@@ -30,6 +30,3 @@ returns-clause-meets c =
     let Meets : List ℕ → Type 0 = λ list. (q : ℕ) → members_of list q ≡ true → MeetsAskedOf c.args.part.now set q in
     subst Meets c.as_slice-place-items.ensures
     (of_members (MeetsAskedOf c.args.part.now set) c.as_slice-place-items.result.now c.loop-place.place-index c.loop-place-test.false c.loop-place.invariant.meets)
-
-pub loop-place-init : goal.loop-place-init
-loop-place-init c = record { room = λ k below. absurd (omega arith); meets = λ k below. absurd (omega arith) }

@@ -1,5 +1,4 @@
 use Rattle.std.proofs.Common.{◌∙◌, ap, arith, length, refl, rules}
-use Rattle.std.proofs.lemmas.Result.{err_from_is_err_and}
 use Rattle.deb_input.proofs.DeviceLemmas.{consumes_nothing, consumes_more, consumes_last, consumes_over}
 use Rattle.deb_input.proofs.input.read_through.Goals as goal
 
@@ -21,11 +20,3 @@ returns-clause-refused g c = (c.reads.invariant.1, consumes_over _ _ _ _ c.reads
 
 pub returns-clause-over : goal.returns-clause-over
 returns-clause-over g c = (c.reads.bytes.items, omega arith, c.reads.invariant.0)
-
-pub returns-in-Err-clause-refused : goal.returns-in-Err-clause-refused
-returns-in-Err-clause-refused g c = c.in-Err.ensures.failed
-
-pub returns-in_err-extend_from_slice-in-Ok-clause-refused : goal.returns-in_err-extend_from_slice-in-Ok-clause-refused
-returns-in_err-extend_from_slice-in-Ok-clause-refused g c =
-    let p = err_from_is_err_and c.from_residual.result c.from_residual.ensures.1 in
-    rw (p.1, p.2) (c.in-Ok.ensures.kept ∙ c.reads.invariant.1)

@@ -1,10 +1,10 @@
 use Rattle.std.proofs.Common.{◌∙◌, ◌+◌, ◌-◌, ◌≤◌, ℕ, List, [], arith, drop, length, refl, rules, subst, sym}
-use Rattle.std.proofs.lemmas.Result.{IfErr-weaker, IfOk-weaker, err_from_is_err_and}
+use Rattle.std.proofs.lemmas.Result.{IfOk-weaker, err_from_is_err_and}
 use Rattle.deb_index.specs.Reading.{byte_limit}
 use Rattle.run_settings.specs.Settings.{settings_of}
 use Rattle.deb_index.specs.Pieces.{IsFrontOf}
 use Rattle.deb_input.specs.Pieces.{RefusesPiece, TakesLast, TakesPiece}
-use Rattle.deb_input.proofs.PieceLemmas.{fails-rest, fault-behind, on-ok, reads-last, reads-none, reads-on, reads-taken}
+use Rattle.deb_input.proofs.PieceLemmas.{fails-rest, fault-behind, reads-last, reads-none, reads-on, reads-taken}
 use Rattle.deb_input.proofs.pieces.read_outcome.Goals as goal
 
 pub pieces-init : goal.pieces-init
@@ -73,16 +73,3 @@ returns-in-Err-take_piece-clause-text g c =
     c.pieces.front c.read_piece.new.held rest.0 (byte_limit - c.size-limit.result - c.len.result) c.in-Err-take_piece.fault reads rest.1
     c.in_ok-skip_rest-in-Err-take_piece.ensures.end (c.in_ok-skip_rest-in-Err-take_piece.ensures.mark ∙ c.in-Ok-false.ensures.mark ∙ c.pieces.invariant.2) rest.2
     (omega (arith, c.size-limit.ensures.value, c.size-limit.ensures.short, c.len.ensures, c.in-Ok-false.ensures.within)) (search rules) refuses
-
-pub returns-in-Ok-true-clause-end : goal.returns-in-Ok-true-clause-end
-returns-in-Ok-true-clause-end g c = on-ok c.take_last.result _ (c.in-Ok-true.ensures.end c.in-Ok-true.field-0-test)
-
-pub returns-in-Ok-true-clause-mark : goal.returns-in-Ok-true-clause-mark
-returns-in-Ok-true-clause-mark g c = on-ok c.take_last.result _ (c.in-Ok-true.ensures.mark ∙ c.pieces.invariant.2)
-
-pub returns-in-Ok-true-clause-held : goal.returns-in-Ok-true-clause-held
-returns-in-Ok-true-clause-held g c = on-ok c.take_last.result _ (omega (arith, c.size-limit.ensures.value, c.in-Ok-true.ensures.within))
-
-pub returns-in-Ok-true-clause-refused : goal.returns-in-Ok-true-clause-refused
-returns-in-Ok-true-clause-refused g c =
-    IfErr-weaker c.take_last.result _ _ (λ fault memory. rw memory (c.in-Ok-true.ensures.mark ∙ c.pieces.invariant.2)) c.take_last.ensures.refused

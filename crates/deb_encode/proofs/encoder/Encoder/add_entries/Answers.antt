@@ -1,5 +1,4 @@
-use Rattle.std.proofs.Common.{ℕ, ◌<◌, ◌∙◌, arith, refl}
-use Rattle.deb_encode.proofs.AddLemmas.{adds_none}
+use Rattle.std.proofs.Common.{◌∙◌, arith}
 use Rattle.deb_encode.proofs.Each.{below_next, narrow_added, meaning_of_row}
 use Rattle.deb_encode.proofs.EncoderLemmas.{same_still, adds_since, same_itself}
 use Rattle.deb_encode.proofs.Skipped.{narrow_skipped}
@@ -10,17 +9,6 @@ returns-then-is_alone-clause-adds c = record {
   same = same_itself c.args.self.now;
   adds = narrow_skipped c.args.self.now.play.index.now c.args.self.now.play.forced.now c.args.self.now.play.candidates.now c.args.self.now.group c.args.place c.args.self.now.formula.now (c.is_alone.ensures c.if-is_alone.true);
 }
-
-pub loop-number-init : goal.loop-number-init
-loop-number-init c =
-    let start = c.args.self.now in
-    record {
-      same = same_itself start;
-      same_formula = refl;
-      adds =
-          adds_none start.group (λ vars. (j : ℕ) → j < 0 → meaning_of_row start.play.index.now start.play.forced.now start.play.candidates.now c.args.place j vars) start.formula.now
-          (λ vars j never. absurd (omega (arith, never)));
-    }
 
 pub loop-number-preserved : goal.loop-number-preserved
 loop-number-preserved c = record {

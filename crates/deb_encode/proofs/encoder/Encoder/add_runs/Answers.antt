@@ -6,12 +6,6 @@ use Rattle.deb_encode.proofs.EncoderLemmas.{same_still, adds_since}
 use Rattle.deb_encode.proofs.WideEntries.{run_told, all_runs}
 use Rattle.deb_encode.proofs.encoder.Encoder.add_runs.Goals as goal
 
-pub apart-atom-requires-clause-place : goal.apart-atom-requires-clause-place
-apart-atom-requires-clause-place c = (c.requires c.loop-start.start _ c.loop-start-test.true).of_place
-
-pub apart-atom-requires-clause-number : goal.apart-atom-requires-clause-number
-apart-atom-requires-clause-number c = (c.requires c.loop-start.start _ c.loop-start-test.true).numbered
-
 pub loop-start-preserved : goal.loop-start-preserved
 loop-start-preserved c =
     let Run : List ℕ → Type 0 = λ list. IsRun c.args.self.now.play.index.now c.args.entries.now c.loop-start.start c.in_ok-end.end list in

@@ -1,12 +1,9 @@
-use Rattle.std.proofs.Common.{◌≡◌, ◌∙◌, ◌<◌, [], ℕ, length, refl, sym, subst, get_or, true}
-use Rattle.std.proofs.lemmas.Bool.{false≢true}
+use Rattle.std.proofs.Common.{◌∙◌, ◌<◌, length, refl, sym, subst, get_or, true}
 use Rattle.deb_index.specs.Packages.{names}
-use Rattle.number_sets.specs.Sets.{members_of}
 use Rattle.deb_encode.specs.declared.play.Play.{Play}
-use Rattle.deb_encode.proofs.AddLemmas.{adds_none}
 use Rattle.deb_encode.proofs.AddSteps.{below_moved}
 use Rattle.deb_encode.proofs.Each.{each_more, each_whole, meaning_of_only}
-use Rattle.deb_encode.proofs.EncoderLemmas.{same_itself, same_still, adds_since}
+use Rattle.deb_encode.proofs.EncoderLemmas.{same_still, adds_since}
 use Rattle.deb_encode.proofs.OneVersion.{names_in_play, versions_added}
 use Rattle.deb_encode.proofs.encoder.Encoder.add_versions.Goals as goal
 
@@ -18,17 +15,6 @@ add_only-requires c =
     let HasIt : Play → Type 0 = λ play. get_or c.as_slice-name-items.result.now c.loop-name.name-index 0 < length (names play.index.now) in
     subst HasIt (sym c.loop-name.invariant.same.play)
     (below_moved c.as_slice-name-items.result.now c.gather_names-2.new.names (length (names c.args.self.now.play.index.now)) (length (names c.args.self.now.play.index.now)) c.as_slice-name-items.ensures refl are.below c.loop-name.name-index 0 c.loop-name-test.true)
-
-pub loop-name-init : goal.loop-name-init
-loop-name-init c =
-    let start = c.args.self.now in
-    record {
-      same = same_itself start;
-      same_formula = refl;
-      adds =
-          adds_none start.group (λ vars. (q : ℕ) → members_of [] q ≡ true → meaning_of_only start.play.index.now start.play.forced.now start.play.candidates.now q vars) start.formula.now
-          (λ vars q never. absurd (false≢true never));
-    }
 
 pub loop-name-preserved : goal.loop-name-preserved
 loop-name-preserved c = record {

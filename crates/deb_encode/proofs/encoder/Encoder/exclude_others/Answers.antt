@@ -1,6 +1,5 @@
 use Rattle.std.proofs.Common.{◌≡◌, map, ◌∙◌, ap, length, refl}
 use Rattle.std.proofs.lemmas.Result.{on_ok_weaker}
-use Rattle.deb_encode.proofs.AddSteps.{below_moved}
 use Rattle.deb_encode.proofs.Excluding.{owner_of, owners_in_group, owners_below, apart_adds, apart_places}
 use Rattle.deb_encode.proofs.encoder.Encoder.exclude_others.Goals as goal
 
@@ -12,10 +11,6 @@ pub exclude-requires-clause-owners : goal.exclude-requires-clause-owners
 exclude-requires-clause-owners c =
     owners_below c.args.self.now.group c.list_variables.new.list.items c.deref-2.result.now (c.deref-2.ensures.value ∙ (c.in_ok-own_all.ensures ∙ ap (map (owner_of c.args.self.now.group)) c.deref.ensures.value))
     (length c.args.self.now.play.candidates.now) c.args.self.now.formula.now.vars c.args.self.now.vars c.in_ok-list_variables.ensures.below
-
-pub exclude-requires-clause-list : goal.exclude-requires-clause-list
-exclude-requires-clause-list c =
-    below_moved c.deref-3.result.now c.list_variables-2.new.list.items c.args.self.now.formula.now.vars (length c.args.self.now.play.candidates.now) c.deref-3.ensures.value c.args.self.now.vars c.in_ok-list_variables-2.ensures.below
 
 pub returns-clause-adds : goal.returns-clause-adds
 returns-clause-adds c =

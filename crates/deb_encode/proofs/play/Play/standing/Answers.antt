@@ -1,5 +1,4 @@
-use Rattle.std.proofs.Common.{arith, length, sym, ◌<◌, ◌∙◌}
-use Rattle.std.proofs.lemmas.Option.{slice_get_within}
+use Rattle.std.proofs.Common.{sym, ◌∙◌}
 use Rattle.deb_encode.proofs.PlayLemmas.{placed_variable, placed_out}
 use Rattle.deb_encode.proofs.play.Play.standing.Goals as goal
 
@@ -9,11 +8,3 @@ returns-in-Some-clause-says c =
 
 pub returns-in-None-clause-says : goal.returns-in-None-clause-says
 returns-in-None-clause-says c = placed_out c.args.self.now.forced.now c.args.self.now.candidates.now c.args.place (sym c.contains.ensures ∙ c.if-contains.false) c.in-None.ensures.none
-
-pub returns-in-Some-clause-below : goal.returns-in-Some-clause-below
-returns-in-Some-clause-below c = slice_get_within c.args.self.now.candidates.now c.in-Some.number c.args.place c.in-Some.ensures.some
-
-pub overflow_cast-result : goal.overflow_cast-result
-overflow_cast-result c =
-    let inside : c.in-Some.number < length c.args.self.now.candidates.now = slice_get_within c.args.self.now.candidates.now c.in-Some.number c.args.place c.in-Some.ensures.some in
-    omega (arith, inside, c.args.self.now.few)

@@ -6,6 +6,3 @@ pub add_essentials-requires : goal.add_essentials-requires
 add_essentials-requires c =
     let Within : List ℕ → Type 0 = λ list. All (λ member. member < length c.args.index.now.packages) list in
     record { members = subst Within (sym c.new-installation.ensures) (All-nil (λ member. member < length c.args.index.now.packages)) }
-
-pub of-requires : goal.of-requires
-of-requires c = c.loop-place.invariant

@@ -1,8 +1,8 @@
-use Rattle.std.proofs.Common.{ℕ, List, get_or, length}
+use Rattle.std.proofs.Common.{ℕ, List, get_or}
 use Rattle.number_sets.specs.Sets.{members_of}
 use Rattle.deb_groundwork.specs.BaseSets.{HasHits}
 use Rattle.deb_groundwork.proofs.BaseLemmas.{base_of, StandsIn}
-use Rattle.deb_groundwork.proofs.RowLemmas.{more_below, place_at}
+use Rattle.deb_groundwork.proofs.RowLemmas.{more_below}
 use Rattle.deb_groundwork.proofs.base_set.BaseSet.of.Goals as goal
 
 pub loop-place-preserved : goal.loop-place-preserved
@@ -29,23 +29,3 @@ pub returns : goal.returns
 returns c =
     base_of c.args.index.now _ c.as_slice-place-items.result.now c.loop-place.place-index c.as_slice-place-items.ensures c.loop-place-test.false c.requires
     c.loop-place.invariant.stand c.loop-place.invariant.hit
-
-pub are_answered-requires : goal.are_answered-requires
-are_answered-requires c =
-    place_at (length c.args.index.now.packages) c.as_slice-place-items.result.now _ c.loop-place.place-index
-    c.as_slice-place-items.ensures c.requires c.loop-place-test.true
-
-pub stands_apart-requires : goal.stands_apart-requires
-stands_apart-requires c =
-    place_at (length c.args.index.now.packages) c.as_slice-place-items.result.now _ c.loop-place.place-index
-    c.as_slice-place-items.ensures c.requires c.loop-place-test.true
-
-pub has_no_earlier-requires : goal.has_no_earlier-requires
-has_no_earlier-requires c =
-    place_at (length c.args.index.now.packages) c.as_slice-place-items.result.now _ c.loop-place.place-index
-    c.as_slice-place-items.ensures c.requires c.loop-place-test.true
-
-pub take_hits-requires : goal.take_hits-requires
-take_hits-requires c =
-    place_at (length c.args.index.now.packages) c.as_slice-place-items.result.now _ c.loop-place.place-index
-    c.as_slice-place-items.ensures c.requires c.loop-place-test.true

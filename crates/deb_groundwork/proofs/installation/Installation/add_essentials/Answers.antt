@@ -4,7 +4,6 @@ use Rattle.deb_index.specs.Packages.{places_of, name_at}
 use Rattle.deb_index.proofs.IndexFacts.{named_below}
 use Rattle.deb_groundwork.proofs.RowLemmas.{essential_below}
 use Rattle.deb_groundwork.proofs.installation.Installation.add_essentials.Goals as goal
-use Rattle.deb_groundwork.proofs.installation.Installation.add_essentials.Goals.{else-not-has_any-via-then-not-has_any+else-not-add_one, else-not-has_any-via-else-not-has_any}
 
 pub places_named-row-requires : goal.places_named-row-requires
 places_named-row-requires c =
@@ -16,16 +15,3 @@ add_one-requires-clause-row c =
     let name : ℕ = get_or c.essential_names-name-items.result.now c.loop-name.name-index 0 in
     All-same (λ place. place < count) c.places_named-row.result.now (places_of c.args.index.now (name_at c.args.index.now name)) c.places_named-row.ensures
     (named_below c.args.index.now (name_at c.args.index.now name))
-
-pub add_one-requires-clause-members : goal.add_one-requires-clause-members
-add_one-requires-clause-members c = c.loop-name.invariant
-
-pub loop-name-preserved : goal.loop-name-preserved
-loop-name-preserved c =
-    elim c.else-not-has_any.branch [
-      | else-not-has_any-via-then-not-has_any+else-not-add_one w ↦ rw w.self-is w.add_one.ensures
-      | else-not-has_any-via-else-not-has_any w ↦ rw w.self-is c.loop-name.invariant
-    ]
-
-pub returns : goal.returns
-returns c = c.loop-name.invariant

@@ -3,12 +3,3 @@ use Rattle.deb_groundwork.proofs.installation.Installation.take_answer.Goals as 
 
 pub take_one-requires-clause-row : goal.take_one-requires-clause-row
 take_one-requires-clause-row c = row_within c.args.index.now c.args.place c.args.number c.in-Some.row.now c.in-Some.ensures.row
-
-pub returns-in-Some : goal.returns-in-Some
-returns-in-Some c = c.take_one.ensures
-
-pub returns-in_default : goal.returns-in_default
-returns-in_default c = c.requires.members
-
-pub returns-in-None : goal.returns-in-None
-returns-in-None c = c.take_any.ensures

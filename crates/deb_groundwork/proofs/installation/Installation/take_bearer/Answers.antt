@@ -21,9 +21,3 @@ loop-number-preserved c =
       | else-meets_need-via-then-meets_need+else-take w ↦ rw w.self-is w.take.ensures
       | else-meets_need-via-else-meets_need w ↦ rw w.self-is c.loop-number.invariant
     ]
-
-pub returns-in_default : goal.returns-in_default
-returns-in_default c = c.loop-number.invariant
-
-pub returns : goal.returns
-returns c = c.loop-number.invariant

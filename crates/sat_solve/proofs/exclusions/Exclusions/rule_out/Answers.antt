@@ -1,5 +1,5 @@
-use Rattle.std.proofs.Common.{None, sym}
-use Rattle.sat_solve.proofs.SolverLemmas.{goes_on, went_on}
+use Rattle.std.proofs.Common.{sym}
+use Rattle.sat_solve.proofs.SolverLemmas.{went_on}
 use Rattle.sat_solve.proofs.exclusions.Exclusions.rule_out.Goals as goal
 use Rattle.sat_solve.proofs.exclusions.Exclusions.rule_out.Goals.{in-Some-begin+in_ok-conflict+else-is_some, in_default-begin}
 
@@ -10,6 +10,3 @@ links-preserved c =
           rw w.solver-is (went_on c.args.problem.now c.args.solver.now c.links.solver w.examine_pairs.new.solver _ (sym w.if-is_some.ensures) c.links.invariant w.in_ok-conflict.ensures)
       | in_default-begin w ↦ rw w.solver-is c.links.invariant
     ]
-
-pub returns-then-is_some : goal.returns-then-is_some
-returns-then-is_some c = goes_on c.args.problem.now c.args.solver.now c.links.solver c.examine_pairs.new.solver None _ c.links.invariant c.in_ok-conflict.ensures

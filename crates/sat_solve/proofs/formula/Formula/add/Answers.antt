@@ -1,8 +1,8 @@
-use Rattle.std.proofs.Common.{◌≡◌, ℕ, ◌<◌, List, All, ◌++◌, ◌∷◌, [], None, length, ◌∙◌, ap, sym, subst, arith, rules}
+use Rattle.std.proofs.Common.{◌≡◌, ℕ, List, ◌++◌, ◌∷◌, [], None, length, ◌∙◌, ap, arith, rules}
 use Rattle.sat_solve.specs.Clauses.{Clause, Clauses}
 use Rattle.sat_solve.specs.Spans.{clauses_of}
 use Rattle.sat_solve.specs.declared.clause.Span.{Span}
-use Rattle.sat_solve.proofs.SpanLemmas.{clause_are, clauses_of_kept, clauses_of_more, longer_are}
+use Rattle.sat_solve.proofs.SpanLemmas.{clauses_of_kept, clauses_of_more}
 use Rattle.sat_solve.proofs.formula.Formula.add.Goals as goal
 
 pub returns-in_err-push-clause-err : goal.returns-in_err-push-clause-err
@@ -32,20 +32,3 @@ returns-clause-ok c =
     let make : List Clause → Clauses = λ clauses. record { vars = c.self.inside.vars; groups = c.self.inside.groups; clauses = clauses } in
     let more : Clauses → Clauses = λ formula. record { vars = formula.vars; groups = formula.groups; clauses = formula.clauses ++ record { group = c.args.group; literals = c.args.clause.now } ∷ [] } in
     ap make same ∙ ap more c.self.view_is
-
-pub invariant_of-self-in_err-push : goal.invariant_of-self-in_err-push
-invariant_of-self-in_err-push c =
-    rw (c.in_ok-extend_from_slice.ensures.items, c.in_err-push.ensures.items)
-    (longer_are c.self.inside.vars c.self.inside.groups c.self.inside.literals.items c.args.clause.now c.self.inside.spans.items c.self.invariant
-    (subst (λ formula. All (λ literal. literal.var < formula.vars) c.args.clause.now) (sym c.self.view_is) c.requires.in_range))
-
-pub invariant_of-self-2 : goal.invariant_of-self-2
-invariant_of-self-2 c =
-    let literals_are : c.extend_from_slice.new.self.items ≡ c.self.inside.literals.items ++ c.args.clause.now = c.in_ok-extend_from_slice.ensures.items in
-    let start_is : c.len-start.result ≡ length c.self.inside.literals.items = omega (arith, c.len-start.ensures, c.self.inside.literals.ok) in
-    let end_is : c.len-end.result ≡ length (c.self.inside.literals.items ++ c.args.clause.now) = omega (arith, c.len-end.ensures, c.extend_from_slice.new.self.ok, ap length literals_are) in
-    rw (literals_are, c.in_ok-push.ensures.items, start_is, end_is)
-    (clause_are c.self.inside.vars c.self.inside.groups c.self.inside.literals.items c.args.clause.now c.self.inside.spans.items c.self.invariant
-    (subst (λ formula. All (λ literal. literal.var < formula.vars) c.args.clause.now) (sym c.self.view_is) c.requires.in_range)
-    c.args.group
-    (subst (λ formula. c.args.group < formula.groups) (sym c.self.view_is) c.requires.group))
