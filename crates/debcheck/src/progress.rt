@@ -51,10 +51,8 @@ pub struct Progress<'a, R, T> {
     // When the run began, where anything is told.
     began: Option<Instant>,
     chunk: u32,
-    // How many packages the check has.
+    // How many packages the check has, and how many of them are checked.
     all: AtomicU32,
-    // How many of them it begins with, and how many it has checked.
-    seen: AtomicU32,
     checked: AtomicU32,
     // The turn in which the line was written; `TURNS` where it doesn't stand there.
     told: AtomicU64,
@@ -74,7 +72,6 @@ impl<'a, R: Clock + AllocGlobal, T: IsTerminal + Write + Copy> Progress<'a, R, T
             began,
             chunk: config.chunk,
             all: AtomicU32::new(0),
-            seen: AtomicU32::new(0),
             checked: AtomicU32::new(0),
             told: AtomicU64::new(u64::from(TURNS)),
         }
@@ -83,8 +80,7 @@ impl<'a, R: Clock + AllocGlobal, T: IsTerminal + Write + Copy> Progress<'a, R, T
     // How many packages the chunk with a number has: the last one may be small.
     fn size_of(&self, number: u32) -> u32 {
         let all = self.all.load(Ordering::SeqCst);
-        let left = all.saturating_sub(self.seen.load(Ordering::SeqCst));
-        left.saturating_sub(number.saturating_mul(self.chunk))
+        all.saturating_sub(number.saturating_mul(self.chunk))
             .min(self.chunk)
     }
 
@@ -145,11 +141,10 @@ impl<'a, R: Clock + AllocGlobal, T: IsTerminal + Write + Copy> Progress<'a, R, T
 
 impl<R: Clock + AllocGlobal, T: IsTerminal + Write + Copy> Gate for Progress<'_, R, T> {
     // The line of an earlier check goes, since it may be longer.
-    fn start(&self, seen: u32, all: u32) {
+    fn start(&self, all: u32) {
         self.wipe();
         self.all.store(all, Ordering::SeqCst);
-        self.seen.store(seen, Ordering::SeqCst);
-        self.checked.store(seen, Ordering::SeqCst);
+        self.checked.store(0, Ordering::SeqCst);
         self.tell_in_turn();
     }
 

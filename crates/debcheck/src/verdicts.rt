@@ -148,7 +148,7 @@ fn tell_on<'t, G: Gate + Sync, R: Threads + Sync>(
         before,
         installable: installable.as_slice(),
     };
-    job.gate.start(0, asked.len() as u32);
+    job.gate.start(asked.len() as u32);
     let chunks = Chunks {
         finder: &teller,
         asked,

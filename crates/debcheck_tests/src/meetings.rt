@@ -30,7 +30,7 @@ impl Meeting {
 }
 
 impl Gate for Meeting {
-    fn start(&self, _seen: u32, _all: u32) {
+    fn start(&self, _all: u32) {
         self.begun.store(0, Ordering::SeqCst);
         self.checks.fetch_add(1, Ordering::SeqCst);
     }

@@ -6,113 +6,69 @@ use std::process::Abort;
 use test_devices::{Screen, clock_of};
 use work_draw::Gate;
 
-/// A check: how many packages are seen before the first chunk, how many there are, chunks that are done of the others, and the milliseconds from one
-/// step of it to the next. A line, and how often it and how often others are written.
-type Check = (u32, u32, &'static [u32], u64, &'static [u8], [u32; 2]);
+/// A check: how many packages there are, chunks that are done of them, and the milliseconds from one step of it to the next. A line, and how often it and
+/// how often others are written.
+type Check = (u32, &'static [u32], u64, &'static [u8], [u32; 2]);
 
-/// A number has commas. What is seen and what is done is counted; the last of two chunks is a small one, and no more are counted than there are. None is
-/// written in the first second, then one in each fifth of a second.
-static CHECKS: [Check; 22] = [
-    (0, 1, &[], 1_200, b"\r0 of 1 packages checked", [1, 0]),
-    (64, 999, &[], 1_200, b"\r64 of 999 packages checked", [1, 0]),
+const TEN: &[u32] = &[0, 1, 2, 3, 4, 5, 6, 7, 8, 9];
+
+/// A number has commas. The last of two chunks is a small one, and no more are counted than there are. None is written in the first second, then one in
+/// each fifth of a second.
+static CHECKS: [Check; 16] = [
+    (1, &[], 1_200, b"\r0 of 1 packages checked", [1, 0]),
+    (999, &[], 1_200, b"\r0 of 999 packages checked", [1, 0]),
     (
-        999,
-        1_000,
-        &[],
-        1_200,
-        b"\r999 of 1,000 packages checked",
-        [1, 0],
-    ),
-    (
-        12_800,
         76_808,
         &[],
         1_200,
-        b"\r12,800 of 76,808 packages checked",
+        b"\r0 of 76,808 packages checked",
         [1, 0],
     ),
     (
-        100_000,
         1_000_000,
-        &[],
+        TEN,
         1_200,
-        b"\r100,000 of 1,000,000 packages checked",
-        [1, 0],
+        b"\r640 of 1,000,000 packages checked",
+        [1, 10],
     ),
     (
         u32::MAX,
-        u32::MAX,
         &[],
         1_200,
-        b"\r4,294,967,295 of 4,294,967,295 packages checked",
+        b"\r0 of 4,294,967,295 packages checked",
         [1, 0],
     ),
-    (0, 100, &[0], 1_200, b"\r64 of 100 packages checked", [1, 1]),
+    (100, &[0], 1_200, b"\r64 of 100 packages checked", [1, 1]),
     (
-        0,
         100,
         &[0, 1],
         1_200,
         b"\r100 of 100 packages checked",
         [1, 2],
     ),
-    (0, 100, &[1], 1_200, b"\r36 of 100 packages checked", [1, 1]),
+    (100, &[1], 1_200, b"\r36 of 100 packages checked", [1, 1]),
     (
-        0,
         100,
         &[1, 0],
         1_200,
         b"\r100 of 100 packages checked",
         [1, 2],
     ),
-    (
-        20,
-        100,
-        &[0],
-        1_200,
-        b"\r84 of 100 packages checked",
-        [1, 1],
-    ),
-    (
-        20,
-        100,
-        &[1],
-        1_200,
-        b"\r36 of 100 packages checked",
-        [1, 1],
-    ),
-    (
-        20,
-        100,
-        &[1, 0],
-        1_200,
-        b"\r100 of 100 packages checked",
-        [1, 2],
-    ),
-    (
-        90,
-        100,
-        &[0],
-        1_200,
-        b"\r100 of 100 packages checked",
-        [1, 1],
-    ),
-    (5, 5, &[0, 1], 1_200, b"\r5 of 5 packages checked", [3, 0]),
-    (0, 640, &[0, 1, 2, 3, 4, 5, 6, 7, 8, 9], 0, b"", [0, 0]),
-    (0, 640, &[0, 1, 2, 3, 4, 5, 6, 7, 8, 9], 100, b"", [0, 0]),
-    (0, 640, &[0, 1, 2, 3, 4, 5, 6, 7, 8, 9], 109, b"", [0, 0]),
-    (0, 640, &[0, 1, 2, 3, 4, 5, 6, 7, 8, 9], 110, b"", [0, 1]),
-    (0, 640, &[0, 1, 2, 3, 4, 5, 6, 7, 8, 9], 150, b"", [0, 3]),
-    (0, 640, &[0, 1, 2, 3, 4, 5, 6, 7, 8, 9], 200, b"", [0, 6]),
-    (0, 640, &[0, 1, 2, 3, 4, 5, 6, 7, 8, 9], 5_000, b"", [0, 11]),
+    (5, &[0, 1], 1_200, b"\r5 of 5 packages checked", [2, 1]),
+    (640, TEN, 0, b"", [0, 0]),
+    (640, TEN, 109, b"", [0, 0]),
+    (640, TEN, 110, b"", [0, 1]),
+    (640, TEN, 150, b"", [0, 3]),
+    (640, TEN, 200, b"", [0, 6]),
+    (640, TEN, 5_000, b"", [0, 11]),
 ];
 
 /// What a screen has seen of a check: the lines of its text, those of others, and whether one stands there.
 fn shown(rt: &impl AllocGlobal, screen: &Screen<'_>, config: &Config, check: &Check) -> [u32; 3] {
-    let (seen, all, chunks, step, _, _) = *check;
+    let (all, chunks, step, _, _) = *check;
     let clock = clock_of(rt, step);
     let progress = Progress::new(&clock, screen, config);
-    progress.start(seen, all);
+    progress.start(all);
     for number in chunks {
         progress.before(*number);
         progress.after(*number);
@@ -128,12 +84,12 @@ fn usual(rt: &(impl Abort + AllocGlobal)) -> Config {
 fn a_line_counts_what_is_checked(rt: HostRuntime) {
     let config = usual(&rt);
     for check in &CHECKS {
-        let (seen, all, _, step, line, [lines, others]) = *check;
+        let (all, _, step, line, [lines, others]) = *check;
         let screen = Screen::new(true, line);
         let stands = u32::from(lines + others > 0);
         assert!(rt;
             shown(&rt, &screen, &config, check) == [lines, others, stands],
-            "{seen} of {all}, {step} milliseconds"
+            "{all}, {step} milliseconds"
         );
     }
 }
@@ -154,22 +110,23 @@ fn nothing_is_told_where_nobody_looks(rt: HostRuntime) {
 
 /// The count of an index begins anew behind that of an earlier one, whose line is taken away: it may be longer.
 fn expect_own_count(rt: &(impl Abort + AllocGlobal), config: &Config) {
-    let screen = Screen::new(true, b"\r1 of 2 packages checked");
+    let screen = Screen::new(true, b"\r0 of 2 packages checked");
     let clock = clock_of(rt, 1_200);
     let progress = Progress::new(&clock, &screen, config);
-    progress.start(1_000, 76_808);
+    progress.start(76_808);
     progress.after(0);
-    progress.start(1, 2);
+    progress.start(2);
     assert!(rt; [screen.lines(), screen.others(), screen.ends_left()] == [1, 2, 0]);
 }
 
-/// A line is taken away once, also the longest that there is.
+/// A line is taken away once, also the longest that there is, of one large chunk.
 fn expect_wiped(rt: &(impl Abort + AllocGlobal), config: &Config) {
     let screen = Screen::new(true, b"\r4,294,967,295 of 4,294,967,295 packages checked");
     let clock = clock_of(rt, 1_200);
     let progress = Progress::new(&clock, &screen, config);
     let before = screen.stands();
-    progress.start(u32::MAX, u32::MAX);
+    progress.start(u32::MAX);
+    progress.after(0);
     let then = screen.stands();
     progress.wipe();
     let stood = [before, then, screen.stands()];
@@ -192,17 +149,18 @@ fn expect_reading(rt: &(impl Abort + AllocGlobal), config: &Config, is_typed: bo
     let progress = Progress::new(&clock, &screen, config);
     progress.tell_reading(is_typed);
     let then = screen.stands();
-    progress.start(0, 5);
+    progress.start(5);
     let counts = [screen.lines(), screen.others(), screen.ends_left()];
     assert!(rt; then && !screen.stands() && counts == [1, 0, 0]);
 }
 
 #[test]
 fn a_line_is_taken_away(rt: HostRuntime) {
-    let config = usual(&rt);
+    let mut config = usual(&rt);
     expect_own_count(&rt, &config);
-    expect_wiped(&rt, &config);
     for (is_typed, line) in &READING {
         expect_reading(&rt, &config, *is_typed, *line);
     }
+    config.chunk = u32::MAX;
+    expect_wiped(&rt, &config);
 }

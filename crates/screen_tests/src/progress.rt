@@ -92,12 +92,12 @@ fn a_line_is_gone_before_anything_is_written(rt: HostRuntime) {
     expect_gone(&rt, sink_of(alloc, 50, 1, false), 68, unwritten);
 }
 
-/// With an earlier index its packages are counted first, and then those of the index. Where no set is told, one of the three is seen to be installable.
+/// With an earlier index its packages are counted first, and then those of the index.
 #[test]
 fn the_packages_of_both_indexes_are_counted(rt: HostRuntime) {
     let screen = Screen::new(true, b"\r1 of 3 packages checked");
     let output = sink_of(rt.alloc(), 50, 0, false);
     let line = "|--arch|amd64|--since|earlier|--workers|1|--chunk|1";
     let left = run_beside(&rt, line, &screen, output);
-    assert!(rt; left.is_uncrowded(&screen) && screen.lines() == 2 && screen.others() == 5);
+    assert!(rt; left.is_uncrowded(&screen) && screen.lines() == 2 && screen.others() == 7);
 }

@@ -2,9 +2,8 @@
 
 /// Is told of each chunk, by the worker that checks it; shared between threads.
 pub trait Gate {
-    /// Before the first chunk: how many of the packages that are asked for are known already, and how many there are. Whoever knows the
-    /// first number calls it; `check_all` and `check_each` don't.
-    fn start(&self, _seen: u32, _all: u32) {}
+    /// Before the first chunk, by whoever calls `check_each`: how many packages are asked for.
+    fn start(&self, _all: u32) {}
 
     /// Before the chunk with this number, counted from 0, is checked. May wait.
     fn before(&self, number: u32);

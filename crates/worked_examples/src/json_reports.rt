@@ -112,7 +112,8 @@ Version: 1
 Architecture: a\"\\\u{1}\u{1f}\u{e9}
 ";
 
-const STRANGE_REPORT: &str = r#"{"format":2,"options":[],"architecture":"a\"\\\u0001\u001fé","report":[
+const STRANGE_REPORT: &str =
+    r#"{"format":2,"options":[],"architecture":"a\"\\\u0001\u001fé","report":[
 {"package":"p","version":"1","architecture":"a\"\\\u0001\u001fé","status":"ok"}
 ],"stanzas":1,"skipped":0,"duplicates":0,"asked":1,"broken":0}
 "#;
