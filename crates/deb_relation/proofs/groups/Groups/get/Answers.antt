@@ -1,7 +1,7 @@
 use Rattle.std.proofs.Common.{rules, ◌≡◌, ◌<◌, ◌-◌, ◌+◌, ◌∷◌, ◌∙◌, get_or, ap, drop, length, map, sym, take, arith}
 use Rattle.std.proofs.lemmas.Bool.{eqb-false, eqb-true}
 use Rattle.deb_relation.specs.AtomView.{atom_view}
-use Rattle.deb_relation.proofs.Ends.{list-seen, list-within, number-within, single-seen, single-within}
+use Rattle.deb_relation.proofs.Ends.{list-seen, list-within, number-within, single-seen}
 use Rattle.deb_relation.proofs.groups.Groups.get.Goals as goal
 
 pub returns-then-is_empty : goal.returns-then-is_empty
@@ -60,17 +60,3 @@ returns c =
     let start = c.start_of-start.ensures ∙ ap (λ ends. get_or (0 ∷ ends) c.args.number 0) c.deref-2.ensures.value in
     ap (λ atoms. map atom_view (take (c.index-end.result.now - c.start_of-start.result) (drop c.start_of-start.result atoms))) c.deref-3.ensures.value
     ∙ list-seen atom_view r.atoms.items r.ends.items c.args.self.now c.args.number c.self.view_is c.requires some c.self.invariant c.start_of-start.result c.index-end.result.now start c.index-end.ensures
-
-pub overflow_add-result : goal.overflow_add-result
-overflow_add-result c =
-    let r = c.self.inside in
-    let none : length r.ends.items ≡ 0 = omega (arith, eqb-true r.ends.len 0 (sym c.if-is_empty.ensures), r.ends.ok.0) in
-    let inside = single-within atom_view r.atoms.items r.ends.items c.args.self.now c.args.number c.self.view_is c.requires none in
-    omega (arith, inside, ap length c.deref.ensures.value, c.deref.type_inv.0)
-
-pub offset_bounds-deref-number : goal.offset_bounds-deref-number
-offset_bounds-deref-number c =
-    let r = c.self.inside in
-    let none : length r.ends.items ≡ 0 = omega (arith, eqb-true r.ends.len 0 (sym c.if-is_empty.ensures), r.ends.ok.0) in
-    let inside = single-within atom_view r.atoms.items r.ends.items c.args.self.now c.args.number c.self.view_is c.requires none in
-    omega (arith, inside, ap length c.deref.ensures.value, c.deref.type_inv.1)
