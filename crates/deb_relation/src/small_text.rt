@@ -1,7 +1,7 @@
 //! Texts that lie in the value where they are short.
 
 ghost use Rattle.std.specs.Prelude.{◌≡◌, ◌≤◌, length, IfOk, IsOk};
-ghost use Rattle.deb_relation.specs.SmallText.{IsHeld, bytes_in, short_len};
+ghost use Rattle.deb_relation.specs.SmallText.{short_len};
 
 use std::alloc::{AllocError, Global};
 use std::marker::Model;
@@ -34,17 +34,6 @@ impl Model for SmallText {
     ghost invariant = { λ t. IsHeld t.bytes };
 }
 
-// A short text.
-fn short(text: &[u8]) -> Bytes
-    requires { length text.now ≤ short_len }
-    ensures value { bytes_in result ≡ text.now }
-    ensures held { IsHeld result }
-{
-    let mut bytes = [0; SHORT_LEN];
-    bytes[..text.len()].copy_from_slice(text);
-    Bytes::Short(text.len() as u8, bytes)
-}
-
 impl SmallText {
     /// A copy of a text. The error is want of memory, which no text of at most 30 bytes meets.
     pub fn from_slice(alloc: Global, text: &[u8]) -> Result<SmallText, AllocError>
@@ -55,7 +44,9 @@ impl SmallText {
             let bytes = Bytes::Long(Vec::from_slice(alloc, text)?);
             return Ok(SmallText { bytes });
         }
-        let bytes = short(text);
+        let mut bytes = [0; SHORT_LEN];
+        bytes[..text.len()].copy_from_slice(text);
+        let bytes = Bytes::Short(text.len() as u8, bytes);
         Ok(SmallText { bytes })
     }
 
