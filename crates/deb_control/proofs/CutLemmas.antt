@@ -77,17 +77,8 @@ stanzas-uncut text = sym (append-nil (stanzas_of text)) ∙ ap (λ (ss : List (L
 
 -- ---- texts over whose end no stanza goes on
 
-pub closed-none : IsClosed []
-closed-none more = ap (λ (ss : List (List (List ℕ))). ss ++ stanzas_of more) (sym stanzas-none)
-
 closed-cut : (front : List ℕ) → IsClosed (front ++ 10 ∷ 10 ∷ [])
 closed-cut front more = ap stanzas_of (append_assoc front (10 ∷ 10 ∷ []) more) ∙ stanzas-cut front more
-
--- one behind the other
-pub closed-append : (front back : List ℕ) → IsClosed front → IsClosed back → IsClosed (front ++ back)
-closed-append front back closed ends more =
-    ap stanzas_of (append_assoc front back more) ∙ closed (back ++ more) ∙ ap (λ (ss : List (List (List ℕ))). stanzas_of front ++ ss) (ends more)
-    ∙ sym (append_assoc (stanzas_of front) (stanzas_of back) (stanzas_of more)) ∙ ap (λ (ss : List (List (List ℕ))). ss ++ stanzas_of more) (sym (closed back))
 
 -- ---- where two line feeds stand
 

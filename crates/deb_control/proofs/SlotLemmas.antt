@@ -17,10 +17,6 @@ use Rattle.deb_control.proofs.RepeatLemmas.{has_repeat-drop}
 same_slot : (a b : List ℕ) → same_name a b ≡ true → name_slot a ≡ name_slot b
 same_slot a b same = ap slot_in_lower ((bytes_eq-Decides (str_to_ascii_lowercase a) (str_to_ascii_lowercase b)).0 same)
 
-pub slot_below : (name : List ℕ) → name_slot name < 64
-slot_below [] = omega arith
-slot_below (b ∷ bs) = grind arith
-
 -- ---- what is looked for
 
 other_name : (firsts : List ℕ) (name : List ℕ) (i : ℕ) (field : Entry) → get_or firsts (name_slot field.name) 0 ≤ i → i < get_or firsts (name_slot name) 0 → same_name field.name name ≡ false

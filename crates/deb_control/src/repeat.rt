@@ -1,6 +1,5 @@
 //! Whether a stanza repeats a field.
 ghost use Rattle.std.specs.Prelude.{◌≡◌, ◌≤◌, true, length, map, IfOk, MatchOption};
-ghost use Rattle.std.specs.Str.{str_to_ascii_lowercase};
 ghost use Rattle.deb_control.specs.Fields.{has_name, has_repeat};
 ghost use Rattle.deb_control.specs.Slots.{Tells};
 ghost use Rattle.deb_control.specs.Stanzas.{entry_of};
@@ -44,14 +43,6 @@ fn few_slots(fields: &[Field]) -> Option<Slots>
     Some(slots)
 }
 
-fn lower_case(alloc: Global, name: &[u8]) -> Result<Vec<u8>, AllocError>
-    ensures { IfOk result (λ lower. lower.items ≡ str_to_ascii_lowercase name.now) }
-{
-    let mut lower = Vec::from_slice(alloc, name)?;
-    lower.make_ascii_lowercase();
-    Ok(lower)
-}
-
 /// Whether two fields have one name, where the fields are many.
 /// The names lie in order and not by a hash, whose seed is known, so that no choice of names makes it slow.
 fn is_repeating_many(alloc: Global, fields: &[Field]) -> Result<bool, AllocError>
@@ -59,7 +50,7 @@ fn is_repeating_many(alloc: Global, fields: &[Field]) -> Result<bool, AllocError
 {
     let mut seen = BTreeSet::new(alloc);
     for field in fields {
-        let name = lower_case(alloc, field.name)?;
+        let name = field.name.to_ascii_lowercase(alloc)?;
         if !seen.insert(name)? {
             return Ok(true);
         }

@@ -1,5 +1,5 @@
-use Rattle.std.proofs.Common.{arith, rules, ◌≡◌, ◌≤◌, ◌+◌, ◌-◌, true, get_or, length}
-use Rattle.deb_control.specs.Fields.{IsInName, is_past_colon}
+use Rattle.std.proofs.Common.{arith, rules, ◌≡◌, ◌+◌, true, get_or}
+use Rattle.deb_control.specs.Fields.{is_past_colon}
 use Rattle.deb_control.proofs.FieldLemmas.{in-name-none, in-name-past}
 use Rattle.deb_control.proofs.field.letters_len.Goals as goal
 

@@ -28,9 +28,9 @@ loop-line-preserved c =
       rest = rw c.advance.ensures rest;
     }
 
-pub returns-clause-value : goal.returns-clause-value
+pub returns : goal.returns
 unfolding value_of
-returns-clause-value c =
+returns c =
     let value = c.loop-line.value.items in
     let ended : Ended c.loop-line.lines = elim c.match-first.branch [
       | in-Some+then-not-is_continuation_line w ↦ ended-other c.loop-line.lines w.in-Some.line.now w.in-Some.ensures (sym w.is_continuation_line.ensures ∙ w.if-not-is_continuation_line.true)
@@ -38,12 +38,7 @@ returns-clause-value c =
     ] in
     let all : trim_start value ≡ trim_start (c.args.start.now ++ tail_of c.args.lines.now) = ap trim_start (sym (append-nil value)) ∙ ap (λ (t : List ℕ). trim_start (value ++ t)) (sym ended.0) ∙ c.loop-line.invariant.whole in
     let cut = rw c.deref.ensures.value at c.white_end_start.ensures.value in
-    c.truncate.ensures.items ∙ cut ∙ ap trim_end (sym c.loop-line.invariant.trimmed ∙ all)
-
-pub returns-clause-rest : goal.returns-clause-rest
-returns-clause-rest c =
-    let ended : Ended c.loop-line.lines = elim c.match-first.branch [
-      | in-Some+then-not-is_continuation_line w ↦ ended-other c.loop-line.lines w.in-Some.line.now w.in-Some.ensures (sym w.is_continuation_line.ensures ∙ w.if-not-is_continuation_line.true)
-      | in_default w ↦ ended-all c.loop-line.lines w.in_default.ensures
-    ] in
-    sym ended.1 ∙ c.loop-line.invariant.rest
+    record {
+      value = c.truncate.ensures.items ∙ cut ∙ ap trim_end (sym c.loop-line.invariant.trimmed ∙ all);
+      rest = sym ended.1 ∙ c.loop-line.invariant.rest;
+    }
