@@ -14,6 +14,7 @@ use Rattle.deb_index.specs.Reading.{◌>>=◌, collected, in_fore, index_of, ind
 use Rattle.deb_index.proofs.BothLemmas.{front, of_both, then_all, then_back}
 use Rattle.deb_index.proofs.CollectLemmas.{collected-on}
 use Rattle.deb_index.proofs.SizeLemmas.{same}
+use Rattle.std.proofs.lemmas.Bool.{not-true}
 
 -- ---- an empty one
 
@@ -103,10 +104,6 @@ both-front text background arch with_essential fore both e f =
 
 -- ---- no package stands twice
 
-not-so : (b : Bool) → not b ≡ true → b ≡ false
-not-so true e = absurd cc
-not-so false e = refl
-
 first-apart : {A : Type 0} (is_same : A → A → Bool) (xs : List A) → AllPairs (λ x y. is_same x y ≡ false) (first_of_each is_same xs)
 unfolding first_of_each
 first-apart is_same [] = λ i j d below within. absurd (omega (arith, within))
@@ -114,7 +111,7 @@ first-apart {A = A} is_same (x ∷ xs) =
     let R : A → A → Type 0 = λ y z. is_same y z ≡ false in
     let test : A → Bool = λ y. not (is_same x y) in
     let others = first_of_each is_same xs in
-    let apart : All (R x) (filter test others) = λ i d within. not-so _ (filter_passes test others i d within) in
+    let apart : All (R x) (filter test others) = λ i d within. not-true _ (filter_passes test others i d within) in
     AllPairs-cons R x (filter test others) apart (AllPairs-filter R test others (first-apart is_same xs))
 
 collected-apart : (arch : List ℕ) (with_essential : Bool) (read : List (Option PackageView)) → AllPairs (λ p q. same_package p q ≡ false) (collected arch with_essential read).packages

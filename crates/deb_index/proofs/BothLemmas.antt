@@ -1,12 +1,12 @@
 -- A text and a background behind it.
-use Rattle.std.proofs.Common.{◌≡◌, ◌+◌, ℕ, Bool, true, false, cond, List, [], ◌∷◌, ◌++◌, length, Option, Some, None, Result, Ok, Err, refl, sym, ap, ◌∙◌}
-use Rattle.std.specs.List.{fold, list_any}
+use Rattle.std.proofs.Common.{◌≡◌, ℕ, Bool, List, [], ◌∷◌, ◌++◌, length, Option, Some, None, Result, Ok, Err, refl, sym, ap, ◌∙◌, arith}
+use Rattle.std.specs.List.{fold}
 use Rattle.deb_control.specs.Stanzas.{stanzas_of}
 use Rattle.deb_index.specs.declared.error.BothError.{BothError}
 use Rattle.deb_index.specs.declared.error.BothError.TheVariants.{Fore, Back}
 use Rattle.deb_index.specs.declared.error.IndexError.{IndexError}
 use Rattle.deb_index.specs.Packages.{IndexView, PackageView}
-use Rattle.deb_index.specs.Reading.{◌>>=◌, collected, continued, in_back, in_fore, index_of_both, readings, same_package, with_foreground, with_reading}
+use Rattle.deb_index.specs.Reading.{◌>>=◌, collected, continued, in_back, in_fore, index_of_both, readings, with_foreground, with_reading}
 use Rattle.deb_index.proofs.CollectLemmas.{collected-on, collected-stanzas, text-read, text-unread}
 
 -- ---- stanzas behind the foreground leave it as it is
@@ -14,13 +14,9 @@ use Rattle.deb_index.proofs.CollectLemmas.{collected-on, collected-stanzas, text
 abbrev pub front : ℕ → IndexView → IndexView
 front n index = record index { foreground = n }
 
-front-of : (b : Bool) (n : ℕ) (twice once : IndexView) → cond b (front n twice) (front n once) ≡ front n (cond b twice once)
-front-of true n twice once = refl
-front-of false n twice once = refl
-
 front-more : (n : ℕ) (index : IndexView) (read : Option PackageView) → with_reading (front n index) read ≡ front n (with_reading index read)
 front-more n index None = refl
-front-more n index (Some p) = front-of (list_any (λ q. same_package q p) index.packages) n (record index { stanzas = index.stanzas + 1; duplicates = index.duplicates + 1 }) (record index { packages = index.packages ++ p ∷ []; stanzas = index.stanzas + 1 })
+front-more n index (Some p) = grind arith
 
 front-on : (n : ℕ) (index : IndexView) (rest : List (Option PackageView)) → fold with_reading (front n index) rest ≡ front n (fold with_reading index rest)
 front-on n index [] = refl

@@ -1,20 +1,20 @@
 -- The list of constraints: how it grows, that it speaks of the index, and that it is short.
-use Rattle.std.proofs.Common.{◌≡◌, ℕ, suc, ◌+◌, ◌<◌, ◌≤◌, Bool, not, List, [], ◌∷◌, ◌++◌, map, filter, length, get_or, refl, sym, ◌∙◌, ap, subst, arith}
+use Rattle.std.proofs.Common.{◌≡◌, ℕ, suc, ◌+◌, ◌<◌, ◌≤◌, Bool, List, [], ◌∷◌, ◌++◌, map, filter, length, get_or, refl, sym, ◌∙◌, ap, subst, arith, zero, take}
 use Rattle.std.specs.Prelude.{◌^◌, sum_by}
 use Rattle.std.specs.List.{All, enumerate_from, flat_map, range_with_len}
 use Rattle.std.specs.Str.{bytes_eq}
-use Rattle.std.proofs.lemmas.List.{length-append, length-map}
+use Rattle.std.proofs.lemmas.List.{length-append, length-map, take_all}
 use Rattle.std.proofs.lemmas.List.Concat.{length-flat_map}
 use Rattle.std.proofs.lemmas.List.Elements.{All-append, All-map}
-use Rattle.std.proofs.lemmas.List.Filters.{length-filter_both}
 use Rattle.std.proofs.lemmas.List.FromFn.{get_or-range_with_len, length-enumerate_from, length-range_with_len}
 use Rattle.std.proofs.lemmas.List.Sums.{sum_by-cons}
 use Rattle.deb_index.specs.declared.constraint.Constraint.TheVariants.{Essential, Need, Apart, Only}
-use Rattle.deb_index.specs.Packages.{IndexView, PackageView, aparts_at, essential_names, first_of_each, is_essential, names, needs_at, no_package, package_at, places_where}
+use Rattle.deb_index.specs.Packages.{IndexView, PackageView, aparts_at, essential_names, is_essential, names, needs_at, no_package, package_at, places_where}
 use Rattle.deb_index.specs.Constraints.{IsOfIndex, below, constraints_at, constraints_of}
 use Rattle.deb_index.specs.Tables.{asked_count, asked_limit}
 use Rattle.deb_index.specs.Reading.{stanza_limit}
 use Rattle.deb_index.proofs.RisingLemmas.{rising-at, where-rising}
+use Rattle.deb_index.proofs.EnumerateLemmas.{filter-length, first-length}
 
 -- ---- of the index
 
@@ -47,22 +47,15 @@ module _ (index : IndexView) where
 
 -- ---- short
 
-filter-short : {A : Type 0} (p : A → Bool) (xs : List A) → length (filter p xs) ≤ length xs
-filter-short p xs = omega (arith, length-filter_both p (λ x. not (p x)) (λ x. refl) xs)
-
-first-short : {A : Type 0} (same : A → A → Bool) (xs : List A) → length (first_of_each same xs) ≤ length xs
-unfolding first_of_each
-first-short same [] = omega arith
-first-short same (x ∷ xs) = omega (arith, first-short same xs, filter-short (λ y. not (same x y)) (first_of_each same xs))
-
 pub where-short : {A : Type 0} (test : A → Bool) (xs : List A) → length (places_where test xs) ≤ length xs
 unfolding places_where
-where-short {A} test xs = omega (arith, length-map (filter (λ (e : ℕ × A). test e.1) (enumerate_from 0 xs)) (λ (e : ℕ × A). e.0), filter-short (λ (e : ℕ × A). test e.1) (enumerate_from 0 xs), length-enumerate_from 0 xs)
+where-short {A} test xs = omega (arith, length-map (filter (λ (e : ℕ × A). test e.1) (enumerate_from 0 xs)) (λ (e : ℕ × A). e.0), filter-length (λ (e : ℕ × A). test e.1) (enumerate_from 0 xs), length-enumerate_from 0 xs)
 
-sum-at : {A : Type 0} (d : A) (g : A → ℕ) (h : ℕ → ℕ) (n : ℕ) (xs : List A) → ((q m : ℕ) → n + q ≡ m → h m ≡ g (get_or xs q d)) → sum_by h (range_with_len n (length xs)) ≡ sum_by g xs
-sum-at d g h n [] same = refl
-sum-at d g h n (x ∷ xs) same =
-    omega (arith, sum_by-cons h n (range_with_len (n + 1) (length xs)), sum_by-cons g x xs, same 0 n (omega arith), sum-at d g h (n + 1) xs (λ q m at. same (suc q) m (omega arith)))
+pub sum-front : {A : Type 0} (d : A) (g : A → ℕ) (h : ℕ → ℕ) (n i : ℕ) (xs : List A) → i ≤ length xs → ((q m : ℕ) → n + q ≡ m → h m ≡ g (get_or xs q d)) → sum_by h (range_with_len n i) ≡ sum_by g (take i xs)
+sum-front d g h n zero xs few same = refl
+sum-front d g h n (suc i) [] few same = absurd (omega arith)
+sum-front d g h n (suc i) (x ∷ xs) few same =
+    omega (arith, sum_by-cons h n (range_with_len (n + 1) i), sum_by-cons g x (take i xs), same 0 n (omega arith), sum-front d g h (n + 1) i xs (omega arith) (λ q m at. same (suc q) m (omega arith)))
 
 module _ (index : IndexView) where
   pub at-length : (p : ℕ) → length (constraints_at index p) ≡ asked_count (package_at index p)
@@ -77,10 +70,11 @@ module _ (index : IndexView) where
 
   asked-length : length (flat_map (constraints_at index) (below (length index.packages))) ≡ sum_by asked_count index.packages
   asked-length = length-flat_map (constraints_at index) (below (length index.packages))
-      ∙ sum-at no_package asked_count (λ p. length (constraints_at index p)) 0 index.packages (λ q m at. let same : m ≡ q = omega arith in at-length m ∙ ap (λ i. asked_count (package_at index i)) same)
+      ∙ sum-front no_package asked_count (λ p. length (constraints_at index p)) 0 (length index.packages) index.packages (omega arith) (λ q m at. let same : m ≡ q = omega arith in at-length m ∙ ap (λ i. asked_count (package_at index i)) same)
+      ∙ ap (sum_by asked_count) (take_all (length index.packages) index.packages (omega arith))
 
   names-short : length (names index) ≤ length index.packages
-  names-short = omega (arith, first-short bytes_eq (map (λ (p : PackageView). p.name) index.packages), length-map index.packages (λ (p : PackageView). p.name))
+  names-short = omega (arith, first-length bytes_eq (map (λ (p : PackageView). p.name) index.packages), length-map index.packages (λ (p : PackageView). p.name))
 
   pub constraints-few : length index.packages ≤ stanza_limit → sum_by asked_count index.packages ≤ asked_limit → length (constraints_of index) < 2 ^ 32
   unfolding constraints_of

@@ -1,8 +1,8 @@
 -- At most one member of a rising list passes a test where at most one is counted.
-use Rattle.std.proofs.Common.{◌≡◌, ℕ, ◌+◌, ◌<◌, ◌≤◌, Bool, true, false, cond, eqb, List, [], ◌∷◌, refl, sym, ◌∙◌, ap, inl, inr, arith}
+use Rattle.std.proofs.Common.{◌≡◌, ℕ, ◌+◌, ◌<◌, ◌≤◌, Bool, true, false, cond, eqb, List, [], ◌∷◌, refl, ◌∙◌, ap, inl, inr, arith}
 use Rattle.std.specs.Prelude.{count_by}
 use Rattle.std.proofs.lemmas.List.Sums.{sum_by-cons}
-use Rattle.std.proofs.lemmas.Bool.{cases_Bool, false≢true, or_cases, or_left, or_right, eqb-true, eq-eqb}
+use Rattle.std.proofs.lemmas.Bool.{cases_Bool, false≢true, or_left, or_right, eq-eqb}
 use Rattle.deb_index.specs.Packages.{is_in}
 use Rattle.deb_index.proofs.RisingLemmas.{IsRising, rising-within}
 
@@ -20,11 +20,7 @@ module _ (test : ℕ → Bool) where
   -- where a member passes, the count is not 0
   count-some : (xs : List ℕ) (q : ℕ) → test q ≡ true → is_in xs q ≡ true → 0 < count_by test xs
   count-some [] q holds there = absurd (false≢true there)
-  count-some (x ∷ xs) q holds there =
-      elim (or_cases (eqb x q) (is_in xs q) there) [
-        | inl here ↦ omega (arith, count-first x xs (ap test (eqb-true x q here) ∙ holds))
-        | inr later ↦ omega (arith, count-some xs q holds later, sum_by-cons (λ y. cond {A = ℕ} (test y) 1 0) x xs)
-      ]
+  count-some (x ∷ xs) q holds there = grind (arith, holds, there, count-first x xs, count-some xs q holds, sum_by-cons (λ y. cond {A = ℕ} (test y) 1 0) x xs)
 
   count-none : (xs : List ℕ) → ((q : ℕ) → test q ≡ true → is_in xs q ≡ true → ⊥) → count_by test xs ≡ 0
   count-none [] none = refl
@@ -34,22 +30,11 @@ module _ (test : ℕ → Bool) where
         | inr fails ↦ count-past x xs fails ∙ count-none xs (λ q holds there. none q holds (or_right (eqb x q) (is_in xs q) there))
       ]
 
-  apart-first : (x r : ℕ) (xs : List ℕ) → count_by test (x ∷ xs) ≤ 1 → test x ≡ true → test r ≡ true → is_in xs r ≡ true → ⊥
-  apart-first x r xs few passes holds later = omega (arith, count-first x xs passes, count-some xs r holds later)
-
   pub one-from-count : (xs : List ℕ) → count_by test xs ≤ 1 → (q r : ℕ) → test q ≡ true → test r ≡ true → is_in xs q ≡ true → is_in xs r ≡ true → q ≡ r
   one-from-count [] few q r holds also there too = absurd (false≢true there)
   one-from-count (x ∷ xs) few q r holds also there too =
-      elim (or_cases (eqb x q) (is_in xs q) there) [
-        | inl here ↦ elim (or_cases (eqb x r) (is_in xs r) too) [
-          | inl both ↦ sym (eqb-true x q here) ∙ eqb-true x r both
-          | inr later ↦ absurd (apart-first x r xs few (ap test (eqb-true x q here) ∙ holds) also later)
-        ]
-        | inr later ↦ elim (or_cases (eqb x r) (is_in xs r) too) [
-          | inl here ↦ absurd (apart-first x q xs few (ap test (eqb-true x r here) ∙ also) holds later)
-          | inr both ↦ one-from-count xs (omega (arith, sum_by-cons (λ y. cond {A = ℕ} (test y) 1 0) x xs)) q r holds also later both
-        ]
-      ]
+      let ih : count_by test xs ≤ 1 → is_in xs q ≡ true → is_in xs r ≡ true → q ≡ r = λ fewer a b. one-from-count xs fewer q r holds also a b in
+      grind (arith, few, holds, also, there, too, count-first x xs, count-some xs r also, count-some xs q holds, sum_by-cons (λ y. cond {A = ℕ} (test y) 1 0) x xs, ih)
 
   pub count-from-one : (n limit : ℕ) (xs : List ℕ) → IsRising n limit xs → ((q r : ℕ) → test q ≡ true → test r ≡ true → is_in xs q ≡ true → is_in xs r ≡ true → q ≡ r) → count_by test xs ≤ 1
   count-from-one n limit [] rising one = omega arith

@@ -1,5 +1,5 @@
 -- Which names are essential, by the places of each.
-use Rattle.std.proofs.Common.{◌≡◌, ◌<◌, ◌≤◌, ◌+◌, ℕ, Bool, true, false, cond, ◌&&◌, ◌||◌, List, [], ◌∷◌, ◌++◌, map, filter, length, get_or, Some, refl, sym, ap, ◌∙◌, subst, take, arith}
+use Rattle.std.proofs.Common.{◌≡◌, ◌<◌, ◌≤◌, ◌+◌, ℕ, Bool, true, false, cond, ◌&&◌, List, [], ◌∷◌, ◌++◌, map, filter, length, get_or, Some, refl, sym, ap, ◌∙◌, subst, take, arith}
 use Prim.Native.Nat.{suc}
 use Rattle.std.specs.Prelude.{slice_get}
 use Rattle.std.specs.List.{list_any, enumerate_from}
@@ -27,21 +27,10 @@ module _ (test : PackageView → Bool) (all : List PackageView) where
       → list_any (λ (place : ℕ). option_map_or (λ (q : PackageView). q.essential) (slice_get all place) false) (map (λ (e : ℕ × PackageView). e.0) (filter (λ (e : ℕ × PackageView). test e.1) (enumerate_from n xs)))
       ≡ list_any (λ (p : PackageView). test p && p.essential) xs
   marked-from n [] h = refl
-  marked-from n (x ∷ xs) h = by (test x) refl (marked-from (n + 1) xs behind)
-    where
-      behind : (j : ℕ) → slice_get all ((n + 1) + j) ≡ slice_get xs j
-      behind j = let k : (n + 1) + j ≡ n + suc j = omega arith in ap (slice_get all) k ∙ h (suc j)
-
-      here : slice_get all n ≡ Some x
-      here = let k : n ≡ n + 0 = omega arith in ap (slice_get all) k ∙ h 0
-
-      by : (t : Bool) → test x ≡ t
-          → list_any (λ (place : ℕ). option_map_or (λ (q : PackageView). q.essential) (slice_get all place) false) (map (λ (e : ℕ × PackageView). e.0) (filter (λ (e : ℕ × PackageView). test e.1) (enumerate_from (n + 1) xs)))
-          ≡ list_any (λ (p : PackageView). test p && p.essential) xs
-          → list_any (λ (place : ℕ). option_map_or (λ (q : PackageView). q.essential) (slice_get all place) false) (map (λ (e : ℕ × PackageView). e.0) (filter (λ (e : ℕ × PackageView). test e.1) (enumerate_from n (x ∷ xs))))
-          ≡ list_any (λ (p : PackageView). test p && p.essential) (x ∷ xs)
-      by true t ih = rw (t, here) (ap (λ r. x.essential || r) ih)
-      by false t ih = rw t ih
+  marked-from n (x ∷ xs) h =
+      let behind : (j : ℕ) → slice_get all ((n + 1) + j) ≡ slice_get xs j = λ j. let k : (n + 1) + j ≡ n + suc j = omega arith in ap (slice_get all) k ∙ h (suc j) in
+      let here : slice_get all n ≡ Some x = let k : n ≡ n + 0 = omega arith in ap (slice_get all) k ∙ h 0 in
+      grind (arith, here, marked-from (n + 1) xs behind)
 
 pub marked-places : (test : PackageView → Bool) (packages : List PackageView)
     → list_any (λ (place : ℕ). option_map_or (λ (q : PackageView). q.essential) (slice_get packages place) false) (places_where test packages) ≡ list_any (λ (p : PackageView). test p && p.essential) packages

@@ -16,8 +16,7 @@ abbrev shown : Option Entry → Option (List ℕ)
 shown found = option_and_then (λ field. cond (is_empty field.value) None (Some field.value)) found
 
 taken : (e : Bool) (value : List ℕ) → length (unwrap_or (cond e None (Some value)) []) ≤ length value
-taken true value = omega arith
-taken false value = omega arith
+taken e value = grind arith
 
 first-or : (t : Bool) (field : Entry) (rest : Option Entry) → length (unwrap_or (shown (cond t (Some field) rest)) []) ≤ cond t (length field.value) (length (unwrap_or (shown rest) []))
 first-or true field rest = taken (is_empty field.value) field.value
@@ -42,17 +41,7 @@ module _ (a b c d : List ℕ) (ab : same_name a b ≡ false) (ac : same_name a c
 
   one-more : (p q r s : Bool) (here ta tb tc td na nb nc nd : ℕ) → (p ≡ true → q ≡ true → ⊥) → (p ≡ true → r ≡ true → ⊥) → (p ≡ true → s ≡ true → ⊥) → (q ≡ true → r ≡ true → ⊥) → (q ≡ true → s ≡ true → ⊥)
       → (r ≡ true → s ≡ true → ⊥) → na ≤ cond p here ta → nb ≤ cond q here tb → nc ≤ cond r here tc → nd ≤ cond s here td → na + nb + nc + nd ≤ here + (ta + tb + tc + td)
-  one-more true true r s here ta tb tc td na nb nc nd pq pr ps qr qs rs ha hb hc hd = absurd (pq refl refl)
-  one-more true false true s here ta tb tc td na nb nc nd pq pr ps qr qs rs ha hb hc hd = absurd (pr refl refl)
-  one-more true false false true here ta tb tc td na nb nc nd pq pr ps qr qs rs ha hb hc hd = absurd (ps refl refl)
-  one-more true false false false here ta tb tc td na nb nc nd pq pr ps qr qs rs ha hb hc hd = omega arith
-  one-more false true true s here ta tb tc td na nb nc nd pq pr ps qr qs rs ha hb hc hd = absurd (qr refl refl)
-  one-more false true false true here ta tb tc td na nb nc nd pq pr ps qr qs rs ha hb hc hd = absurd (qs refl refl)
-  one-more false true false false here ta tb tc td na nb nc nd pq pr ps qr qs rs ha hb hc hd = omega arith
-  one-more false false true true here ta tb tc td na nb nc nd pq pr ps qr qs rs ha hb hc hd = absurd (rs refl refl)
-  one-more false false true false here ta tb tc td na nb nc nd pq pr ps qr qs rs ha hb hc hd = omega arith
-  one-more false false false true here ta tb tc td na nb nc nd pq pr ps qr qs rs ha hb hc hd = omega arith
-  one-more false false false false here ta tb tc td na nb nc nd pq pr ps qr qs rs ha hb hc hd = omega arith
+  one-more p q r s here ta tb tc td na nb nc nd pq pr ps qr qs rs ha hb hc hd = grind (arith, pq, pr, ps, qr, qs, rs, ha, hb, hc, hd)
 
   pub four-fit : (fields : List Entry) → four fields ≤ sum_by (λ entry. length entry.value) fields
   four-fit [] = omega (arith, no-fields a, no-fields b, no-fields c, no-fields d)

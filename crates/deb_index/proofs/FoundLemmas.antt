@@ -1,9 +1,8 @@
 -- The places that are found for an atom or a group: which they are, and that in their order they are those that meet it.
-use Rattle.std.proofs.Common.{◌≡◌, ℕ, ◌+◌, ◌<◌, ◌≤◌, Bool, true, false, ◌&&◌, ◌||◌, eqb, List, [], ◌∷◌, ◌++◌, map, take, get_or, length, slice_get, refl, sym, ◌∙◌, ap}
+use Rattle.std.proofs.Common.{◌≡◌, ℕ, ◌+◌, ◌<◌, ◌≤◌, Bool, false, ◌&&◌, ◌||◌, eqb, List, [], ◌∷◌, ◌++◌, map, take, get_or, length, slice_get, sym, ◌∙◌, ap, arith}
 use Rattle.std.specs.List.{list_any}
 use Rattle.std.specs.List.Sorted.{IsStrictlyIncreasing}
 use Rattle.std.specs.Option.{option_map_or}
-use Rattle.std.proofs.lemmas.Bool.{eqb-true}
 use Rattle.std.proofs.lemmas.List.{map-append, take_all, take_more}
 use Rattle.std.proofs.lemmas.List.Folds.{list_any-append}
 use Rattle.deb_relation.specs.declared.atom.Atom.{Atom}
@@ -17,35 +16,17 @@ use Rattle.deb_index.proofs.HoldsLemmas.{group-at}
 use Rattle.deb_index.proofs.MemberLemmas.{member-places_where, rising-places_where}
 use Rattle.deb_index.proofs.OnceLemmas.{rising-once}
 
--- ---- a place is asked, and put down behind the others if it passes
-
-pub place-put : (t : ℕ → Bool) (found : List ℕ) (p q : ℕ) → t p ≡ true → is_in (found ++ p ∷ []) q ≡ (is_in found q || (eqb p q && t q))
-place-put t found p q passes = list_any-append (λ place. eqb place q) found (p ∷ []) ∙ ap (λ b. is_in found q || b) (by (eqb p q) refl)
-  where
-    by : (b : Bool) → eqb p q ≡ b → (eqb p q || false) ≡ (eqb p q && t q)
-    by true e = rw e (sym (ap t (sym (eqb-true p q e)) ∙ passes))
-    by false e = rw e refl
-
-pub place-left : (t : ℕ → Bool) (found : List ℕ) (p q : ℕ) → t p ≡ false → is_in found q ≡ (is_in found q || (eqb p q && t q))
-place-left t found p q fails = by (is_in found q) (eqb p q) refl
-  where
-    by : (a b : Bool) → eqb p q ≡ b → a ≡ (a || (eqb p q && t q))
-    by true b e = refl
-    by false true e = rw e (sym (ap t (sym (eqb-true p q e)) ∙ fails))
-    by false false e = rw e refl
+-- what is asked of a place is asked of itself
+pub asked-itself : (t : ℕ → Bool) (p q : ℕ) → (eqb p q && t p) ≡ (eqb p q && t q)
+asked-itself t p q = grind arith
 
 -- ---- some places are asked one after the other
 
 join : (a b c m : Bool) → ((a || (b && m)) || (c && m)) ≡ (a || ((b || c) && m))
-join true b c m = refl
-join false true c true = refl
-join false true true false = refl
-join false true false false = refl
-join false false c m = refl
+join a b c m = grind arith
 
 pub or-none : (b : Bool) → (b || false) ≡ b
-or-none true = refl
-or-none false = refl
+or-none b = grind arith
 
 -- those at the front of a list, and the next
 pub in-more : (places : List ℕ) (i p q : ℕ) → i < length places → p ≡ get_or places i 0 → is_in (take (i + 1) places) q ≡ (is_in (take i places) q || eqb p q)

@@ -1,33 +1,25 @@
 -- How a package is known: by the first one of its name, or by a key that is kept of a later one.
-use Rattle.std.proofs.Common.{◌≡◌, ◌<◌, ◌≤◌, ◌+◌, ◌-◌, ℕ, Bool, true, false, cond, ◌&&◌, ◌||◌, List, [], ◌∷◌, ◌++◌, map, filter, length, get_or, drop, Option, Some, None, refl, sym, ap, ◌∙◌, subst, arith}
+use Rattle.std.proofs.Common.{◌≡◌, ◌<◌, ◌≤◌, ◌+◌, ◌-◌, ℕ, Bool, true, false, cond, ◌&&◌, ◌||◌, List, [], ◌∷◌, ◌++◌, map, filter, length, get_or, drop, Some, None, refl, sym, ap, ◌∙◌, arith}
 use Prim.Native.Nat.{suc}
 use Rattle.std.specs.Prelude.{find}
 use Rattle.std.specs.List.{enumerate_from, list_any}
 use Rattle.std.specs.Option.{option_map_or}
 use Rattle.std.specs.Str.{bytes_eq}
-use Rattle.std.proofs.lemmas.Bool.{false≢true, or_parts}
+use Rattle.std.proofs.lemmas.Bool.{or_parts}
 use Rattle.std.proofs.lemmas.List.{append-nil, get_or-map, length-map}
 use Rattle.std.proofs.lemmas.List.Folds.{list_any-append}
 use Rattle.deb_index.specs.declared.draft.PackageKey.{PackageKey}
 use Rattle.deb_index.specs.declared.package.Package.{Package}
 use Rattle.deb_index.specs.Packages.{PackageView, is_named, package_view, places_where}
 use Rattle.deb_index.specs.Reading.{same_package}
-use Rattle.deb_index.specs.Built.{HasKeysOf, IsKnown, is_known, key_view, package_key, same_key}
+use Rattle.deb_index.specs.Built.{HasKeysOf, IsKnown, key_view, package_key, same_key}
 use Rattle.deb_index.proofs.FirstLemmas.{names-turned, same-name}
 
 or-false : (b : Bool) → (b || false) ≡ b
-or-false true = refl
-or-false false = refl
-
-or-joined : (a b c : Bool) → ((a || b) || c) ≡ (a || (b || c))
-or-joined true b c = refl
-or-joined false b c = refl
+or-false b = grind arith
 
 pub or-turned : (a b : Bool) → (a || b) ≡ (b || a)
-or-turned true true = refl
-or-turned true false = refl
-or-turned false true = refl
-or-turned false false = refl
+or-turned a b = grind arith
 
 module _ {A : Type 0} (test : A → Bool) where
   pub any-push : (xs : List A) (x : A) → list_any test (xs ++ x ∷ []) ≡ (list_any test xs || test x)
@@ -35,20 +27,11 @@ module _ {A : Type 0} (test : A → Bool) where
 
   find-none : (xs : List A) → list_any test xs ≡ false → find test xs ≡ None
   find-none [] h = refl
-  find-none (x ∷ xs) h = by (test x) refl (find-none xs)
-    where
-      by : (t : Bool) → test x ≡ t → (list_any test xs ≡ false → find test xs ≡ None) → find test (x ∷ xs) ≡ None
-      by true e ih = absurd (false≢true (sym h ∙ rw e refl))
-      by false e ih = rw e (ih (rw e at h))
+  find-none (x ∷ xs) h = grind (arith, h, find-none xs)
 
   find-push : (xs : List A) (x : A) → find test (xs ++ x ∷ []) ≡ cond (list_any test xs) (find test xs) (cond (test x) (Some x) None)
   find-push [] x = refl
-  find-push (y ∷ ys) x = by (test y) refl (find-push ys x)
-    where
-      by : (t : Bool) → test y ≡ t → find test (ys ++ x ∷ []) ≡ cond (list_any test ys) (find test ys) (cond (test x) (Some x) None)
-          → find test ((y ∷ ys) ++ x ∷ []) ≡ cond (list_any test (y ∷ ys)) (find test (y ∷ ys)) (cond (test x) (Some x) None)
-      by true e ih = rw e refl
-      by false e ih = rw e ih
+  find-push (y ∷ ys) x = grind (arith, find-push ys x)
 
   -- the first place where the test holds
   first-from : (n : ℕ) (xs : List A) (place : ℕ) (rest : List ℕ) → map (λ (e : ℕ × A). e.0) (filter (λ (e : ℕ × A). test e.1) (enumerate_from n xs)) ≡ place ∷ rest
@@ -73,11 +56,7 @@ module _ {A : Type 0} (test : A → Bool) where
 
   none-from : (n : ℕ) (xs : List A) → map (λ (e : ℕ × A). e.0) (filter (λ (e : ℕ × A). test e.1) (enumerate_from n xs)) ≡ [] → list_any test xs ≡ false
   none-from n [] e = refl
-  none-from n (x ∷ xs) e = by (test x) refl (none-from (n + 1) xs)
-    where
-      by : (t : Bool) → test x ≡ t → (map (λ (e : ℕ × A). e.0) (filter (λ (e : ℕ × A). test e.1) (enumerate_from (n + 1) xs)) ≡ [] → list_any test xs ≡ false) → list_any test (x ∷ xs) ≡ false
-      by true t ih = absurd (let k = ap length (rw t at e) in omega arith)
-      by false t ih = rw t (ih (rw t at e))
+  none-from n (x ∷ xs) e = grind (arith, e, none-from (n + 1) xs)
 
 -- the first place of a name has the first package of the name
 pub first-named : (name : List ℕ) (packages : List PackageView) (place : ℕ) (rest : List ℕ) → places_where (is_named name) packages ≡ place ∷ rest
@@ -91,11 +70,7 @@ first-named name packages place rest e =
 
 none-same : (p : PackageView) (packages : List PackageView) → list_any (is_named p.name) packages ≡ false → list_any (λ q. same_package q p) packages ≡ false
 none-same p [] h = refl
-none-same p (q ∷ qs) h = by (bytes_eq p.name q.name) refl (none-same p qs)
-  where
-    by : (t : Bool) → bytes_eq p.name q.name ≡ t → (list_any (is_named p.name) qs ≡ false → list_any (λ q. same_package q p) qs ≡ false) → list_any (λ q. same_package q p) (q ∷ qs) ≡ false
-    by true t ih = absurd (false≢true (sym h ∙ rw t refl))
-    by false t ih = let turned : bytes_eq q.name p.name ≡ false = names-turned q.name p.name ∙ t in rw turned (ih (rw t at h))
+none-same p (q ∷ qs) h = grind (arith, h, names-turned q.name p.name, none-same p qs)
 
 -- no package is known by a name without places
 pub known-none : (p : PackageView) (packages : List PackageView) (places : List ℕ) → places ≡ places_where (is_named p.name) packages → length places < 1 → list_any (λ q. same_package q p) packages ≡ false
@@ -128,53 +103,25 @@ pub key-apart : (p : PackageView) (packages : List PackageView) (later : List (L
 key-apart p packages later known apart = (or_parts _ _ (sym (known p) ∙ apart)).1
 
 -- one package more, whose key is kept where its name was there
+found-push : (p : PackageView) (packages : List PackageView) (q : PackageView) → option_map_or (λ (r : PackageView). bytes_eq r.version p.version) (find (is_named p.name) (packages ++ q ∷ [])) false
+    ≡ cond (list_any (is_named p.name) packages) (option_map_or (λ (r : PackageView). bytes_eq r.version p.version) (find (is_named p.name) packages) false) (bytes_eq p.name q.name && bytes_eq q.version p.version)
+found-push p packages q = grind (arith, find-push (is_named p.name) packages q)
+
+keys-push : (b : Bool) (p q : PackageView) (later : List (List ℕ × List ℕ)) → list_any (same_key (package_key p)) (later ++ cond b (package_key q ∷ []) [])
+    ≡ cond b (list_any (same_key (package_key p)) later || (bytes_eq p.name q.name && bytes_eq q.version p.version)) (list_any (same_key (package_key p)) later)
+keys-push b p q later = grind (arith, append-nil later, any-push (same_key (package_key p)) later (package_key q), names-turned q.version p.version)
+
 pub known-push : (packages : List PackageView) (later : List (List ℕ × List ℕ)) (q : PackageView) → IsKnown packages later → IsKnown (packages ++ q ∷ []) (later ++ cond (list_any (is_named q.name) packages) (package_key q ∷ []) [])
-known-push packages later q known p =
-    any-push (λ r. same_package r p) packages q ∙ ap (λ b. b || same_package q p) (known p) ∙ by (bytes_eq p.name q.name) (list_any (is_named p.name) packages) refl refl
-  where
-    version_is : Option PackageView → Bool
-    version_is o = option_map_or (λ (r : PackageView). bytes_eq r.version p.version) o false
-
-    front : Bool
-    front = version_is (find (is_named p.name) packages)
-
-    kept : Bool
-    kept = list_any (same_key (package_key p)) later
-
-    more : Bool → List (List ℕ × List ℕ)
-    more b = later ++ cond b (package_key q ∷ []) []
-
-    same : Bool
-    same = bytes_eq q.version p.version
-
-    -- what the keys tell of another name
-    other : (b : Bool) → bytes_eq p.name q.name ≡ false → list_any (same_key (package_key p)) (more b) ≡ kept
-    other true e = any-push (same_key (package_key p)) later (package_key q) ∙ ap (λ t. kept || (t && bytes_eq p.version q.version)) e ∙ or-false kept
-    other false e = ap (list_any (same_key (package_key p))) (append-nil later)
-
-    by : (n a : Bool) → bytes_eq p.name q.name ≡ n → list_any (is_named p.name) packages ≡ a → ((front || kept) || same_package q p) ≡ is_known (packages ++ q ∷ []) (more (list_any (is_named q.name) packages)) p
-    by true true e h =
-        let named : list_any (is_named q.name) packages ≡ true = subst (λ m. list_any (is_named m) packages ≡ true) (same-name p.name q.name e) h in
-        let found : find (is_named p.name) (packages ++ q ∷ []) ≡ find (is_named p.name) packages = find-push (is_named p.name) packages q ∙ rw h refl in
-        let keys : list_any (same_key (package_key p)) (more (list_any (is_named q.name) packages)) ≡ (kept || same_key (package_key p) (package_key q)) =
-        ap (λ b. list_any (same_key (package_key p)) (more b)) named ∙ any-push (same_key (package_key p)) later (package_key q) in
-        ap (λ t. (front || kept) || t) (λ i. names-turned q.name p.name i && names-turned q.version p.version i) ∙ or-joined front kept (same_key (package_key p) (package_key q))
-        ∙ sym (λ i. version_is (found i) || keys i)
-    by true false e h =
-        let named : list_any (is_named q.name) packages ≡ false = subst (λ m. list_any (is_named m) packages ≡ false) (same-name p.name q.name e) h in
-        let found : find (is_named p.name) (packages ++ q ∷ []) ≡ Some q = find-push (is_named p.name) packages q ∙ rw (h, e) refl in
-        let keys : list_any (same_key (package_key p)) (more (list_any (is_named q.name) packages)) ≡ kept = ap (λ b. list_any (same_key (package_key p)) (more b)) named ∙ ap (list_any (same_key (package_key p))) (append-nil later) in
-        let none : front ≡ false = ap version_is (find-none (is_named p.name) packages h) in
-        let turned : bytes_eq q.name p.name ≡ true = names-turned q.name p.name ∙ e in
-        (λ i. (none i || kept) || (turned i && same)) ∙ or-turned kept same ∙ sym (λ i. version_is (found i) || keys i)
-    by false a e h =
-        let turned : bytes_eq q.name p.name ≡ false = names-turned q.name p.name ∙ e in
-        let found : find (is_named p.name) (packages ++ q ∷ []) ≡ find (is_named p.name) packages = find-push (is_named p.name) packages q ∙ passed a h in
-        (λ i. (front || kept) || (turned i && same)) ∙ or-false (front || kept) ∙ sym (λ i. version_is (found i) || other (list_any (is_named q.name) packages) e i)
-      where
-        passed : (a : Bool) → list_any (is_named p.name) packages ≡ a → cond (list_any (is_named p.name) packages) (find (is_named p.name) packages) (cond (bytes_eq p.name q.name) (Some q) None) ≡ find (is_named p.name) packages
-        passed true h = rw h refl
-        passed false h = rw (h, e) (sym (find-none (is_named p.name) packages h))
+known-push packages later q known p = grind (
+  arith,
+  any-push (λ r. same_package r p) packages q,
+  known p,
+  found-push p packages q,
+  find-none (is_named p.name) packages,
+  keys-push (list_any (is_named q.name) packages) p q later,
+  names-turned q.name p.name,
+  same-name p.name q.name,
+)
 
 -- by other keys that tell the same
 pub known-same : (packages : List PackageView) (kept : List PackageKey) (later : List (List ℕ × List ℕ)) → HasKeysOf kept later → IsKnown packages later → IsKnown packages (map key_view kept)

@@ -1,9 +1,9 @@
 -- The places where a test passes: which they are, that they rise, and that they lie below the length.
-use Rattle.std.proofs.Common.{◌≡◌, ℕ, zero, suc, ◌+◌, ◌<◌, ◌≤◌, Bool, true, false, ◌||◌, eqb, List, [], ◌∷◌, length, get_or, map, filter, slice_get, All, refl, sym, ◌∙◌, ap, inl, inr, arith}
+use Rattle.std.proofs.Common.{◌≡◌, ℕ, zero, suc, ◌+◌, ◌<◌, ◌≤◌, Bool, true, false, eqb, List, [], ◌∷◌, length, get_or, map, filter, slice_get, All, refl, ◌∙◌, ap, inl, inr, arith}
 use Rattle.std.specs.List.{list_any, enumerate_from}
 use Rattle.std.specs.List.Sorted.{IsStrictlyIncreasing}
 use Rattle.std.specs.Option.{option_map_or}
-use Rattle.std.proofs.lemmas.Bool.{cases_Bool, or_left, eq-eqb, ne_eqb}
+use Rattle.std.proofs.lemmas.Bool.{cases_Bool}
 use Rattle.std.proofs.lemmas.List.Elements.{All-nil, All-cons, All-weaker, All-same, All-tail, All-head}
 use Rattle.deb_index.specs.Packages.{places_where}
 
@@ -56,36 +56,22 @@ module _ {A : Type 0} (test : A → Bool) where
   -- a number below all of a list is not in it
   none_above : (q : ℕ) (places : List ℕ) → All (λ place. q < place) places → list_any (λ place. eqb place q) places ≡ false
   none_above q [] above = refl
-  none_above q (place ∷ places) above =
-      ap (λ b. b || list_any (λ other. eqb other q) places) (ne_eqb place q (λ same. omega (arith, All-head (λ other. q < other) place places above)))
-      ∙ none_above q places (All-tail (λ other. q < other) place places above)
+  none_above q (place ∷ places) above = grind (arith, All-head (λ other. q < other) place places above, none_above q places (All-tail (λ other. q < other) place places above))
 
   none_from : (n q : ℕ) (xs : List A) → q < n → list_any (λ place. eqb place q) (places_from n xs) ≡ false
   none_from n q xs before =
       none_above q (places_from n xs)
       (All-weaker (λ place. (n ≤ place) × (place < n + length xs)) (λ place. q < place) (λ place bounds. omega (arith, bounds.0)) (places_from n xs) (from_bounds n xs))
 
+  behind_first : (n q : ℕ) (x : A) (xs : List A) (found : Bool) → list_any (λ place. eqb place (n + suc q)) (places_from (n + 1) xs) ≡ found → list_any (λ place. eqb place (n + suc q)) (places_from n (x ∷ xs)) ≡ found
+  behind_first n q x xs found rest = grind (arith, rest)
+
   from_member : (n q : ℕ) (xs : List A) → list_any (λ place. eqb place (n + q)) (places_from n xs) ≡ option_map_or test (slice_get xs q) false
   from_member n q [] = refl
-  from_member n zero (x ∷ xs) =
-      elim (cases_Bool (test x)) [
-        | inl passes ↦
-            ap (list_any (λ place. eqb place (n + 0))) (from_pass n x xs passes)
-            ∙ (or_left (eqb n (n + 0)) (list_any (λ place. eqb place (n + 0)) (places_from (n + 1) xs)) (eq-eqb n (n + 0) (omega arith)) ∙ sym passes)
-        | inr fails ↦
-            ap (list_any (λ place. eqb place (n + 0))) (from_fail n x xs fails)
-            ∙ (none_from (n + 1) (n + 0) xs (omega arith) ∙ sym fails)
-      ]
+  from_member n zero (x ∷ xs) = grind (arith, none_from (n + 1) (n + 0) xs)
   from_member n (suc q) (x ∷ xs) =
       let next : n + suc q ≡ n + 1 + q = omega arith in
-      let rest : list_any (λ place. eqb place (n + suc q)) (places_from (n + 1) xs) ≡ option_map_or test (slice_get xs q) false =
-      ap (λ at. list_any (λ place. eqb place at) (places_from (n + 1) xs)) next ∙ from_member (n + 1) q xs in
-      elim (cases_Bool (test x)) [
-        | inl passes ↦
-            ap (list_any (λ place. eqb place (n + suc q))) (from_pass n x xs passes)
-            ∙ (ap (λ b. b || list_any (λ place. eqb place (n + suc q)) (places_from (n + 1) xs)) (ne_eqb n (n + suc q) (λ same. omega arith)) ∙ rest)
-        | inr fails ↦ ap (list_any (λ place. eqb place (n + suc q))) (from_fail n x xs fails) ∙ rest
-      ]
+      behind_first n q x xs _ (ap (λ at. list_any (λ place. eqb place at) (places_from (n + 1) xs)) next ∙ from_member (n + 1) q xs)
 
   -- a place is one of them where the element there passes
   pub member-places_where : (xs : List A) (q : ℕ) → list_any (λ place. eqb place q) (places_where test xs) ≡ option_map_or test (slice_get xs q) false

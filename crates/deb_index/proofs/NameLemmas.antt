@@ -1,11 +1,11 @@
 -- The names of an index, and what is found under each.
-use Rattle.std.proofs.Common.{◌≡◌, ◌<◌, ◌≤◌, ◌+◌, ℕ, Bool, true, false, not, cond, ◌||◌, List, [], ◌∷◌, ◌++◌, map, filter, length, get_or, set, drop, Option, Some, None, refl, sym, ap, ◌∙◌, subst, append_assoc, arith}
+use Rattle.std.proofs.Common.{◌≡◌, ◌<◌, ◌≤◌, ◌+◌, ℕ, Bool, false, not, cond, ◌||◌, List, [], ◌∷◌, ◌++◌, map, filter, length, get_or, set, drop, Option, Some, None, refl, sym, ap, ◌∙◌, subst, append_assoc, arith}
 use Prim.Native.Nat.{suc, zero}
 use Rattle.std.specs.Prelude.{position, slice_get}
 use Rattle.std.specs.List.{enumerate_from, list_any}
-use Rattle.std.specs.Option.{is_some, option_map}
+use Rattle.std.specs.Option.{is_some}
 use Rattle.std.specs.Str.{bytes_eq}
-use Rattle.std.proofs.lemmas.Bool.{false≢true, or_parts}
+use Rattle.std.proofs.lemmas.Bool.{or_parts}
 use Rattle.std.proofs.lemmas.List.{append-nil, get_or-map, get_or_append_left, length-append, length-map, map-append, map-id, map-set}
 use Rattle.std.proofs.lemmas.List.Elements.{filter-append}
 use Rattle.std.proofs.lemmas.List.Folds.{list_any-append}
@@ -16,16 +16,10 @@ use Rattle.deb_index.specs.Packages.{PackageView, first_of_each, is_named, no_pa
 use Rattle.deb_index.specs.Tables.{items_of, number_in}
 use Rattle.deb_index.specs.Names.{AreNumbers, IsNaming, all_names, name_texts, package_names}
 use Rattle.deb_index.proofs.EnumerateLemmas.{first-length, places-push}
-use Rattle.deb_index.proofs.FirstLemmas.{first-push, name-itself, other-name}
+use Rattle.deb_index.proofs.FirstLemmas.{any-map, first-push, name-itself, other-name}
 use Rattle.deb_index.proofs.TableLemmas.{IsApart, any-first, any-turned, first-apart, get-there, items-other, items-same, map-others, names-chain, no-items, none-any, number-within, position-is, set-there, some-any}
 
 -- ---- numbers of names
-
-none-some : (i : ℕ) → None ≡ Some i → ⊥
-none-some i e = cc
-
-some-same : (i j : ℕ) → Some i ≡ Some j → i ≡ j
-some-same i j e = cc
 
 -- a name's number is its position among the names
 pub number-position : (name : List ℕ) (ks : List (List ℕ)) → number_in name ks ≡ position (bytes_eq name) ks
@@ -39,46 +33,20 @@ module _ (name : List ℕ) where
   -- among more names, one of the first has the number that it has among them
   pub number-front : (xs ys : List (List ℕ)) (i : ℕ) → number_in name (xs ++ ys) ≡ Some i → i < length xs → number_in name xs ≡ Some i
   number-front [] ys i e less = absurd (omega arith)
-  number-front (k ∷ ks) ys i e less = by (bytes_eq name k) (number_in name (ks ++ ys)) refl refl (λ j. number-front ks ys j)
-    where
-      by : (t : Bool) (n : Option ℕ) → bytes_eq name k ≡ t → number_in name (ks ++ ys) ≡ n → ((j : ℕ) → number_in name (ks ++ ys) ≡ Some j → j < length ks → number_in name ks ≡ Some j) → number_in name (k ∷ ks) ≡ Some i
-      by true n t h ih = let z : 0 ≡ i = some-same 0 i (rw t at e) in rw t (ap Some z)
-      by false None t h ih = absurd (none-some i (rw (t, h) at e))
-      by false (Some j) t h ih =
-          let z : suc j ≡ i = some-same (suc j) i (rw (t, h) at e) in
-          let w : j < length ks = omega (arith, z, less) in
-          rw t (ap (option_map (λ m. suc m)) (ih j h w) ∙ ap Some z)
+  number-front (k ∷ ks) ys i e less = grind (arith, e, less, number-front ks ys)
 
   pub number-behind : (xs ys : List (List ℕ)) (i : ℕ) → number_in name (xs ++ ys) ≡ Some i → length xs ≤ i → number_in name xs ≡ None
   number-behind [] ys i e past = refl
-  number-behind (k ∷ ks) ys i e past = by (bytes_eq name k) (number_in name (ks ++ ys)) refl refl (λ j. number-behind ks ys j)
-    where
-      by : (t : Bool) (n : Option ℕ) → bytes_eq name k ≡ t → number_in name (ks ++ ys) ≡ n → ((j : ℕ) → number_in name (ks ++ ys) ≡ Some j → length ks ≤ j → number_in name ks ≡ None) → number_in name (k ∷ ks) ≡ None
-      by true n t h ih = let z : 0 ≡ i = some-same 0 i (rw t at e) in absurd (omega (arith, z, past))
-      by false None t h ih = absurd (none-some i (rw (t, h) at e))
-      by false (Some j) t h ih =
-          let z : suc j ≡ i = some-same (suc j) i (rw (t, h) at e) in
-          let w : length ks ≤ j = omega (arith, z, past) in
-          rw t (ap (option_map (λ m. suc m)) (ih j h w))
+  number-behind (k ∷ ks) ys i e past = grind (arith, e, past, number-behind ks ys)
 
   pub number-none : (xs ys : List (List ℕ)) → number_in name (xs ++ ys) ≡ None → number_in name xs ≡ None
   number-none [] ys e = refl
-  number-none (k ∷ ks) ys e = by (bytes_eq name k) (number_in name (ks ++ ys)) refl refl (number-none ks ys)
-    where
-      by : (t : Bool) (n : Option ℕ) → bytes_eq name k ≡ t → number_in name (ks ++ ys) ≡ n → (number_in name (ks ++ ys) ≡ None → number_in name ks ≡ None) → number_in name (k ∷ ks) ≡ None
-      by true n t h ih = absurd (none-some 0 (sym (rw t at e)))
-      by false None t h ih = rw t (ap (option_map (λ m. suc m)) (ih h))
-      by false (Some j) t h ih = absurd (none-some (suc j) (sym (rw (t, h) at e)))
+  number-none (k ∷ ks) ys e = grind (arith, e, number-none ks ys)
 
   -- a name that comes last has the last number
   pub number-last : (xs : List (List ℕ)) → number_in name xs ≡ None → number_in name (xs ++ name ∷ []) ≡ Some (length xs)
   number-last [] e = rw (name-itself name) refl
-  number-last (k ∷ ks) e = by (bytes_eq name k) (number_in name ks) refl refl (number-last ks)
-    where
-      by : (t : Bool) (n : Option ℕ) → bytes_eq name k ≡ t → number_in name ks ≡ n → (number_in name ks ≡ None → number_in name (ks ++ name ∷ []) ≡ Some (length ks)) → number_in name (k ∷ (ks ++ name ∷ [])) ≡ Some (length (k ∷ ks))
-      by true n t h ih = absurd (none-some 0 (sym (rw t at e)))
-      by false None t h ih = rw t (ap (option_map (λ m. suc m)) (ih h))
-      by false (Some j) t h ih = absurd (none-some (suc j) (sym (rw (t, h) at e)))
+  number-last (k ∷ ks) e = grind (arith, e, number-last ks)
 
 -- ---- the first of each, and what comes behind them
 
@@ -116,12 +84,7 @@ module _ {V T : Type 0} (name : List ℕ) (f : V → T) (g h : List ℕ → T) (
 -- nothing stands where nothing passes
 no-places : {A : Type 0} (test : A → Bool) (n : ℕ) (xs : List A) → list_any test xs ≡ false → map (λ (e : ℕ × A). e.0) (filter (λ (e : ℕ × A). test e.1) (enumerate_from n xs)) ≡ []
 no-places test n [] none = refl
-no-places {A} test n (x ∷ xs) none = by (test x) refl (no-places test (n + 1) xs)
-  where
-    by : (t : Bool) → test x ≡ t → (list_any test xs ≡ false → map (λ (e : ℕ × A). e.0) (filter (λ (e : ℕ × A). test e.1) (enumerate_from (n + 1) xs)) ≡ [])
-        → map (λ (e : ℕ × A). e.0) (filter (λ (e : ℕ × A). test e.1) (enumerate_from n (x ∷ xs))) ≡ []
-    by true e ih = absurd (false≢true (sym none ∙ rw e refl))
-    by false e ih = rw e (ih (rw e at none))
+no-places test n (x ∷ xs) none = grind (arith, none, no-places test (n + 1) xs)
 
 abbrev places_seen : Lists → List ℕ
 places_seen l = l.places.items
@@ -131,11 +94,7 @@ entries_seen l = l.provided.items
 
 module _ (packages : List PackageView) where
   any-named : (name : List ℕ) → list_any (is_named name) packages ≡ list_any (bytes_eq name) (map (λ (p : PackageView). p.name) packages)
-  any-named name = by packages
-    where
-      by : (ps : List PackageView) → list_any (is_named name) ps ≡ list_any (bytes_eq name) (map (λ (p : PackageView). p.name) ps)
-      by [] = refl
-      by (p ∷ ps) = ap (λ r. bytes_eq name p.name || r) (by ps)
+  any-named name = sym (any-map (bytes_eq name) (λ (p : PackageView). p.name) packages)
 
   -- a name is there where a package has it
   pub named-there : (name : List ℕ) → list_any (bytes_eq name) (package_names packages) ≡ list_any (is_named name) packages

@@ -1,17 +1,15 @@
 -- Rising lists are one where their members are, and a list that is sorted, and whose repeats are left out, is such a one.
-use Rattle.std.proofs.Common.{◌≡◌, ℕ, suc, ◌<◌, ◌≤◌, Bool, true, false, ◌+◌, ◌||◌, eqb, List, [], ◌∷◌, Contains, get_or, refl, sym, ◌∙◌, ap, subst, inl, inr, arith}
+use Rattle.std.proofs.Common.{◌≡◌, ℕ, suc, ◌<◌, ◌≤◌, Bool, true, false, eqb, List, [], ◌∷◌, Contains, get_or, refl, sym, ◌∙◌, ap, subst, inl, inr, arith}
 use Rattle.std.specs.List.{dedup}
 use Rattle.std.specs.List.Sorted.{IsPermutation, IsStrictlyIncreasing}
-use Rattle.std.proofs.lemmas.Bool.{both_ways, cases_Bool, false≢true, or_cases, or_left, eqb-true, eq-eqb, false_from_ne_true}
+use Rattle.std.proofs.lemmas.Bool.{false≢true, or_cases, or_left, eqb-true, eq-eqb, false_from_ne_true}
 use Rattle.std.proofs.lemmas.List.Folds.{list_any_at}
 use Rattle.std.proofs.lemmas.List.Kept.{AllPairs-from_increasing, Contains-dedup_nat, Contains-from_dedup}
 use Rattle.std.proofs.lemmas.List.Sorted.{list_any-IsPermutation}
 use Rattle.deb_index.specs.Packages.{is_in}
 
 rising-tail : (x : ℕ) (rest : List ℕ) → IsStrictlyIncreasing (x ∷ rest) → IsStrictlyIncreasing rest
-rising-tail x rest rising k below =
-    let next : suc k + 1 ≡ suc (k + 1) = omega arith in
-    omega (arith, rising (suc k) (omega arith), ap (λ m. get_or (x ∷ rest) m 0) next)
+rising-tail x rest rising k below = grind (arith, rising (suc k), below)
 
 -- ---- members
 
@@ -27,11 +25,7 @@ contains-in : (xs : List ℕ) (q : ℕ) → Contains xs q → is_in xs q ≡ tru
 contains-in xs q at = list_any_at (λ place. eqb place q) xs at.0 q at.1 (eq-eqb (get_or xs at.0 q) q at.2)
 
 same-test : (a b : Bool) → (a ≡ true → b ≡ true) → (b ≡ true → a ≡ true) → a ≡ b
-same-test a b to from =
-    elim (cases_Bool a) [
-      | inl holds ↦ holds ∙ sym (to holds)
-      | inr fails ↦ fails ∙ sym (false_from_ne_true b (λ other. both_ways a fails (from other)))
-    ]
+same-test a b to from = grind (arith, to, from)
 
 -- sorting, and leaving out what comes again, change no member
 pub once-members : (xs sorted once : List ℕ) → IsPermutation xs sorted → once ≡ dedup eqb sorted → (q : ℕ) → is_in once q ≡ is_in xs q
@@ -53,19 +47,10 @@ not-behind : (x : ℕ) (rest : List ℕ) → IsStrictlyIncreasing (x ∷ rest) �
 not-behind x rest rising = false_from_ne_true (is_in rest x) (λ there. let less : x < x = above-first x rest rising x there in omega arith)
 
 first-least : (x y : ℕ) (xs ys : List ℕ) → IsStrictlyIncreasing (y ∷ ys) → ((q : ℕ) → is_in (x ∷ xs) q ≡ is_in (y ∷ ys) q) → y ≤ x
-first-least x y xs ys rising same =
-    let here : is_in (y ∷ ys) x ≡ true = sym (same x) ∙ or_left (eqb x x) (is_in xs x) (eq-eqb x x refl) in
-    elim (or_cases (eqb y x) (is_in ys x) here) [
-      | inl it ↦ let e : y ≡ x = eqb-true y x it in omega arith
-      | inr later ↦ omega (arith, above-first y ys rising x later)
-    ]
+first-least x y xs ys rising same = grind (arith, same x, above-first y ys rising x)
 
 same-rest : (x : ℕ) (xs ys : List ℕ) → IsStrictlyIncreasing (x ∷ xs) → IsStrictlyIncreasing (x ∷ ys) → ((q : ℕ) → is_in (x ∷ xs) q ≡ is_in (x ∷ ys) q) → (q : ℕ) → is_in xs q ≡ is_in ys q
-same-rest x xs ys rising also same q =
-    elim (cases_Bool (eqb x q)) [
-      | inl it ↦ let e : x ≡ q = eqb-true x q it in sym (ap (is_in xs) e) ∙ (not-behind x xs rising ∙ (sym (not-behind x ys also) ∙ ap (is_in ys) e))
-      | inr other ↦ sym (ap (λ b. b || is_in xs q) other) ∙ (same q ∙ ap (λ b. b || is_in ys q) other)
-    ]
+same-rest x xs ys rising also same q = grind (arith, not-behind x xs rising, not-behind x ys also, same q)
 
 pub rising-once : (xs ys : List ℕ) → IsStrictlyIncreasing xs → IsStrictlyIncreasing ys → ((q : ℕ) → is_in xs q ≡ is_in ys q) → xs ≡ ys
 rising-once [] [] rising also same = refl

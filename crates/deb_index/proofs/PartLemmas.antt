@@ -2,7 +2,7 @@
 use Rattle.std.proofs.Common.{◌≡◌, ◌<◌, ◌≤◌, ◌+◌, ◌-◌, ℕ, List, [], ◌∷◌, ◌++◌, length, map, take, drop, get_or, sum_by, refl, sym, ap, ◌∙◌, arith}
 use Prim.Native.Nat.{suc, zero}
 use Rattle.std.specs.List.{flat_map}
-use Rattle.std.proofs.lemmas.List.{append-nil, drop-append-le, drop-map, drop-take, length-take-le, take_all, take_more}
+use Rattle.std.proofs.lemmas.List.{append-nil, drop-append-le, drop-map, drop-take, get_or_append_left, length-take-le, take_all, take_more}
 use Rattle.std.proofs.lemmas.List.Concat.{length-flat_map}
 use Rattle.std.proofs.lemmas.List.Sums.{sum_by-cons, sum_by-take-drop, sum_by-take-le, sum_by_push}
 use Rattle.std.proofs.Math.Seq.{take-add}
@@ -12,10 +12,8 @@ use Rattle.deb_index.specs.Links.{starts_from}
 module _ {A : Type 0} (count : A → ℕ) where
   starts-on : (n : ℕ) (xs : List A) (x : A) → starts_from count n (xs ++ x ∷ []) ≡ starts_from count n xs ++ (n + sum_by count (xs ++ x ∷ [])) ∷ []
   unfolding starts_from
-  starts-on n [] x = let same : n + count x ≡ n + sum_by count (x ∷ []) = omega (arith, sum_by-cons count x []) in ap (λ m. n ∷ m ∷ []) same
-  starts-on n (y ∷ ys) x =
-      let same : (n + count y) + sum_by count (ys ++ x ∷ []) ≡ n + sum_by count (y ∷ (ys ++ x ∷ [])) = omega (arith, sum_by-cons count y (ys ++ x ∷ [])) in
-      ap (λ l. n ∷ l) (starts-on (n + count y) ys x ∙ ap (λ m. starts_from count (n + count y) ys ++ m ∷ []) same)
+  starts-on n [] x = grind (arith, sum_by-cons count x [])
+  starts-on n (y ∷ ys) x = grind (arith, starts-on (n + count y) ys x, sum_by-cons count y (ys ++ x ∷ []))
 
   pub starts-none : starts_from count 0 [] ≡ 0 ∷ []
   unfolding starts_from
@@ -54,9 +52,7 @@ module _ {A : Type 0} (count : A → ℕ) where
   starts-moved : (a n : ℕ) (ys : List A) → map (λ m. a + m) (starts_from count n ys) ≡ starts_from count (a + n) ys
   unfolding starts_from
   starts-moved a n [] = refl
-  starts-moved a n (y ∷ ys) =
-      let same : a + (n + count y) ≡ (a + n) + count y = omega arith in
-      ap (λ l. (a + n) ∷ l) (starts-moved a (n + count y) ys ∙ ap (λ m. starts_from count m ys) same)
+  starts-moved a n (y ∷ ys) = grind (arith, starts-moved a (n + count y) ys)
 
   pub starts-joined : (a : ℕ) (xs ys : List A) → a ≡ sum_by count xs → starts_from count 0 (xs ++ ys) ≡ starts_from count 0 xs ++ map (λ m. a + m) (drop 1 (starts_from count 0 ys))
   starts-joined a xs ys e =
@@ -106,9 +102,7 @@ module _ {A B : Type 0} (f : A → List B) where
   flat-push xs x = flat_map-append f xs (x ∷ []) ∙ ap (λ l. flat_map f xs ++ l) (append-nil (f x))
 
   front-at : (xs ys : List B) (j : ℕ) (d : B) → j < length xs → get_or (xs ++ ys) j d ≡ get_or xs j d
-  front-at [] ys j d h = absurd (omega arith)
-  front-at (x ∷ xs) ys zero d h = refl
-  front-at (x ∷ xs) ys (suc j) d h = front-at xs ys j d (omega arith)
+  front-at xs ys j d h = get_or_append_left xs ys d j h
 
   behind-at : (xs ys : List B) (j k : ℕ) (d : B) → k ≡ length xs + j → get_or (xs ++ ys) k d ≡ get_or ys j d
   behind-at [] ys j k d e = let same : k ≡ j = omega arith in ap (λ m. get_or ys m d) same

@@ -1,7 +1,6 @@
 -- The parts of a text.
 use Rattle.std.proofs.Common.{◌≡◌, ◌≤◌, ℕ, List, [], ◌∷◌, ◌++◌, length, sym, ap, ◌∙◌, arith, length-append}
 use Rattle.std.specs.List.{AllByRecursion}
-use Rattle.std.proofs.lemmas.List.{append-nil}
 use Rattle.std.proofs.lemmas.Grind.{flat_map-append}
 use Rattle.deb_control.specs.Stanzas.{stanzas_of}
 use Rattle.deb_index.specs.declared.parts.Part.{Part}
@@ -15,14 +14,6 @@ all-both P (x ∷ xs) ys h k = (h.0, all-both P xs ys h.1 k)
 pub short-parts : (bound limit : ℕ) (parts : List Part) → bound ≤ limit → AllByRecursion (λ part. length part.text.now ≤ bound) parts → AllByRecursion (λ part. length part.text.now ≤ limit) parts
 short-parts bound limit [] le h = tt
 short-parts bound limit (part ∷ parts) le h = (omega (arith, le, h.0), short-parts bound limit parts le h.1)
-
--- a text in one part
-pub one-part : (arch text : List ℕ) (part : Part) → part.text.now ≡ text → IsForeseen arch part → ArePartsOf arch text (part ∷ [])
-one-part arch text part is foreseen = record {
-  stanzas = append-nil (part_stanzas part) ∙ ap stanzas_of is;
-  short = (omega (arith, ap (λ (bytes : List ℕ). length bytes) is), tt);
-  foreseen = (foreseen, tt);
-}
 
 -- a text that is cut in two, each in parts
 pub two-parted : (arch text front back : List ℕ) (ps qs : List Part) → text ≡ front ++ back → stanzas_of text ≡ stanzas_of front ++ stanzas_of back → ArePartsOf arch front ps → ArePartsOf arch back qs → ArePartsOf arch text (ps ++ qs)

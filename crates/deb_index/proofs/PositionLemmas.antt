@@ -1,5 +1,5 @@
 -- Where each constraint stands in the list of all, and that it stands there once.
-use Rattle.std.proofs.Common.{◌≡◌, ℕ, suc, zero, ◌+◌, ◌<◌, ◌≤◌, List, [], ◌∷◌, ◌++◌, map, length, Some, slice_get, get_or, take, sum_by, refl, sym, ◌∙◌, ap, subst, inl, inr, ◌⊎◌, arith}
+use Rattle.std.proofs.Common.{◌≡◌, ℕ, suc, zero, ◌+◌, ◌<◌, ◌≤◌, List, [], ◌∷◌, ◌++◌, map, length, Some, slice_get, take, sum_by, refl, sym, ◌∙◌, ap, subst, inl, inr, ◌⊎◌, arith}
 use Rattle.std.specs.List.{flat_map, range_with_len}
 use Rattle.std.specs.Option.{option_map}
 use Rattle.std.proofs.lemmas.Option.{none-some, same_Some, slice_get-get_or, slice_get-map}
@@ -13,7 +13,7 @@ use Rattle.deb_index.specs.Packages.{IndexView, PackageView, aparts, aparts_at, 
 use Rattle.deb_index.specs.Constraints.{below, constraints_at, constraints_of}
 use Rattle.deb_index.specs.Links.{first_position}
 use Rattle.deb_index.specs.Tables.{asked_count}
-use Rattle.deb_index.proofs.ConstraintLemmas.{at-length}
+use Rattle.deb_index.proofs.ConstraintLemmas.{at-length, sum-front}
 use Rattle.deb_index.proofs.PartLemmas.{sum-more, sum-take}
 use Rattle.deb_index.proofs.RisingLemmas.{IsRising, where-rising}
 
@@ -219,12 +219,6 @@ flat-place f a (suc n) (suc i) j x less at =
     let split : sum_by (λ p. length (f p)) (range_with_len a (suc i)) + j ≡ length (f a) + (later + j) = omega (arith, sum_by-cons (λ p. length (f p)) a (range_with_len (a + 1) i)) in
     ap (slice_get (f a ++ flat_map f (range_with_len (a + 1) n))) split ∙ behind (f a) (flat_map f (range_with_len (a + 1) n)) (later + j)
     ∙ flat-place f (a + 1) n i j x (omega arith) (ap (λ p. slice_get (f p) j) next ∙ at)
-
-sum-front : {A : Type 0} (d : A) (g : A → ℕ) (h : ℕ → ℕ) (n i : ℕ) (xs : List A) → i ≤ length xs → ((q m : ℕ) → n + q ≡ m → h m ≡ g (get_or xs q d)) → sum_by h (range_with_len n i) ≡ sum_by g (take i xs)
-sum-front d g h n zero xs few same = refl
-sum-front d g h n (suc i) [] few same = absurd (omega arith)
-sum-front d g h n (suc i) (x ∷ xs) few same =
-    omega (arith, sum_by-cons h n (range_with_len (n + 1) i), sum_by-cons g x (take i xs), same 0 n (omega arith), sum-front d g h (n + 1) i xs (omega arith) (λ q m at. same (suc q) m (omega arith)))
 
 mapped-at : {A : Type 0} (f : ℕ → A) (n j : ℕ) → j < n → slice_get (map f (below n)) j ≡ Some (f j)
 mapped-at f n j less =

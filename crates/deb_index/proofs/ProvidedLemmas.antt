@@ -1,9 +1,7 @@
 -- Where names are provided: what entries of Provides put down.
-use Rattle.std.proofs.Common.{◌≡◌, ◌<◌, ◌≤◌, ◌+◌, ℕ, Bool, true, false, cond, List, [], ◌∷◌, ◌++◌, map, filter, length, take, get_or, refl, sym, ap, ◌∙◌, append_assoc, subst, arith}
+use Rattle.std.proofs.Common.{◌≡◌, ◌<◌, ◌≤◌, ◌+◌, ℕ, true, false, cond, List, [], ◌∷◌, ◌++◌, map, filter, length, take, get_or, refl, sym, ap, ◌∙◌, append_assoc, subst, arith}
 use Rattle.std.specs.List.{enumerate_from, flat_map}
-use Rattle.std.specs.Str.{bytes_eq}
 use Rattle.std.proofs.lemmas.List.{append-nil, get_or-map, map-append, length-map, length-take-le, take_more}
-use Rattle.std.proofs.lemmas.List.Elements.{filter-append}
 use Rattle.std.proofs.lemmas.Grind.{flat_map-append}
 use Rattle.deb_relation.specs.declared.atom.Atom.{Atom}
 use Rattle.deb_relation.specs.AtomView.{atom_view}
@@ -18,26 +16,14 @@ use Rattle.deb_index.proofs.EnumerateLemmas.{enumerate-push}
 
 items-append : {T : Type 0} (name : List ℕ) (xs ys : List (List ℕ × T)) → items_of name (xs ++ ys) ≡ items_of name xs ++ items_of name ys
 unfolding items_of
-items-append {T} name xs ys = ap (map item) (filter-append test xs ys) ∙ map-append item (filter test xs) (filter test ys)
-  where
-    item : List ℕ × T → T
-    item p = p.1
-
-    test : List ℕ × T → Bool
-    test p = bytes_eq name p.0
+items-append name [] ys = refl
+items-append name (x ∷ xs) ys = grind (arith, items-append name xs ys)
 
 module _ (arch name : List ℕ) (place : ℕ) where
   items-numbered : (es : List (ℕ × AtomText)) → items_of name (numbered_entries arch place es) ≡ map (λ (j : ℕ). (place, j)) (map (λ (e : ℕ × AtomText). e.0) (filter (λ (e : ℕ × AtomText). is_providing arch name e.1) es))
   unfolding items_of
   items-numbered [] = refl
-  items-numbered (e ∷ es) = by (is_usable arch e.1.qualifier) (bytes_eq name e.1.name) refl refl (items-numbered es)
-    where
-      by : (u b : Bool) → is_usable arch e.1.qualifier ≡ u → bytes_eq name e.1.name ≡ b
-          → items_of name (numbered_entries arch place es) ≡ map (λ (j : ℕ). (place, j)) (map (λ (e : ℕ × AtomText). e.0) (filter (λ (e : ℕ × AtomText). is_providing arch name e.1) es))
-          → items_of name (numbered_entries arch place (e ∷ es)) ≡ map (λ (j : ℕ). (place, j)) (map (λ (e : ℕ × AtomText). e.0) (filter (λ (e : ℕ × AtomText). is_providing arch name e.1) (e ∷ es)))
-      by true true u b ih = rw (u, b) (ap (λ r. (place, e.0) ∷ r) ih)
-      by true false u b ih = rw (u, b) ih
-      by false b u h ih = rw u ih
+  items-numbered (e ∷ es) = grind (arith, items-numbered es)
 
   items-entries : (entries : List AtomText) → items_of name (provided_entries arch place entries) ≡ map (λ (j : ℕ). (place, j)) (places_where (is_providing arch name) entries)
   unfolding places_where
@@ -68,23 +54,14 @@ provided-push arch packages p =
     entries e = provided_entries arch e.0 e.1.provides
 
 -- one entry more of a package goes last, where it is for the architecture
+push-from : (arch : List ℕ) (place n : ℕ) (es : List AtomText) (e : AtomText) → numbered_entries arch place (enumerate_from n (es ++ e ∷ []))
+    ≡ numbered_entries arch place (enumerate_from n es) ++ cond (is_usable arch e.qualifier) ((e.name, (place, n + length es)) ∷ []) []
+push-from arch place n [] e = grind arith
+push-from arch place n (f ∷ es) e = grind (arith, push-from arch place (n + 1) es e)
+
 entries-push : (arch : List ℕ) (place : ℕ) (es : List AtomText) (e : AtomText)
     → provided_entries arch place (es ++ e ∷ []) ≡ provided_entries arch place es ++ cond (is_usable arch e.qualifier) ((e.name, (place, length es)) ∷ []) []
-entries-push arch place es e =
-    let next : 0 + length es ≡ length es = omega arith in
-    ap (numbered_entries arch place) (enumerate-push 0 es e) ∙ ap (map put) (filter-append test (enumerate_from 0 es) ((0 + length es, e) ∷ []))
-    ∙ map-append put (filter test (enumerate_from 0 es)) (filter test ((0 + length es, e) ∷ []))
-    ∙ ap (λ r. provided_entries arch place es ++ r) (by (is_usable arch e.qualifier) refl ∙ ap (λ (m : ℕ). cond (is_usable arch e.qualifier) ((e.name, (place, m)) ∷ []) []) next)
-  where
-    put : ℕ × AtomText → List ℕ × (ℕ × ℕ)
-    put entry = (entry.1.name, (place, entry.0))
-
-    test : ℕ × AtomText → Bool
-    test entry = is_usable arch entry.1.qualifier
-
-    by : (t : Bool) → is_usable arch e.qualifier ≡ t → map put (filter test ((0 + length es, e) ∷ [])) ≡ cond (is_usable arch e.qualifier) ((e.name, (place, 0 + length es)) ∷ []) []
-    by true h = rw h refl
-    by false h = rw h refl
+entries-push arch place es e = grind (arith, push-from arch place 0 es e)
 
 -- a step of the walk over the packages
 pub provided-step : (arch : List ℕ) (packages : List Package) (i : ℕ) (p : Package) → i < length packages → p ≡ get_or packages i p

@@ -1,8 +1,8 @@
 -- What meets an atom is among the candidates of its name: what is asked of packages and of entries one by one is what is asked of all.
-use Rattle.std.proofs.Common.{◌≡◌, ℕ, suc, zero, ◌+◌, ◌<◌, Bool, true, false, ◌&&◌, ◌||◌, eqb, List, [], ◌∷◌, ◌++◌, map, take, get_or, length, Option, Some, None, slice_get, refl, sym, ◌∙◌, ap, inl, inr, arith}
+use Rattle.std.proofs.Common.{◌≡◌, ℕ, suc, zero, ◌+◌, ◌<◌, Bool, true, false, ◌&&◌, ◌||◌, eqb, List, [], ◌∷◌, ◌++◌, map, take, get_or, length, Option, Some, None, slice_get, refl, sym, ◌∙◌, ap, arith}
 use Rattle.std.specs.List.{list_any, enumerate_from, flat_map}
 use Rattle.std.specs.Option.{option_map_or}
-use Rattle.std.proofs.lemmas.Bool.{cases_Bool, eq-eqb, ne_eqb}
+use Rattle.std.proofs.lemmas.Bool.{eq-eqb, ne_eqb}
 use Rattle.std.proofs.lemmas.List.{take_more}
 use Rattle.std.proofs.lemmas.List.Folds.{list_any-append}
 use Rattle.deb_relation.specs.Relationship.{AtomText}
@@ -25,20 +25,13 @@ module _ {A : Type 0} (t g : A → Bool) where
       let here : h n ≡ g x = ap h first ∙ same zero in
       let rest : list_any h (places_from t (n + 1) xs) ≡ list_any (λ y. t y && g y) xs =
       numbers-any h (n + 1) xs (λ i. let next : n + 1 + i ≡ n + suc i = omega arith in ap h next ∙ same (suc i)) in
-      elim (cases_Bool (t x)) [
-        | inl passes ↦ ap (list_any h) (from_pass t n x xs passes) ∙ (λ k. here k || rest k) ∙ ap (λ b. (b && g x) || list_any (λ y. t y && g y) xs) (sym passes)
-        | inr fails ↦ ap (list_any h) (from_fail t n x xs fails) ∙ rest ∙ ap (λ b. (b && g x) || list_any (λ y. t y && g y) xs) (sym fails)
-      ]
+      grind (arith, here, rest, from_pass t n x xs, from_fail t n x xs)
 
   -- what is asked of all alike is asked once
   and-any : (u : Bool) (xs : List A) → list_any (λ x. t x && (u && g x)) xs ≡ (u && list_any (λ x. t x && g x) xs)
   and-any true xs = refl
   and-any false [] = refl
-  and-any false (x ∷ xs) = (λ k. none (t x) k || and-any false xs k)
-    where
-      none : (b : Bool) → (b && false) ≡ false
-      none true = refl
-      none false = refl
+  and-any false (x ∷ xs) = grind (arith, and-any false xs)
 
 -- ---- entries of all packages, asked whether they are of the package at a place
 
@@ -78,31 +71,14 @@ module _ (f : ℕ → ℕ → Bool) (m : ℕ) where
 -- ---- of the candidates of a name
 
 or-assoc : (a b c : Bool) → ((a || b) || c) ≡ (a || (b || c))
-or-assoc true b c = refl
-or-assoc false b c = refl
+or-assoc a b c = grind arith
 
 -- whoever meets the atom has the name or meets it by an entry: n has the name, u may be taken, b has the version, a has an entry, w has the mark
 entry-either : (n u b a : Bool) → ((n && (u && ((n && b) || a))) || (u && a)) ≡ (u && ((n && b) || a))
-entry-either true true true a = refl
-entry-either true true false true = refl
-entry-either true true false false = refl
-entry-either true false b a = refl
-entry-either false true b a = refl
-entry-either false false b a = refl
+entry-either n u b a = grind arith
 
 need-either : (n u b a w : Bool) → ((n && ((u && ((n && b) || a)) && w)) || ((u && w) && a)) ≡ ((u && ((n && b) || a)) && w)
-need-either true true true a true = refl
-need-either true true true a false = refl
-need-either true true false true true = refl
-need-either true true false true false = refl
-need-either true true false false true = refl
-need-either true true false false false = refl
-need-either true false b a w = refl
-need-either false true b true true = refl
-need-either false true b true false = refl
-need-either false true b false true = refl
-need-either false true b false false = refl
-need-either false false b a w = refl
+need-either n u b a w = grind arith
 
 meets-either : (role : Role) (arch : List ℕ) (p : PackageView) (atom : AtomText)
     → ((is_named atom.name p && meets_as role arch p atom) || (usable_as role arch p atom && list_any (entry_meets arch atom) p.provides)) ≡ meets_as role arch p atom
@@ -155,18 +131,10 @@ module _ (role : Role) (index : IndexView) (atom : AtomText) where
 
 -- one is put down behind the others if it passes
 pub entry-put : (found : List ℕ) (p q : ℕ) (t : Bool) → t ≡ true → is_in (found ++ p ∷ []) q ≡ (is_in found q || (eqb p q && t))
-entry-put found p q t passes = list_any-append (λ place. eqb place q) found (p ∷ []) ∙ ap (λ b. is_in found q || b) (by (eqb p q) ∙ ap (λ b. eqb p q && b) (sym passes))
-  where
-    by : (b : Bool) → (b || false) ≡ (b && true)
-    by true = refl
-    by false = refl
+entry-put found p q t passes = grind (arith, passes, list_any-append (λ place. eqb place q) found (p ∷ []))
 
 pub entry-left : (found : List ℕ) (p q : ℕ) (t : Bool) → t ≡ false → is_in found q ≡ (is_in found q || (eqb p q && t))
-entry-left found p q t fails = sym (ap (λ b. is_in found q || (eqb p q && b)) fails ∙ ap (λ b. is_in found q || b) (by (eqb p q)) ∙ or-none (is_in found q))
-  where
-    by : (b : Bool) → (b && false) ≡ false
-    by true = refl
-    by false = refl
+entry-left found p q t fails = grind (arith, fails)
 
 pub entries-more : (before found now : Bool) (t : ℕ × ℕ → Bool) (entries : List (ℕ × ℕ)) (i : ℕ) (e : ℕ × ℕ) → i < length entries → e ≡ get_or entries i (0, 0)
     → found ≡ (before || list_any t (take i entries)) → now ≡ (found || t e) → now ≡ (before || list_any t (take (i + 1) entries))

@@ -1,5 +1,5 @@
 -- Rising lists of places, and their members.
-use Rattle.std.proofs.Common.{◌≡◌, ℕ, suc, zero, ◌+◌, ◌<◌, ◌≤◌, Bool, true, eqb, List, [], ◌∷◌, length, get_or, refl, sym, ◌∙◌, ap, subst, inl, inr, arith}
+use Rattle.std.proofs.Common.{◌≡◌, ℕ, suc, zero, ◌+◌, ◌<◌, ◌≤◌, Bool, true, eqb, List, [], ◌∷◌, length, get_or, refl, sym, subst, inl, inr, arith}
 use Rattle.std.specs.List.{list_any}
 use Rattle.std.proofs.lemmas.Bool.{cases_Bool, false≢true, or_cases, or_left, or_right, eqb-true, eq-eqb}
 use Rattle.deb_index.specs.Packages.{is_in, places_where}
@@ -16,11 +16,7 @@ any-member test (x ∷ xs) holds =
 
 pub member-any : (test : ℕ → Bool) (xs : List ℕ) (q : ℕ) → test q ≡ true → is_in xs q ≡ true → list_any test xs ≡ true
 member-any test [] q holds there = absurd (false≢true there)
-member-any test (x ∷ xs) q holds there =
-    elim (or_cases (eqb x q) (is_in xs q) there) [
-      | inl here ↦ or_left (test x) (list_any test xs) (ap test (eqb-true x q here) ∙ holds)
-      | inr later ↦ or_right (test x) (list_any test xs) (member-any test xs q holds later)
-    ]
+member-any test (x ∷ xs) q holds there = grind (arith, holds, there, member-any test xs q holds)
 
 -- ---- rising places
 

@@ -1,5 +1,5 @@
 -- An index has room for the packages of a text and of a background: together they ask for little more than the texts have bytes.
-use Rattle.std.proofs.Common.{◌≡◌, ◌<◌, ◌≤◌, ◌+◌, ◌*◌, ℕ, Bool, true, false, List, [], ◌∷◌, length, Option, Some, None, refl, ap, ◌∙◌, arith}
+use Rattle.std.proofs.Common.{◌≡◌, ◌<◌, ◌≤◌, ◌+◌, ◌*◌, ℕ, Bool, List, [], ◌∷◌, length, Option, Some, None, refl, ap, ◌∙◌, arith}
 use Rattle.std.specs.List.{list_any, sum_by}
 use Rattle.std.proofs.lemmas.List.Sums.{sum_by-append, sum_by-cons}
 use Rattle.deb_control.specs.Stanzas.{Unread, size_of, stanzas_of}
@@ -22,20 +22,14 @@ left-sizes : (arch : List ℕ) (before : ℕ) (left new : Unread) (read : Option
 left-sizes arch before left new read step = ap (sum_by size_of) step.first ∙ sum_by-cons size_of step.stanza new.stanzas
 
 asked-more : (t : Bool) (index : IndexView) (p : PackageView) → list_any (λ q. same_package q p) index.packages ≡ t → asked (with_reading index (Some p)) ≤ asked index + asked_count p
-asked-more true index p e = rw e (omega arith)
-asked-more false index p e = rw e (omega (arith, sum_by-append asked_count index.packages (p ∷ []), sum_by-cons asked_count p []))
+asked-more t index p e = grind (arith, e, sum_by-append asked_count index.packages (p ∷ []), sum_by-cons asked_count p [])
 
 stanzas-more : (t : Bool) (index : IndexView) (p : PackageView) → list_any (λ q. same_package q p) index.packages ≡ t → (with_reading index (Some p)).stanzas ≡ index.stanzas + 1
-stanzas-more true index p e = rw e refl
-stanzas-more false index p e = rw e refl
+stanzas-more t index p e = grind (arith, e)
 
 pub arch-kept : (index : IndexView) (read : Option PackageView) → (with_reading index read).arch ≡ index.arch
 arch-kept index None = refl
-arch-kept index (Some p) = by (list_any (λ q. same_package q p) index.packages) refl
-  where
-    by : (t : Bool) → list_any (λ q. same_package q p) index.packages ≡ t → (with_reading index (Some p)).arch ≡ index.arch
-    by true e = rw e refl
-    by false e = rw e refl
+arch-kept index (Some p) = grind arith
 
 module _ (arch : List ℕ) (before : ℕ) (index : IndexView) (left new : Unread) where
   -- a stanza that is read is none too many

@@ -1,5 +1,5 @@
 -- When an entry or a group has a row, and which.
-use Rattle.std.proofs.Common.{◌≡◌, ◌<◌, ◌≤◌, ◌+◌, ℕ, Bool, true, false, not, cond, List, [], ◌∷◌, ◌++◌, map, length, take, get_or, Option, Some, None, refl, sym, ap, ◌∙◌, arith}
+use Rattle.std.proofs.Common.{◌≡◌, ◌<◌, ◌+◌, ℕ, Bool, true, false, not, cond, List, [], ◌∷◌, ◌++◌, map, length, take, get_or, Option, Some, None, refl, sym, ap, ◌∙◌, arith}
 use Rattle.std.specs.Prelude.{IfSome, nat_le}
 use Rattle.std.specs.Option.{is_some, option_map}
 use Rattle.std.proofs.lemmas.Bool.{false≢true, lt-leb}
@@ -17,11 +17,6 @@ none-some x e = cc
 some-same : (x y : List ℕ) → Some x ≡ Some y → x ≡ y
 some-same x y e = cc
 
-pub one-atom : (group : List Atom) (a : Atom) → 1 ≤ length group → length group < 2 → a ≡ get_or group 0 a → map atom_view group ≡ atom_view a ∷ []
-one-atom [] a some few at = absurd (omega arith)
-one-atom (b ∷ []) a some few at = ap (λ x. atom_view x ∷ []) (sym at)
-one-atom (b ∷ c ∷ group) a some few at = absurd (omega arith)
-
 -- what a row that is looked up says
 module _ {R : Type 0} (now : R → List ℕ) (row : List ℕ) where
   pub row-is : (few : Bool) (o : Option R) → option_map now o ≡ cond few (Some row) None → IfSome o (λ r. now r ≡ row)
@@ -34,11 +29,6 @@ module _ {R : Type 0} (now : R → List ℕ) (row : List ℕ) where
   row-there false None e = refl
   row-there true (Some r) e = refl
   row-there false (Some r) e = absurd (none-some (now r) (sym e))
-
--- whether a row is kept
-pub left-out : {A : Type 0} (few : Bool) (row : A) → not few ≡ true → cond few (Some row) None ≡ None
-left-out true row h = absurd (false≢true h)
-left-out false row h = refl
 
 pub kept : {A : Type 0} (few : Bool) (row : A) → not few ≡ false → cond few (Some row) None ≡ Some row
 kept true row h = refl

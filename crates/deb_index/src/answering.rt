@@ -13,8 +13,6 @@ use deb_relation::Atom;
 use std::alloc::{AllocError, Global};
 
 impl Index {
-    ghost use Rattle.deb_index.specs.Built.{looked_up};
-
     /// Whether the package at a place meets an atom. An atom with a qualifier other than `any` and the index's architecture
     /// is met by none. Else a package meets it by its own name and version, or by an entry of its Provides of that name:
     /// any where the atom has no bound, and one whose version meets the bound where it has one (Debian Policy 7.1 and 7.5).
@@ -33,17 +31,6 @@ impl Index {
         ensures { result ≡ meets_need_at self.now place (atom_view atom.now) }
     {
         self.package(place).meets_need(&self.catalog.arch, atom)
-    }
-
-    // What places are looked up in.
-    fn lookup(&self) -> Lookup
-        ensures { result ≡ looked_up self.now.arch self.now.packages }
-    {
-        Lookup::new(
-            &self.catalog.arch,
-            &self.catalog.packages,
-            &self.catalog.names,
-        )
     }
 
     /// The places of the packages that meet an alternative of a group as `meets_need` tells, rising, each once. There is such
@@ -76,7 +63,7 @@ impl Index {
         if let Some(row) = self.answer_row(place, number) {
             return Ok(row);
         }
-        self.lookup().find_group(self.need(place, number), found)?;
+        Lookup::new(&self.catalog).find_group(self.need(place, number), found)?;
         Ok(found)
     }
 
@@ -100,7 +87,7 @@ impl Index {
         ensures { IfOk result (λ v. v.items ≡ satisfiers self.now (atom_view atom.now)) }
     {
         let mut found = Vec::new(alloc);
-        let lookup = self.lookup();
+        let lookup = Lookup::new(&self.catalog);
         let candidates = lookup.candidates(atom.name.as_slice());
         lookup.find(Role::Entry, atom, candidates, &mut found)?;
         Ok(found)

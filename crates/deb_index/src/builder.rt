@@ -5,7 +5,7 @@ ghost use Rattle.deb_control.specs.Stanzas.{stanzas_of};
 ghost use Rattle.deb_index.specs.Packages.{essential_names};
 ghost use Rattle.deb_index.specs.Built.{is_marked};
 ghost use Rattle.deb_index.specs.Parts.{ArePartsOf};
-ghost use Rattle.deb_index.specs.Reading.{byte_limit, collected, continued, read_behind, readings, stanza_limit, with_foreground};
+ghost use Rattle.deb_index.specs.Reading.{byte_limit, collected, read_behind, stanza_limit, with_foreground};
 ghost use Rattle.deb_index.specs.Tables.{asked_count};
 
 use crate::catalog::Catalog;
@@ -14,7 +14,6 @@ use crate::error::IndexError;
 use crate::names::Names;
 use crate::parts::Parted;
 use crate::unlinked::Unlinked;
-use deb_control::Reader;
 use std::alloc::{AllocError, Global};
 use std::collections::HashSet;
 use std::marker::Model;
@@ -59,25 +58,6 @@ impl Builder {
         Ok(Builder {
             draft: Draft { catalog, later },
         })
-    }
-
-    /// Reads the stanzas of a text, and takes them in behind those that are there.
-    pub(crate) fn add_text(mut self, alloc: Global, text: &[u8]) -> Result<Builder, IndexError>
-        requires short { length text.now ≤ byte_limit }
-        requires few { self.stanzas ≤ stanza_limit }
-        requires room { sum_by asked_count self.packages ≤ byte_limit + 1 + 4 * self.stanzas }
-        ensures accepted { IfOk result (λ b. continued self (readings self.arch self.stanzas 0 (stanzas_of text.now)) ≡ Ok b) }
-        ensures refused { IfErr result (λ e. e ≢ IndexError.Memory
-            → continued self (readings self.arch self.stanzas 0 (stanzas_of text.now)) ≡ Err e) }
-    {
-        let before = self.stanzas();
-        match self.draft.add_stanzas(alloc, before, Reader::new(text)) {
-            Ok(()) => Ok(self),
-            Err(error) => {
-                drop(self.draft);
-                Err(error)
-            }
-        }
     }
 
     /// Takes in the parts of a text, or of a piece of it, behind the stanzas that are there; so many of these stood in an earlier text.
@@ -128,25 +108,13 @@ impl Builder {
     pub(crate) fn finish(self, alloc: Global) -> Result<Unlinked, AllocError>
         ensures { IfOk result (λ index. index ≡ self) }
     {
-        let essential = match self.essential_names(alloc) {
-            Ok(essential) => essential,
-            Err(error) => {
-                drop(self.draft);
-                return Err(error);
-            }
-        };
+        let essential = self.essential_names(alloc)?;
         let Draft { mut catalog, later } = self.draft;
         drop(later);
-        match catalog
+        catalog
             .names
-            .add_provided(alloc, &catalog.arch, &catalog.packages)
-        {
-            Ok(()) => Ok(Unlinked { catalog, essential }),
-            Err(error) => {
-                drop(catalog);
-                Err(error)
-            }
-        }
+            .add_provided(alloc, &catalog.arch, &catalog.packages)?;
+        Ok(Unlinked { catalog, essential })
     }
 
     // Whether there is a package at a place, and it is marked essential.

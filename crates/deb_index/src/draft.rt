@@ -124,13 +124,8 @@ impl Draft {
         Ok(())
     }
 
-    /// Reads the stanzas that a reader has before it, and takes each in; so many stood in an earlier text.
-    pub(crate) fn add_stanzas(
-        &mut self,
-        alloc: Global,
-        before: u32,
-        reader: Reader,
-    ) -> Result<(), IndexError>
+    // Reads the stanzas that a reader has before it, and takes each in; so many stood in an earlier text.
+    fn add_stanzas(&mut self, alloc: Global, before: u32, reader: Reader) -> Result<(), IndexError>
         requires built { IsBuilt self.old }
         requires counts { self.old.catalog.stanzas ≡ before + reader.count }
         requires few { self.old.catalog.stanzas ≤ stanza_limit }
@@ -178,14 +173,7 @@ impl Draft {
         ensures added { OnOk result (draft_view self.new ≡ with_reading (draft_view self.old) (Some (package_view candidate))) }
     {
         let known = self.catalog.names.number(candidate.name.as_slice());
-        let is_duplicate = match self.contains(alloc, known, &candidate) {
-            Ok(is_duplicate) => is_duplicate,
-            Err(error) => {
-                drop(candidate);
-                return Err(error);
-            }
-        };
-        if is_duplicate {
+        if self.contains(alloc, known, &candidate)? {
             drop(candidate);
             self.catalog.duplicates += 1;
             self.catalog.stanzas += 1;

@@ -141,7 +141,7 @@ impl Index {
         requires { number < length (names self.now) }
         ensures { result.now ≡ name_at self.now number }
     {
-        self.catalog.names.text(number as usize)
+        self.catalog.names.texts.text(number as usize)
     }
 
     /// The number of a name; `None` where no package has it. Names are compared byte by byte (Debian Policy 5.6.7).

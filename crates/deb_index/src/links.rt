@@ -55,10 +55,7 @@ impl Links {
     {
         let mut linker = Linker::new(alloc, lookup, to - from)?;
         for place in from..to {
-            if let Err(error) = linker.add(lookup, place) {
-                drop(linker);
-                return Err(error);
-            }
+            linker.add(lookup, place)?;
         }
         Ok(linker.finish())
     }
@@ -73,29 +70,14 @@ impl Links {
             entry: self.entries.len() as u32,
         };
         // The first one is the last that stands already: where the rows so far end.
-        if let Err(error) = push_behind(&mut self.starts, end, &more.starts[1..]) {
-            drop(self);
-            return Err(error);
-        }
+        push_behind(&mut self.starts, end, &more.starts[1..])?;
         let Links {
             starts,
             groups,
             entries,
         } = self;
-        let groups = match groups.followed_by(&more.groups) {
-            Ok(groups) => groups,
-            Err(error) => {
-                drop(entries);
-                return Err(error);
-            }
-        };
-        let entries = match entries.followed_by(&more.entries) {
-            Ok(entries) => entries,
-            Err(error) => {
-                drop(groups);
-                return Err(error);
-            }
-        };
+        let groups = groups.followed_by(&more.groups)?;
+        let entries = entries.followed_by(&more.entries)?;
         Ok(Links {
             starts,
             groups,
@@ -119,17 +101,12 @@ impl<'t> Linker<'t> {
     {
         let starts = Vec::from_slice(alloc, &[Start { group: 0, entry: 0 }])?;
         let groups = RoleRows::new(alloc, lookup, Role::Alternative, packages)?;
-        match RoleRows::new(alloc, lookup, Role::Entry, packages) {
-            Ok(entries) => Ok(Linker {
-                starts,
-                groups,
-                entries,
-            }),
-            Err(error) => {
-                drop(groups);
-                Err(error)
-            }
-        }
+        let entries = RoleRows::new(alloc, lookup, Role::Entry, packages)?;
+        Ok(Linker {
+            starts,
+            groups,
+            entries,
+        })
     }
 
     // Adds the package at a place behind those so far.

@@ -4,13 +4,13 @@ ghost use Rattle.std.specs.List.{list_any};
 ghost use Rattle.std.specs.List.Sorted.{IsStrictlyIncreasing};
 ghost use Rattle.deb_relation.specs.AtomView.{atom_view};
 ghost use Rattle.deb_index.specs.Packages.{is_in, package_at, package_view, places_of};
-ghost use Rattle.deb_index.specs.Reading.{stanza_limit};
 ghost use Rattle.deb_index.specs.Meets.{group_satisfiers, provided_at};
 ghost use Rattle.deb_index.specs.Roles.{meets_as_at, provides_as_at, satisfiers_as};
 ghost use Rattle.deb_index.specs.Roles as spec;
 ghost use Rattle.deb_index.specs.Rows.{group_candidates, row_limit};
 ghost use Rattle.deb_index.specs.Tables.{asked_count, asked_limit};
 
+use crate::catalog::Catalog;
 use crate::meets::{Role, provided_meets};
 use crate::names::{Candidates, Names};
 use crate::package::Package;
@@ -42,25 +42,18 @@ impl<'a> Model for Lookup<'a> {
 }
 
 impl<'a> Lookup<'a> {
-    ghost use Rattle.deb_index.specs.Built.{IsLookedUp, looked_up};
+    ghost use Rattle.deb_index.specs.Built.{IsLookedUp, catalog_view, looked_up};
 
-    pub(crate) fn new(arch: &'a [u8], packages: &'a [Package], names: &'a Names) -> Lookup<'a>
-        requires { IsLookedUp arch.now (map package_view packages.now) names.now }
-        ensures { result ≡ looked_up arch.now (map package_view packages.now) }
+    /// What is looked up in a catalog with all its names.
+    pub(crate) fn new(catalog: &'a Catalog) -> Lookup<'a>
+        requires { IsLookedUp (catalog_view catalog.now).arch (catalog_view catalog.now).packages catalog.now.names }
+        ensures { result ≡ looked_up (catalog_view catalog.now).arch (catalog_view catalog.now).packages }
     {
         Lookup {
-            arch,
-            packages,
-            names,
+            arch: &catalog.arch,
+            packages: &catalog.packages,
+            names: &catalog.names,
         }
-    }
-
-    pub(crate) fn len(&self) -> u32
-        ensures value { result ≡ length self.now.packages }
-        ensures few { length self.now.packages ≤ stanza_limit }
-        ensures few_asked { sum_by asked_count self.now.packages ≤ asked_limit }
-    {
-        self.packages.len() as u32
     }
 
     pub(crate) fn package(&self, place: u32) -> &'a Package
@@ -183,7 +176,7 @@ impl<'a> Lookup<'a> {
             → is_in found.new.items q ≡ (is_in found.old.items q || (is_in places.now q && meets_as_at role self.now q (atom_view atom.now)))) }
     {
         for place in places {
-            self.add_place(role, atom, *place, found)?;
+            add_if(self.meets_as(role, *place, atom), *place, found)?;
         }
         Ok(())
     }
@@ -201,44 +194,20 @@ impl<'a> Lookup<'a> {
             ≡ (is_in found.old.items q || list_any (λ e. e.0 == q && provides_as_at role self.now e (atom_view atom.now)) entries.now)) }
     {
         for entry in entries {
-            self.add_provider(role, atom, *entry, found)?;
+            add_if(self.provides_as(role, *entry, atom), entry.0, found)?;
         }
         Ok(())
     }
+}
 
-    // Adds the place of an entry if its package meets an atom of its name by it.
-    fn add_provider(
-        &self,
-        role: Role,
-        atom: &Atom,
-        entry: (u32, u32),
-        found: &mut Vec<u32>,
-    ) -> Result<(), AllocError>
-        ensures { OnOk result ((q : ℕ)
-            → is_in found.new.items q ≡ (is_in found.old.items q || (entry.0 == q && provides_as_at role self.now entry (atom_view atom.now)))) }
-    {
-        if self.provides_as(role, entry, atom) {
-            found.push(entry.0)?;
-        }
-        Ok(())
+// Adds a place if it is wanted.
+fn add_if(is_wanted: bool, place: u32, found: &mut Vec<u32>) -> Result<(), AllocError>
+    ensures { OnOk result ((q : ℕ) → is_in found.new.items q ≡ (is_in found.old.items q || (place == q && is_wanted))) }
+{
+    if is_wanted {
+        found.push(place)?;
     }
-
-    // Adds a place if the package there meets an atom.
-    fn add_place(
-        &self,
-        role: Role,
-        atom: &Atom,
-        place: u32,
-        found: &mut Vec<u32>,
-    ) -> Result<(), AllocError>
-        ensures { OnOk result ((q : ℕ)
-            → is_in found.new.items q ≡ (is_in found.old.items q || (place == q && meets_as_at role self.now q (atom_view atom.now)))) }
-    {
-        if self.meets_as(role, place, atom) {
-            found.push(place)?;
-        }
-        Ok(())
-    }
+    Ok(())
 }
 
 // Whether a package may stand for an atom in its role, for an architecture, where it meets its name and bound.

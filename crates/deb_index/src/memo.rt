@@ -7,9 +7,7 @@ ghost use Rattle.deb_index.specs.Packages.{IndexView};
 use crate::limits::{LEAST_SLOTS, MOST_SLOTS};
 use deb_relation::{Atom, Op, SmallText, Version};
 use std::alloc::{AllocError, Global};
-
-// Multiplied with it, each bit of a word changes about half of those above it (2^64 by the golden ratio).
-const SPREAD: usize = 0x9e37_79b9_7f4a_7c15;
+use std::hash::{FoldHasher, Hasher};
 
 /// An atom, and the number of the row that it got.
 #[derive(Clone, Copy)]
@@ -58,37 +56,14 @@ fn is_same_atom(atom: &Atom, other: &Atom) -> bool
         && is_same_qualifier(&atom.qualifier, &other.qualifier)
 }
 
-// A number whose bits each hang on all lower bits of another.
-fn spread(sum: usize) -> usize {
-    let product = sum.wrapping_mul(SPREAD);
-    product ^ (product >> 32)
-}
-
-// A number that tells most texts apart, made from eight bytes at a time, and in the end from the last eight.
-fn mix(text: &[u8]) -> usize {
-    let mut sum = text.len();
-    let mut rest = text;
-    'words: while let [a, b, c, d, e, f, g, h, others @ ..] = rest {
-        sum = spread(sum ^ usize::from_le_bytes([*a, *b, *c, *d, *e, *f, *g, *h]));
-        rest = others;
-    }
-    if let [.., a, b, c, d, e, f, g, h] = text {
-        return spread(sum ^ usize::from_le_bytes([*a, *b, *c, *d, *e, *f, *g, *h]));
-    }
-    for byte in rest {
-        sum = sum.wrapping_mul(31).wrapping_add(usize::from(*byte));
-    }
-    spread(sum)
-}
-
 /// A number that tells most atoms apart.
 pub(crate) fn digest_of(atom: &Atom) -> usize {
-    let name = mix(atom.name.as_slice());
-    let version = match &atom.bound {
-        Some(bound) => mix(bound.1.text()),
-        None => 0,
-    };
-    name.wrapping_add(version.wrapping_mul(17))
+    let mut hasher = FoldHasher::default();
+    hasher.write(atom.name.as_slice());
+    if let Some(bound) = &atom.bound {
+        hasher.write(bound.1.text());
+    }
+    hasher.finish() as usize
 }
 
 // What tells an atom from most others of its slot, which the low bits give.
@@ -96,23 +71,17 @@ fn mark_of(digest: usize) -> u16 {
     (digest >> 48) as u16
 }
 
-// How many atoms are remembered where so many packages ask.
-fn slot_count(packages: u32) -> usize
-    ensures { 0 < result }
-{
-    (packages as usize)
-        .clamp(LEAST_SLOTS, MOST_SLOTS)
-        .next_power_of_two()
-}
-
 impl<'t> Memo<'t> {
     ghost use Rattle.deb_index.specs.declared.meets.Role.{Role};
     ghost use Rattle.deb_index.specs.Memo.{AreMet, HasRow};
 
+    /// Nothing is remembered yet; so many packages are to ask.
     pub(crate) fn new(alloc: Global, packages: u32) -> Result<Memo<'t>, AllocError>
         ensures { IfOk result (λ m. (index : IndexView) (role : Role) (rows : List (Option (List ℕ))) → AreMet index role rows m) }
     {
-        let count = slot_count(packages);
+        let count = (packages as usize)
+            .clamp(LEAST_SLOTS, MOST_SLOTS)
+            .next_power_of_two();
         let mut slots = Vec::with_capacity(alloc, count)?;
         for _ in 0..count {
             slots.push(None)?;

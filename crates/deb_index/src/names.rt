@@ -59,14 +59,6 @@ impl Names {
         self.texts.number(name)
     }
 
-    /// The name with a number.
-    pub(crate) fn text(&self, number: usize) -> &[u8]
-        requires { number < length (name_texts self.now) }
-        ensures { result.now ≡ slice_index_or (name_texts self.now) number [] }
-    {
-        self.texts.text(number)
-    }
-
     /// The places of the packages that have the name with a number.
     pub(crate) fn places(&self, number: usize) -> &[u32]
         requires { number < length (name_texts self.now) }

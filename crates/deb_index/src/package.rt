@@ -1,11 +1,13 @@
 //! One stanza, read as a package.
-ghost use Rattle.std.specs.Prelude.{◌≡◌, ◌≢◌, ◌+◌, ◌<◌, ◌≤◌, ◌^◌, [], IfErr, IfNone, IfOk, IfSome, map, codes};
+ghost use Rattle.std.specs.Prelude.{◌≡◌, ◌≢◌, ◌+◌, ◌<◌, ◌≤◌, ◌^◌, [], false, IfErr, IfNone, IfOk, IfSome, map};
 ghost use Rattle.std.specs.List.{list_all};
+ghost use Rattle.std.specs.Option.{option_map_or};
+ghost use Rattle.std.specs.Str.{bytes_eq};
 ghost use Rattle.deb_control.specs.Fields.{field_value};
 ghost use Rattle.deb_relation.specs.AtomView.{atom_view};
 ghost use Rattle.deb_index.specs.Packages.{package_view};
-ghost use Rattle.deb_index.specs.Reading.{Gives, head_of, head_view, groups_in, atoms_in, is_allowed, is_for, is_marked, is_provided};
-ghost use Rattle.deb_index.specs.Reading.{HeadView, provides_in, package_of, package_with, reading_of, reading_view, readings, relation_text, good_version, stanza_limit, Steps};
+ghost use Rattle.deb_index.specs.Reading.{Gives, head_of, head_view, groups_in, atoms_in, is_for, is_provided, readings, relation_text, good_version};
+ghost use Rattle.deb_index.specs.Reading.{HeadView, provides_in, package_of, package_with, reading_of, reading_view, stanza_limit, Steps};
 ghost use Rattle.deb_index.specs.Reading as spec;
 
 use crate::error::{IndexError, RelField};
@@ -25,8 +27,7 @@ pub struct Package {
     pub architecture: SmallText,
     /// Whether the stanza says `Essential: yes` (Debian Policy 3.8); any other value means no.
     pub essential: bool,
-    /// Whether the stanza says `Multi-Arch: allowed` (deb-control(5)), and so meets alternatives with the qualifier `any`;
-    /// any other value counts as none.
+    /// Whether the stanza says `Multi-Arch: allowed` (deb-control(5)), and so meets alternatives with the qualifier `any`; any other value counts as none.
     pub multi_arch_allowed: bool,
     /// Groups of alternatives, one of each of which has to be met.
     pub pre_depends: Groups,
@@ -55,10 +56,9 @@ pub(crate) struct Relations {
     pub(crate) provides: Vec<Atom>,
 }
 
-/// What a stanza without a fault is.
+/// What a stanza without a fault is: `Skipped` is one of another architecture.
 #[derive(Drop)]
 pub(crate) enum Reading {
-    /// One of another architecture.
     Skipped,
     Kept(Package),
 }
@@ -66,10 +66,9 @@ pub(crate) enum Reading {
 fn mandatory<'s>(stanza: &'s Stanza, number: u64, name: &str) -> Result<&'s [u8], IndexError>
     ensures { Gives (λ v. v.now) result (spec.mandatory number (field_value stanza.now name.now)) }
 {
-    match stanza.field(name) {
-        Some(value) => Ok(value),
-        None => Err(IndexError::MissingField { stanza: number }),
-    }
+    stanza
+        .field(name)
+        .ok_or(IndexError::MissingField { stanza: number })
 }
 
 fn read_version(alloc: Global, number: u64, text: &[u8]) -> Result<Version, IndexError>
@@ -103,10 +102,7 @@ fn read_head<'s>(alloc: Global, number: u64, stanza: &'s Stanza) -> Result<Head<
 fn relation_text<'s>(stanza: &'s Stanza, field: RelField) -> &'s [u8]
     ensures { result.now ≡ relation_text stanza.now field }
 {
-    match stanza.field(field.name()) {
-        Some(value) => value,
-        None => &[],
-    }
+    stanza.field(field.name()).unwrap_or(&[])
 }
 
 fn fault_in(error: RelationError, number: u64, field: RelField) -> IndexError
@@ -129,10 +125,9 @@ fn read_groups(
 ) -> Result<Groups, IndexError>
     ensures { Gives (λ g. g) result (groups_in number stanza.now field) }
 {
-    match Groups::parse(alloc, relation_text(stanza, field)) {
-        Ok(groups) => Ok(groups),
-        Err(error) => Err(fault_in(error, number, field)),
-    }
+    Groups::parse(alloc, relation_text(stanza, field)).map_err(|error| fault_in(
+        error, number, field,
+    ))
 }
 
 fn read_atoms(
@@ -143,10 +138,7 @@ fn read_atoms(
 ) -> Result<Vec<Atom>, IndexError>
     ensures { Gives (λ v. map atom_view v.items) result (atoms_in number stanza.now field) }
 {
-    match parse_list(alloc, relation_text(stanza, field)) {
-        Ok(atoms) => Ok(atoms),
-        Err(error) => Err(fault_in(error, number, field)),
-    }
+    parse_list(alloc, relation_text(stanza, field)).map_err(|error| fault_in(error, number, field))
 }
 
 fn is_provided(atom: &Atom) -> bool
@@ -184,20 +176,12 @@ fn read_provides(alloc: Global, number: u64, stanza: &Stanza) -> Result<Vec<Atom
     }
 }
 
-fn is_marked(stanza: &Stanza) -> bool
-    ensures { result ≡ is_marked stanza.now }
+// Whether a field has just this value.
+fn says(stanza: &Stanza, name: &str, value: &[u8]) -> bool
+    ensures { result ≡ option_map_or (λ v. bytes_eq v value.now) (field_value stanza.now name.now) false }
 {
-    match stanza.field("Essential") {
-        Some(value) => value == b"yes".as_slice(),
-        None => false,
-    }
-}
-
-fn is_allowed(stanza: &Stanza) -> bool
-    ensures { result ≡ is_allowed stanza.now }
-{
-    match stanza.field("Multi-Arch") {
-        Some(value) => value == b"allowed".as_slice(),
+    match stanza.field(name) {
+        Some(found) => found == value,
         None => false,
     }
 }
@@ -221,30 +205,6 @@ fn read_relations(alloc: Global, number: u64, stanza: &Stanza) -> Result<Relatio
     })
 }
 
-// The package that a stanza's head and its relationships make.
-fn make_package(
-    stanza: &Stanza,
-    name: SmallText,
-    version: Version,
-    architecture: SmallText,
-    relations: Relations,
-) -> Package
-    ensures { package_view result ≡ package_with stanza.now (record { name = name; version = version; architecture = architecture }) relations }
-{
-    Package {
-        name,
-        version,
-        architecture,
-        essential: is_marked(stanza),
-        multi_arch_allowed: is_allowed(stanza),
-        pre_depends: relations.pre_depends,
-        depends: relations.depends,
-        conflicts: relations.conflicts,
-        breaks: relations.breaks,
-        provides: relations.provides,
-    }
-}
-
 fn read_package(
     alloc: Global,
     number: u64,
@@ -256,7 +216,18 @@ fn read_package(
     let name = SmallText::from_slice(alloc, head.name)?;
     let architecture = SmallText::from_slice(alloc, head.architecture)?;
     let relations = read_relations(alloc, number, stanza)?;
-    Ok(make_package(stanza, name, head.version, architecture, relations))
+    Ok(Package {
+        name,
+        version: head.version,
+        architecture,
+        essential: says(stanza, "Essential", b"yes".as_slice()),
+        multi_arch_allowed: says(stanza, "Multi-Arch", b"allowed".as_slice()),
+        pre_depends: relations.pre_depends,
+        depends: relations.depends,
+        conflicts: relations.conflicts,
+        breaks: relations.breaks,
+        provides: relations.provides,
+    })
 }
 
 fn is_for(arch: &[u8], architecture: &[u8]) -> bool

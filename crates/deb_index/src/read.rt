@@ -6,6 +6,7 @@ ghost use Rattle.deb_index.specs.Reading.{IsBare, byte_limit, index_of, index_of
 use crate::builder::Builder;
 use crate::error::{BothError, IndexError, in_back, in_fore};
 use crate::index::Index;
+use crate::parts::in_one;
 use std::alloc::Global;
 
 impl Index {
@@ -66,11 +67,14 @@ impl Index {
         ensures bare { IfErr result IsBare }
     {
         let empty = Builder::new(alloc, arch.as_bytes(), essential)?;
-        let fore = match empty.add_text(alloc, text) {
+        let parted = in_one(alloc, text)?;
+        let fore = match empty.add_behind(alloc, 0, parted) {
             Ok(fore) => fore.end_foreground(),
             Err(error) => return Err(in_fore(error)),
         };
-        let both = match fore.add_text(alloc, background) {
+        let parted = in_one(alloc, background)?;
+        let before = fore.stanzas();
+        let both = match fore.add_behind(alloc, before, parted) {
             Ok(both) => both,
             Err(error) => return Err(in_back(error)),
         };

@@ -2,7 +2,6 @@
 ghost use Rattle.std.specs.Prelude.{◌≡◌, ◌≤◌, IfOk, length, sum_by};
 ghost use Rattle.std.specs.Thread.{IsSync};
 ghost use Rattle.deb_index.specs.Links.{IsLinked, IsRange, packages_in};
-ghost use Rattle.deb_index.specs.Built.{looked_up};
 ghost use Rattle.deb_index.specs.Tables.{asked_count, asked_limit};
 
 use crate::catalog::Catalog;
@@ -63,22 +62,12 @@ impl Unlinked {
         self.catalog.packages.len() as u32
     }
 
-    fn lookup(&self) -> Lookup<'_>
-        ensures { result ≡ looked_up self.now.arch self.now.packages }
-    {
-        Lookup::new(
-            &self.catalog.arch,
-            &self.catalog.packages,
-            &self.catalog.names,
-        )
-    }
-
     // The rows of the packages in a range of places.
     fn links_in(&self, alloc: Global, from: u32, to: u32) -> Result<Links, AllocError>
         requires { IsRange self.now from to }
         ensures { IfOk result (λ l. IsLinked self.now (packages_in self.now from to) l) }
     {
-        Links::of(alloc, &self.lookup(), from, to)
+        Links::of(alloc, &Lookup::new(&self.catalog), from, to)
     }
 
     // The index with its rows, where these could be made.
@@ -86,17 +75,12 @@ impl Unlinked {
         requires { IfOk links (λ l. IsLinked self self.packages l) }
         ensures { IfOk result (λ index. index ≡ self) }
     {
-        match links {
-            Ok(links) => Ok(Index {
-                links,
-                essential: self.essential,
-                catalog: self.catalog,
-            }),
-            Err(error) => {
-                drop(self);
-                Err(error)
-            }
-        }
+        let links = links?;
+        Ok(Index {
+            links,
+            essential: self.essential,
+            catalog: self.catalog,
+        })
     }
 }
 
@@ -140,21 +124,7 @@ fn links_on<R: Threads + Sync>(
             ensures { IfOk result (λ l. IsLinked unlinked.entry.now (packages_in unlinked.entry.now middle to) l) }
         { links_on(rt, alloc, unlinked, middle, to, others) },
     );
-    let links = match first {
-        Ok(links) => links,
-        Err(error) => {
-            drop(rest);
-            return Err(error);
-        }
-    };
-    let more = match rest {
-        Ok(more) => more,
-        Err(error) => {
-            drop(links);
-            return Err(error);
-        }
-    };
-    let joined = links.followed_by(&more);
-    drop(more);
-    joined
+    let links = first?;
+    let more = rest?;
+    links.followed_by(&more)
 }

@@ -5,12 +5,6 @@ use Rattle.deb_index.specs.Packages.{package_view}
 use Rattle.deb_index.specs.Reading.{with_foreground}
 use Rattle.deb_index.proofs.builder.Builder.end_foreground.Goals as goal
 
-pub overflow_cast-self : goal.overflow_cast-self
-overflow_cast-self c =
-    let packages = c.self.inside.draft.catalog.packages in
-    let counts = c.self.invariant.counts in
-    omega (arith, c.len.ensures, packages.ok, length-map packages.items package_view, counts.counted, counts.few)
-
 pub invariant_of-self : goal.invariant_of-self
 invariant_of-self c =
     let old = c.self.invariant in

@@ -16,12 +16,6 @@ use Rattle.deb_index.proofs.draft.Draft.push.Goals as goal
 kept-is : (items new : List Package) (x kept : Package) (place : ℕ) → new ≡ items ++ x ∷ [] → length items ≡ place → kept ≡ get_or new place kept → kept ≡ x
 kept-is items new x kept place pushed long at = at ∙ ap (λ ps. get_or ps place kept) pushed ∙ get_or_push items x kept place long
 
-pub overflow_cast-place : goal.overflow_cast-place
-overflow_cast-place c =
-    let packages = c.args.self.now.catalog.packages in
-    let counts = c.requires.built.counts in
-    omega (arith, c.len-place.ensures, packages.ok, length-map packages.items package_view, counts.counted, counts.few)
-
 pub keep_key-requires : goal.keep_key-requires
 keep_key-requires c =
     let old = c.args.self.now in

@@ -3,11 +3,11 @@ use Rattle.deb_index.specs.Memo.{MadeRows}
 use Rattle.deb_index.proofs.LinkLemmas.{linked-none}
 use Rattle.deb_index.proofs.links.Linker.new.Goals as goal
 
-pub returns-in-Ok : goal.returns-in-Ok
-returns-in-Ok c = record {
+pub returns : goal.returns
+returns c = record {
   group_index = ap (λ (r : MadeRows). r.index) c.in_ok-groups.ensures;
   group_role = ap (λ (r : MadeRows). r.role) c.in_ok-groups.ensures;
-  entry_index = ap (λ (r : MadeRows). r.index) c.in-Ok.ensures;
-  entry_role = ap (λ (r : MadeRows). r.role) c.in-Ok.ensures;
-  linked = linked-none c.args.lookup.now _ c.in_ok-starts.ensures.items (ap (λ (r : MadeRows). r.rows) c.in_ok-groups.ensures) (ap (λ (r : MadeRows). r.rows) c.in-Ok.ensures);
+  entry_index = ap (λ (r : MadeRows). r.index) c.in_ok-entries.ensures;
+  entry_role = ap (λ (r : MadeRows). r.role) c.in_ok-entries.ensures;
+  linked = linked-none c.args.lookup.now _ c.in_ok-starts.ensures.items (ap (λ (r : MadeRows). r.rows) c.in_ok-groups.ensures) (ap (λ (r : MadeRows). r.rows) c.in_ok-entries.ensures);
 }

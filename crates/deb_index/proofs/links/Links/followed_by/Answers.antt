@@ -34,7 +34,7 @@ returns c =
     let old = c.args.self.starts.items in
     let rest = behind-first c.deref.result.now ∙ ap (drop 1) c.deref.ensures.value in
     record {
-      starts = c.in_default.ensures ∙ (λ i. old ++ map (start_behind (record { group = c.len.ensures i; entry = c.len-2.ensures i })) (rest i));
-      groups = c.in-Ok.ensures;
-      entries = c.in-Ok-followed_by.ensures;
+      starts = c.in_ok-push_behind.ensures ∙ (λ i. old ++ map (start_behind (record { group = c.len.ensures i; entry = c.len-2.ensures i })) (rest i));
+      groups = c.in_ok-groups.ensures;
+      entries = c.in_ok-entries.ensures;
     }

@@ -24,7 +24,7 @@ loop-place-preserved c =
     let index = c.args.lookup.now in
     let place = c.loop-place.place in
     subst (λ ps. IsLinking index ps c.add.new.self) (sym (range-more index.packages c.args.from place no_package c.loop-place.auto.place (omega arith)))
-    ((rw c.in_default.is at c.add.ensures) (packages_in index c.args.from place) c.loop-place.invariant)
+    (c.in_ok-add.ensures (packages_in index c.args.from place) c.loop-place.invariant)
 
 pub returns : goal.returns
 returns c =

@@ -1,9 +1,9 @@
-use Rattle.std.proofs.Common.{◌<◌, ◌≤◌, ◌∙◌, ◌&&◌, ◌||◌, List, ℕ, ap, get_or, length, refl, sym, arith}
+use Rattle.std.proofs.Common.{◌<◌, ◌≤◌, ◌∙◌, ◌&&◌, ◌||◌, Bool, List, ℕ, ap, eqb, get_or, length, refl, sym, arith}
 use Rattle.std.proofs.lemmas.List.{take_all}
 use Rattle.deb_relation.specs.AtomView.{atom_view}
 use Rattle.deb_index.specs.Packages.{is_in}
 use Rattle.deb_index.specs.Roles.{meets_as_at}
-use Rattle.deb_index.proofs.FoundLemmas.{asked-more, or-none}
+use Rattle.deb_index.proofs.FoundLemmas.{asked-itself, asked-more, or-none}
 use Rattle.deb_index.proofs.lookup.Lookup.add_named.Goals as goal
 
 pub loop-place-init : goal.loop-place-init
@@ -11,9 +11,11 @@ loop-place-init c = λ q. sym (or-none (is_in c.args.found.now.items q))
 
 pub loop-place-preserved : goal.loop-place-preserved
 loop-place-preserved c = λ q.
+    let meets : ℕ → Bool = λ r. meets_as_at c.args.role c.args.self.now r (atom_view c.args.atom.now) in
+    let place = get_or c.args.places.now c.loop-place.place-index 0 in
     let within : c.loop-place.place-index < length c.args.places.now = omega arith in
-    asked-more (is_in c.args.found.now.items) (is_in c.loop-place.found.items) (is_in c.add_place.new.found.items) (λ r. meets_as_at c.args.role c.args.self.now r (atom_view c.args.atom.now))
-    c.args.places.now c.loop-place.place-index (get_or c.args.places.now c.loop-place.place-index 0) q within refl (c.loop-place.invariant q) (c.in_ok-add_place.ensures q)
+    asked-more (is_in c.args.found.now.items) (is_in c.loop-place.found.items) (is_in c.add_if.new.found.items) meets c.args.places.now c.loop-place.place-index place q within refl (c.loop-place.invariant q)
+    (c.in_ok-add_if.ensures q ∙ ap (λ b. is_in c.loop-place.found.items q || (eqb place q && b)) c.meets_as.ensures ∙ ap (λ b. is_in c.loop-place.found.items q || b) (asked-itself meets place q))
 
 pub returns : goal.returns
 returns c = λ q.

@@ -1,4 +1,4 @@
-use Rattle.std.proofs.Common.{◌<◌, ◌≤◌, ◌∙◌, ◌||◌, List, ℕ, ap, get_or, length, refl, sym, arith}
+use Rattle.std.proofs.Common.{◌<◌, ◌≤◌, ◌∙◌, ◌&&◌, ◌||◌, List, ℕ, ap, eqb, get_or, length, refl, sym, arith}
 use Rattle.std.specs.List.{list_any}
 use Rattle.std.proofs.lemmas.List.{take_all}
 use Rattle.deb_relation.specs.AtomView.{atom_view}
@@ -15,8 +15,8 @@ loop-entry-preserved c = λ q.
     let entries = c.args.entries.now in
     let i = c.loop-entry.entry-index in
     let within : i < length entries = omega arith in
-    entries-more (is_in c.args.found.now.items q) (is_in c.loop-entry.found.items q) (is_in c.add_provider.new.found.items q) (is_entry_of c.args.role c.args.self.now (atom_view c.args.atom.now) q)
-    entries i (get_or entries i (0, 0)) within refl (c.loop-entry.invariant q) (c.in_ok-add_provider.ensures q)
+    entries-more (is_in c.args.found.now.items q) (is_in c.loop-entry.found.items q) (is_in c.add_if.new.found.items q) (is_entry_of c.args.role c.args.self.now (atom_view c.args.atom.now) q)
+    entries i (get_or entries i (0, 0)) within refl (c.loop-entry.invariant q) (c.in_ok-add_if.ensures q ∙ ap (λ b. is_in c.loop-entry.found.items q || (eqb (get_or entries i (0, 0)).0 q && b)) c.provides_as.ensures)
 
 pub returns : goal.returns
 returns c = λ q.

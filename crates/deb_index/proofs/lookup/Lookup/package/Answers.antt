@@ -6,9 +6,6 @@ use Rattle.deb_index.specs.Tables.{asked_count, asked_limit}
 use Rattle.deb_index.proofs.SmallLemmas.{few-at}
 use Rattle.deb_index.proofs.lookup.Lookup.package.Goals as goal
 
-pub bounds-self-inside-place : goal.bounds-self-inside-place
-bounds-self-inside-place c = omega (arith, ap (λ (v : IndexView). length v.packages) c.self.view_is, length-map c.self.inside.packages.now package_view, c.requires)
-
 pub returns-clause-few_asked : goal.returns-clause-few_asked
 returns-clause-few_asked c =
     let packages = c.self.inside.packages.now in

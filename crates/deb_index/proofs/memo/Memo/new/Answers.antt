@@ -1,13 +1,7 @@
 use Rattle.std.proofs.Common.{◌∷◌, [], None, ap, length, length-append, arith}
-use Rattle.std.proofs.lemmas.List.Elements.{All-nil, All-push, All-same}
+use Rattle.std.proofs.lemmas.List.Elements.{All-push, All-same}
 use Rattle.deb_index.specs.Memo.{IsMet}
 use Rattle.deb_index.proofs.memo.Memo.new.Goals as goal
-
-pub loop-init : goal.loop-init
-loop-init c = (
-  ap length c.in_ok-slots.ensures.items,
-  λ index role rows. All-same (IsMet index role rows) _ _ c.in_ok-slots.ensures.items (All-nil (IsMet index role rows)),
-)
 
 pub loop-preserved : goal.loop-preserved
 loop-preserved c = (

@@ -2,6 +2,3 @@ use Rattle.deb_index.proofs.role_rows.RoleRows.new.Goals as goal
 
 pub invariant_of-result : goal.invariant_of-result
 invariant_of-result c = c.in_ok-memo.ensures c.args.lookup.now c.args.role c.new-2.result
-
-pub returns : goal.returns
-returns c = λ i. record { index = c.args.lookup.now; role = c.args.role; rows = c.new-2.ensures i }
