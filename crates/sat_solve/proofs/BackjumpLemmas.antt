@@ -11,7 +11,7 @@ use Rattle.sat_solve.specs.SolverState.{IsSolver}
 use Rattle.sat_solve.specs.declared.clause.Lit.{Lit}
 use Rattle.sat_solve.specs.declared.trail.Step.{Step}
 use Rattle.sat_solve.specs.declared.trail.Reason.{Reason}
-use Rattle.sat_solve.specs.declared.problem.Problem.{Problem}
+use Rattle.sat_solve.specs.declared.clause.Problem.{Problem}
 use Rattle.sat_solve.specs.declared.solver.Solver.{Solver}
 use Rattle.sat_solve.proofs.TrailLemmas.{value_in_older, power_step, power_positive, same_power, weight_at_most, times}
 use Rattle.sat_solve.proofs.ValueLemmas.{trail_fits}

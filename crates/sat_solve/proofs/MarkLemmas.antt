@@ -11,7 +11,7 @@ use Rattle.sat_solve.specs.Spans.{no_span}
 use Rattle.sat_solve.specs.Reasons.{IsProblem, IsSolution, IsMarkedSolution, IsAnswerTo, IsUsed, IsLearnt, Backs}
 use Rattle.sat_solve.specs.declared.clause.Lit.{Lit}
 use Rattle.sat_solve.specs.declared.trail.Reason.TheVariants.{Clause as OfClause}
-use Rattle.sat_solve.specs.declared.problem.Problem.{Problem}
+use Rattle.sat_solve.specs.declared.clause.Problem.{Problem}
 use Rattle.sat_solve.proofs.SpanLemmas.{clause_met}
 
 -- a mark that is read is there

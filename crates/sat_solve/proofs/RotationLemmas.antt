@@ -1,5 +1,6 @@
 -- Where spans are listed, and what a set meets where one variable is turned.
 use Rattle.std.proofs.Common.{◌≡◌, ◌≢◌, ℕ, ◌+◌, ◌<◌, ◌≤◌, ◌⊎◌, Bool, true, false, ◌||◌, ◌&&◌, not, cond, eqb, ltb, is_some, IfNone, Vec, Global, Option, Some, None, List, [], ◌∷◌, ◌++◌, map, All, length, get_or, set, take, slice_get, slice_range, refl, sym, ◌∙◌, ap, subst, inl, inr, arith}
+use mathlib.Core.Path.{fun_ext}
 use Rattle.std.specs.List.{list_all}
 use Rattle.std.proofs.lemmas.Bool.{false≢true, cases_Bool, cases_eq, cases_lt, ltb-true, or_left, or_right, or_cases, eq-eqb, eqb-true, ne_eqb}
 use Rattle.std.proofs.lemmas.List.{get_or-set_same, get_or-set_other, get_or_past, length-set, take_all}
@@ -10,15 +11,15 @@ use Rattle.number_sets.specs.Sets.{NumberSet, members_of}
 use Rattle.number_sets.proofs.MembersLemmas.{pushed_has, pushed_keeps}
 use Rattle.sat_solve.specs.Clauses.{clause_holds}
 use Rattle.sat_solve.specs.Spans.{clauses_by, clauses_at, clauses_of, MeetsSpan, no_span}
-use Rattle.sat_solve.specs.Reasons.{variables_of}
+use Rattle.sat_solve.specs.Reasons.{IsProblem, IsSolution, variables_of}
 use Rattle.sat_solve.specs.Rotation.{turned, AreNeeded, MeetsBut, BreaksAlone, IsTrueBut, owns, speaks, HasAt, ListsOn, IsListed}
 use Rattle.sat_solve.specs.declared.clause.Lit.{Lit}
 use Rattle.sat_solve.specs.declared.clause.Span.{Span}
-use Rattle.sat_solve.specs.declared.problem.Problem.{Problem}
+use Rattle.sat_solve.specs.declared.clause.Problem.{Problem}
 use Rattle.sat_solve.proofs.FlatLemmas.{all_flat}
 use Rattle.sat_solve.proofs.ExclusionLemmas.{excluded_out, excluded_clear, clear_excluded}
 use Rattle.sat_solve.proofs.ReasonLemmas.{clause_same}
-use Rattle.sat_solve.proofs.SpanLemmas.{groups_by}
+use Rattle.sat_solve.proofs.SpanLemmas.{groups_by, span_met}
 
 -- a span that is pushed to one list
 module _ (lists : List (Vec ℕ Global)) (at number : ℕ) (before after : Vec ℕ Global) (read : slice_get lists at ≡ Some before) (pushed : after.items ≡ before.items ++ number ∷ []) where
@@ -228,3 +229,30 @@ pub same_turned : (problem : Problem) (a b : List Bool) (v w group : ℕ) (P : �
 same_turned problem a b v w group P same at met =
     subst (λ (inside : List Bool). (k : ℕ) → P k → MeetsBut problem (turned inside w) group k) same
     (subst (λ (var : ℕ). (k : ℕ) → P k → MeetsBut problem (turned a var) group k) at met)
+
+-- a group that is kept is one
+no_group : (keep : List Bool) (group : ℕ) → slice_get keep group ≡ Some true → group ≡ length keep → ⊥
+no_group keep group found past = omega (arith, slice_get_within keep group true found)
+
+-- where it was put down of each variable whether it is in a set
+module _ (problem : Problem) (inside : List Bool) (members : NumberSet) (asked : IsProblem problem) (sized : length inside ≡ problem.vars) (same : (var : ℕ) → get_or inside var false ≡ members var) where
+  put_down : turned inside problem.vars ≡ members
+  put_down = fun_ext (λ var. subst (λ n. turned inside n var ≡ get_or inside var false) sized (unturned inside var) ∙ same var)
+
+  -- the set that meets all spans, but for a group that is none, is one that the problem asks for
+  pub solved : turned inside problem.vars problem.must ≡ true → ((k : ℕ) → MeetsBut problem (turned inside problem.vars) (length problem.keep.now) k) → IsSolution problem members
+  solved has met =
+      let whole = breaks_but problem inside (length problem.keep.now) (untouched problem inside (length problem.keep.now) sized has met) in
+      subst (IsSolution problem) (fun_ext same) (record {
+        within = whole.within;
+        has_must = whole.has_must;
+        meets = λ i clause below found. whole.meets i clause below found (no_group problem.keep.now _ found);
+      })
+
+  pub unsolved : turned inside problem.vars problem.must ≡ false → IsSolution problem members → ⊥
+  unsolved out solution = false≢true (sym out ∙ (ap (λ (set : NumberSet). set problem.must) put_down ∙ solution.has_must))
+
+  pub meets_each : IsSolution problem members → (k : ℕ) → MeetsBut problem (turned inside problem.vars) (length problem.keep.now) k
+  meets_each solution k below kept other =
+      subst (λ set. MeetsSpan set problem.literals.now (get_or problem.spans.now k no_span)) (sym put_down)
+      (span_met problem.vars (length problem.keep.now) problem.literals.now problem.spans.now asked.clauses k no_span below problem.keep.now members refl kept solution.meets)

@@ -1,7 +1,7 @@
 -- How a solver goes on by one step.
-use Rattle.std.proofs.Common.{◌≡◌, ◌≢◌, ℕ, ◌-◌, ◌<◌, ◌≤◌, Vec, true, false, is_some, Contains, slice_get, Option, Some, None, List, ◌∷◌, length, length-take, take, get_or, slice_range, refl, sym, ◌∙◌, ap, subst, inl, inr, arith}
+use Rattle.std.proofs.Common.{◌≡◌, ◌≢◌, ℕ, ◌-◌, ◌<◌, ◌≤◌, Vec, Bool, true, false, ltb, is_some, All, Contains, slice_get, Option, Some, None, List, ◌∷◌, length, length-take, take, get_or, slice_range, refl, sym, ◌∙◌, ap, subst, inl, inr, arith}
 use mathlib.Core.Path.{fun_ext}
-use Rattle.std.proofs.lemmas.Bool.{false≢true}
+use Rattle.std.proofs.lemmas.Bool.{false≢true, ltb-true}
 use Rattle.std.proofs.lemmas.List.{take_all}
 use Rattle.std.proofs.lemmas.List.Elements.{All-contains}
 use Rattle.std.specs.declared.alloc.Global.{Global}
@@ -11,7 +11,7 @@ use Rattle.sat_solve.specs.Clauses.{clause_holds, not_both}
 use Rattle.sat_solve.specs.Spans.{clauses_of, no_span}
 use Rattle.sat_solve.specs.ClauseStatus.{ComesDownTo}
 use Rattle.sat_solve.specs.Trail.{value_in, set_of, is_decided, Follows, IsSound, IsLinked, rank, power_of_three, steps_of, IsTrail}
-use Rattle.sat_solve.specs.Reasons.{IsProblem, IsSolution, Implied, Backs, named_by, RestsOn, AreReasoned, AreParts, FailsOn, IsReasonFor}
+use Rattle.sat_solve.specs.Reasons.{IsProblem, IsSolution, IsLearnt, Implied, Backs, named_by, RestsOn, AreReasoned, AreParts, FailsOn, IsReasonFor}
 use Rattle.sat_solve.specs.SolverState.{IsSolver, Gives, GoesOn, height}
 use Rattle.sat_solve.specs.Jumps.{AreDenied}
 use Rattle.sat_solve.specs.declared.clause.Lit.{Lit}
@@ -19,7 +19,7 @@ use Rattle.sat_solve.specs.declared.trail.Step.{Step}
 use Rattle.sat_solve.specs.declared.trail.Trail.{Trail}
 use Rattle.sat_solve.specs.declared.trail.Reason.{Reason}
 use Rattle.sat_solve.specs.declared.trail.Reason.TheVariants.{Decision, Clause, Pair, AllOlder}
-use Rattle.sat_solve.specs.declared.problem.Problem.{Problem}
+use Rattle.sat_solve.specs.declared.clause.Problem.{Problem}
 use Rattle.sat_solve.specs.declared.solver.Solver.{Solver}
 use Rattle.sat_solve.proofs.TrailLemmas.{value_in_newest, value_in_older, rank_rises, rank_below, set_of_is_first}
 use Rattle.sat_solve.proofs.ValueLemmas.{trail_fits}
@@ -126,6 +126,11 @@ module _ (problem : Problem) (old : Solver) (arena : Vec Lit Global) (clause : L
     parts = subst (AreParts (steps_of old.trail)) (sym for.ends) is.parts;
     named = for.named problem;
   }
+
+-- a learnt clause that was looked up
+pub learnt_at : (problem : Problem) (used : List Bool) (clauses slice : List (Vec Lit Global)) (number : ℕ) (clause : Vec Lit Global) → All (IsLearnt problem used) clauses → slice ≡ clauses → true ≡ ltb number (length slice) → clause ≡ get_or slice number clause → IsLearnt problem used clause
+learnt_at problem used clauses slice number clause all same inside found =
+    subst (IsLearnt problem used) (sym found) (subst (All (IsLearnt problem used)) (sym same) all number clause (ltb-true number (length slice) (sym inside)))
 
 -- a learnt clause forces its first literal where the trail denies the others
 pub jumped_solver : (problem : Problem) (mid : Solver) (arena : Vec Lit Global) (first : Lit) (rest : List Lit) (reason : Reason) (trail : Trail) → IsSolver problem mid → IsReasonFor (first ∷ rest) mid.arena.items arena.items reason → Implied problem mid.used.items (first ∷ rest) → first.var < problem.vars → value_in (steps_of mid.trail) first.var ≡ None → AreDenied rest (steps_of mid.trail) → IsTrail trail → trail.vars ≡ mid.trail.vars → steps_of trail ≡ record { var = first.var; value = first.positive; reason = reason } ∷ steps_of mid.trail → IsSolver problem (with_arena (record { trail = trail; arena = mid.arena; learnt = mid.learnt; size = mid.size; cursor = mid.cursor; propagated = mid.propagated; used = mid.used }) arena)

@@ -50,11 +50,3 @@ only_set vars values steps set linked full within agrees =
           let lacks : set var ≡ false = false_from_ne_true (set var) (λ has. let inside : var < vars = within var has in absurd (omega arith)) in
           lacks ∙ sym (set_of_past vars values steps var linked past)
     ])
-
--- the trail's set is one of variables
-pub set_of_within : (vars : ℕ) (values : List (Option Bool)) (steps : List Step) → IsLinked vars values steps → (var : ℕ) → set_of steps var ≡ true → var < vars
-set_of_within vars values steps linked var has =
-    elim (cases_lt var vars) [
-      | inl below ↦ below
-      | inr past ↦ absurd (false≢true (sym (set_of_past vars values steps var linked past) ∙ has))
-    ]

@@ -1,8 +1,10 @@
 -- How the values of a trail follow its steps.
-use Rattle.std.proofs.Common.{◌≡◌, ℕ, ◌<◌, ◌≤◌, Bool, false, Option, Some, None, unwrap_or, List, [], ◌∷◌, ◌++◌, reverse, length, get_or, refl, sym, ◌∙◌, ap, inl, inr, arith}
+use Rattle.std.proofs.Common.{◌≡◌, ℕ, ◌+◌, ◌<◌, ◌≤◌, Bool, false, Option, Some, None, unwrap_or, List, [], ◌∷◌, ◌++◌, reverse, length, get_or, refl, sym, ◌∙◌, ap, subst, inl, inr, arith}
 use Rattle.std.proofs.lemmas.Bool.{cases_lt}
-use Rattle.std.proofs.lemmas.List.{get_or_past, reverse-append}
+use Rattle.std.proofs.Math.Seq.{get_or-append_seam}
+use Rattle.std.proofs.lemmas.List.{get_or_past, get_or_append_left, reverse-append}
 use Rattle.std.proofs.lemmas.List.Sums.{sum_by-le}
+use Rattle.number_sets.specs.Sets.{NumberSet}
 use Rattle.sat_solve.specs.Trail.{value_in, set_of, IsLinked, count_one}
 use Rattle.sat_solve.specs.declared.trail.Step.{Step}
 use Rattle.sat_solve.proofs.TrailLemmas.{value_in_newest}
@@ -40,3 +42,12 @@ pub set_of_past : (vars : ℕ) (values : List (Option Bool)) (steps : List Step)
 set_of_past vars values steps var linked past =
     let none : get_or values var None ≡ None = get_or_past values var None (omega (arith, linked.sized)) in
     ap (λ value. unwrap_or value false) (sym (linked.same var) ∙ none)
+
+-- of one variable more it is put down whether it is in
+pub copied_more : (members : NumberSet) (before : List Bool) (var : ℕ) → length before ≡ var → ((k : ℕ) → k < var → get_or before k false ≡ members k) → (k : ℕ) → k < var + 1 → get_or (before ++ members var ∷ []) k false ≡ members k
+copied_more members before var sized so_far k below = elim (cases_lt k var) [
+  | inl less ↦ get_or_append_left before (members var ∷ []) false k (omega arith) ∙ so_far k less
+  | inr past ↦
+      let same : length before ≡ k = omega arith in
+      subst (λ n. get_or (before ++ members var ∷ []) n false ≡ members n) same (get_or-append_seam before (members var) [] false ∙ ap members (sym sized))
+]

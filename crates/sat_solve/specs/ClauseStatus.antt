@@ -1,12 +1,10 @@
 -- What the values so far say of a clause.
-use Rattle.std.specs.Prelude.{◌≡◌, ℕ, ◌<◌, Bool, true, false, Option, Some, None, List}
+use Rattle.std.specs.Prelude.{◌≡◌, ℕ, ◌<◌, Bool, false, Option, Some, None, List}
 use Rattle.number_sets.specs.Sets.{NumberSet}
 use Rattle.sat_solve.specs.Clauses.{clause_holds, literal_holds}
 use Rattle.sat_solve.specs.Trail.{value_in}
 use Rattle.sat_solve.specs.declared.clause.Lit.{Lit}
 use Rattle.sat_solve.specs.declared.trail.Step.{Step}
-use Rattle.sat_solve.specs.declared.trail.ClauseStatus.{ClauseStatus}
-use Rattle.sat_solve.specs.declared.trail.ClauseStatus.TheVariants.{Satisfied, Unresolved, Unit as UnitClause, Conflict}
 
 -- the set has the values of the trail
 abbrev pub Agrees : List Step → NumberSet → Type 0
@@ -18,10 +16,3 @@ ComesDownTo vars steps clause None = (set : NumberSet) → Agrees steps set → 
 ComesDownTo vars steps clause (Some literal) =
     (literal.var < vars) × (value_in steps literal.var ≡ None)
     × ((set : NumberSet) → Agrees steps set → clause_holds set clause ≡ literal_holds set literal)
-
--- what a status says of a clause
-abbrev pub IsStatus : ℕ → List Step → List Lit → ClauseStatus → Type 0
-IsStatus vars steps clause Satisfied = (set : NumberSet) → Agrees steps set → clause_holds set clause ≡ true
-IsStatus vars steps clause Unresolved = Unit {0}
-IsStatus vars steps clause (UnitClause literal) = ComesDownTo vars steps clause (Some literal)
-IsStatus vars steps clause Conflict = ComesDownTo vars steps clause None

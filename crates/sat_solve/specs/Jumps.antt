@@ -1,6 +1,6 @@
 -- What a learnt clause says of the trail, and where it sends the search back to.
-use Rattle.std.specs.Prelude.{◌≡◌, ℕ, ◌+◌, ◌<◌, ◌≤◌, Bool, true, false, not, Option, Some, None, List, [], ◌∷◌, ◌⊎◌, length, take, drop, reverse, slice_index_or}
-use Rattle.sat_solve.specs.Trail.{value_in, AllFresh, is_decided}
+use Rattle.std.specs.Prelude.{◌≡◌, ℕ, ◌<◌, ◌≤◌, Bool, true, false, not, Option, Some, None, List, [], ◌∷◌, ◌⊎◌, length, take, drop, reverse, slice_index_or}
+use Rattle.sat_solve.specs.Trail.{value_in, is_decided}
 use Rattle.sat_solve.specs.Reasons.{is_seen}
 use Rattle.sat_solve.specs.declared.clause.Lit.{Lit}
 use Rattle.sat_solve.specs.declared.trail.Step.{Step}
@@ -46,7 +46,3 @@ abbrev pub IsTaken : List Step → List Bool → List Lit → ℕ → ℕ → Op
 IsTaken trail marks clause target place None = (step : Step) → IsAt trail place step → is_decided step ≡ false
 IsTaken trail marks [] target place (Some on) = IsLevelStart trail marks place on.0 × (on.1 ≡ on.0)
 IsTaken trail marks (first ∷ rest) target place (Some on) = (on.0 ≡ place) × (on.1 ≡ target)
-
--- the step at a place is passed over
-abbrev pub PassesOver : List Step → ℕ → Step → List Lit → ℕ → ℕ → Type 0
-PassesOver trail place step clause old new = AllFresh (reverse trail) → IsAt trail place step → IsJump trail (place + 1) old clause → IsJump trail place new clause

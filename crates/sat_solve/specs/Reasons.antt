@@ -12,7 +12,7 @@ use Rattle.sat_solve.specs.declared.clause.Lit.{Lit}
 use Rattle.sat_solve.specs.declared.trail.Step.{Step}
 use Rattle.sat_solve.specs.declared.trail.Reason.{Reason}
 use Rattle.sat_solve.specs.declared.trail.Reason.TheVariants.{Decision, Given, Clause, Pair, Learnt, AllOlder}
-use Rattle.sat_solve.specs.declared.problem.Problem.{Problem}
+use Rattle.sat_solve.specs.declared.clause.Problem.{Problem}
 
 -- the clauses and the variable that a problem names are in range
 pub record IsProblem (problem : Problem) : Type 0 where

@@ -1,12 +1,14 @@
 -- Sets that break one group alone, and lists of the spans that speak of a variable or of a group.
 use Rattle.std.specs.Prelude.{◌≡◌, ◌≢◌, ℕ, ◌+◌, ◌<◌, ◌==◌, ◌||◌, Bool, true, false, not, Vec, Option, Some, None, List, All, length, if◌then◌else◌, slice_get, slice_range, slice_index_or}
+use Rattle.std.specs.List.{list_all}
 use Rattle.std.specs.declared.alloc.Global.{Global}
 use Rattle.number_sets.specs.Sets.{NumberSet, members_of}
 use Rattle.sat_solve.specs.Clauses.{Clause, clause_holds}
 use Rattle.sat_solve.specs.Spans.{MeetsSpan, clauses_of, no_span}
 use Rattle.sat_solve.specs.Reasons.{variables_of}
+use Rattle.sat_solve.specs.declared.clause.Lit.{Lit}
 use Rattle.sat_solve.specs.declared.clause.Span.{Span}
-use Rattle.sat_solve.specs.declared.problem.Problem.{Problem}
+use Rattle.sat_solve.specs.declared.clause.Problem.{Problem}
 
 -- the set makes each clause of a kept group true, but for those of one group, and is else one that is asked for
 pub record IsTrueBut (vars : ℕ) (clauses : List Clause) (keep : List Bool) (must group : ℕ) (set : NumberSet) : Type 0 where
@@ -25,6 +27,10 @@ MarksNeeded problem marks = AreNeeded problem.vars (clauses_of problem.literals.
 -- the variables that are in, with one of them turned
 abbrev pub turned : List Bool → ℕ → NumberSet
 turned inside turn var = if var == turn then not (slice_index_or inside var true) else slice_index_or inside var false
+
+-- no literal of this part has a variable of the set
+abbrev pub IsClearPart : NumberSet → List Lit → ℕ × ℕ → Type 0
+IsClearPart set literals part = list_all (λ literal. not (set literal.var)) (slice_range literals part.0 part.1) ≡ true
 
 -- the set meets a span, where that is one, kept, and not of the group
 abbrev pub MeetsBut : Problem → NumberSet → ℕ → ℕ → Type 0

@@ -1,17 +1,13 @@
 -- The state of a solve between two steps of it.
-use Rattle.std.specs.Prelude.{◌≡◌, ◌≢◌, ℕ, ◌+◌, ◌*◌, ◌-◌, ◌<◌, ◌≤◌, true, false, not, Option, Some, None, List, All, length, take, reverse, slice_range}
-use Rattle.std.specs.List.{list_all}
+use Rattle.std.specs.Prelude.{◌≡◌, ◌≢◌, ℕ, ◌+◌, ◌*◌, ◌-◌, ◌<◌, ◌≤◌, Bool, true, false, Option, Some, None, List, All, length, take, reverse}
 use Rattle.number_sets.specs.Sets.{NumberSet}
 use Rattle.sat_solve.specs.Clauses.{clause_holds}
-use Rattle.sat_solve.specs.Trail.{value_in, set_of, is_decision, IsSound, rank, power_of_three, steps_of, IsTrail}
+use Rattle.sat_solve.specs.Trail.{value_in, is_decision, IsSound, rank, power_of_three, steps_of, IsTrail}
 use Rattle.sat_solve.specs.Reasons.{IsSolution, IsUsed, IsLearnt, Backs, variables_of, named_by, AreReasoned, IsPart, AreParts, end_before, FailsOn}
 use Rattle.sat_solve.specs.declared.clause.Lit.{Lit}
 use Rattle.sat_solve.specs.declared.trail.Reason.{Reason}
-use Rattle.sat_solve.specs.declared.problem.Problem.{Problem}
+use Rattle.sat_solve.specs.declared.clause.Problem.{Problem}
 use Rattle.sat_solve.specs.declared.solver.Solver.{Solver}
-use Rattle.sat_solve.specs.declared.search.ClearPart.{ClearPart}
-use Rattle.sat_solve.specs.declared.search.Progress.{Progress}
-use Rattle.sat_solve.specs.declared.search.Progress.TheVariants.{Going, Conflict, Solved}
 
 -- the trail of a solver is right for a problem
 pub record IsSolver (problem : Problem) (solver : Solver) : Type 0 where
@@ -41,10 +37,6 @@ pub record UndoesTo (place : ℕ) (old new : Solver) : Type 0 where
   pub cut : steps_of new.trail ≡ reverse (take place old.trail.steps.items)
   pub lower : rank old.trail.vars (steps_of old.trail) < 2 * power_of_three (old.trail.vars - 1 - length (steps_of new.trail)) + rank old.trail.vars (steps_of new.trail)
 
--- no literal of this part has a variable of the set
-abbrev pub IsClearPart : NumberSet → List Lit → ClearPart → Type 0
-IsClearPart set literals part = list_all (λ literal. not (set literal.var)) (slice_range literals part.start part.end) ≡ true
-
 -- a conflict: no set that backs the reason agrees with the trail on what the reason names
 abbrev pub IsConflict : Problem → Solver → Reason → Type 0
 IsConflict problem solver reason = FailsOn (Backs problem solver.used.items reason) (steps_of solver.trail) (named_by problem solver.arena.items reason)
@@ -64,14 +56,9 @@ pub record GoesOn (problem : Problem) (old new : Solver) (found : Option Reason)
   pub rises : height problem old ≤ height problem new
   pub conflict : IsFoundConflict problem new found
 
--- what a round of the search came to
-abbrev pub IsProgress : Problem → Solver → Solver → Progress → Type 0
-IsProgress problem old new Going = height problem old < height problem new
-IsProgress problem old new (Conflict conflict) = IsConflict problem new conflict
-IsProgress problem old new Solved = IsSolution problem (set_of (steps_of new.trail))
-
--- a round of the search
-pub record Advances (problem : Problem) (old new : Solver) (came : Progress) : Type 0 where
+-- the solver decided a variable, if one was free
+pub record Decides (problem : Problem) (old new : Solver) (decided : Bool) : Type 0 where
   pub solver : IsSolver problem new
   pub rises : height problem old ≤ height problem new
-  pub came_to : IsProgress problem old new came
+  pub higher : decided ≡ true → height problem old < height problem new
+  pub full : decided ≡ false → (var : ℕ) → var < problem.vars → value_in (steps_of new.trail) var ≢ None

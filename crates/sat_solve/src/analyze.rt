@@ -4,16 +4,15 @@
 //! and K. Sakallah, "GRASP: a search algorithm for propositional satisfiability", 1999), and else what older levels say.
 
 ghost use Rattle.std.specs.Prelude.{◌≡◌, ℕ, ◌<◌, true, false, IfOk};
-ghost use Rattle.std.specs.Prelude.{Some, List, [], All, length, slice_get, slice_index_or, slice_set};
+ghost use Rattle.std.specs.Prelude.{Some, [], All, length, slice_get, slice_index_or, slice_set};
 ghost use Rattle.number_sets.specs.Sets.{NumberSet};
 ghost use Rattle.sat_solve.specs.Clauses.{AreWithin};
 ghost use Rattle.sat_solve.specs.Trail.{steps_of, IsSound, IsTrail};
 ghost use Rattle.sat_solve.specs.Reasons.{IsSolution, IsMarkedSolution, IsUsed, Backs, AllBack, IsProblem, Implied};
 ghost use Rattle.sat_solve.specs.Reasons.{FailsOn, AreReasoned, named_by, is_seen, variables_of, SeesAll};
-ghost use Rattle.sat_solve.specs.Jumps.{IsJump, IsTaken, PassesOver};
+ghost use Rattle.sat_solve.specs.Jumps.{IsJump, IsTaken};
 
-use crate::clause::Lit;
-use crate::problem::Problem;
+use crate::clause::{Lit, Problem};
 use crate::trail::{Reason, Step, Trail};
 use std::alloc::{AllocError, Global};
 
@@ -28,6 +27,84 @@ pub(crate) struct Analysis {
     pub target: usize,
 }
 
+/// Sees a variable.
+fn see(seen: &mut Vec<bool>, var: u32)
+    ensures { seen.new.items ≡ slice_set seen.old.items var true }
+{
+    if (var as usize) < seen.len() {
+        seen[var as usize] = true;
+    }
+}
+
+/// Sees the variables of literals.
+fn see_literals(seen: &mut Vec<bool>, literals: &[Lit])
+    ensures { SeesAll (variables_of literals.now) seen.old.items seen.new.items }
+{
+    for literal in literals {
+        see(seen, literal.var);
+    }
+}
+
+/// Marks a group, if it is kept.
+fn use_group(problem: &Problem, used: &mut Vec<bool>, group: u32)
+    requires { IsUsed problem.now used.old.items }
+    ensures used { IsUsed problem.now used.new.items }
+    ensures within { AreWithin used.old.items used.new.items }
+    ensures marked { slice_index_or problem.now.keep.now group false ≡ true → slice_get used.new.items group ≡ Some true }
+{
+    let group = group as usize;
+    if group < problem.keep.len() && problem.keep[group] {
+        used[group] = true;
+    }
+}
+
+/// Sees the variables that a reason names, and marks the groups that it brings in. Without marks all variables are seen.
+fn rest_on(
+    problem: &Problem,
+    arena: &[Lit],
+    reason: Reason,
+    seen: &mut Vec<bool>,
+    used: &mut Vec<bool>,
+) -> Result<(), AllocError>
+    requires problem { IsProblem problem.now }
+    requires used { IsUsed problem.now used.old.items }
+    ensures seen { IfOk result (λ _. SeesAll (named_by problem.now arena.now reason) seen.old.items seen.new.items) }
+    ensures used { IfOk result (λ _. IsUsed problem.now used.new.items) }
+    ensures backs { IfOk result (λ _. AllBack problem.now used.old.items used.new.items reason) }
+{
+    match reason {
+        Reason::Decision | Reason::Given => Ok(()),
+        Reason::Clause(clause) => {
+            if clause < problem.spans.len() {
+                let span = problem.spans[clause];
+                see_literals(seen, &problem.literals[span.start..span.end]);
+                use_group(problem, used, span.group);
+            } else {
+                seen.clear();
+            }
+            Ok(())
+        }
+        Reason::Pair(group, owner, other) => {
+            see_literals(seen, &[Lit::out(owner), Lit::out(other)]);
+            use_group(problem, used, group);
+            Ok(())
+        }
+        Reason::Learnt(start, end) => {
+            if start <= end && end <= arena.len() {
+                see_literals(seen, &arena[start..end]);
+            } else {
+                seen.clear();
+            }
+            Ok(())
+        }
+        Reason::AllOlder => {
+            seen.clear();
+            used.clear();
+            used.extend_from_slice(problem.keep)
+        }
+    }
+}
+
 impl Analysis {
     /// An analysis of no conflict.
     pub(crate) fn new(alloc: Global) -> Analysis {
@@ -38,14 +115,6 @@ impl Analysis {
         }
     }
 
-    /// Makes room for this many variables.
-    pub(crate) fn restart(&mut self, vars: u32) -> Result<(), AllocError> {
-        self.seen.clear();
-        self.seen.resize(vars as usize, false)?;
-        self.clause.clear();
-        self.clause.reserve(vars as usize)
-    }
-
     /// Whether a variable is seen.
     fn has(&self, var: u32) -> bool
         ensures { result ≡ is_seen self.now.seen.items var }
@@ -54,107 +123,6 @@ impl Analysis {
             self.seen[var as usize]
         } else {
             true
-        }
-    }
-
-    /// Sees a variable.
-    fn see(&mut self, var: u32)
-        ensures seen { self.new.seen.items ≡ slice_set self.old.seen.items var true }
-        ensures clause { self.new.clause ≡ self.old.clause }
-        ensures target { self.new.target ≡ self.old.target }
-    {
-        if (var as usize) < self.seen.len() {
-            self.seen[var as usize] = true;
-        }
-    }
-
-    /// Sees all variables: none has a mark left.
-    fn see_all(&mut self)
-        ensures seen { self.new.seen.items ≡ [] }
-        ensures clause { self.new.clause ≡ self.old.clause }
-        ensures target { self.new.target ≡ self.old.target }
-    {
-        self.seen.clear();
-    }
-
-    /// Sees the variables of literals.
-    fn see_literals(&mut self, literals: &[Lit])
-        ensures clause { self.new.clause ≡ self.old.clause }
-        ensures target { self.new.target ≡ self.old.target }
-        ensures seen { SeesAll (variables_of literals.now) self.old.seen.items self.new.seen.items }
-    {
-        for literal in literals {
-            self.see(literal.var);
-        }
-    }
-
-    /// Sees the variables that a reason names.
-    fn see_named(&mut self, problem: &Problem, arena: &[Lit], reason: Reason)
-        requires { IsProblem problem.now }
-        ensures clause { self.new.clause ≡ self.old.clause }
-        ensures target { self.new.target ≡ self.old.target }
-        ensures seen { SeesAll (named_by problem.now arena.now reason) self.old.seen.items self.new.seen.items }
-    {
-        match reason {
-            Reason::Decision | Reason::Given => {}
-            Reason::Clause(clause) => {
-                if clause < problem.spans.len() {
-                    let span = problem.spans[clause];
-                    self.see_literals(&problem.literals[span.start..span.end]);
-                } else {
-                    self.see_all();
-                }
-            }
-            Reason::Pair(_, owner, other) => {
-                self.see_literals(&[Lit::out(owner), Lit::out(other)]);
-            }
-            Reason::Learnt(start, end) => {
-                if start <= end && end <= arena.len() {
-                    self.see_literals(&arena[start..end]);
-                } else {
-                    self.see_all();
-                }
-            }
-            Reason::AllOlder => self.see_all(),
-        }
-    }
-
-    /// Marks a group, if it is kept.
-    fn use_group(problem: &Problem, used: &mut Vec<bool>, group: u32)
-        requires { IsUsed problem.now used.old.items }
-        ensures used { IsUsed problem.now used.new.items }
-        ensures within { AreWithin used.old.items used.new.items }
-        ensures marked { slice_index_or problem.now.keep.now group false ≡ true → slice_get used.new.items group ≡ Some true }
-    {
-        let group = group as usize;
-        if group < problem.keep.len() && problem.keep[group] {
-            used[group] = true;
-        }
-    }
-
-    /// Marks the groups that a reason brings in.
-    fn use_groups(problem: &Problem, used: &mut Vec<bool>, reason: Reason) -> Result<(), AllocError>
-        requires problem { IsProblem problem.now }
-        requires used { IsUsed problem.now used.old.items }
-        ensures used { IfOk result (λ _. IsUsed problem.now used.new.items) }
-        ensures backs { IfOk result (λ _. AllBack problem.now used.old.items used.new.items reason) }
-    {
-        match reason {
-            Reason::Clause(clause) => {
-                if clause < problem.spans.len() {
-                    Analysis::use_group(problem, used, problem.spans[clause].group);
-                }
-                Ok(())
-            }
-            Reason::Pair(group, _, _) => {
-                Analysis::use_group(problem, used, group);
-                Ok(())
-            }
-            Reason::AllOlder => {
-                used.clear();
-                used.extend_from_slice(problem.keep)
-            }
-            Reason::Decision | Reason::Given | Reason::Learnt(_, _) => Ok(()),
         }
     }
 
@@ -202,26 +170,10 @@ impl Analysis {
         if self.clause.is_empty() {
             return self.level_start(trail, place, low);
         }
-        if place >= first {
-            return Some((place, self.target));
-        }
-        if trail.steps[place].reason.is_decision() {
+        if place >= first || trail.steps[place].reason.is_decision() {
             return Some((place, self.target));
         }
         None
-    }
-
-    /// Passes over the step at a place. The jump goes past a decision while the clause has one literal.
-    fn pass(&mut self, step: Step, place: usize)
-        ensures seen { self.new.seen ≡ self.old.seen }
-        ensures clause { self.new.clause ≡ self.old.clause }
-        ensures jump { (trail : List Step) → PassesOver trail place step self.old.clause.items self.old.target self.new.target }
-    {
-        if self.clause.len() == 1 {
-            if step.reason.is_decision() {
-                self.target = place;
-            }
-        }
     }
 
     /// Finds the clause that a conflict teaches, and marks the groups that it follows from.
@@ -250,8 +202,7 @@ impl Analysis {
         self.seen.clear();
         self.seen.resize(problem.vars as usize, false)?;
         self.clause.clear();
-        self.see_named(problem, arena, conflict);
-        Analysis::use_groups(problem, used, conflict)?;
+        rest_on(problem, arena, conflict, &mut self.seen, used)?;
         let first = trail.first_decision();
         let mut left = trail.steps.len();
         // Where there is no decision, no step is kept.
@@ -265,11 +216,11 @@ impl Analysis {
                     self.clause.push(step.denied())?;
                     left = start;
                 } else {
-                    self.see_named(problem, arena, step.reason);
-                    Analysis::use_groups(problem, used, step.reason)?;
+                    rest_on(problem, arena, step.reason, &mut self.seen, used)?;
                 }
-            } else {
-                self.pass(step, left);
+            } else if self.clause.len() == 1 && step.reason.is_decision() {
+                // While the clause has one literal, the jump goes past decisions.
+                self.target = left;
             }
         }
         Ok(())

@@ -1,4 +1,4 @@
-//! Literals, and where the literals of a clause stand.
+//! Literals, where the literals of a clause stand, and what a solve is asked.
 
 ghost use Rattle.std.specs.Prelude.{◌≡◌, false};
 
@@ -44,4 +44,17 @@ pub(crate) struct Span {
     pub start: usize,
     pub end: usize,
     pub owner: Option<u32>,
+}
+
+/// What a solve is asked: a formula's clauses, and which of its sets are looked for.
+#[derive(Clone, Copy)]
+pub(crate) struct Problem<'a> {
+    pub vars: u32,
+    /// The literals of all clauses, one clause after another.
+    pub literals: &'a [Lit],
+    pub spans: &'a [Span],
+    /// One mark a group.
+    pub keep: &'a [bool],
+    /// The variable that is to be in.
+    pub must: u32,
 }

@@ -4,8 +4,7 @@ ghost use Rattle.std.specs.Prelude.{◌<◌, length, IfOk};
 ghost use Rattle.sat_solve.specs.Reasons.{IsProblem};
 ghost use Rattle.sat_solve.specs.SolverState.{IsSolver, GoesOn};
 
-use crate::clause::{Lit, Span};
-use crate::problem::Problem;
+use crate::clause::{Lit, Problem, Span};
 use crate::solver::Solver;
 use crate::trail::{Reason, Trail};
 use std::alloc::{AllocError, Global};
@@ -19,42 +18,16 @@ struct Walk {
     by: Option<u32>,
 }
 
-impl Walk {
-    /// Whether another variable than this one walked here and is still in: it ruled out already what this one would.
-    fn is_done(self, trail: &Trail, var: u32) -> bool {
-        match self.by {
-            Some(by) => by != var && trail.truth(Lit::out(by)) == Some(false),
-            None => false,
-        }
-    }
-}
-
-/// What a variable is to a list.
-#[derive(Clone, Copy)]
-enum Side {
-    /// It owns the list, by the span of this number.
-    Owner(usize),
-    /// It stands in the list, at this place.
-    Listed(usize),
-}
-
-impl Side {
-    /// The span and the place of the pair with one of the other side.
-    fn pair(self, other: usize) -> (usize, usize) {
-        match self {
-            Side::Owner(span) => (span, other),
-            Side::Listed(place) => (other, place),
-        }
-    }
-}
-
 /// That a variable owns a list or stands in it.
 #[derive(Clone, Copy)]
 struct Link {
     /// The link that the variable had before.
     after: Option<usize>,
-    list: usize,
-    side: Side,
+    /// What the variable walks when it comes in: of a list that it owns the places, and else the owners.
+    walk: usize,
+    /// The number of the span by which it owns the list, or the place at which it stands in it.
+    at: usize,
+    owns: bool,
 }
 
 /// The lists that each variable owns, and those that it stands in.
@@ -62,9 +35,8 @@ struct Link {
 /// They are hints, as the watches are: a pair is examined before it forces anything.
 #[derive(Drop)]
 pub(crate) struct Exclusions {
-    lists: Vec<Walk>,
-    /// The owners of each list.
-    owners: Vec<Walk>,
+    /// Of each list its places, and then its owners.
+    walks: Vec<Walk>,
     links: Vec<Link>,
     /// The newest link of each variable.
     newest: Vec<Option<usize>>,
@@ -74,8 +46,7 @@ impl Exclusions {
     /// No lists.
     pub(crate) fn new(alloc: Global) -> Exclusions {
         Exclusions {
-            lists: Vec::new(alloc),
-            owners: Vec::new(alloc),
+            walks: Vec::new(alloc),
             links: Vec::new(alloc),
             newest: Vec::new(alloc),
         }
@@ -83,8 +54,7 @@ impl Exclusions {
 
     /// Starts over with no lists.
     pub(crate) fn restart(&mut self) {
-        self.lists.clear();
-        self.owners.clear();
+        self.walks.clear();
         self.links.clear();
         self.newest.clear();
     }
@@ -106,15 +76,16 @@ impl Exclusions {
         if !self.is_newest(span) {
             self.add_list(problem, span, number)?;
         }
-        if let Some(owners) = self.owners.last_mut() {
+        if let Some(owners) = self.walks.last_mut() {
             owners.end = number + 1;
         }
-        self.link(owner, Side::Owner(number))
+        let places = self.walks.len().saturating_sub(2);
+        self.link(owner, places, number, true)
     }
 
     /// Whether the newest list is that of a span.
     fn is_newest(&self, span: Span) -> bool {
-        match self.lists.last() {
+        match self.walks.get(self.walks.len().saturating_sub(2)) {
             Some(list) => list.start == span.start && list.end == span.end,
             None => false,
         }
@@ -123,33 +94,31 @@ impl Exclusions {
     /// Adds the list of a span, whose owners stand from this number on.
     fn add_list(&mut self, problem: &Problem, span: Span, number: usize) -> Result<(), AllocError> {
         self.newest.resize(problem.vars as usize, None)?;
-        self.lists.push(Walk {
-            start: span.start,
-            end: span.end,
-            by: None,
-        })?;
-        self.owners.push(Walk {
-            start: number,
-            end: number,
-            by: None,
-        })?;
+        for (start, end) in [(span.start, span.end), (number, number)] {
+            self.walks.push(Walk {
+                start,
+                end,
+                by: None,
+            })?;
+        }
+        let owners = self.walks.len().saturating_sub(1);
         for place in span.start..span.end.min(problem.literals.len()) {
-            self.link(problem.literals[place].var, Side::Listed(place))?;
+            self.link(problem.literals[place].var, owners, place, false)?;
         }
         Ok(())
     }
 
-    /// Links a variable to the newest list.
-    fn link(&mut self, var: u32, side: Side) -> Result<(), AllocError> {
-        let var = var as usize;
-        if var < self.newest.len() && !self.lists.is_empty() {
+    /// Links a variable to what it walks.
+    fn link(&mut self, var: u32, walk: usize, at: usize, owns: bool) -> Result<(), AllocError> {
+        if let Some(newest) = self.newest.get_mut(var as usize) {
             let number = self.links.len();
             self.links.push(Link {
-                after: self.newest[var],
-                list: self.lists.len() - 1,
-                side,
+                after: *newest,
+                walk,
+                at,
+                owns,
             })?;
-            self.newest[var] = Some(number);
+            *newest = Some(number);
         }
         Ok(())
     }
@@ -160,11 +129,17 @@ impl Exclusions {
     }
 
     /// What a variable that came in has yet to walk by a link.
+    ///
+    /// Where another one walked and is still in, that ruled out already what this one would.
     fn begin(&mut self, trail: &Trail, var: u32, link: Link) -> Option<Walk> {
-        match link.side {
-            Side::Owner(_) => begin_in(&mut self.lists, link.list, trail, var),
-            Side::Listed(_) => begin_in(&mut self.owners, link.list, trail, var),
+        let walk = self.walks.get_mut(link.walk)?;
+        if let Some(by) = walk.by {
+            if by != var && trail.truth(Lit::out(by)) == Some(false) {
+                return None;
+            }
         }
+        walk.by = Some(var);
+        Some(*walk)
     }
 
     /// Looks at the pairs of a variable that came in.
@@ -184,8 +159,16 @@ impl Exclusions {
                 break;
             };
             next = link.after;
-            if let Some(walk) = self.begin(&solver.trail, var, link) {
-                let conflict = examine_pairs(problem, solver, walk, link.side)?;
+            let Some(walk) = self.begin(&solver.trail, var, link) else {
+                continue;
+            };
+            for other in walk.start..walk.end {
+                let (span, place) = if link.owns {
+                    (link.at, other)
+                } else {
+                    (other, link.at)
+                };
+                let conflict = solver.examine_pair(problem, span, place)?;
                 if conflict.is_some() {
                     return Ok(conflict);
                 }
@@ -193,34 +176,4 @@ impl Exclusions {
         }
         Ok(None)
     }
-}
-
-/// What a variable that came in has yet to walk of these.
-fn begin_in(walks: &mut [Walk], number: usize, trail: &Trail, var: u32) -> Option<Walk> {
-    if number >= walks.len() || walks[number].is_done(trail, var) {
-        return None;
-    }
-    walks[number].by = Some(var);
-    Some(walks[number])
-}
-
-/// Looks at the pairs of a variable of this side with what it walks.
-fn examine_pairs(
-    problem: &Problem,
-    solver: &mut Solver,
-    walk: Walk,
-    side: Side,
-) -> Result<Option<Reason>, AllocError>
-    requires problem { IsProblem problem.now }
-    requires solver { IsSolver problem.now solver.old }
-    ensures { IfOk result (GoesOn problem.now solver.old solver.new) }
-{
-    for other in walk.start..walk.end {
-        let (span, place) = side.pair(other);
-        let conflict = solver.examine_pair(problem, span, place)?;
-        if conflict.is_some() {
-            return Ok(conflict);
-        }
-    }
-    Ok(None)
 }

@@ -6,8 +6,7 @@ ghost use Rattle.sat_solve.specs.Clauses.{excluding};
 ghost use Rattle.sat_solve.specs.Rotation.{AreNeeded};
 ghost use Rattle.sat_solve.specs.Spans.{out_of, span_of};
 
-use crate::clause::{Lit, Owner, Span};
-use crate::problem::Problem;
+use crate::clause::{Lit, Owner, Problem, Span};
 use crate::rotation::Rotation;
 use crate::search::Workspace;
 use std::alloc::{AllocError, Global};
@@ -169,7 +168,7 @@ impl Formula {
     {
         let answer = self.search_in(alloc, workspace, keep, must)?;
         marks.clear();
-        marks.extend_from_slice(workspace.used())?;
+        marks.extend_from_slice(&workspace.solver.used)?;
         Ok(answer)
     }
 

@@ -4,8 +4,7 @@ ghost use Rattle.std.specs.Prelude.{◌≡◌, ℕ, ◌<◌, true, length, OnOk}
 ghost use Rattle.sat_solve.specs.Reasons.{IsProblem, variables_of};
 ghost use Rattle.sat_solve.specs.Rotation.{HasAt, IsListed, ListsOn};
 
-use crate::clause::Lit;
-use crate::problem::Problem;
+use crate::clause::{Lit, Problem};
 use std::alloc::{AllocError, Global};
 
 /// Lists a span, where there is a list.
@@ -46,22 +45,7 @@ fn push_span(lists: &mut Vec<Vec<u32>>, problem: &Problem, number: u32) -> Resul
     Ok(())
 }
 
-/// Empties the lists, and makes those that lack: one for each variable and each group.
-fn clear_lists(
-    alloc: Global,
-    lists: &mut Vec<Vec<u32>>,
-    problem: &Problem,
-) -> Result<(), AllocError> {
-    for number in 0..lists.len() {
-        lists[number].clear();
-    }
-    for _ in lists.len()..problem.vars as usize + problem.keep.len() {
-        lists.push(Vec::new(alloc))?;
-    }
-    Ok(())
-}
-
-/// Lists all spans, and nothing else.
+/// Lists all spans, and nothing else, in a list for each variable and each group.
 pub(crate) fn list_spans(
     alloc: Global,
     lists: &mut Vec<Vec<u32>>,
@@ -70,7 +54,12 @@ pub(crate) fn list_spans(
     requires { IsProblem problem.now }
     ensures { OnOk result ((k : ℕ) → k < length problem.now.spans.now → IsListed problem.now lists.new.items k) }
 {
-    clear_lists(alloc, lists, problem)?;
+    for key in 0..lists.len() {
+        lists[key].clear();
+    }
+    for _ in lists.len()..problem.vars as usize + problem.keep.len() {
+        lists.push(Vec::new(alloc))?;
+    }
     for number in 0..problem.spans.len() {
         if number > u32::MAX as usize {
             return Err(AllocError);

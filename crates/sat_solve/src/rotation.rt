@@ -8,8 +8,8 @@ ghost use Rattle.std.specs.Prelude.{◌≡◌, ℕ, ◌<◌, ◌⊎◌, true, So
 ghost use Rattle.sat_solve.specs.Reasons.{IsProblem};
 ghost use Rattle.sat_solve.specs.Rotation.{BreaksAlone, IsListed, MarksNeeded};
 
+use crate::clause::Problem;
 use crate::occurrences::{list_spans, listed_by};
-use crate::problem::Problem;
 use crate::turned::Turned;
 use std::alloc::{AllocError, Global};
 
@@ -43,11 +43,6 @@ fn mark(marks: &mut Vec<bool>, group: u32)
     if (group as usize) < marks.len() {
         marks[group as usize] = true;
     }
-}
-
-/// Whether a group is marked.
-fn is_marked(marks: &[bool], group: u32) -> bool {
-    marks.get(group as usize).copied() == Some(true)
 }
 
 impl Rotation {
@@ -84,7 +79,7 @@ impl Rotation {
         self.inside.resize(problem.vars as usize, false)?;
         put_in(&mut self.inside, set);
         let set = self.turned(problem.vars);
-        Ok(set.has(problem.must) && set.meets_all(problem, group))
+        Ok(set.has(problem.must) && set.meets_all(problem, group as usize))
     }
 
     /// A group that breaks where a variable is turned. It is a hint.
@@ -92,7 +87,7 @@ impl Rotation {
         requires { IsProblem problem.now }
     {
         let numbers = self.lists.get(var as usize)?;
-        let number = self.turned(var).first_broken(problem, numbers, u32::MAX)?;
+        let number = self.turned(var).first_broken(problem, numbers, usize::MAX)?;
         Some(problem.spans.get(number as usize)?.group)
     }
 
@@ -115,8 +110,8 @@ impl Rotation {
         let Some(broken) = self.lists.get(problem.vars as usize + self.group as usize) else {
             return false;
         };
-        if set.first_broken(problem, spoken, group).is_some()
-            || set.first_broken(problem, broken, group).is_some()
+        if set.first_broken(problem, spoken, group as usize).is_some()
+            || set.first_broken(problem, broken, group as usize).is_some()
         {
             return false;
         }
@@ -125,60 +120,23 @@ impl Rotation {
         true
     }
 
-    /// Has a variable turned for each literal of a broken span.
-    fn push_turns_for(&mut self, problem: &Problem, number: u32) -> Result<(), AllocError>
-        requires { IsProblem problem.now }
-        ensures { (self.new.lists ≡ self.old.lists) × (self.new.inside ≡ self.old.inside) × (self.new.group ≡ self.old.group) }
-    {
-        let Some(span) = problem.spans.get(number as usize).copied() else {
-            return Ok(());
-        };
-        if self
-            .turned(problem.vars)
-            .satisfies_span(problem.literals, span)
-        {
-            return Ok(());
-        }
-        if let Some(owner) = span.owner {
-            self.turns.push(Turn {
-                var: owner,
-                back: None,
-            })?;
-        }
-        for literal in &problem.literals[span.start..span.end] {
-            if span.owner.is_none() || self.turned(problem.vars).has(literal.var) {
-                self.turns.push(Turn {
-                    var: literal.var,
-                    back: None,
-                })?;
-            }
-        }
-        Ok(())
-    }
-
     /// Has variables turned that mend the group that the set breaks.
     fn push_turns(&mut self, problem: &Problem) -> Result<(), AllocError>
         requires { IsProblem problem.now }
         ensures { (self.new.lists ≡ self.old.lists) × (self.new.inside ≡ self.old.inside) × (self.new.group ≡ self.old.group) }
     {
+        let set = Turned {
+            inside: &self.inside,
+            var: problem.vars,
+        };
         let key = problem.vars as usize + self.group as usize;
-        for place in 0..self.count_at(key) {
-            if let Some(number) = self.number_at(key, place) {
-                self.push_turns_for(problem, number)?;
-            }
+        let Some(numbers) = self.lists.get(key) else {
+            return Ok(());
+        };
+        for number in numbers {
+            push_turns_for(problem, &set, *number, &mut self.turns)?;
         }
         Ok(())
-    }
-
-    fn count_at(&self, key: usize) -> usize {
-        match self.lists.get(key) {
-            Some(list) => list.len(),
-            None => 0,
-        }
-    }
-
-    fn number_at(&self, key: usize, place: usize) -> Option<u32> {
-        self.lists.get(key)?.get(place).copied()
     }
 
     /// Takes a turn, and marks the group that it brings to. The next turns are those of that group, and then the way back.
@@ -205,7 +163,8 @@ impl Rotation {
             return Ok(());
         };
         let before = self.group;
-        if is_marked(marks, group) || !self.turn(problem, turn.var, group) {
+        let is_marked = marks.get(group as usize).copied() == Some(true);
+        if is_marked || !self.turn(problem, turn.var, group) {
             return Ok(());
         }
         mark(marks, group);
@@ -261,4 +220,37 @@ fn put_in(inside: &mut Vec<bool>, set: &[u32])
             inside[*var as usize] = true;
         }
     }
+}
+
+/// Has a variable turned for each literal of a span, if a set breaks it.
+fn push_turns_for(
+    problem: &Problem,
+    set: &Turned,
+    number: u32,
+    turns: &mut Vec<Turn>,
+) -> Result<(), AllocError>
+    requires { IsProblem problem.now }
+{
+    let Some(span) = problem.spans.get(number as usize).copied() else {
+        return Ok(());
+    };
+    let mut clear = (0, 0);
+    if set.satisfies_span(problem.literals, span, &mut clear) {
+        return Ok(());
+    }
+    if let Some(owner) = span.owner {
+        turns.push(Turn {
+            var: owner,
+            back: None,
+        })?;
+    }
+    for literal in &problem.literals[span.start..span.end] {
+        if span.owner.is_none() || set.has(literal.var) {
+            turns.push(Turn {
+                var: literal.var,
+                back: None,
+            })?;
+        }
+    }
+    Ok(())
 }

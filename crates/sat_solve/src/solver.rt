@@ -1,16 +1,14 @@
 //! The state of a solve: deciding, forcing, and going back.
 
-ghost use Rattle.std.specs.Prelude.{◌≡◌, ◌≢◌, ℕ, ◌+◌, ◌*◌, ◌-◌, ◌<◌, ◌≤◌, true, false, Some, None};
-ghost use Rattle.std.specs.Prelude.{List, [], ◌∷◌, All, length, take, min, IfOk, IfSome, IfNone, OnSome};
+ghost use Rattle.std.specs.Prelude.{◌≡◌, ◌<◌, true, false, All, IfOk};
 ghost use Rattle.number_sets.specs.Sets.{NumberSet};
-ghost use Rattle.sat_solve.specs.Trail.{value_in, is_decided, steps_of, IsTrail};
-ghost use Rattle.sat_solve.specs.Reasons.{IsSolution, IsMarkedSolution, IsProblem, Implied, IsLearnt, IsReasonFor};
+ghost use Rattle.sat_solve.specs.Trail.{is_decided, IsTrail};
+ghost use Rattle.sat_solve.specs.Reasons.{IsMarkedSolution, IsProblem, Implied, IsLearnt, IsReasonFor};
 ghost use Rattle.sat_solve.specs.Jumps.{IsAt, IsJump};
-ghost use Rattle.sat_solve.specs.SolverState.{IsSolver, Gives, UndoesTo, GoesOn, height};
+ghost use Rattle.sat_solve.specs.SolverState.{IsSolver, Gives, UndoesTo, Decides, GoesOn, height};
 
-use crate::clause::Lit;
-use crate::problem::Problem;
-use crate::trail::{ClauseStatus, Reason, Step, Trail};
+use crate::clause::{Lit, Problem};
+use crate::trail::{Reason, Step, Trail};
 use std::alloc::{AllocError, Global};
 
 /// The trail, what was learnt, and how far propagation and deciding came.
@@ -50,7 +48,8 @@ impl Solver {
         requires { IsProblem problem.now }
         ensures { IfOk result (λ _. IsSolver problem.now self.new) }
     {
-        self.forget();
+        self.learnt.clear();
+        self.size = 0;
         self.trail.restart(problem.vars)?;
         self.arena.clear();
         self.cursor = 0;
@@ -64,22 +63,26 @@ impl Solver {
         })
     }
 
-    /// The least variable that is free, if one is.
-    pub(crate) fn least_free(&self, problem: &Problem) -> Option<u32>
-        requires { IsSolver problem.now self.now }
-        ensures free { IfSome result (λ var. (var < problem.now.vars) × (value_in (steps_of self.now.trail) var ≡ None)) }
-        ensures least { IfSome result (λ var. (lower : ℕ) → lower < var → value_in (steps_of self.now.trail) lower ≢ None) }
-        ensures none { IfNone result ((var : ℕ) → var < problem.now.vars → value_in (steps_of self.now.trail) var ≢ None) }
+    /// Decides that the least free variable is out. False where none is free.
+    pub(crate) fn decide(&mut self, problem: &Problem) -> Result<bool, AllocError>
+        requires { IsSolver problem.now self.old }
+        ensures { IfOk result (Decides problem.now self.old self.new) }
     {
         for var in self.cursor..problem.vars {
             if self.trail.value(var).is_none() {
-                return Some(var);
+                self.cursor = var;
+                self.trail.push(Step {
+                    var,
+                    value: false,
+                    reason: Reason::Decision,
+                })?;
+                return Ok(true);
             }
         }
-        None
+        Ok(false)
     }
 
-    /// Looks at a clause, if it is kept: where all its literals fail but one that is free, that one is forced.
+    /// Looks at a clause, if it is kept or learnt: where all its literals fail but one that is free, that one is forced.
     pub(crate) fn examine(
         &mut self,
         problem: &Problem,
@@ -89,15 +92,30 @@ impl Solver {
         requires solver { IsSolver problem.now self.old }
         ensures { IfOk result (GoesOn problem.now self.old self.new) }
     {
-        if clause >= problem.spans.len() {
-            return self.examine_learnt(problem, clause - problem.spans.len());
+        if clause < problem.spans.len() {
+            let span = problem.spans[clause];
+            if span.owner.is_some() || !problem.keep[span.group as usize] {
+                return Ok(None);
+            }
+            let literals = &problem.literals[span.start..span.end];
+            return self.force(problem, literals, Reason::Clause(clause));
         }
-        let span = problem.spans[clause];
-        if span.owner.is_some() || !problem.keep[span.group as usize] {
+        let Some(learnt) = self.learnt.get(clause - problem.spans.len()) else {
             return Ok(None);
-        }
-        let literals = &problem.literals[span.start..span.end];
-        self.force(problem, literals, Reason::Clause(clause))
+        };
+        let Some(left) = self.trail.remainder(learnt) else {
+            return Ok(None);
+        };
+        let reason = reason_of(&mut self.arena, problem, learnt)?;
+        let Some(literal) = left else {
+            return Ok(Some(reason));
+        };
+        self.trail.push(Step {
+            var: literal.var,
+            value: literal.positive,
+            reason,
+        })?;
+        Ok(None)
     }
 
     /// Looks at the owner of a list and the variable at a place of it: where one is in, the other is forced out, if that is kept.
@@ -140,9 +158,10 @@ impl Solver {
         requires gives { Gives problem.now self.old reason clause.now }
         ensures { IfOk result (GoesOn problem.now self.old self.new) }
     {
-        match self.trail.status(clause) {
-            ClauseStatus::Satisfied | ClauseStatus::Unresolved => Ok(None),
-            ClauseStatus::Unit(literal) => {
+        match self.trail.remainder(clause) {
+            None => Ok(None),
+            Some(None) => Ok(Some(reason)),
+            Some(Some(literal)) => {
                 self.trail.push(Step {
                     var: literal.var,
                     value: literal.positive,
@@ -150,58 +169,10 @@ impl Solver {
                 })?;
                 Ok(None)
             }
-            ClauseStatus::Conflict => Ok(Some(reason)),
         }
     }
 
-    /// Looks at the learnt clause of a number: where all its literals fail but one that is free, that one is forced.
-    fn examine_learnt(
-        &mut self,
-        problem: &Problem,
-        number: usize,
-    ) -> Result<Option<Reason>, AllocError>
-        requires problem { IsProblem problem.now }
-        requires solver { IsSolver problem.now self.old }
-        ensures { IfOk result (GoesOn problem.now self.old self.new) }
-    {
-        if number >= self.learnt.len() {
-            return Ok(None);
-        }
-        let learnt = self.learnt[number].as_slice();
-        match self.trail.status(learnt) {
-            ClauseStatus::Satisfied | ClauseStatus::Unresolved => Ok(None),
-            ClauseStatus::Unit(literal) => {
-                let reason = reason_of(&mut self.arena, problem, learnt)?;
-                self.trail.push(Step {
-                    var: literal.var,
-                    value: literal.positive,
-                    reason,
-                })?;
-                Ok(None)
-            }
-            ClauseStatus::Conflict => Ok(Some(reason_of(&mut self.arena, problem, learnt)?)),
-        }
-    }
-
-    /// Takes back the newest step, and what it kept in the arena.
-    fn undo(&mut self) -> Option<Step>
-        requires { IsTrail self.old.trail }
-        ensures linked { IsTrail self.new.trail }
-        ensures vars { self.new.trail.vars ≡ self.old.trail.vars }
-        ensures popped { IfSome result (λ step. steps_of self.old.trail ≡ step ∷ steps_of self.new.trail) }
-        ensures none { IfNone result (steps_of self.old.trail ≡ []) }
-        ensures used { self.new.used ≡ self.old.used }
-        ensures keeps { OnSome result ((problem : Problem) → IsSolver problem self.old → IsSolver problem self.new) }
-    {
-        let step = self.trail.pop()?;
-        let end = step.reason.end_before(self.arena.len());
-        self.arena.truncate(end);
-        self.cursor = self.cursor.min(step.var);
-        self.propagated = self.propagated.min(self.trail.steps.len());
-        Some(step)
-    }
-
-    /// Takes back the steps down to the decision at a place, and that one too.
+    /// Takes back the steps down to the decision at a place, and that one too, with what they kept in the arena.
     fn undo_to(&mut self, place: usize)
         requires { IsTrail self.old.trail }
         ensures used { self.new.used ≡ self.old.used }
@@ -209,38 +180,31 @@ impl Solver {
             → UndoesTo place self.old self.new }
     {
         'steps: while self.trail.steps.len() > place {
-            let Some(_) = self.undo() else {
+            let Some(step) = self.trail.pop() else {
                 return;
             };
+            let end = step.reason.end_before(self.arena.len());
+            self.arena.truncate(end);
+            self.cursor = self.cursor.min(step.var);
+            self.propagated = self.propagated.min(self.trail.steps.len());
         }
     }
 
-    /// Whether the learnt clauses have more literals than there is room for.
-    pub(crate) fn is_full(&self, problem: &Problem) -> bool {
-        self.size > room(problem)
-    }
-
-    /// Drops all learnt clauses.
-    pub(crate) fn forget(&mut self)
-        ensures learnt { self.new.learnt.items ≡ [] }
+    /// Takes in a learnt clause. Where there is no room, the older ones are dropped first, and the answer is true.
+    pub(crate) fn learn(&mut self, problem: &Problem, clause: Vec<Lit>) -> Result<bool, AllocError>
         ensures trail { self.new.trail ≡ self.old.trail }
         ensures used { self.new.used ≡ self.old.used }
-        ensures keeps { (problem : Problem) → IsSolver problem self.old → IsSolver problem self.new }
+        ensures keeps { IfOk result (λ _. IsSolver problem.now self.old → IsLearnt problem.now self.old.used.items clause
+            → IsSolver problem.now self.new) }
     {
-        self.learnt.clear();
-        self.size = 0;
-    }
-
-    /// Takes in a learnt clause.
-    pub(crate) fn learn(&mut self, clause: Vec<Lit>) -> Result<(), AllocError>
-        ensures trail { self.new.trail ≡ self.old.trail }
-        ensures used { self.new.used ≡ self.old.used }
-        ensures keeps { IfOk result (λ _. (problem : Problem) → IsSolver problem self.old
-            → IsLearnt problem self.old.used.items clause → IsSolver problem self.new) }
-    {
+        let is_full = self.size > room(problem);
+        if is_full {
+            self.learnt.clear();
+            self.size = 0;
+        }
         self.size = self.size.saturating_add(clause.len());
         self.learnt.push(clause)?;
-        Ok(())
+        Ok(is_full)
     }
 
     /// Goes back to where a learnt clause has one free literal, and sets that. False if the clause has none.

@@ -1,31 +1,15 @@
 //! The trail: which variables are set, in which order they were, and what their values rest on.
 
-ghost use Rattle.std.specs.Prelude.{◌≡◌, ℕ, true, Some, None, ◌<◌, [], ◌∷◌, IfOk, IfSome, IfNone};
+ghost use Rattle.std.specs.Prelude.{◌≡◌, ℕ, true, false, Some, None, ◌<◌, All, [], ◌∷◌, length, slice_index_or, IfOk, IfSome, IfNone};
 ghost use Rattle.std.specs.List.Sorted.{IsStrictlyIncreasing};
-ghost use Rattle.std.specs.Prelude.{All, not, ◌||◌, ◌==◌};
-ghost use Rattle.std.specs.List.{list_all};
 ghost use Rattle.number_sets.specs.Sets.{members_of};
-ghost use Rattle.sat_solve.specs.Clauses.{clause_holds};
-ghost use Rattle.sat_solve.specs.ClauseStatus.{IsStatus};
-ghost use Rattle.sat_solve.specs.Trail.{value_in, set_of, is_decision, IsLinked, steps_of, IsTrail};
+ghost use Rattle.sat_solve.specs.ClauseStatus.{ComesDownTo};
+ghost use Rattle.sat_solve.specs.Trail.{value_in, set_of, is_decision, steps_of, IsTrail};
 ghost use Rattle.sat_solve.specs.Reasons.{end_before};
 ghost use Rattle.sat_solve.specs.Jumps.{denied};
 
 use crate::clause::Lit;
 use std::alloc::{AllocError, Global};
-
-/// What the values so far say of a clause.
-#[derive(Clone, Copy)]
-pub(crate) enum ClauseStatus {
-    /// One of its literals holds.
-    Satisfied,
-    /// Nothing yet.
-    Unresolved,
-    /// All its literals fail but this one, whose variable is free.
-    Unit(Lit),
-    /// All its literals fail.
-    Conflict,
-}
 
 /// What a value, or a conflict, rests on.
 #[derive(Clone, Copy)]
@@ -126,12 +110,8 @@ impl Trail {
 
     /// How many steps stand before the oldest decision. It is a hint.
     pub(crate) fn first_decision(&self) -> usize {
-        for place in 0..self.steps.len() {
-            if self.steps[place].reason.is_decision() {
-                return place;
-            }
-        }
-        self.steps.len()
+        let place = self.steps.iter().position(|step| step.reason.is_decision());
+        place.unwrap_or(self.steps.len())
     }
 
     /// The value of a variable, if it is set.
@@ -144,13 +124,11 @@ impl Trail {
     }
 
     /// Whether a variable is in.
-    pub(crate) fn is_in(&self, var: u32) -> bool
-        requires { IsTrail self.now }
+    fn is_in(&self, var: u32) -> bool
+        requires linked { IsTrail self.now }
+        requires in_range { var < self.now.vars }
         ensures { result ≡ set_of (steps_of self.now) var }
     {
-        if var >= self.vars {
-            return false;
-        }
         self.value(var) == Some(true)
     }
 
@@ -168,64 +146,42 @@ impl Trail {
         Ok(())
     }
 
-    /// What the values so far say of a clause.
-    pub(crate) fn status(&self, clause: &[Lit]) -> ClauseStatus
+    /// What a clause comes down to, if no literal of it holds so far and at most one is free: that one, or none.
+    pub(crate) fn remainder(&self, clause: &[Lit]) -> Option<Option<Lit>>
         requires linked { IsTrail self.now }
         requires in_range { All (λ literal. literal.var < self.now.vars) clause.now }
-        ensures { IsStatus self.now.vars (steps_of self.now) clause.now result }
+        ensures { IfSome result (ComesDownTo self.now.vars (steps_of self.now) clause.now) }
     {
         let mut free = None;
         for literal in clause {
             match self.value(literal.var) {
                 Some(value) => {
                     if value == literal.positive {
-                        return ClauseStatus::Satisfied;
+                        return None;
                     }
                 }
                 None => {
                     if free.is_some() {
-                        return ClauseStatus::Unresolved;
+                        return None;
                     }
                     free = Some(*literal);
                 }
             }
         }
-        match free {
-            Some(literal) => ClauseStatus::Unit(literal),
-            None => ClauseStatus::Conflict,
+        Some(free)
+    }
+
+    /// Puts down of each variable whether it is in.
+    pub(crate) fn copy_to(&self, inside: &mut Vec<bool>) -> Result<(), AllocError>
+        requires { IsTrail self.now }
+        ensures sized { IfOk result (λ _. length inside.new.items ≡ self.now.vars) }
+        ensures same { IfOk result (λ _. (var : ℕ) → slice_index_or inside.new.items var false ≡ set_of (steps_of self.now) var) }
+    {
+        inside.clear();
+        for var in 0..self.vars {
+            inside.push(self.is_in(var))?;
         }
-    }
-
-    /// Whether a clause holds in the set of the variables that are in.
-    pub(crate) fn satisfies(&self, clause: &[Lit]) -> bool
-        requires { IsTrail self.now }
-        ensures { result ≡ clause_holds (set_of (steps_of self.now)) clause.now }
-    {
-        clause.iter().any(|literal| {
-            if literal.positive {
-                self.is_in(literal.var)
-            } else {
-                !self.is_in(literal.var)
-            }
-        })
-    }
-
-    /// Whether these literals have no variable that is in.
-    pub(crate) fn has_none(&self, literals: &[Lit]) -> bool
-        requires { IsTrail self.now }
-        ensures { result ≡ list_all (λ literal. not (set_of (steps_of self.now) literal.var)) literals.now }
-    {
-        literals.iter().all(|literal| !self.is_in(literal.var))
-    }
-
-    /// Whether these literals have no variable that is in, but for this one.
-    pub(crate) fn has_no_other(&self, literals: &[Lit], var: u32) -> bool
-        requires { IsTrail self.now }
-        ensures { result ≡ list_all (λ literal. literal.var == var || not (set_of (steps_of self.now) literal.var)) literals.now }
-    {
-        literals
-            .iter()
-            .all(|literal| literal.var == var || !self.is_in(literal.var))
+        Ok(())
     }
 
     /// Takes back the newest step, if there is one.

@@ -1,18 +1,33 @@
 //! Propagation by two watched literals (M. Moskewicz and others, "Chaff: engineering an efficient SAT solver", 2001).
 
-ghost use Rattle.std.specs.Prelude.{◌≡◌, ◌<◌, IfOk};
+ghost use Rattle.std.specs.Prelude.{◌<◌, IfOk};
 ghost use Rattle.sat_solve.specs.Reasons.{IsProblem};
 ghost use Rattle.sat_solve.specs.SolverState.{IsSolver, GoesOn};
 
-use crate::clause::Lit;
+use crate::clause::{Lit, Problem};
 use crate::exclusions::Exclusions;
-use crate::problem::Problem;
 use crate::solver::Solver;
 use crate::trail::{Reason, Trail};
 use std::alloc::{AllocError, Global};
+use std::mem;
 
 /// The end of a list of watches.
 const END: u32 = u32::MAX;
+
+/// A watch of one of a clause's literals.
+#[derive(Clone, Copy)]
+struct Watch {
+    /// The next one of the same literal.
+    next: u32,
+    /// Which of the clause's literals it watches.
+    place: u32,
+}
+
+/// A watch that watches nothing yet.
+const IDLE: Watch = Watch {
+    next: END,
+    place: 0,
+};
 
 /// Two watched literals for each clause that has two, in a list for each literal.
 ///
@@ -22,10 +37,8 @@ const END: u32 = u32::MAX;
 pub(crate) struct Watches {
     /// The first watch of each literal: of the variable v, 2v where it is negative and 2v + 1 where it is positive.
     head: Vec<u32>,
-    /// The watch after each watch. Those of the clause number k are 2k and 2k + 1.
-    next: Vec<u32>,
-    /// Where the literal of each watch stands among all literals.
-    place: Vec<usize>,
+    /// Those of the clause number k are 2k and 2k + 1.
+    watches: Vec<Watch>,
     exclusions: Exclusions,
 }
 
@@ -34,9 +47,19 @@ enum Fate {
     /// The other watch holds.
     Stay,
     /// Another literal of the clause, at this place, may still hold.
-    Move(usize, Lit),
+    Move(u32, Lit),
     /// All literals but that of the other watch failed.
     Examine,
+}
+
+/// How many watches there are of so many clauses.
+fn watches_of(clauses: usize) -> usize {
+    clauses.min(END as usize / 2) * 2
+}
+
+/// The list of a literal.
+fn list_of(literal: Lit) -> usize {
+    (literal.var as usize) * 2 + usize::from(literal.positive)
 }
 
 impl Watches {
@@ -44,81 +67,73 @@ impl Watches {
     pub(crate) fn new(alloc: Global) -> Watches {
         Watches {
             head: Vec::new(alloc),
-            next: Vec::new(alloc),
-            place: Vec::new(alloc),
+            watches: Vec::new(alloc),
             exclusions: Exclusions::new(alloc),
         }
     }
 
     /// Makes room for the watches of a problem's clauses.
     pub(crate) fn restart(&mut self, problem: &Problem) -> Result<(), AllocError> {
-        let literals = (problem.vars as usize) * 2;
-        let watches = problem.spans.len().min(END as usize / 2) * 2;
-        self.head.clear();
-        self.head.resize(literals, END)?;
-        self.next.clear();
-        self.next.resize(watches, END)?;
-        self.place.clear();
         self.exclusions.restart();
-        self.place.resize(watches, 0)
-    }
-
-    /// The list of a literal.
-    fn list_of(literal: Lit) -> usize {
-        (literal.var as usize) * 2 + usize::from(literal.positive)
+        self.head.clear();
+        self.head.resize((problem.vars as usize) * 2, END)?;
+        self.watches.clear();
+        self.watches.resize(watches_of(problem.spans.len()), IDLE)
     }
 
     /// Puts a watch at the head of a list.
     fn link(&mut self, watch: u32, list: usize) {
-        if (watch as usize) < self.next.len() && list < self.head.len() {
-            self.next[watch as usize] = self.head[list];
+        if (watch as usize) < self.watches.len() && list < self.head.len() {
+            self.watches[watch as usize].next = self.head[list];
             self.head[list] = watch;
         }
     }
 
-    /// Lets a watch watch the literal at a place.
-    fn move_to(&mut self, watch: u32, place: usize, literal: Lit) {
-        if (watch as usize) < self.place.len() {
-            self.place[watch as usize] = place;
-            self.link(watch, Watches::list_of(literal));
+    /// Lets a watch watch the literal at a place of its clause.
+    fn move_to(&mut self, watch: u32, place: u32, literal: Lit) {
+        if (watch as usize) < self.watches.len() {
+            self.watches[watch as usize].place = place;
+            self.link(watch, list_of(literal));
         }
     }
 
-    /// Watches the first two literals of a clause, which stand from a place on.
-    fn attach(&mut self, clause: usize, literals: &[Lit], start: usize) {
-        if clause < END as usize / 2 && literals.len() > start && literals.len() - start >= 2 {
+    /// Watches the first two literals of a clause.
+    fn attach(&mut self, clause: usize, literals: &[Lit]) {
+        if clause < END as usize / 2 && literals.len() >= 2 {
             let watch = clause as u32 * 2;
-            self.move_to(watch, start, literals[start]);
-            self.move_to(watch + 1, start + 1, literals[start + 1]);
+            self.move_to(watch, 0, literals[0]);
+            self.move_to(watch + 1, 1, literals[1]);
         }
     }
 
-    /// Watches the clause that was learnt last.
+    /// Watches the clause that was learnt last, and where it is alone no other learnt one any more.
     pub(crate) fn watch_learnt(
         &mut self,
         problem: &Problem,
         solver: &Solver,
+        is_alone: bool,
     ) -> Result<(), AllocError> {
+        if is_alone {
+            self.forget(problem);
+        }
         if let Some(literals) = solver.learnt.last() {
-            let clause = problem.spans.len().saturating_add(solver.learnt.len() - 1);
-            let watches = clause.min(END as usize / 2 - 1) * 2 + 2;
-            self.next.resize(watches, END)?;
-            self.place.resize(watches, 0)?;
-            self.attach(clause, literals, 0);
+            let clauses = problem.spans.len().saturating_add(solver.learnt.len());
+            self.watches.resize(watches_of(clauses), IDLE)?;
+            self.attach(clauses - 1, literals);
         }
         Ok(())
     }
 
     /// Watches no learnt clause any more.
-    pub(crate) fn forget(&mut self, problem: &Problem) {
-        let given = problem.spans.len().min(END as usize / 2) * 2;
+    fn forget(&mut self, problem: &Problem) {
+        let given = watches_of(problem.spans.len());
         'lists: for list in 0..self.head.len() {
             let mut watch = self.take_list(list);
-            'watches: for _ in 0..self.next.len() {
-                if watch as usize >= self.next.len() {
+            'watches: for _ in 0..self.watches.len() {
+                if watch as usize >= self.watches.len() {
                     break;
                 }
-                let after = self.next[watch as usize];
+                let after = self.watches[watch as usize].next;
                 if (watch as usize) < given {
                     self.link(watch, list);
                 }
@@ -129,74 +144,57 @@ impl Watches {
 
     /// Takes a literal's list away.
     fn take_list(&mut self, list: usize) -> u32 {
-        if list >= self.head.len() {
-            return END;
+        match self.head.get_mut(list) {
+            Some(head) => mem::replace(head, END),
+            None => END,
         }
-        let watch = self.head[list];
-        self.head[list] = END;
-        watch
     }
 
-    /// Where a watch's literal stands.
-    fn place_of(&self, watch: u32) -> usize {
-        self.place.get(watch as usize).copied().unwrap_or(0)
-    }
-
-    /// The first place from `start` to `end`, but for `other`, whose literal did not fail.
-    fn free_place(
-        literals: &[Lit],
-        trail: &Trail,
-        start: usize,
-        end: usize,
-        other: usize,
-    ) -> Option<usize> {
-        for place in start..end.min(literals.len()) {
-            if place != other && trail.truth(literals[place]) != Some(false) {
-                return Some(place);
-            }
+    /// Where in its clause a watch's literal stands.
+    fn place_of(&self, watch: u32) -> u32 {
+        match self.watches.get(watch as usize) {
+            Some(watch) => watch.place,
+            None => 0,
         }
-        None
     }
 
     /// What is to become of a watch whose literal failed.
-    fn fate(&self, problem: &Problem, solver: &Solver, watch: u32) -> Fate {
+    fn fate(&self, problem: &Problem, solver: &Solver, watch: u32) -> Fate
+        requires { IsProblem problem.now }
+    {
         let clause = watch as usize / 2;
         if clause < problem.spans.len() {
             let span = problem.spans[clause];
-            return self.fate_in(problem.literals, span.start, span.end, &solver.trail, watch);
+            let literals = &problem.literals[span.start..span.end];
+            return self.fate_in(literals, &solver.trail, watch);
         }
         match solver.learnt.get(clause - problem.spans.len()) {
-            Some(learnt) => self.fate_in(learnt, 0, learnt.len(), &solver.trail, watch),
+            Some(learnt) => self.fate_in(learnt, &solver.trail, watch),
             None => Fate::Examine,
         }
     }
 
-    /// What is to become of a watch of the clause that stands from `start` to `end`.
-    fn fate_in(
-        &self,
-        literals: &[Lit],
-        start: usize,
-        end: usize,
-        trail: &Trail,
-        watch: u32,
-    ) -> Fate {
+    /// What is to become of a watch of this clause.
+    fn fate_in(&self, literals: &[Lit], trail: &Trail, watch: u32) -> Fate {
         let other = self.place_of(watch ^ 1);
-        if other >= literals.len() {
-            return Fate::Examine;
+        match literals.get(other as usize) {
+            Some(literal) if trail.truth(*literal) == Some(true) => return Fate::Stay,
+            _ => {}
         }
-        if trail.truth(literals[other]) == Some(true) {
-            return Fate::Stay;
-        }
-        let from = self.place_of(watch);
         // Where the last look for a literal ended, the next one begins: so a clause is read once for each time it is forced.
-        let place = match Watches::free_place(literals, trail, from, end, other) {
-            Some(place) => Some(place),
-            None => Watches::free_place(literals, trail, start, from, other),
-        };
-        match place {
-            Some(place) if place < literals.len() => Fate::Move(place, literals[place]),
-            _ => Fate::Examine,
+        let mut place = self.place_of(watch);
+        for _ in 0..literals.len() + 1 {
+            match literals.get(place as usize) {
+                Some(literal) => {
+                    if place != other && trail.truth(*literal) != Some(false) {
+                        return Fate::Move(place, *literal);
+                    }
+                    place = place.saturating_add(1);
+                }
+                None => place = 0,
+            }
         }
+        Fate::Examine
     }
 
     /// Looks at the clauses that watch a literal which failed, until one fails whole.
@@ -210,14 +208,14 @@ impl Watches {
         requires solver { IsSolver problem.now solver.old }
         ensures { IfOk result (GoesOn problem.now solver.old solver.new) }
     {
-        let list = Watches::list_of(failed);
+        let list = list_of(failed);
         let mut conflict = None;
         let mut watch = self.take_list(list);
-        'watches: for _ in 0..self.next.len() {
-            if watch as usize >= self.next.len() {
+        'watches: for _ in 0..self.watches.len() {
+            if watch as usize >= self.watches.len() {
                 break;
             }
-            let after = self.next[watch as usize];
+            let after = self.watches[watch as usize].next;
             if conflict.is_some() {
                 self.link(watch, list);
             } else {
@@ -251,11 +249,7 @@ impl Watches {
             }
             let step = solver.trail.steps[solver.propagated];
             solver.propagated += 1;
-            let failed = Lit {
-                var: step.var,
-                positive: !step.value,
-            };
-            let conflict = self.visit(problem, solver, failed)?;
+            let conflict = self.visit(problem, solver, step.denied())?;
             if conflict.is_some() {
                 return Ok(conflict);
             }
@@ -269,7 +263,7 @@ impl Watches {
         Ok(None)
     }
 
-    /// Watches the kept clauses of two literals or more and the lists, and looks at the shorter clauses.
+    /// Watches the kept clauses of two literals or more and the lists, looks at the shorter clauses, and propagates.
     pub(crate) fn load(
         &mut self,
         problem: &Problem,
@@ -285,7 +279,7 @@ impl Watches {
                 self.exclusions.attach(problem, clause, owner)?;
             } else if span.end - span.start >= 2 {
                 if problem.keep[span.group as usize] {
-                    self.attach(clause, problem.literals, span.start);
+                    self.attach(clause, &problem.literals[span.start..span.end]);
                 }
             } else {
                 let conflict = solver.examine(problem, clause)?;
@@ -294,6 +288,6 @@ impl Watches {
                 }
             }
         }
-        Ok(None)
+        Ok(self.propagate(problem, solver)?)
     }
 }

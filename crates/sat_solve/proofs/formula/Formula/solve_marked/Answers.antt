@@ -4,5 +4,5 @@ use Rattle.sat_solve.proofs.formula.Formula.solve_marked.Goals as goal
 pub returns : goal.returns
 returns c =
     let copied : c.extend_from_slice.new.self.items ≡ c.search_in.new.workspace.solver.used.items =
-    c.in_ok-extend_from_slice.ensures.items ∙ (ap (λ front. front ++ c.used.result.now) c.clear.ensures.items ∙ c.used.ensures) in
+    c.in_ok-extend_from_slice.ensures.items ∙ (ap (λ front. front ++ c.deref.result.now) c.clear.ensures.items ∙ c.deref.ensures.value) in
     rw copied c.in_ok-answer.ensures

@@ -12,4 +12,4 @@ returns-then-has-clause-alone c = λ met.
     untouched problem inside c.args.group sized
     (subst (λ (one : List Bool). turned one problem.vars problem.must ≡ true) c.turned-set.ensures.inside
     (subst (λ (var : ℕ). turned set.inside.now var problem.must ≡ true) c.turned-set.ensures.var (sym c.if-has.ensures)))
-    (λ k. same_turned problem set.inside.now inside set.var problem.vars c.args.group (λ _. Unit {0}) c.turned-set.ensures.inside c.turned-set.ensures.var (λ k _. c.meets_all.ensures met k) k tt)
+    (λ k. same_turned problem set.inside.now inside set.var problem.vars c.args.group (λ _. Unit {0}) c.turned-set.ensures.inside c.turned-set.ensures.var (λ k _. c.meets_all.ensures.met met k) k tt)

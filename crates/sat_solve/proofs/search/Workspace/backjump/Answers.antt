@@ -1,4 +1,5 @@
 use Rattle.std.proofs.Common.{◌≡◌, false, IfOk, sym, subst}
+use Rattle.std.proofs.lemmas.List.Elements.{same_from_all_zip}
 use Rattle.number_sets.specs.Sets.{NumberSet}
 use Rattle.sat_solve.specs.Trail.{steps_of}
 use Rattle.sat_solve.specs.Reasons.{IsMarkedSolution, Backs, AreReasoned, named_by}
@@ -10,10 +11,11 @@ pub analyze-requires-clause-reasoned : goal.analyze-requires-clause-reasoned
 analyze-requires-clause-reasoned c =
     subst (λ arena. AreReasoned (Backs c.args.problem.now c.args.self.now.solver.used.items) (named_by c.args.problem.now arena) (steps_of c.args.self.now.solver.trail)) (sym c.deref.ensures.value) c.requires.solver.reasoned
 
-pub learn-requires-clause-solver : goal.learn-requires-clause-solver
-learn-requires-clause-solver c =
+pub backjump-requires-clause-solver : goal.backjump-requires-clause-solver
+backjump-requires-clause-solver c =
     let fewer = c.in_ok-analyze.ensures.fewer in
-    record {
+    let same : c.in_ok-clause.clause.items ≡ c.analyze.new.self.clause.items = same_from_all_zip _ _ _ c.in_ok-clause.ensures.cases.0 (λ x y is. is) in
+    c.in_ok-is_alone.ensures.keeps (record {
       linked = c.requires.solver.linked;
       vars = c.requires.solver.vars;
       sound = c.requires.solver.sound;
@@ -22,10 +24,7 @@ learn-requires-clause-solver c =
       below = c.requires.solver.below;
       used = c.in_ok-analyze.ensures.used;
       learnt = learnt_more c.args.problem.now c.args.self.now.solver.used.items c.analyze.new.used.items c.args.self.now.solver.learnt.items fewer c.requires.solver.learnt;
-    }
-
-pub learn-requires-clause-learnt : goal.learn-requires-clause-learnt
-learn-requires-clause-learnt c = (c.in_ok-analyze.ensures.ranged, c.in_ok-analyze.ensures.implied)
+    }) (rw same (c.in_ok-analyze.ensures.ranged, c.in_ok-analyze.ensures.implied))
 
 pub returns-clause-none : goal.returns-clause-none
 returns-clause-none c =

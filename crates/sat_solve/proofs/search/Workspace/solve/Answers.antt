@@ -1,37 +1,49 @@
-use Rattle.std.proofs.Common.{◌<◌, subst, arith}
-use Rattle.sat_solve.specs.SolverState.{IsProgress, height}
-use Rattle.sat_solve.proofs.SolverLemmas.{first_found, work_left_falls}
+use Rattle.std.proofs.Common.{◌<◌, ◌≤◌, arith}
+use Rattle.sat_solve.specs.SolverState.{height}
+use Rattle.sat_solve.proofs.SolverLemmas.{first_found, full_fails, work_left_falls}
 use Rattle.sat_solve.proofs.MarkLemmas.{none_answered}
 use Rattle.sat_solve.proofs.search.Workspace.solve.Goals as goal
+use Rattle.sat_solve.proofs.search.Workspace.solve.Goals.{in-Some+in_ok-backjump+else-not-branch, in_default+in_ok-decide+then-not-branch-2+in_ok-is_solution+else-branch+in_ok-backjump-2+else-not-branch-3, in_default+in_ok-decide+else-not-branch-2}
 
 pub returns-then-not-branch : goal.returns-then-not-branch
-returns-then-not-branch c = none_answered c.args.problem.now c.begin.new.self.solver.used.items c.in_ok-begin.ensures.solver.used (c.in_ok-begin.ensures.none c.if-not-branch.true)
+returns-then-not-branch c = none_answered c.args.problem.now c.backjump.new.self.solver.used.items c.in_ok-backjump.ensures.solver.used (c.in_ok-backjump.ensures.none c.if-not-branch.true)
 
-pub rounds-init : goal.rounds-init
-rounds-init c = c.in_ok-begin.ensures.solver
-
-pub rounds-smaller-in-Going : goal.rounds-smaller-in-Going
-rounds-smaller-in-Going c =
-    work_left_falls c.args.problem.now c.rounds.self.solver c.advance.new.self.solver c.rounds.invariant
-    (subst (IsProgress c.args.problem.now c.rounds.self.solver c.advance.new.self.solver) c.in-Going.is c.in_ok-advance.ensures.came_to)
-
-pub returns-then-not-branch-2 : goal.returns-then-not-branch-2
-returns-then-not-branch-2 c =
-    none_answered c.args.problem.now c.backjump.new.self.solver.used.items c.in_ok-backjump-in-Conflict.ensures.solver.used (c.in_ok-backjump-in-Conflict.ensures.none c.if-not-branch-2.true)
-
-pub rounds-smaller : goal.rounds-smaller
-rounds-smaller c =
-    let higher : height c.args.problem.now c.advance.new.self.solver < height c.args.problem.now c.backjump.new.self.solver = c.in_ok-backjump-in-Conflict.ensures.turned c.if-not-branch-2.false in
-    work_left_falls c.args.problem.now c.rounds.self.solver c.backjump.new.self.solver c.rounds.invariant (omega (arith, c.in_ok-advance.ensures.rises))
-
-pub returns-in-Solved : goal.returns-in-Solved
-returns-in-Solved c = record {
-  rising = c.in_ok-members-in-Solved.ensures.rising;
-  first = first_found c.args.problem.now c.advance.new.self.solver c.in_ok-members-in-Solved.field-0.items c.in_ok-advance.ensures.solver
-      (subst (IsProgress c.args.problem.now c.rounds.self.solver c.advance.new.self.solver) c.in-Solved.is c.in_ok-advance.ensures.came_to)
-      c.in_ok-members-in-Solved.ensures.same;
+pub returns-then-branch : goal.returns-then-branch
+returns-then-branch c = record {
+  rising = c.in_ok-members.ensures.rising;
+  first = first_found c.args.problem.now c.decide.new.self c.in_ok-members.field-0.items c.in_ok-decide.ensures.solver (c.in_ok-is_solution.ensures.yes c.if-branch.true) c.in_ok-members.ensures.same;
   none = tt;
   sized = tt;
   kept = tt;
   marked = tt;
 }
+
+pub backjump-requires-then-not-branch-2-clause-conflict : goal.backjump-requires-then-not-branch-2-clause-conflict
+backjump-requires-then-not-branch-2-clause-conflict c =
+    full_fails c.args.problem.now c.decide.new.self c.in_ok-decide.ensures.solver (c.in_ok-decide.ensures.full c.if-not-branch-2.true) (c.in_ok-is_solution.ensures.no c.if-branch.false)
+
+pub returns-then-not-branch-3 : goal.returns-then-not-branch-3
+returns-then-not-branch-3 c =
+    none_answered c.args.problem.now c.backjump-then-not-branch-2.new.self.solver.used.items c.in_ok-backjump-2.ensures.solver.used (c.in_ok-backjump-2.ensures.none c.if-not-branch-3.true)
+
+pub propagate-requires-clause-solver : goal.propagate-requires-clause-solver
+propagate-requires-clause-solver c =
+    elim c.match-found.branch [
+      | in-Some+in_ok-backjump+else-not-branch w ↦ rw w.self-is w.in_ok-backjump.ensures.solver
+      | in_default+in_ok-decide+then-not-branch-2+in_ok-is_solution+else-branch+in_ok-backjump-2+else-not-branch-3 w ↦ rw w.self-is w.in_ok-backjump-2.ensures.solver
+      | in_default+in_ok-decide+else-not-branch-2 w ↦ rw w.self-is w.in_ok-decide.ensures.solver
+    ]
+
+pub rounds-smaller : goal.rounds-smaller
+rounds-smaller c =
+    let higher : height c.args.problem.now c.rounds.self.solver < height c.args.problem.now c.match-found.self.solver =
+    elim c.match-found.branch [
+      | in-Some+in_ok-backjump+else-not-branch w ↦ rw w.self-is (w.in_ok-backjump.ensures.turned w.if-not-branch.false)
+      | in_default+in_ok-decide+then-not-branch-2+in_ok-is_solution+else-branch+in_ok-backjump-2+else-not-branch-3 w ↦
+          let turned : height c.args.problem.now w.decide.new.self < height c.args.problem.now w.backjump-then-not-branch-2.new.self.solver = w.in_ok-backjump-2.ensures.turned w.if-not-branch-3.false in
+          let rises : height c.args.problem.now c.rounds.self.solver ≤ height c.args.problem.now w.decide.new.self = w.in_ok-decide.ensures.rises in
+          rw w.self-is (omega arith)
+      | in_default+in_ok-decide+else-not-branch-2 w ↦ rw w.self-is (w.in_ok-decide.ensures.higher w.if-not-branch-2.false)
+    ] in
+    let rises : height c.args.problem.now c.match-found.self.solver ≤ height c.args.problem.now c.propagate.new.solver = c.in_ok-found-2.ensures.rises in
+    work_left_falls c.args.problem.now c.rounds.self.solver c.propagate.new.solver c.rounds.invariant.solver (omega arith)

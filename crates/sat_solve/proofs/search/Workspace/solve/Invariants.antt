@@ -1,10 +1,13 @@
 use Rattle.std.proofs.Common.{◌-◌}
 use Rattle.sat_solve.specs.Trail.{power_of_three}
-use Rattle.sat_solve.specs.SolverState.{IsSolver, height}
+use Rattle.sat_solve.specs.SolverState.{IsSolver, IsFoundConflict, height}
 use Rattle.sat_solve.proofs.search.Workspace.solve.Given as goal
 
 abbrev pub invariant-rounds : goal.invariant-rounds
-invariant-rounds l = IsSolver l.problem l.self.solver
+invariant-rounds l = record {
+  solver : IsSolver l.problem l.self.solver;
+  found : IsFoundConflict l.problem l.self.solver l.found;
+}
 
 abbrev pub decreases-rounds : goal.decreases-rounds
 decreases-rounds l = power_of_three l.problem.vars - height l.problem l.self.solver

@@ -1,7 +1,8 @@
 use Rattle.std.proofs.Common.{◌≡◌, ◌+◌, ◌≤◌, refl, length, reverse, take, ◌∙◌, ap, subst, arith}
 use Rattle.std.proofs.lemmas.List.{length-reverse}
 use Rattle.sat_solve.specs.Trail.{IsLinked, steps_of}
-use Rattle.sat_solve.proofs.BackjumpLemmas.{UndoneTo, undone_none, undone_more}
+use Rattle.sat_solve.specs.Reasons.{end_before}
+use Rattle.sat_solve.proofs.BackjumpLemmas.{UndoneTo, undone_none, undone_more, popped_solver}
 use Rattle.sat_solve.proofs.solver.Solver.undo_to.Goals as goal
 
 pub steps-init : goal.steps-init
@@ -15,14 +16,21 @@ steps-init c = record {
 
 pub steps-preserved : goal.steps-preserved
 steps-preserved c =
-    let count : length c.steps.self.trail.steps.items ≡ length c.undo.new.self.trail.steps.items + 1 =
-    omega (arith, ap length c.in-Some.ensures.popped, length-reverse c.steps.self.trail.steps.items, length-reverse c.undo.new.self.trail.steps.items) in
+    let count : length c.steps.self.trail.steps.items ≡ length c.pop.new.self.steps.items + 1 =
+    omega (arith, ap length c.in-Some.ensures.popped, length-reverse c.steps.self.trail.steps.items, length-reverse c.pop.new.self.steps.items) in
+    let len_is : c.len-in-steps.result ≡ length c.steps.self.arena.items = omega (arith, c.len-in-steps.ensures, c.steps.self.arena.ok) in
     record {
       linked = c.in-Some.ensures.linked;
-      used = c.in-Some.ensures.used ∙ c.steps.invariant.used;
+      used = c.steps.invariant.used;
       vars = c.in-Some.ensures.vars ∙ c.steps.invariant.vars;
-      keeps = λ problem is. c.in-Some.ensures.keeps problem (c.steps.invariant.keeps problem is);
-      undone = undone_more c.args.self.now.trail.vars c.args.place c.args.self.now.trail.steps.items c.steps.self.trail.values.items (steps_of c.steps.self.trail) (steps_of c.undo.new.self.trail) c.in-Some.field-0 (length c.undo.new.self.trail.steps.items)
+      keeps = λ problem is. popped_solver problem c.steps.self _ c.in-Some.step c.in-Some.ensures.popped c.in-Some.ensures.linked c.in-Some.ensures.vars
+          (c.truncate.ensures.items ∙ ap (λ n. take n c.steps.self.arena.items) (c.end_before-end.ensures ∙ ap (end_before c.in-Some.step.reason) len_is))
+          (omega (arith, c.min-self.ensures))
+          (omega (arith, c.min-self.ensures))
+          refl
+          refl
+          (c.steps.invariant.keeps problem is);
+      undone = undone_more c.args.self.now.trail.vars c.args.place c.args.self.now.trail.steps.items c.steps.self.trail.values.items (steps_of c.steps.self.trail) (steps_of c.pop.new.self) c.in-Some.step (length c.pop.new.self.steps.items)
           (subst (λ n. IsLinked n c.steps.self.trail.values.items (steps_of c.steps.self.trail)) c.steps.invariant.vars c.steps.invariant.linked)
           c.in-Some.ensures.popped
           (omega (arith, c.steps-test.true, c.len.ensures, c.steps.self.trail.steps.ok))

@@ -1,7 +1,7 @@
 use Rattle.std.proofs.Common.{◌≡◌, length}
 use Rattle.sat_solve.specs.Trail.{steps_of, IsTrail}
 use Rattle.sat_solve.specs.SolverState.{IsSolver}
-use Rattle.sat_solve.specs.declared.problem.Problem.{Problem}
+use Rattle.sat_solve.specs.declared.clause.Problem.{Problem}
 use Rattle.sat_solve.proofs.BackjumpLemmas.{UndoneTo}
 use Rattle.sat_solve.proofs.solver.Solver.undo_to.Given as goal
 

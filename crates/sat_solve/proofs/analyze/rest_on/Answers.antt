@@ -1,5 +1,5 @@
 use Rattle.sat_solve.proofs.MarkLemmas.{backed_clause}
-use Rattle.sat_solve.proofs.analyze.Analysis.use_groups.Goals as goal
+use Rattle.sat_solve.proofs.analyze.rest_on.Goals as goal
 
 pub returns-then-clause-problem-clause-backs : goal.returns-then-clause-problem-clause-backs
 returns-then-clause-problem-clause-backs c =
