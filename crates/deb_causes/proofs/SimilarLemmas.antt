@@ -1,5 +1,5 @@
 -- The first of some names, each once, and the lists of names by stem.
-use Rattle.std.proofs.Common.{◌≡◌, ◌==◌, ℕ, ◌+◌, ◌<◌, ◌≤◌, Bool, true, false, not, cond, ◌&&◌, ◌||◌, ◌⊎◌, All, Global, HashMap, Vec, List, [], ◌∷◌, ◌++◌, Some, None, Option, drop, filter, get_or, length, map, take, refl, sym, ap, subst, ◌∙◌, append-nil, inl, inr, arith}
+use Rattle.std.proofs.Common.{◌≡◌, ℕ, ◌+◌, ◌<◌, ◌≤◌, Bool, true, false, not, cond, ◌&&◌, ◌||◌, ◌⊎◌, All, Global, HashMap, Vec, List, [], ◌∷◌, ◌++◌, Some, None, Option, drop, filter, get_or, length, map, take, refl, sym, ap, subst, ◌∙◌, append-nil, inl, inr, arith}
 use Rattle.std.specs.HashMap.{UpdatesBy, get_by, keys, values}
 use Rattle.std.specs.List.{flat_map}
 use Rattle.std.specs.Map.{KeepsOthers, lookup}

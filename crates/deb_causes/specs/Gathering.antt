@@ -3,7 +3,6 @@ use Rattle.std.specs.Prelude.{ℕ, ◌==◌, Bool, true, List, [], ◌∷◌, �
 use Rattle.std.specs.List.{flat_map, list_all, list_any}
 use Rattle.deb_index.specs.declared.constraint.Constraint.{Constraint}
 use Rattle.deb_causes.specs.declared.gathered.Part.{Part}
-use Rattle.deb_causes.specs.declared.gathered.Share.{Share}
 
 abbrev pub has_number : ℕ → ℕ × List Constraint → Bool
 has_number number core = core.0 == number
@@ -25,11 +24,8 @@ pub record PartView : Type 0 where
   pub cores : List (List Constraint)
   pub shares : List (ℕ × Bool)
 
-abbrev pub share_view : Share → ℕ × Bool
-share_view share = (share.place, share.alone)
-
 abbrev pub part_view : Part → PartView
-part_view part = record { cores = map (λ core. core.now) part.cores.items; shares = map share_view part.shares.items }
+part_view part = record { cores = map (λ core. core.now) part.cores.items; shares = part.shares.items }
 
 -- what has the number of the packages and their cores
 abbrev pub part_of : List (ℕ × List (ℕ × List Constraint)) → ℕ → PartView

@@ -2,13 +2,13 @@
 
 ghost use Rattle.std.specs.Prelude.{◌≡◌, ◌<◌, ◌≤◌, ℕ, All, IfOk, OnOk, count_by, length, map};
 ghost use Rattle.deb_index.specs.Constraints.{IsOfIndex};
-ghost use Rattle.deb_causes.specs.Causes.{IsCauseOf, by_count, by_first, cause_view, causes_list, cores_of};
+ghost use Rattle.deb_causes.specs.Causes.{IsCauseOf, by_count, cause_view, causes_list};
 ghost use Rattle.deb_causes.specs.Gathered.{cause_from};
-ghost use Rattle.deb_causes.specs.Gathering.{part_view, share_view};
+ghost use Rattle.deb_causes.specs.Gathering.{part_view};
 ghost use Rattle.deb_health.specs.Shown.{IsAskedOf, shown_view};
 
 use crate::cores::{needs_in, versions_in, wrongs_in};
-use crate::gathered::{Cause, Part, Share, parts_of};
+use crate::gathered::{Cause, Part, parts_of};
 use crate::numbered::number_packages;
 use crate::wrongs::Wrongs;
 use deb_health::Shown;
@@ -16,27 +16,17 @@ use deb_index::Index;
 use std::alloc::{AllocError, Global};
 
 /// The places of packages.
-fn places_of(alloc: Global, shares: &[Share]) -> Result<Vec<u32>, AllocError>
-    ensures { IfOk result (λ places. places.items ≡ map (λ share. share.0) (map share_view shares.now)) }
+fn places_of(alloc: Global, shares: &[(u32, bool)]) -> Result<Vec<u32>, AllocError>
+    ensures { IfOk result (λ places. places.items ≡ map (λ share. share.0) shares.now) }
 {
-    let mut places = Vec::new(alloc);
-    for share in shares {
-        places.push(share.place)?;
-    }
-    Ok(places)
+    shares.iter().map(|share| share.0).collect(alloc)
 }
 
 /// How many of the packages have no other cause.
-fn count_alone(shares: &[Share]) -> usize
-    ensures { result ≡ count_by (λ share. share.1) (map share_view shares.now) }
+fn count_alone(shares: &[(u32, bool)]) -> usize
+    ensures { result ≡ count_by (λ share. share.1) shares.now }
 {
-    let mut count = 0;
-    for share in shares {
-        if share.alone {
-            count += 1;
-        }
-    }
-    count
+    shares.iter().filter(|share| share.1).count()
 }
 
 /// The cause that some cores have, with what is told of them and of the packages.
@@ -78,24 +68,6 @@ fn sort_by_count(causes: &mut Vec<Cause>) -> Result<(), AllocError>
     Ok(())
 }
 
-/// What each cause of broken packages has, in the order of the first packages.
-fn parts_in<'v>(
-    alloc: Global,
-    index: &Index,
-    broken: &[Shown<'v>],
-) -> Result<Vec<Part<'v>>, AllocError>
-    requires { All (λ one. IsAskedOf index.now (shown_view one)) broken.now }
-    ensures causes { IfOk result (λ parts. map (cause_from index.now) (map part_view parts.items)
-        ≡ by_first index.now (map cores_of (map shown_view broken.now))) }
-    ensures some { IfOk result (λ parts. All (λ part. 0 < length part.cores.items) parts.items) }
-    ensures within { IfOk result (λ parts. All (λ part. All (λ core. All (IsOfIndex index.now) core.now) part.cores.items) parts.items) }
-{
-    let mut wrongs = Wrongs::new(alloc);
-    let packages = number_packages(alloc, index, broken, &mut wrongs)?;
-    let parts = parts_of(alloc, wrongs.count(), packages.as_slice())?;
-    Ok(parts)
-}
-
 /// The causes of broken packages, each with what is gathered of it: those of more packages first, among equals those whose first package is
 /// first in the list.
 ///
@@ -109,7 +81,9 @@ pub fn causes_of(
     ensures causes { IfOk result (λ causes. map cause_view causes.items ≡ causes_list index.now (map shown_view broken.now)) }
     ensures within { IfOk result (λ causes. All (λ cause. IsCauseOf index.now (cause_view cause)) causes.items) }
 {
-    let parts = parts_in(alloc, index, broken)?;
+    let mut wrongs = Wrongs::new(alloc);
+    let packages = number_packages(alloc, index, broken, &mut wrongs)?;
+    let parts = parts_of(alloc, wrongs.count(), packages.as_slice())?;
     let mut causes = list_causes(alloc, index, parts.as_slice())?;
     sort_by_count(&mut causes)?;
     Ok(causes)

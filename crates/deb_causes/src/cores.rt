@@ -7,7 +7,6 @@ ghost use Rattle.deb_index.specs.Packages.{first_of_each};
 ghost use Rattle.deb_health.specs.Causes.{cause_in};
 ghost use Rattle.number_sets.specs.Sets.{members_of};
 ghost use Rattle.deb_causes.specs.Causes.{is_answer_to, is_version_of, needs_in, says_same, versions_in};
-ghost use Rattle.deb_causes.specs.Numbering.{texts_of};
 ghost use Rattle.deb_causes.specs.Positions.{is_need_at, is_only};
 
 use crate::numbering::Numbering;
@@ -15,30 +14,6 @@ use crate::wrongs::{is_final, number_of};
 use deb_index::{Constraint, Index};
 use number_sets::{SparseSet, sort_once};
 use std::alloc::{AllocError, Global};
-
-/// The final constraints of a core that say what none before them says, where nothing is numbered yet.
-fn first_said(
-    alloc: Global,
-    index: &Index,
-    core: &[Constraint],
-    said: &mut Numbering,
-) -> Result<Vec<Constraint>, AllocError>
-    requires core { All (IsOfIndex index.now) core.now }
-    requires said { texts_of said.old ≡ [] }
-    ensures { IfOk result (λ wrongs. wrongs.items ≡ first_of_each (says_same index.now) (cause_in index.now core.now)) }
-{
-    let mut wrongs = Vec::new(alloc);
-    for constraint in core {
-        if is_final(alloc, index, *constraint)? {
-            let known = said.len();
-            number_of(alloc, index, *constraint, said)?;
-            if said.len() > known {
-                wrongs.push(*constraint)?;
-            }
-        }
-    }
-    Ok(wrongs)
-}
 
 /// What a core says is wrong: of its final constraints the first of each that say the same.
 pub(crate) fn wrongs_in(
@@ -50,7 +25,17 @@ pub(crate) fn wrongs_in(
     ensures { IfOk result (λ wrongs. wrongs.items ≡ first_of_each (says_same index.now) (cause_in index.now core.now)) }
 {
     let mut said = Numbering::new(alloc);
-    first_said(alloc, index, core, &mut said)
+    let mut wrongs = Vec::new(alloc);
+    for constraint in core {
+        if is_final(alloc, index, *constraint)? {
+            let known = said.len();
+            number_of(alloc, index, *constraint, &mut said)?;
+            if said.len() > known {
+                wrongs.push(*constraint)?;
+            }
+        }
+    }
+    Ok(wrongs)
 }
 
 /// Adds the positions of a core's needs that no package meets.
@@ -111,12 +96,8 @@ pub(crate) fn needs_in(
 fn has_only(core: &[Constraint]) -> bool
     ensures { result ≡ list_any is_only core.now }
 {
-    for constraint in core {
-        if let Constraint::Only(_) = *constraint {
-            return true;
-        }
-    }
-    false
+    core.iter()
+        .any(|constraint| matches!(constraint, Constraint::Only(_)))
 }
 
 /// Adds the places of the packages that answer a need of a core.

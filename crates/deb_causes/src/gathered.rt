@@ -29,19 +29,12 @@ pub struct Cause {
     pub versions: Vec<u32>,
 }
 
-/// A package that has a cause.
-#[derive(Drop)]
-pub(crate) struct Share {
-    pub(crate) place: u32,
-    /// Whether it has no other cause.
-    pub(crate) alone: bool,
-}
-
 /// What has the number of a cause.
 #[derive(Drop)]
 pub(crate) struct Part<'v> {
     pub(crate) cores: Vec<&'v [Constraint]>,
-    pub(crate) shares: Vec<Share>,
+    /// The places of packages, and of each whether it has no other cause.
+    pub(crate) shares: Vec<(u32, bool)>,
 }
 
 /// As many parts, with nothing in them.
@@ -120,7 +113,7 @@ fn add_shares(
         → map part_view parts.new.items ≡ map (λ k. with_share (place, alone) (members_of numbers.now k) (f k)) (below count)) }
 {
     for number in numbers {
-        parts[*number as usize].shares.push(Share { place, alone })?;
+        parts[*number as usize].shares.push((place, alone))?;
     }
     Ok(())
 }

@@ -27,4 +27,3 @@ pub use gathered::Cause;
 pub use missing::is_missing;
 pub use near::{NearMiss, near_misses};
 pub use similar::Similar;
-pub use wrongs::is_final;

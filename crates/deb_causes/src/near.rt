@@ -111,13 +111,10 @@ fn provided_of<'i>(
     ensures { IfOk result (λ provided. map (λ entry. atom_view entry.now) provided.items ≡
         filter (provides_one arch.now (map (λ atom. atom_view atom.now) atoms.now)) (map atom_view provides.now)) }
 {
-    let mut provided = Vec::new(alloc);
-    for entry in provides {
-        if provides_one(arch, atoms, entry) {
-            provided.push(entry)?;
-        }
-    }
-    Ok(provided)
+    provides
+        .iter()
+        .filter(|entry| provides_one(arch, atoms, entry))
+        .collect(alloc)
 }
 
 /// What is told of a package that comes near.

@@ -1,9 +1,9 @@
 //! What is left of names without their numbers.
 
-ghost use Rattle.std.specs.Prelude.{◌≡◌, ◌==◌, ◌<◌, ◌++◌, ◌∷◌, ◌||◌, [], ℕ, List, All, IfNone, IfOk, IfSome, OnOk, length, map, not, true};
+ghost use Rattle.std.specs.Prelude.{◌≡◌, ◌++◌, ◌||◌, [], ℕ, List, All, IfOk, OnOk, map, not, true};
 ghost use Rattle.std.specs.Char.{is_ascii_digit};
 ghost use Rattle.std.specs.HashMap.{keys, values};
-ghost use Rattle.std.specs.List.{list_any, position};
+ghost use Rattle.std.specs.List.{list_any};
 ghost use Rattle.std.specs.Str.{bytes_eq};
 ghost use Rattle.deb_relation.specs.AtomView.{atom_view};
 ghost use Rattle.deb_index.specs.Constraints.{IsOfIndex};
@@ -27,12 +27,7 @@ fn is_numeric(byte: u8) -> bool
 fn has_digit(word: &[u8]) -> bool
     ensures { result ≡ list_any is_ascii_digit word.now }
 {
-    for byte in word {
-        if byte.is_ascii_digit() {
-            return true;
-        }
-    }
-    false
+    word.iter().any(|byte| byte.is_ascii_digit())
 }
 
 /// Whether a word is a sum that an interface is named by.
@@ -57,50 +52,24 @@ fn push_word(out: &mut Vec<u8>, word: &[u8]) -> Result<(), AllocError>
     Ok(())
 }
 
-/// Where the first word of a name ends, if it isn't the last.
-fn first_hyphen(name: &[u8]) -> Option<usize>
-    ensures { result ≡ position (λ byte. byte == 45) name.now }
-{
-    name.iter().position(|byte| *byte == b'-')
-}
-
-/// The first word of a name, and what stands behind its hyphen.
-#[tactic(auto, using(crate::proofs::StemLemmas::cut_inside))]
-fn cut(name: &[u8]) -> Option<(&[u8], &[u8])>
-    ensures first { IfSome result (λ parts. stem name.now ≡ stem_of_word parts.0.now ++ (45 ∷ stem parts.1.now)) }
-    ensures shorter { IfSome result (λ parts. length parts.1.now < length name.now) }
-    ensures last { IfNone result (stem name.now ≡ stem_of_word name.now) }
-{
-    match first_hyphen(name) {
-        Some(end) => Some((&name[..end], &name[end + 1..])),
-        None => None,
-    }
-}
-
 /// Puts down what is left of a name without its numbers, in the place of what the list held.
 pub(crate) fn put_stem(out: &mut Vec<u8>, name: &[u8]) -> Result<(), AllocError>
     ensures { OnOk result (out.new.items ≡ stem name.now) }
 {
     out.clear();
-    let mut rest = name;
-    'words: while let Some((word, others)) = cut(rest) {
+    for word in name.split(|byte| *byte == b'-') {
         push_word(out, word)?;
         out.push(b'-')?;
-        rest = others;
     }
-    push_word(out, rest)
+    out.pop();
+    Ok(())
 }
 
 /// Whether what is left of a name is a stem, which hyphens alone are not.
 pub(crate) fn is_stem(left: &[u8]) -> bool
     ensures { result ≡ is_stem left.now }
 {
-    for byte in left {
-        if *byte != b'-' {
-            return true;
-        }
-    }
-    false
+    left.iter().any(|byte| *byte != b'-')
 }
 
 /// Adds a text to a set, and says whether the set didn't have it.

@@ -16,7 +16,11 @@ use number_sets::sort_once;
 use std::alloc::{AllocError, Global};
 
 /// Whether a constraint is no need that some package of the index meets. `AllocError` where there is no memory to look.
-pub fn is_final(alloc: Global, index: &Index, constraint: Constraint) -> Result<bool, AllocError>
+pub(crate) fn is_final(
+    alloc: Global,
+    index: &Index,
+    constraint: Constraint,
+) -> Result<bool, AllocError>
     requires { IsOfIndex index.now constraint }
     ensures { IfOk result (λ last. last ≡ is_final index.now constraint) }
 {

@@ -1,8 +1,8 @@
-use Rattle.std.proofs.Common.{◌∙◌, ◌<◌, ℕ, Bool, List, ap, arith, get_or, length, map, refl, take, ◌+◌}
-use Rattle.std.proofs.lemmas.List.{length-set, map-append}
+use Rattle.std.proofs.Common.{◌∙◌, ◌<◌, ℕ, Bool, List, arith, get_or, length, refl, take, ◌+◌}
+use Rattle.std.proofs.lemmas.List.{length-set}
 use Rattle.number_sets.specs.Sets.{members_of}
 use Rattle.deb_causes.specs.declared.gathered.Part.{Part}
-use Rattle.deb_causes.specs.Gathering.{part_view, share_view, with_share}
+use Rattle.deb_causes.specs.Gathering.{part_view, with_share}
 use Rattle.deb_causes.proofs.GatheringLemmas.{put-at, share-none, share-other, share-own}
 use Rattle.deb_causes.proofs.gathered.add_shares.Goals as goal
 
@@ -27,6 +27,6 @@ loop-number-preserved c =
           put-at part_view parts (λ k. with_share share (members_of (take i numbers) k) (f k)) (λ k. with_share share (members_of (take (i + 1) numbers) k) (f k)) n count old new
           (c.loop-number.invariant.parts count f are) within c.index_mut.ensures.value
           (λ was. share-own numbers i share (part_view old) (part_view new) (f n) c.requires.rising inside refl
-          (ap (map share_view) c.in_ok-push.ensures.items ∙ map-append share_view old.shares.items _) was)
+          c.in_ok-push.ensures.items was)
           (λ k other. share-other numbers i k share (f k) inside other);
     }

@@ -8,12 +8,12 @@ use Rattle.number_sets.proofs.ListLemmas.{filter_fails, filter_passes}
 use Rattle.deb_causes.specs.Causes.{says}
 use Rattle.deb_causes.specs.Numbering.{texts_of, with_text}
 use Rattle.deb_causes.proofs.CoreLemmas.{wrong-known, wrong-new}
-use Rattle.deb_causes.proofs.cores.first_said.Goals as goal
-use Rattle.deb_causes.proofs.cores.first_said.Goals.{then-branch+in_ok-number_of+then-len-known+in_ok-push, then-branch+in_ok-number_of+else-len-known, else-branch}
+use Rattle.deb_causes.proofs.cores.wrongs_in.Goals as goal
+use Rattle.deb_causes.proofs.cores.wrongs_in.Goals.{then-branch+in_ok-number_of+then-len-known+in_ok-push, then-branch+in_ok-number_of+else-len-known, else-branch}
 
 pub loop-constraint-init : goal.loop-constraint-init
 unfolding first_of_each
-loop-constraint-init c = record { said = c.requires.said ∙ sym (ap (map (says c.args.index.now)) c.new-wrongs.ensures.items); wrongs = c.new-wrongs.ensures.items }
+loop-constraint-init c = record { said = c.new-said.ensures ∙ sym (ap (map (says c.args.index.now)) c.new-wrongs.ensures.items); wrongs = c.new-wrongs.ensures.items }
 
 pub loop-constraint-preserved : goal.loop-constraint-preserved
 loop-constraint-preserved c =
