@@ -14,7 +14,7 @@ use Rattle.deb_index.proofs.FirstLemmas.{name-itself}
 use Rattle.deb_index.proofs.MemberLemmas.{below-places_where}
 use Rattle.number_sets.specs.Sets.{NumberSet, members_of, IsWithin}
 use Rattle.number_sets.specs.SparseSets.{Grows}
-use Rattle.number_sets.proofs.ListMembers.{member_any, members_of_at}
+use Rattle.number_sets.proofs.ListMembers.{below_members, member_any, members_of_at}
 use Rattle.number_sets.proofs.Placing.{grows_keeps}
 use Rattle.deb_health.specs.Causes.{either}
 use Rattle.deb_health.specs.Health.{MeetsAt}
@@ -42,26 +42,25 @@ empty_is_base index base empty =
 
 -- the set has what the package at a place asks for, and no earlier package of its name
 pub record StandsIn (index : IndexView) (set : NumberSet) (place : ℕ) : Type 0 where
+  pub is_place : place < length index.packages
   pub needs : HasAnswers index set place
   pub aparts : (j : ℕ) → j < length (aparts_at index place) → Holds index set (Apart place j)
   pub once : HasNoEarlier index set place
 
 -- what each of a list has, up to its end
 pub base_of : (index : IndexView) (base : BaseSet) (list : List ℕ) (count : ℕ) → list ≡ base.members → length list ≤ count
-    → All (λ place. place < length index.packages) base.members
     → ((k : ℕ) → k < count → StandsIn index (members_of base.members) (get_or list k 0))
     → ((k : ℕ) → k < count → HasHits index (members_of base.hit) (get_or list k 0))
     → IsBase index base
-base_of index base list count list_is past within stand hit =
-    let Stand : List ℕ → Type 0 = λ items. (q : ℕ) → members_of items q ≡ true → StandsIn index (members_of base.members) q in
-    let each : Stand base.members = subst Stand list_is (of_members (StandsIn index (members_of base.members)) list count past stand) in
-    let Hit : List ℕ → Type 0 = λ items. (q : ℕ) → members_of items q ≡ true → HasHits index (members_of base.hit) q in
+base_of index base list count list_is past stand hit =
+    let Each : (ℕ → Type 0) → List ℕ → Type 0 = λ Property items. (q : ℕ) → members_of items q ≡ true → Property q in
+    let each = subst (Each (StandsIn index (members_of base.members))) list_is (of_members (StandsIn index (members_of base.members)) list count past stand) in
     record {
-      within = within;
+      within = below_members base.members (length index.packages) (λ q is_in. (each q is_in).is_place);
       needs = λ place is_in. (each place is_in).needs;
       aparts = λ place j is_in. (each place is_in).aparts j;
       once = λ place is_in. (each place is_in).once;
-      hit = subst Hit list_is (of_members (HasHits index (members_of base.hit)) list count past hit);
+      hit = subst (Each (HasHits index (members_of base.hit))) list_is (of_members (HasHits index (members_of base.hit)) list count past hit);
     }
 
 module _ (index : IndexView) where

@@ -1,12 +1,12 @@
 -- What the steps of a refutation give, one after another.
-use Rattle.std.proofs.Common.{◌≡◌, ◌≢◌, ℕ, ◌<◌, true, false, eqb, ◌||◌, List, [], ◌∷◌, ◌++◌, length, Some, slice_get, refl, sym, subst, ◌∙◌, ap, inl, inr}
+use Rattle.std.proofs.Common.{◌≡◌, ◌≢◌, ℕ, ◌<◌, true, false, eqb, ◌||◌, List, [], ◌∷◌, ◌++◌, length, Some, slice_get, refl, sym, subst, ◌∙◌, ap, inl, inr, arith}
 use Rattle.std.specs.List.{list_any}
 use Rattle.std.specs.Option.{option_map_or}
 use Rattle.std.specs.Str.{bytes_eq}
 use Rattle.std.proofs.lemmas.Bool.{false≢true, or_cases, or_left, or_right, eqb-true, eq-eqb}
-use Rattle.std.proofs.lemmas.Option.{slice_get-get_or, slice_get_within, get_or_from_slice_get}
+use Rattle.std.proofs.lemmas.Option.{slice_get-get_or}
 use Rattle.deb_index.specs.declared.constraint.Constraint.TheVariants.{Essential, Need, Apart, Only}
-use Rattle.deb_index.specs.Packages.{IndexView, no_package, package_at, is_named, names, name_at, places_of, essential_names, need_at}
+use Rattle.deb_index.specs.Packages.{IndexView, no_package, package_at, is_named, name_at, need_at}
 use Rattle.deb_index.specs.Meets.{group_satisfiers}
 use Rattle.deb_index.specs.Constraints.{constraints_of, has_name, hits}
 use Rattle.deb_index.proofs.FirstLemmas.{name-itself}
@@ -14,18 +14,20 @@ use Rattle.deb_index.proofs.PositionLemmas.{essential_position}
 use Rattle.number_sets.specs.Sets.{NumberSet, members_of, IsWithin}
 use Rattle.number_sets.proofs.ListMembers.{member_any}
 use Rattle.number_sets.proofs.MembersLemmas.{members_of_push}
-use Rattle.deb_groundwork.specs.declared.derivation.Outcome.{Outcome}
-use Rattle.deb_groundwork.specs.declared.derivation.Outcome.TheVariants.{Forced, Contradiction}
-use Rattle.deb_groundwork.specs.Deriving.{row_of, Gives}
+use Rattle.deb_groundwork.specs.Deriving.{Gives}
 use Rattle.deb_health.specs.Health.{AdmitsNone, MeetsAt}
 use Rattle.number_sets.specs.SparseSets.{with_number}
 use Rattle.core_extract.specs.Reduction.{IsRefutation}
 use Rattle.deb_index.proofs.IndexFacts.{member_named}
 use Rattle.deb_groundwork.proofs.Forcing.{member_answers}
 use Rattle.number_sets.proofs.Placing.{with_number_only}
-use Rattle.deb_groundwork.proofs.RowLemmas.{essential_below}
+use Rattle.deb_groundwork.specs.Groundwork.{IsEssentialRow}
 
 -- ---- one constraint
+
+pub no_row : (row : List ℕ) → length row ≡ 0 → row ≡ []
+no_row [] none = refl
+no_row (q ∷ row) none = absurd (omega arith)
 
 -- a set that has a place of a row of one has that one
 only_has : (set : NumberSet) (q : ℕ) → list_any set (q ∷ []) ≡ true → set q ≡ true
@@ -35,18 +37,12 @@ only_has set q has = elim (or_cases (set q) false has) [
 ]
 
 module _ (index : IndexView) where
-  -- an essential name is a name
-  pub essential_at : (list : List ℕ) (i number : ℕ) → list ≡ essential_names index → slice_get list i ≡ Some number → number < length (names index)
-  essential_at list i number list_is at =
-      let below = essential_below index list list_is i (slice_get_within list i number at) in
-      subst (λ n. n < length (names index)) (get_or_from_slice_get list i number 0 at) below
-
-  pub essential_gives : (i number : ℕ) (outcome : Outcome) → slice_get (essential_names index) i ≡ Some number → places_of index (name_at index number) ≡ row_of outcome → (forced : NumberSet) → Gives index forced i outcome
-  essential_gives i number outcome at row_is forced = record {
-    constraint = Essential number;
-    stands = essential_position index i number at;
+  pub essential_gives : (i : ℕ) (row : List ℕ) → IsEssentialRow index i row → (forced : NumberSet) → Gives index forced i row
+  essential_gives i row named forced = record {
+    constraint = Essential named.name;
+    stands = essential_position index i named.name named.at;
     gives = λ set has holds.
-        member_any set (row_of outcome) holds.0 holds.1 (sym (ap (λ list. members_of list holds.0) row_is) ∙ (member_named index number holds.0 ∙ holds.2));
+        member_any set row holds.0 holds.1 (ap (λ list. members_of list holds.0) named.is ∙ (member_named index named.name holds.0 ∙ holds.2));
   }
 
   -- its own name
@@ -56,18 +52,18 @@ module _ (index : IndexView) where
       ∙ (ap (λ name. bytes_eq name (package_at index q).name) is ∙ name-itself (package_at index q).name)
 
   module _ (forced : NumberSet) where
-    pub need_gives : (place j position : ℕ) (outcome : Outcome) → slice_get (constraints_of index) position ≡ Some (Need place j) → forced place ≡ true
-        → group_satisfiers index (need_at index place j) ≡ row_of outcome → Gives index forced position outcome
-    need_gives place j position outcome stands is_in row_is = record {
+    pub need_gives : (place j position : ℕ) (row : List ℕ) → slice_get (constraints_of index) position ≡ Some (Need place j) → forced place ≡ true
+        → row ≡ group_satisfiers index (need_at index place j) → Gives index forced position row
+    need_gives place j position row stands is_in row_is = record {
       constraint = Need place j;
       stands = stands;
       gives = λ set has holds.
           (let found = holds (has place is_in) in
-          member_any set (row_of outcome) found.0 found.1 (sym (ap (λ list. members_of list found.0) row_is) ∙ (member_answers index place j found.0 ∙ found.2)));
+          member_any set row found.0 found.1 (ap (λ list. members_of list found.0) row_is ∙ (member_answers index place j found.0 ∙ found.2)));
     }
 
     pub apart_gives : (place j other position : ℕ) → slice_get (constraints_of index) position ≡ Some (Apart place j)
-        → forced place ≡ true → forced other ≡ true → other ≢ place → hits index place j other ≡ true → Gives index forced position Contradiction
+        → forced place ≡ true → forced other ≡ true → other ≢ place → hits index place j other ≡ true → Gives index forced position []
     apart_gives place j other position stands is_in is_too apart hit = record {
       constraint = Apart place j;
       stands = stands;
@@ -76,7 +72,7 @@ module _ (index : IndexView) where
 
     pub only_gives : (first second number position : ℕ) → slice_get (constraints_of index) position ≡ Some (Only number) → first < length index.packages → second < length index.packages
         → forced first ≡ true → forced second ≡ true → second ≢ first → name_at index number ≡ (package_at index first).name → name_at index number ≡ (package_at index second).name
-        → Gives index forced position Contradiction
+        → Gives index forced position []
     only_gives first second number position stands inside inside_too is_in is_too apart named also = record {
       constraint = Only number;
       stands = stands;
@@ -114,15 +110,15 @@ module _ (index : IndexView) (p : ℕ) (part : NumberSet) where
 
   module _ (positions forced : List ℕ) (position : ℕ) (derived : IsDerived index p part positions forced) (has : part position ≡ true) where
     -- what a set that meets the constraints of all steps has
-    step_gives : (outcome : Outcome) → Gives index (members_of forced) position outcome → (set : NumberSet) → set p ≡ true → MeetsAt index set (members_of (positions ++ position ∷ []))
-        → list_any set (row_of outcome) ≡ true
-    step_gives outcome gives set has_p meets =
+    step_gives : (row : List ℕ) → Gives index (members_of forced) position row → (set : NumberSet) → set p ≡ true → MeetsAt index set (members_of (positions ++ position ∷ []))
+        → list_any set row ≡ true
+    step_gives row gives set has_p meets =
         let old = derived.follows set has_p (λ k constraint asked there. meets k constraint (push_old positions position k asked) there) in
         gives.gives set old (meets position gives.constraint (push_new positions position) gives.stands)
 
-    pub derived_more : (q : ℕ) (positions_then forced_then : List ℕ) → Gives index (members_of forced) position (Forced q) → positions_then ≡ positions ++ position ∷ [] → forced_then ≡ with_number forced q
+    pub derived_more : (q : ℕ) (row positions_then forced_then : List ℕ) → Gives index (members_of forced) position row → row ≡ q ∷ [] → positions_then ≡ positions ++ position ∷ [] → forced_then ≡ with_number forced q
         → Derived positions_then forced_then
-    derived_more q positions_then forced_then gives pushed inserted =
+    derived_more q row positions_then forced_then gives row_is pushed inserted =
         subst (λ list. Derived list forced_then) (sym pushed)
         (subst (λ list. Derived (positions ++ position ∷ []) list) (sym inserted)
         (record {
@@ -132,15 +128,15 @@ module _ (index : IndexView) (p : ℕ) (part : NumberSet) where
               λ number is_in.
               elim (with_number_only forced q number is_in) [
                 | inl before ↦ old number before
-                | inr here ↦ ap set (sym here) ∙ only_has set q (step_gives (Forced q) gives set has_p meets)
+                | inr here ↦ ap set (sym here) ∙ only_has set q (subst (λ list. list_any set list ≡ true) row_is (step_gives row gives set has_p meets))
               ]);
         }))
 
-    pub derived_refutes : (positions_then : List ℕ) → Gives index (members_of forced) position Contradiction → positions_then ≡ positions ++ position ∷ []
+    pub derived_refutes : (row positions_then : List ℕ) → Gives index (members_of forced) position row → row ≡ [] → positions_then ≡ positions ++ position ∷ []
         → IsRefutation (AdmitsNone index p) part (members_of positions_then)
-    derived_refutes positions_then gives pushed =
+    derived_refutes row positions_then gives row_is pushed =
         subst (λ list. IsRefutation (AdmitsNone index p) part (members_of list)) (sym pushed)
         (record {
           within = push_within part positions position derived.within has;
-          fails = λ admits. false≢true (step_gives Contradiction gives admits.0 admits.1 admits.2);
+          fails = λ admits. false≢true (subst (λ list. list_any admits.0 list ≡ true) row_is (step_gives row gives admits.0 admits.1 admits.2));
         })

@@ -1,22 +1,22 @@
 -- Places that are in every healthy set with p: one step more.
-use Rattle.std.proofs.Common.{◌≡◌, ◌⊎◌, ℕ, ◌<◌, true, false, eqb, List, [], ◌∷◌, length, get_or, Option, Some, None, slice_get, refl, sym, subst, ◌∙◌, ap, inl, inr, Contains}
+use Rattle.std.proofs.Common.{◌≡◌, ◌⊎◌, ℕ, ◌+◌, ◌<◌, true, false, eqb, List, [], ◌∷◌, length, Option, Some, None, slice_get, refl, sym, subst, ◌∙◌, ap, inl, inr}
 use Rattle.std.specs.List.{list_any}
 use Rattle.std.specs.Option.{option_map_or}
 use Rattle.std.proofs.lemmas.Bool.{false≢true, or_cases, or_left, eqb-true, eq-eqb}
-use Rattle.std.proofs.lemmas.List.Elements.{Contains-get_or}
 use Rattle.deb_relation.specs.Relationship.{AtomText}
 use Rattle.deb_index.specs.declared.constraint.Constraint.TheVariants.{Essential, Need}
-use Rattle.deb_index.specs.Packages.{IndexView, PackageView, name_at, places_of, essential_names, needs_at, need_at}
+use Rattle.deb_index.specs.Packages.{IndexView, PackageView, needs_at, need_at}
 use Rattle.deb_index.specs.Meets.{meets_need, group_satisfiers}
 use Rattle.deb_index.specs.Constraints.{Holds, constraints_of, has_name, answers}
 use Rattle.deb_index.proofs.MemberLemmas.{member-places_where}
 use Rattle.number_sets.specs.Sets.{NumberSet, members_of, IsWithin}
 use Rattle.number_sets.specs.SparseSets.{with_number}
 use Rattle.deb_health.specs.Health.{IsHealthy}
-use Rattle.deb_groundwork.specs.Groundwork.{KeepsForced}
+use Rattle.deb_index.specs.Links.{first_position}
+use Rattle.deb_index.proofs.PositionLemmas.{essential_position, need-place}
+use Rattle.deb_groundwork.specs.Groundwork.{IsEssentialRow, KeepsForced}
 use Rattle.deb_index.proofs.IndexFacts.{All-at, member_named, named_is_place, answers_is_place}
 use Rattle.number_sets.proofs.Placing.{grows_none, grows_both, grows_with, with_number_only}
-use Rattle.deb_groundwork.proofs.Standing.{need_stands, essential_stands}
 
 -- ---- what stands in a row
 
@@ -46,6 +46,10 @@ single_has : (only : ℕ) → members_of (only ∷ []) only ≡ true
 single_has only = or_left (eqb only only) false (eq-eqb only only refl)
 
 -- ---- steps
+
+-- each need has its constraint in the index's list
+pub need_stands : (index : IndexView) (p j : ℕ) → p < length index.packages → j < length (needs_at index p) → (k : ℕ) × (slice_get (constraints_of index) k ≡ Some (Need p j))
+need_stands index p j is_place inside = (first_position index p + j, need-place index p j (first_position index p + j) is_place inside refl)
 
 pub forced_none : (index : IndexView) (places : List ℕ) → KeepsForced index places places
 forced_none index places = record { grows = grows_none (length index.packages) places; forced = λ set healthy within. within }
@@ -92,22 +96,14 @@ forced_by_need index member j row before after is_place inside is_in row_is (inr
     ap set (sym (in_single only found.0 (alone found.0 ∙ found.2))) ∙ found.1)))
 
 -- the only package of an essential name
-forced_by_name : (index : IndexView) (number : ℕ) (row before after : List ℕ) → Contains (essential_names index) number → row ≡ places_of index (name_at index number)
-    → TakesOnly row before after → KeepsForced index before after
-forced_by_name index number row before after named row_is (inl same) = forced_moved index before after before same (forced_none index before)
-forced_by_name index number row before after named row_is (inr took) =
+pub forced_by_name : (index : IndexView) (position : ℕ) (row before after : List ℕ) → IsEssentialRow index position row → TakesOnly row before after → KeepsForced index before after
+forced_by_name index position row before after named (inl same) = forced_moved index before after before same (forced_none index before)
+forced_by_name index position row before after named (inr took) =
     let only : ℕ = took.0 in
-    let alone : (q : ℕ) → members_of (only ∷ []) q ≡ has_name index q number = λ q. ap (λ list. members_of list q) (sym took.1 ∙ row_is) ∙ member_named index number q in
-    let there = essential_stands index number named in
+    let alone : (q : ℕ) → members_of (only ∷ []) q ≡ has_name index q named.name = λ q. ap (λ list. members_of list q) (sym took.1 ∙ named.is) ∙ member_named index named.name q in
+    let there = essential_position index position named.name named.at in
     forced_moved index before after (with_number before only) took.2
-    (forced_with index before only (named_is_place index only number (sym (alone only) ∙ single_has only))
+    (forced_with index before only (named_is_place index only named.name (sym (alone only) ∙ single_has only))
     (λ set healthy within.
-    (let found = All-at (Holds index set) (constraints_of index) there.0 (Essential number) healthy there.1 in
+    (let found = All-at (Holds index set) (constraints_of index) position (Essential named.name) healthy there in
     ap set (sym (in_single only found.0 (alone found.0 ∙ found.2))) ∙ found.1)))
-
-pub forced_by_names : (index : IndexView) (list : List ℕ) (number : ℕ) (row before between after : List ℕ) → number < length list → list ≡ essential_names index
-    → row ≡ places_of index (name_at index (get_or list number 0)) → KeepsForced index before between → TakesOnly row between after → KeepsForced index before after
-forced_by_names index list number row before between after inside list_is row_is so_far taken =
-    let In : List ℕ → Type 0 = λ xs. Contains xs (get_or list number 0) in
-    forced_both index before between after so_far
-    (forced_by_name index (get_or list number 0) row between after (subst In list_is (Contains-get_or list number 0 inside)) row_is taken)

@@ -1,26 +1,25 @@
 -- Healthy sets, told place by place.
-use Rattle.std.proofs.Common.{◌≡◌, ℕ, zero, suc, ◌+◌, ◌<◌, Bool, true, false, ◌||◌, not, List, [], ◌∷◌, ◌++◌, length, get_or, map, filter, All, ◌↔◌, refl, sym, subst, ◌∙◌, ap, inl, inr, arith}
-use Rattle.std.specs.List.{list_any, flat_map}
+use Rattle.std.proofs.Common.{◌≡◌, ℕ, suc, ◌<◌, Bool, true, false, ◌||◌, not, List, [], ◌∷◌, length, get_or, map, filter, Some, slice_get, ◌↔◌, refl, sym, subst, ◌∙◌, ap, inl, inr, arith}
+use Rattle.std.specs.List.{list_any}
 use Rattle.std.specs.Option.{option_map_or}
 use Rattle.std.specs.Str.{bytes_eq}
 use Rattle.std.proofs.lemmas.Bool.{cases_order, false≢true, or_cases, or_left, or_right, not_from_false}
-use Rattle.std.proofs.lemmas.List.{get_or-map, get_or_default, length-map}
-use Rattle.std.proofs.lemmas.List.FromFn.{length-range_with_len, get_or-range_with_len}
-use Rattle.std.proofs.lemmas.List.Elements.{All-nil, All-append, All-map}
+use Rattle.std.proofs.lemmas.List.{get_or-map, length-map}
 use Rattle.std.proofs.lemmas.List.Folds.{list_any_at}
 use Rattle.std.proofs.lemmas.Option.{slice_get-get_or}
 use Rattle.deb_index.specs.declared.constraint.Constraint.{Constraint}
 use Rattle.deb_index.specs.declared.constraint.Constraint.TheVariants.{Essential, Need, Apart, Only}
 use Rattle.deb_index.specs.Packages.{IndexView, PackageView, first_of_each, no_package, package_at, is_named, names, name_at, places_of, essential_names, needs_at, aparts_at}
-use Rattle.deb_index.specs.Constraints.{Holds, constraints_at, constraints_of, below, has_name}
+use Rattle.deb_index.specs.Constraints.{Holds, IsOfIndex, constraints_of, has_name}
 use Rattle.deb_index.proofs.FirstLemmas.{same-name, name-itself, names-turned, any-filter}
 use Rattle.number_sets.specs.Sets.{NumberSet, members_of}
 use Rattle.deb_health.specs.Health.{IsHealthy}
 use Rattle.deb_groundwork.specs.Parts.{HasNoEarlier}
 use Rattle.deb_index.specs.Apart.{HasOneOf, HasOneVersion}
-use Rattle.number_sets.proofs.ListMembers.{members_of_at, at_members_of}
-use Rattle.deb_index.proofs.IndexFacts.{member_named, named_is_place, only_says_once}
-use Rattle.number_sets.proofs.ListLemmas.{All-front, All-back}
+use Rattle.number_sets.proofs.ListMembers.{members_of_at, contains_member}
+use Rattle.deb_index.proofs.ConstraintLemmas.{constraints-within}
+use Rattle.deb_index.proofs.PositionLemmas.{apart-place, essential_position, need-place, only-place}
+use Rattle.deb_index.proofs.IndexFacts.{All-at, IsRight, all_right, member_named, named_is_place, only_says_once}
 
 -- ---- what a set meets of all that the package at a place asks for
 
@@ -51,36 +50,6 @@ any_at test d (x ∷ xs) holds =
       | inl here ↦ (0, omega arith, here)
       | inr later ↦ let at = any_at test d xs later in (suc at.0, omega (arith, at.1), at.2)
     ]
-
--- what all elements of all lists have, those of one list have
-All-listed : {A : Type 0} (P : A → Type 0) (f : ℕ → List A) (xs : List ℕ) (k : ℕ) → k < length xs → All P (flat_map f xs) → All P (f (get_or xs k 0))
-All-listed P f [] k inside all = absurd (omega arith)
-All-listed P f (x ∷ xs) zero inside all = All-front P (f x) (flat_map f xs) all
-All-listed P f (x ∷ xs) (suc k) inside all = All-listed P f xs k (omega arith) (All-back P (f x) (flat_map f xs) all)
-
-All-lists : {A : Type 0} (P : A → Type 0) (f : ℕ → List A) (xs : List ℕ) → ((x : ℕ) → All P (f x)) → All P (flat_map f xs)
-All-lists P f [] each = All-nil P
-All-lists P f (x ∷ xs) each = All-append P (f x) (flat_map f xs) (each x) (All-lists P f xs each)
-
-below_at : (limit j d : ℕ) → j < limit → get_or (below limit) j d ≡ j
-below_at limit j d less = (let same : 0 + j ≡ j = omega arith in get_or-range_with_len 0 limit j d less ∙ same)
-
--- what is made of all numbers below a limit
-All-below : {A : Type 0} (P : A → Type 0) (f : ℕ → A) (limit : ℕ) → ((j : ℕ) → j < limit → P (f j)) → All P (map f (below limit))
-All-below P f limit each =
-    All-map P f (below limit) (λ k d inside.
-    let size : length (below limit) ≡ limit = length-range_with_len 0 limit in
-    let less : k < limit = omega arith in
-    let here : get_or (below limit) k d ≡ k = below_at limit k d less in
-    subst (λ j. P (f j)) (sym here) (each k less))
-
-below_all : {A : Type 0} (P : A → Type 0) (f : ℕ → A) (limit : ℕ) → All P (map f (below limit)) → (j : ℕ) → j < limit → P (f j)
-below_all P f limit all j less =
-    let size : length (below limit) ≡ limit = length-range_with_len 0 limit in
-    let inside : j < length (below limit) = omega arith in
-    let inside_too : j < length (map f (below limit)) = omega (arith, length-map (below limit) f) in
-    let here : get_or (map f (below limit)) j (f 0) ≡ f j = get_or-map f (below limit) j 0 (f 0) inside ∙ ap f (below_at limit j 0 less) in
-    subst P here (all j (f 0) inside_too)
 
 -- a name of the list is one of the distinct names
 first_has : (name : List ℕ) (xs : List (List ℕ)) → list_any (bytes_eq name) xs ≡ true → list_any (bytes_eq name) (first_of_each bytes_eq xs) ≡ true
@@ -156,59 +125,27 @@ module _ (index : IndexView) where
 
     -- ---- the whole list
 
-    essential_part : All (Holds index set) (map (λ n. Essential n) (essential_names index)) → (number : ℕ) → members_of (essential_names index) number ≡ true → Holds index set (Essential number)
-    essential_part all number is_in =
-        let make : ℕ → Constraint = λ n. Essential n in
-        let at = members_of_at (essential_names index) number is_in in
-        let inside : at.0 < length (map make (essential_names index)) = omega (arith, length-map (essential_names index) make, at.1) in
-        let here : get_or (map make (essential_names index)) at.0 (make 0) ≡ make number = get_or-map make (essential_names index) at.0 0 (make 0) at.1 ∙ ap make at.2 in
-        subst (Holds index set) here (all at.0 (make 0) inside)
-
-    place_part : All (Holds index set) (flat_map (constraints_at index) (below (length index.packages))) → (p : ℕ) → p < length index.packages → All (Holds index set) (constraints_at index p)
-    place_part all p inside =
-        let size : length (below (length index.packages)) ≡ length index.packages = length-range_with_len 0 (length index.packages) in
-        let here : get_or (below (length index.packages)) p 0 ≡ p = below_at (length index.packages) p 0 inside in
-        let AllAt : ℕ → Type 0 = λ q. All (Holds index set) (constraints_at index q) in
-        subst AllAt here (All-listed (Holds index set) (constraints_at index) (below (length index.packages)) p (omega arith) all)
-
     pub healthy_parts : IsHealthy index set
         → ((number : ℕ) → members_of (essential_names index) number ≡ true → Holds index set (Essential number)) × ((p : ℕ) → p < length index.packages → MeetsPlace index set p)
-    unfolding constraints_of
     healthy_parts healthy =
-        let first : List Constraint = map (λ n. Essential n) (essential_names index) in
-        let places : List Constraint = flat_map (constraints_at index) (below (length index.packages)) in
-        let last : List Constraint = map (λ n. Only n) (below (length (names index))) in
-        let front : All (Holds index set) (first ++ places) = All-front (Holds index set) (first ++ places) last healthy in
-        let only : (number : ℕ) → number < length (names index) → Holds index set (Only number) = below_all (Holds index set) (λ n. Only n) (length (names index)) (All-back (Holds index set) (first ++ places) last healthy) in (
-          essential_part (All-front (Holds index set) first places front),
-          λ p inside.
-              let at : All (Holds index set) (constraints_at index p) = place_part (All-back (Holds index set) first places front) p inside in
-              let needs : List Constraint = map (λ j. Need p j) (below (length (needs_at index p))) in
-              let aparts : List Constraint = map (λ j. Apart p j) (below (length (aparts_at index p))) in
-              record {
-                needs = below_all (Holds index set) (λ j. Need p j) (length (needs_at index p)) (All-front (Holds index set) needs aparts at);
-                conflicts = record {
-                  entries = below_all (Holds index set) (λ j. Apart p j) (length (aparts_at index p)) (All-back (Holds index set) needs aparts at);
-                  once = once_from_only only p inside;
-                };
-              },
+        let meets : (k : ℕ) (c : Constraint) → slice_get (constraints_of index) k ≡ Some c → Holds index set c = λ k c there. All-at (Holds index set) (constraints_of index) k c healthy there in (
+          λ number is_in.
+              let at = members_of_at (essential_names index) number is_in in
+              meets at.0 (Essential number) (essential_position index at.0 number (slice_get-get_or (essential_names index) at.0 0 at.1 ∙ ap Some at.2)),
+          λ p inside. record {
+            needs = λ j less. meets _ (Need p j) (need-place index p j _ inside less refl);
+            conflicts = record {
+              entries = λ j less. meets _ (Apart p j) (apart-place index p j _ inside less refl);
+              once = once_from_only (λ number less. meets _ (Only number) (only-place index number _ less refl)) p inside;
+            };
+          },
         )
 
-    -- where each member of the set has what it asks for
-    healthy_at : ((q : ℕ) → set q ≡ true → MeetsPlace index set q) → (p : ℕ) → All (Holds index set) (constraints_at index p)
-    healthy_at each p =
-        All-append (Holds index set) (map (λ j. Need p j) (below (length (needs_at index p)))) (map (λ j. Apart p j) (below (length (aparts_at index p))))
-        (All-below (Holds index set) (λ j. Need p j) (length (needs_at index p)) (λ j less has. (each p has).needs j less has))
-        (All-below (Holds index set) (λ j. Apart p j) (length (aparts_at index p)) (λ j less has. (each p has).conflicts.entries j less has))
-
     pub healthy_from_parts : ((number : ℕ) → members_of (essential_names index) number ≡ true → Holds index set (Essential number)) → ((q : ℕ) → set q ≡ true → MeetsPlace index set q) → IsHealthy index set
-    unfolding constraints_of
-    healthy_from_parts essential each =
-        let first : List Constraint = map (λ n. Essential n) (essential_names index) in
-        let places : List Constraint = flat_map (constraints_at index) (below (length index.packages)) in
-        let last : List Constraint = map (λ n. Only n) (below (length (names index))) in
-        All-append (Holds index set) (first ++ places) last
-        (All-append (Holds index set) first places
-        (All-map (Holds index set) (λ n. Essential n) (essential_names index) (λ k d inside. essential (get_or (essential_names index) k d) (ap (members_of (essential_names index)) (get_or_default (essential_names index) k d 0 inside) ∙ at_members_of (essential_names index) k inside)))
-        (All-lists (Holds index set) (constraints_at index) (below (length index.packages)) (healthy_at each)))
-        (All-below (Holds index set) (λ n. Only n) (length (names index)) (λ number less. only_from_once number each))
+    healthy_from_parts essential each k d inside = by (get_or (constraints_of index) k d) (constraints-within index k d inside) (all_right index k d inside)
+      where
+        by : (c : Constraint) → IsOfIndex index c → IsRight index c → Holds index set c
+        by (Essential number) of_index right = essential number (contains_member (essential_names index) number right)
+        by (Need p j) of_index right = λ has. (each p has).needs j of_index.1 has
+        by (Apart p j) of_index right = λ has. (each p has).conflicts.entries j of_index.1 has
+        by (Only number) of_index right = only_from_once number each

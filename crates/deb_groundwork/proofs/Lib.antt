@@ -9,5 +9,4 @@ pub mod InstallableLemmas
 pub mod Names
 pub mod RowLemmas
 pub mod Searched
-pub mod Standing
 pub mod WitnessLemmas

@@ -1,6 +1,6 @@
 -- What loops over rows of places and over essential names come to.
 use Rattle.std.proofs.Common.{◌≡◌, ℕ, ◌+◌, ◌<◌, List, length, get_or, All, sym, subst, ◌∙◌, ap, inl, inr, arith}
-use Rattle.std.proofs.lemmas.Bool.{cases_lt, cases_Bool}
+use Rattle.std.proofs.lemmas.Bool.{cases_lt}
 use Rattle.deb_index.specs.Packages.{IndexView, essential_names, need_at, names, is_essential}
 use Rattle.deb_index.specs.Meets.{group_satisfiers}
 use Rattle.number_sets.specs.Sets.{members_of}
@@ -8,8 +8,6 @@ use Rattle.number_sets.proofs.ListMembers.{below_members}
 use Rattle.deb_index.proofs.IndexFacts.{answers_is_place}
 use Rattle.deb_groundwork.proofs.Forcing.{member_answers}
 use Rattle.deb_index.proofs.MemberLemmas.{below-places_where}
-use Rattle.std.proofs.lemmas.List.Elements.{All-push, All-same}
-use Rattle.number_sets.specs.SparseSets.{with_number}
 
 -- what holds below a number holds below the next one, too
 pub more_below : (Then Now : ℕ → Type 0) (i : ℕ) → ((k : ℕ) → k < i → Then k → Now k) → ((k : ℕ) → k < i → Then k) → Now i → (k : ℕ) → k < i + 1 → Now k
@@ -31,15 +29,3 @@ essential_below index list is_that i inside =
     let Below : List ℕ → Type 0 = λ xs. All (λ n. n < length (names index)) xs in
     let all : All (λ n. n < length (names index)) list = subst Below (sym is_that) (below-places_where (is_essential index) (names index)) in
     all i 0 inside
-
--- a number of a row that is a list of places is a place
-pub place_at : (count : ℕ) (row list : List ℕ) (i : ℕ) → row ≡ list → All (λ q. q < count) list → i < length row → get_or row i 0 < count
-place_at count row list i row_is within inside = All-same (λ q. q < count) row list row_is within i 0 inside
-
--- with one place more all are places
-pub places_with : (count : ℕ) (places : List ℕ) (q : ℕ) → q < count → All (λ place. place < count) places → All (λ place. place < count) (with_number places q)
-places_with count places q is_place within =
-    elim (cases_Bool (members_of places q)) [
-      | inl has ↦ rw has within
-      | inr lacks ↦ rw lacks (All-push (λ place. place < count) places q within is_place)
-    ]

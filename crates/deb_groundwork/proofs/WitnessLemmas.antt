@@ -3,6 +3,7 @@ use Rattle.std.proofs.Common.{◌≡◌, ℕ, ◌<◌, ◌≤◌, Bool, true, fa
 use Rattle.std.specs.Prelude.{is_some, IfNone}
 use Rattle.std.specs.List.{list_any}
 use Rattle.std.proofs.lemmas.Bool.{false≢true}
+use Rattle.std.proofs.lemmas.Option.{slice_get-get_or}
 use Rattle.deb_index.specs.declared.constraint.Constraint.{Constraint}
 use Rattle.deb_index.specs.declared.constraint.Constraint.TheVariants.{Essential, Need, Apart, Only}
 use Rattle.deb_index.specs.Packages.{IndexView, package_at, names, name_at, places_of, essential_names, apart_at}
@@ -12,6 +13,7 @@ use Rattle.deb_index.proofs.ConstraintLemmas.{constraints-within}
 use Rattle.deb_index.proofs.PositionLemmas.{one_position, essential_position}
 use Rattle.number_sets.specs.Sets.{NumberSet, members_of}
 use Rattle.deb_health.specs.Health.{MeetsAt}
+use Rattle.deb_groundwork.specs.Groundwork.{IsEssentialRow}
 use Rattle.deb_groundwork.specs.Parts.{HasNoEarlier, positions_in, IsAsked, MeetsAsked, MeetsAskedOf, StandsOnce}
 use Rattle.deb_groundwork.specs.declared.part.Part.{Part}
 use Rattle.number_sets.proofs.ListMembers.{members_of_at, any_member, contains_member}
@@ -33,19 +35,18 @@ of_members P xs count past each q is_in =
 -- ---- what a set has
 
 module _ (index : IndexView) (set : NumberSet) where
-  pub essential_held : (number : ℕ) (row : List ℕ) → row ≡ places_of index (name_at index number) → list_any set row ≡ true → Holds index set (Essential number)
-  essential_held number row row_is holds =
-      let at = any_member set row holds in
-      (at.0, at.1, sym (member_named index number at.0) ∙ (sym (ap (λ list. members_of list at.0) row_is) ∙ at.2))
+  pub essential_held : (position number : ℕ) (row : List ℕ) → IsEssentialRow index position row → slice_get (essential_names index) position ≡ Some number → list_any set row ≡ true
+      → Holds index set (Essential number)
+  essential_held position number row named at holds =
+      let found = any_member set row holds in
+      let same : named.name ≡ number = cc (named.at, at) in
+      (found.0, found.1, sym (member_named index number found.0) ∙ (ap (λ n. members_of (places_of index (name_at index n)) found.0) (sym same) ∙ (sym (ap (λ list. members_of list found.0) named.is) ∙ found.2)))
 
   pub apart_held : (place j : ℕ) (row : List ℕ) → row ≡ satisfiers index (apart_at index place j) → ((q : ℕ) → members_of row q ≡ true → set q ≡ true → q ≡ place) → Holds index set (Apart place j)
   apart_held place j row row_is only has q is_in hit =
       only q (ap (λ list. members_of list q) row_is ∙ (member_satisfiers index (apart_at index place j) q ∙ hit)) is_in
 
 -- ---- what is asked of it
-
-pub essential_is_name : (index : IndexView) (at number : ℕ) → slice_get (essential_names index) at ≡ Some number → number < length (names index)
-essential_is_name index at number there = All-at (IsOfIndex index) (constraints_of index) at (Essential number) (constraints-within index) (essential_position index at number there)
 
 module _ (part : Part) (set : NumberSet) where
   -- nothing is asked where the constraint stands at no position of the part
@@ -66,12 +67,15 @@ module _ (part : Part) (set : NumberSet) where
 
   -- ---- the whole part
 
-  pub essentials_held : (items : List ℕ) (count : ℕ) → items ≡ essential_names part.index.now → length items ≤ count
-      → ((k : ℕ) → k < count → MeetsAsked part set (Essential (get_or items k 0))) → (number : ℕ) → MeetsAsked part set (Essential number)
-  essentials_held items count items_is past each number asked =
-      let listed : members_of items number ≡ true =
-      ap (λ list. members_of list number) items_is ∙ contains_member (essential_names part.index.now) number (All-at (IsRight part.index.now) (constraints_of part.index.now) asked.0 (Essential number) (all_right part.index.now) asked.2) in
-      of_members (λ n. MeetsAsked part set (Essential n)) items count past each number listed asked
+  pub essentials_held : (count : ℕ) → length (essential_names part.index.now) ≤ count
+      → ((k : ℕ) → k < count → (number : ℕ) → slice_get (essential_names part.index.now) k ≡ Some number → MeetsAsked part set (Essential number))
+      → (number : ℕ) → MeetsAsked part set (Essential number)
+  essentials_held count past each number asked =
+      let names = essential_names part.index.now in
+      let listed : members_of names number ≡ true =
+      contains_member names number (All-at (IsRight part.index.now) (constraints_of part.index.now) asked.0 (Essential number) (all_right part.index.now) asked.2) in
+      let at = members_of_at names number listed in
+      each at.0 (omega (arith, past, at.1)) number (slice_get-get_or names at.0 0 at.1 ∙ ap Some at.2) asked
 
   pub only_held : ((q : ℕ) → set q ≡ true → StandsOnce part set q) → (number : ℕ) → number < length (names part.index.now) → MeetsAsked part set (Only number)
   only_held each number within asked =

@@ -1,7 +1,7 @@
 //! Whether a set answers a need: by its row, or, where it has too many answers for one, by the first bearers of its alternatives' names. None of
 //! the many others are looked at.
 
-ghost use Rattle.std.specs.Prelude.{◌≡◌, ℕ, ◌<◌, true, All, IfSome, length};
+ghost use Rattle.std.specs.Prelude.{◌≡◌, ℕ, ◌<◌, true, length};
 ghost use Rattle.std.specs.List.{list_any};
 ghost use Rattle.deb_relation.specs.AtomView.{atom_view};
 ghost use Rattle.deb_index.specs.Packages.{needs_at, need_at};
@@ -16,9 +16,7 @@ use deb_relation::Atom;
 use number_sets::SparseSet;
 
 /// A bearer of a name: a place that has it or, behind these, one that provides it.
-pub(crate) fn bearer(named: &[u32], provided: &[(u32, u32)], number: usize) -> Option<u32>
-    ensures { (count : ℕ) → All (λ place. place < count) named.now → All (λ entry. entry.0 < count) provided.now → IfSome result (λ place. place < count) }
-{
+pub(crate) fn bearer(named: &[u32], provided: &[(u32, u32)], number: usize) -> Option<u32> {
     if number < named.len() {
         return Some(named[number]);
     }
@@ -36,7 +34,7 @@ fn has_bearer<P: Places>(index: &Index, set: &P, atom: &Atom) -> bool
         let Some(place) = bearer(named, provided, number) else {
             return false;
         };
-        if set.has(place) && index.meets_need(place, atom) {
+        if place < index.len() && set.has(place) && index.meets_need(place, atom) {
             return true;
         }
     }

@@ -1,6 +1,6 @@
 //! A large set of packages of an index, each with what it asks for: what a question looks for grows on it, and need not be found anew for each one.
 
-ghost use Rattle.std.specs.Prelude.{◌≡◌, [], ◌<◌, true, All, length};
+ghost use Rattle.std.specs.Prelude.{◌≡◌, [], ◌<◌, true, length};
 ghost use Rattle.number_sets.specs.Sets.{members_of};
 ghost use Rattle.deb_health.specs.Causes.{either};
 ghost use Rattle.deb_health.specs.Health.{IsHealthy, MeetsAt};
@@ -9,8 +9,6 @@ ghost use Rattle.deb_groundwork.specs.Parts.{positions_in};
 
 use crate::answering::are_answered;
 use crate::check::{has_no_earlier, meets_essentials};
-use crate::installation::{Installation, weight_of_all};
-use crate::limits::BASE_SET_TIMES;
 use crate::part::Part;
 use crate::rows::{Places, has_free_name, stands_apart, take_hits};
 use deb_index::Index;
@@ -60,36 +58,30 @@ impl BaseSet {
         self.hit.clear();
     }
 
-    /// These places, if each is seen to have what its package asks for among them; else none.
-    fn of(alloc: Global, index: &Index, members: SparseSet) -> BaseSet
-        requires { All (λ place. place < length index.now.packages) members }
-        ensures { IsBase index.now result }
+    /// Whether each place is seen to have what its package asks for among them.
+    pub(crate) fn is_base(&mut self, index: &Index) -> bool
+        ensures { result ≡ true → IsBase index.now self.new }
     {
-        let mut hit = SparseSet::new(alloc);
+        let members = &self.members;
+        let hit = &mut self.hit;
+        hit.clear();
         for place in members.as_slice() {
-            if !are_answered(index, &members, *place)
-                || !stands_apart(index, &members, *place)
-                || !has_no_earlier(index, &members, *place)
-                || !take_hits(index, *place, &mut hit)
+            if *place >= index.len()
+                || !are_answered(index, members, *place)
+                || !stands_apart(index, members, *place)
+                || !has_no_earlier(index, members, *place)
+                || !take_hits(index, *place, hit)
             {
-                return BaseSet::empty(alloc);
+                return false;
             }
         }
-        BaseSet { members, hit }
+        true
     }
 
-    /// A package of each essential name, if there can be, and of all others those that fit, each with what it asks for. What lacks a need is not
-    /// tried.
-    pub(crate) fn find(alloc: Global, index: &Index, hopeless: &SparseSet) -> BaseSet
-        ensures { IsBase index.now result }
-    {
-        let spare = weight_of_all(index).saturating_mul(BASE_SET_TIMES);
-        let mut installation = Installation::new(alloc, spare);
-        installation.add_essentials(index, hopeless);
-        for place in 0..index.len() {
-            installation.add(index, hopeless, place);
-        }
-        BaseSet::of(alloc, index, installation.members)
+    /// Puts in the members of another set, and what they hit. No claim rests on what is in by it.
+    pub(crate) fn extend(&mut self, more: &BaseSet) -> bool {
+        self.hit.extend(more.hit.as_slice()).is_ok()
+            && self.members.extend(more.members.as_slice()).is_ok()
     }
 
     /// Whether it is seen to meet a part: it may lack essential names, and nothing else.

@@ -1,35 +1,11 @@
 //! A constraint that keeps two places apart that are in.
 
 ghost use Rattle.std.specs.Prelude.{◌<◌, length};
-ghost use Rattle.deb_index.specs.Packages.{aparts_at};
 
 use crate::derivation::Step;
 use crate::part::Part;
 use crate::rows::other_in;
-use deb_index::Index;
 use number_sets::SparseSet;
-
-/// Another place that is in and that an entry hits. `None` where what it hits is too much for a row.
-fn hit_in(index: &Index, place: u32, number: u32, forced: &SparseSet) -> Option<u32>
-    requires place { place < length index.now.packages }
-    requires number { number < length (aparts_at index.now place) }
-{
-    match index.hit_row(place, number) {
-        Some(row) => other_in(forced, row, place),
-        None => None,
-    }
-}
-
-/// Another place of the name that is in. `None` where the name has more places than are in.
-fn version_in(index: &Index, place: u32, forced: &SparseSet) -> Option<u32>
-    requires { place < length index.now.packages }
-{
-    let row = index.versions_of(place);
-    if row.len() > forced.as_slice().len() {
-        return None;
-    }
-    other_in(forced, row, place)
-}
 
 /// A constraint of the part that keeps a place that is in from another one.
 fn conflict_of(part: &Part<'_>, place: u32, forced: &SparseSet) -> Option<Step>
@@ -37,16 +13,20 @@ fn conflict_of(part: &Part<'_>, place: u32, forced: &SparseSet) -> Option<Step>
 {
     let index = part.index;
     for number in 0..index.apart_count(place) {
-        if let Some(other) = hit_in(index, place, number, forced) {
+        let Some(row) = index.hit_row(place, number) else {
+            continue;
+        };
+        if let Some(other) = other_in(forced, row, place) {
             if part.has(index.apart_position(place, number)) {
                 return Some(Step::Apart(place, number, other));
             }
         }
     }
-    if !part.has(index.only_position(index.name_of(place))) {
+    let row = index.versions_of(place);
+    if row.len() > forced.as_slice().len() || !part.has(index.only_position(index.name_of(place))) {
         return None;
     }
-    let other = version_in(index, place, forced)?;
+    let other = other_in(forced, row, place)?;
     Some(Step::Only(place, other))
 }
 

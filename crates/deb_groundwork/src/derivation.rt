@@ -2,13 +2,13 @@
 
 ghost use Rattle.std.specs.Prelude.{◌≡◌, ◌≢◌, ℕ, ◌<◌, true, IfSome, length};
 ghost use Rattle.number_sets.specs.Sets.{NumberSet, members_of};
-ghost use Rattle.deb_index.specs.Packages.{names, name_at, places_of, needs_at, aparts_at, need_at};
-ghost use Rattle.deb_index.specs.Meets.{group_satisfiers};
+ghost use Rattle.deb_index.specs.Packages.{needs_at, aparts_at};
 ghost use Rattle.deb_health.specs.Health.{AdmitsNone};
 ghost use Rattle.deb_groundwork.specs.Parts.{IsRefutedBy};
-ghost use Rattle.deb_groundwork.specs.Deriving.{row_of, Gives};
+ghost use Rattle.deb_groundwork.specs.Deriving.{Gives};
 
 use crate::part::Part;
+use crate::rows::{essential_count, essential_row};
 use deb_index::Index;
 use number_sets::SparseSet;
 
@@ -25,51 +25,11 @@ pub(crate) enum Step {
     Only(u32, u32),
 }
 
-/// What a constraint gives for the sets that have some places and meet it.
+/// A constraint, by its position, and a row of places of which each set has one that has some places and meets it.
 #[derive(Clone, Copy)]
-pub(crate) enum Outcome {
-    /// They have this place, too.
-    Forced(u32),
-    /// There is no such set.
-    Contradiction,
-}
-
-/// A constraint, by its position, and what it gives.
-#[derive(Clone, Copy)]
-struct Conclusion {
+struct Conclusion<'a> {
     position: u32,
-    outcome: Outcome,
-}
-
-/// What it gives that a set has some place of a row: nothing, where there are several.
-fn outcome_of(row: &[u32]) -> Option<Outcome>
-    ensures { IfSome result (λ outcome. row.now ≡ row_of outcome) }
-{
-    match row {
-        [] => Some(Outcome::Contradiction),
-        [only] => Some(Outcome::Forced(*only)),
-        _ => None,
-    }
-}
-
-/// What it gives that a need is answered.
-pub(crate) fn need_outcome(index: &Index, place: u32, number: u32) -> Option<Outcome>
-    requires place { place < length index.now.packages }
-    requires number { number < length (needs_at index.now place) }
-    ensures { IfSome result (λ outcome. group_satisfiers index.now (need_at index.now place number) ≡ row_of outcome) }
-{
-    match index.answer_row(place, number) {
-        Some(row) => outcome_of(row),
-        None => None,
-    }
-}
-
-/// What it gives that some package has a name.
-pub(crate) fn name_outcome(index: &Index, name: u32) -> Option<Outcome>
-    requires { name < length (names index.now) }
-    ensures { IfSome result (λ outcome. places_of index.now (name_at index.now name) ≡ row_of outcome) }
-{
-    outcome_of(index.places_named(name))
+    row: &'a [u32],
 }
 
 /// Whether the index has a group.
@@ -87,28 +47,34 @@ fn has_apart(index: &Index, place: u32, number: u32) -> bool
 }
 
 /// What an essential name gives, by its number among them.
-fn by_essential(index: &Index, number: u32) -> Option<Conclusion>
-    ensures { IfSome result (λ found. (forced : NumberSet) → Gives index.now forced found.position found.outcome) }
+fn by_essential(index: &Index, number: u32) -> Option<Conclusion<'_>>
+    ensures { IfSome result (λ found. (forced : NumberSet) → Gives index.now forced found.position found.row.now) }
 {
-    let name = *index.essential_names().get(number as usize)?;
-    let outcome = name_outcome(index, name)?;
+    if number >= essential_count(index) {
+        return None;
+    }
     Some(Conclusion {
         position: number,
-        outcome,
+        row: essential_row(index, number),
     })
 }
 
 /// What a need gives where its owner is in.
-fn by_need(index: &Index, place: u32, number: u32, forced: &SparseSet) -> Option<Conclusion>
-    ensures { IfSome result (λ found. Gives index.now (members_of forced.now) found.position found.outcome) }
+fn by_need<'a>(
+    index: &'a Index,
+    place: u32,
+    number: u32,
+    forced: &SparseSet,
+) -> Option<Conclusion<'a>>
+    ensures { IfSome result (λ found. Gives index.now (members_of forced.now) found.position found.row.now) }
 {
     if !has_need(index, place, number) || !forced.contains(place) {
         return None;
     }
-    let outcome = need_outcome(index, place, number)?;
+    let row = index.answer_row(place, number)?;
     Some(Conclusion {
         position: index.need_position(place, number),
-        outcome,
+        row,
     })
 }
 
@@ -120,14 +86,14 @@ fn are_two(forced: &SparseSet, first: u32, second: u32) -> bool
 }
 
 /// What an entry gives where it hits another place than its own, and both are in.
-fn by_apart(
-    index: &Index,
+fn by_apart<'a>(
+    index: &'a Index,
     place: u32,
     number: u32,
     other: u32,
     forced: &SparseSet,
-) -> Option<Conclusion>
-    ensures { IfSome result (λ found. Gives index.now (members_of forced.now) found.position found.outcome) }
+) -> Option<Conclusion<'a>>
+    ensures { IfSome result (λ found. Gives index.now (members_of forced.now) found.position found.row.now) }
 {
     if !has_apart(index, place, number) || other >= index.len() {
         return None;
@@ -137,13 +103,18 @@ fn by_apart(
     }
     Some(Conclusion {
         position: index.apart_position(place, number),
-        outcome: Outcome::Contradiction,
+        row: &[],
     })
 }
 
 /// What it gives that no name is there twice, where two places of one name are in.
-fn by_only(index: &Index, first: u32, second: u32, forced: &SparseSet) -> Option<Conclusion>
-    ensures { IfSome result (λ found. Gives index.now (members_of forced.now) found.position found.outcome) }
+fn by_only<'a>(
+    index: &'a Index,
+    first: u32,
+    second: u32,
+    forced: &SparseSet,
+) -> Option<Conclusion<'a>>
+    ensures { IfSome result (λ found. Gives index.now (members_of forced.now) found.position found.row.now) }
 {
     if first >= index.len() || second >= index.len() {
         return None;
@@ -154,13 +125,13 @@ fn by_only(index: &Index, first: u32, second: u32, forced: &SparseSet) -> Option
     }
     Some(Conclusion {
         position: index.only_position(name),
-        outcome: Outcome::Contradiction,
+        row: &[],
     })
 }
 
 /// What a step gives for the places that are in; `None` where it doesn't hold of them.
-fn conclude(index: &Index, step: Step, forced: &SparseSet) -> Option<Conclusion>
-    ensures { IfSome result (λ found. Gives index.now (members_of forced.now) found.position found.outcome) }
+fn conclude<'a>(index: &'a Index, step: Step, forced: &SparseSet) -> Option<Conclusion<'a>>
+    ensures { IfSome result (λ found. Gives index.now (members_of forced.now) found.position found.row.now) }
 {
     match step {
         Step::Essential(number) => by_essential(index, number),
@@ -170,8 +141,8 @@ fn conclude(index: &Index, step: Step, forced: &SparseSet) -> Option<Conclusion>
     }
 }
 
-/// Whether the steps, each with a constraint of the part, lead from the package at a place to a contradiction. `positions` then has their
-/// constraints; `forced` is a buffer. `false`, too, for want of memory.
+/// Whether the steps, the last one first, lead from the package at a place to a contradiction. `positions` then has their constraints, all of the
+/// part; `forced` is a buffer. `false`, too, for want of memory.
 pub(crate) fn is_refutation(
     part: &Part<'_>,
     p: u32,
@@ -186,8 +157,8 @@ pub(crate) fn is_refutation(
     let Ok(()) = forced.insert(p) else {
         return false;
     };
-    for step in steps {
-        let Some(found) = conclude(part.index, *step, forced) else {
+    for number in (0..steps.len()).rev() {
+        let Some(found) = conclude(part.index, steps[number], forced) else {
             return false;
         };
         if !part.has(found.position) {
@@ -196,9 +167,10 @@ pub(crate) fn is_refutation(
         let Ok(()) = positions.push(found.position) else {
             return false;
         };
-        let place = match found.outcome {
-            Outcome::Forced(place) => place,
-            Outcome::Contradiction => return true,
+        let place = match found.row {
+            [] => return true,
+            [only] => *only,
+            _ => return false,
         };
         let Ok(()) = forced.insert(place) else {
             return false;

@@ -5,6 +5,7 @@ ghost use Rattle.number_sets.specs.Sets.{members_of};
 ghost use Rattle.number_sets.specs.SparseSets.{AreNumbers, with_number};
 ghost use Rattle.deb_groundwork.specs.Groundwork.{KeepsForced};
 
+use crate::rows::{essential_count, essential_row};
 use deb_index::Index;
 use number_sets::SparseSet;
 use std::alloc::AllocError;
@@ -20,14 +21,6 @@ fn take_only(row: &[u32], forced: &mut SparseSet) -> Result<(), AllocError>
     Ok(())
 }
 
-/// Whether a place has its mark. `false` where there are no marks.
-fn is_marked(marks: &[bool], place: u32) -> bool {
-    match marks.get(place as usize) {
-        Some(mark) => *mark,
-        None => false,
-    }
-}
-
 /// Puts in what alone answers a need of the place, which is in. Nothing, where the place is marked.
 fn force_needs(
     index: &Index,
@@ -39,7 +32,7 @@ fn force_needs(
     requires known { members_of forced.old place ≡ true }
     ensures { OnOk result (KeepsForced index.now forced.old forced.new) }
 {
-    if is_marked(met, place) {
+    if met.get(place as usize) == Some(&true) {
         return Ok(());
     }
     for number in 0..index.need_count(place) {
@@ -54,8 +47,8 @@ fn force_needs(
 pub(crate) fn force_essential(index: &Index, forced: &mut SparseSet) -> Result<(), AllocError>
     ensures { OnOk result (KeepsForced index.now forced.old forced.new) }
 {
-    for name in index.essential_names() {
-        take_only(index.places_named(*name), forced)?;
+    for position in 0..essential_count(index) {
+        take_only(essential_row(index, position), forced)?;
     }
     Ok(())
 }

@@ -16,7 +16,8 @@ ghost use Rattle.deb_groundwork.specs.Hopeless.{AreHopeless};
 use crate::answering::are_answered;
 use crate::base_set::BaseSet;
 use crate::forced::{force_essential, force_from};
-use crate::hopeless::{find_lacking, spread_by_essential};
+use crate::hopeless::{find_lacking, lacks_essential};
+use crate::large_set::find_base_set;
 use deb_index::Index;
 use number_sets::SparseSet;
 use std::alloc::{AllocError, Global};
@@ -29,8 +30,8 @@ pub struct Groundwork<'a> {
     pub index: &'a Index,
     /// Places that are in every healthy set.
     pub forced: SparseSet,
-    /// Places that no healthy set has.
-    pub hopeless: SparseSet,
+    /// Whether no set at all is healthy.
+    none_healthy: bool,
     /// By place: what is in every healthy set answers each need.
     pub met: Vec<bool>,
     /// By place: no other package is hit by an entry, and none has the name.
@@ -41,7 +42,8 @@ pub struct Groundwork<'a> {
     pub lacking: SparseSet,
     ghost places: { AreNumbers (length index.now.packages) forced } by { Prim.hlevel props },
     ghost in_all: { (set : NumberSet) → IsHealthy index.now set → IsWithin (members_of forced) set },
-    ghost in_none: { AreHopeless index.now (members_of hopeless) },
+    ghost in_none: { AreHopeless index.now (members_of lacking) },
+    ghost none: { none_healthy ≡ true → (place : ℕ) → IsHopeless index.now place },
     ghost marks_met: { MarksOnly (HasAnswers index.now (members_of forced)) met.items },
     ghost marks_alone: { MarksOnly (IsAlone index.now) alone.items },
     ghost stands: { IsBase index.now base },
@@ -116,17 +118,6 @@ fn force_all(alloc: Global, index: &Index) -> Result<SparseSet, AllocError>
     Ok(forced)
 }
 
-/// Places that no healthy set has: these, or all places, where each package of some essential name is among these.
-fn spread(alloc: Global, index: &Index, lacking: &SparseSet) -> Result<SparseSet, AllocError>
-    requires { AreHopeless index.now (members_of lacking.now) }
-    ensures { IfOk result (λ hopeless. AreHopeless index.now (members_of hopeless)) }
-{
-    let mut hopeless = SparseSet::new(alloc);
-    hopeless.extend(lacking.as_slice())?;
-    spread_by_essential(index, &mut hopeless)?;
-    Ok(hopeless)
-}
-
 impl<'a> Groundwork<'a> {
     /// Goes once through the packages of the index, without a search. The error is want of memory.
     pub fn new(alloc: Global, index: &'a Index) -> Result<Groundwork<'a>, AllocError>
@@ -137,12 +128,12 @@ impl<'a> Groundwork<'a> {
         let met = mark_met(alloc, index, &forced)?;
         let mut lacking = SparseSet::new(alloc);
         find_lacking(index, &mut lacking)?;
-        let hopeless = spread(alloc, index, &lacking)?;
-        let base = BaseSet::find(alloc, index, &lacking);
+        let none_healthy = lacks_essential(index, &lacking);
+        let base = find_base_set(alloc, index, &lacking);
         Ok(Groundwork {
             index,
             forced,
-            hopeless,
+            none_healthy,
             met,
             alone,
             base,
@@ -154,7 +145,10 @@ impl<'a> Groundwork<'a> {
     pub fn is_hopeless(&self, place: u32) -> bool
         ensures { result ≡ true → IsHopeless self.now.index.now place }
     {
-        self.hopeless.contains(place)
+        if self.none_healthy {
+            return true;
+        }
+        self.lacking.contains(place)
     }
 
     /// Whether what is in every healthy set is known to answer each need of a place.

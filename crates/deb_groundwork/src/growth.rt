@@ -4,12 +4,15 @@
 ghost use Rattle.std.specs.Prelude.{◌<◌, length};
 ghost use Rattle.deb_index.specs.Packages.{needs_at};
 
+use crate::answering::{bearer, has_answer};
 use crate::base_set::{BaseSet, OnBase};
-use crate::choice::choose;
+use crate::choice::{Ground, choose, is_fit};
 use crate::derivation::has_need;
-use crate::part::Part;
-use crate::rows::{has_all, has_any};
+use crate::hopeless::is_unanswered;
+use crate::limits::{ALTERNATIVES, BEARERS, WITNESS_TRIES};
+use crate::rows::{essential_count, essential_row, has_any, take_hits};
 use deb_index::Index;
+use deb_relation::Atom;
 use number_sets::SparseSet;
 use std::alloc::Global;
 
@@ -24,103 +27,129 @@ struct Cause {
 #[derive(Drop)]
 pub struct Witness {
     /// The places beside the base set, in the order in which they came.
-    pub set: SparseSet,
+    pub(crate) more: BaseSet,
     /// What each of them came for; none for the first one, and for those of essential names.
     causes: Vec<Option<Cause>>,
     /// What was seen to lead nowhere.
     unfit: SparseSet,
-    /// How much of the set stays for the next try, and from which place on it goes through the needs.
-    kept: usize,
-    from: usize,
+    /// How much came in all, by the weights of packages.
+    pub(crate) came: u64,
+}
+
+/// How much a package asks for: itself, its needs and its entries.
+pub(crate) fn weight(index: &Index, place: u32) -> u64
+    requires { place < length index.now.packages }
+{
+    1 + u64::from(index.need_count(place)) + u64::from(index.apart_count(place))
 }
 
 impl Witness {
     /// Buffers with no room yet.
     pub fn new(alloc: Global) -> Witness {
         Witness {
-            set: SparseSet::new(alloc),
+            more: BaseSet::empty(alloc),
             causes: Vec::new(alloc),
             unfit: SparseSet::new(alloc),
-            kept: 0,
-            from: 0,
+            came: 0,
         }
     }
 
     /// Nothing is known to lead nowhere.
     pub(crate) fn start(&mut self) {
         self.unfit.clear();
-        self.kept = 0;
     }
 
-    /// Whether a place of the row is in.
-    fn has_any(&self, base: &BaseSet, row: &[u32]) -> bool {
-        has_any(&base.members, row) || has_any(&self.set, row)
+    /// The base set, and what grows on it.
+    fn on<'a>(&'a self, base: &'a BaseSet) -> OnBase<'a> {
+        OnBase {
+            base,
+            more: &self.more.members,
+        }
     }
 
     /// Puts in a place.
-    fn take(&mut self, place: u32, cause: Option<Cause>) -> bool {
-        let Ok(()) = self.set.insert(place) else {
+    fn take(&mut self, ground: &Ground, place: u32, cause: Option<Cause>) -> bool {
+        let index = ground.part.index;
+        if place >= index.len() {
             return false;
-        };
-        self.causes.push(cause).is_ok()
+        }
+        if ground.asks_all {
+            self.came = self.came.saturating_add(weight(index, place));
+            take_hits(index, place, &mut self.more.hit);
+        }
+        self.more.members.insert(place).is_ok() && self.causes.push(cause).is_ok()
     }
 
     /// Puts in a place of the row. `false` where it has none that may lead somewhere.
-    fn take_one(
-        &mut self,
-        part: &Part<'_>,
-        base: &BaseSet,
-        lacking: &SparseSet,
-        row: &[u32],
-        cause: Option<Cause>,
-    ) -> bool {
-        let set = OnBase {
-            base,
-            more: &self.set,
-        };
-        match choose(part, &set, &self.unfit, lacking, row) {
-            Some(place) => self.take(place, cause),
+    fn take_one(&mut self, ground: &Ground, row: &[u32], cause: Option<Cause>) -> bool {
+        match choose(ground, &self.more, &self.unfit, row) {
+            Some(place) => self.take(ground, place, cause),
             None => false,
         }
     }
 
-    /// Puts in an answer of a need, where none is in and the part asks for one. `false` where it has none, or too many for a row.
-    fn take_answer(
-        &mut self,
-        part: &Part<'_>,
-        base: &BaseSet,
-        lacking: &SparseSet,
-        place: u32,
-        number: u32,
-    ) -> bool
-        requires place { place < length part.now.index.now.packages }
-        requires number { number < length (needs_at part.now.index.now place) }
+    /// Puts in the first bearer of an alternative's name that meets it and fits. `false` where none of those that are looked at does.
+    fn take_bearer(&mut self, ground: &Ground, atom: &Atom, cause: Cause) -> bool {
+        let index = ground.part.index;
+        let named = index.places_of(atom.name.as_slice());
+        let provided = index.provides_of(atom.name.as_slice());
+        for number in 0..BEARERS {
+            let Some(place) = bearer(named, provided, number) else {
+                return false;
+            };
+            if self.unfit.contains(place) || !is_fit(ground, &self.more, place) {
+                continue;
+            }
+            if place < index.len() && index.meets_need(place, atom) {
+                return self.take(ground, place, Some(cause));
+            }
+        }
+        false
+    }
+
+    /// Puts in a bearer of an alternative's name that answers a need, where none is in. `false` where none of those that are looked at fits.
+    fn take_any(&mut self, ground: &Ground, place: u32, number: u32) -> bool
+        requires place { place < length ground.now.part.index.now.packages }
+        requires number { number < length (needs_at ground.now.part.index.now place) }
     {
-        let position = part.index.need_position(place, number);
-        if part.passes_over(position) {
+        let index = ground.part.index;
+        if has_answer(index, &self.on(ground.base), place, number) {
             return true;
         }
-        match part.index.answer_row(place, number) {
-            Some(row) if !self.has_any(base, row) && part.has(position) => {
-                self.take_one(part, base, lacking, row, Some(Cause { place, number }))
+        let alternatives = index.need(place, number);
+        for tried in 0..alternatives.len().min(ALTERNATIVES) {
+            if self.take_bearer(ground, &alternatives[tried], Cause { place, number }) {
+                return true;
             }
-            Some(_) => true,
-            None => !part.has(position),
+        }
+        false
+    }
+
+    /// Puts in an answer of a need that has `most` answers at most, where none is in and the part asks for one. `false` where none is seen to do.
+    fn take_answer(&mut self, ground: &Ground, place: u32, number: u32, most: usize) -> bool
+        requires place { place < length ground.now.part.index.now.packages }
+        requires number { number < length (needs_at ground.now.part.index.now place) }
+    {
+        let part = ground.part;
+        let position = part.index.need_position(place, number);
+        match part.index.answer_row(place, number) {
+            Some(row) if row.len() > most => true,
+            _ if position < part.rest && !part.has(position) => true,
+            Some(row) => {
+                has_any(&self.on(ground.base), row)
+                    || !part.has(position)
+                    || self.take_one(ground, row, Some(Cause { place, number }))
+            }
+            None => { most == 1 || !part.has(position) || self.take_any(ground, place, number) }
         }
     }
 
-    /// Puts in an answer of each need of a place that the part asks for. `false` where one has none, or too many for a row.
-    fn take_answers(
-        &mut self,
-        part: &Part<'_>,
-        base: &BaseSet,
-        lacking: &SparseSet,
-        place: u32,
-    ) -> bool
-        requires { place < length part.now.index.now.packages }
+    /// Puts in an answer of each need of a place that the part asks for. `false` where one has none.
+    fn take_answers(&mut self, ground: &Ground, place: u32, most: usize) -> bool
+        requires { place < length ground.now.part.index.now.packages }
     {
-        for number in 0..part.index.need_count(place) {
-            if !self.take_answer(part, base, lacking, place, number) {
+        for number in 0..ground.part.index.need_count(place) {
+            if !self.take_answer(ground, place, number, most) {
                 return false;
             }
         }
@@ -128,89 +157,69 @@ impl Witness {
     }
 
     /// Puts in a package of each essential name that the part asks for.
-    fn take_essentials(&mut self, part: &Part<'_>, base: &BaseSet, lacking: &SparseSet) -> bool {
-        let index = part.index;
-        // An essential name is a name, so its number fits 32 bits.
-        let _names = index.name_count();
-        for (position, name) in index.essential_names().iter().enumerate() {
-            let row = index.places_named(*name);
-            if part.has(position as u32) && !self.has_any(base, row) {
-                if !self.take_one(part, base, lacking, row, None) {
-                    return false;
-                }
+    fn take_essentials(&mut self, ground: &Ground) -> bool {
+        let part = ground.part;
+        let count = essential_count(part.index);
+        if part.kept.is_empty() && part.rest >= count {
+            return true;
+        }
+        for position in 0..count {
+            let row = essential_row(part.index, position);
+            if part.has(position)
+                && !has_any(&self.on(ground.base), row)
+                && !self.take_one(ground, row, None)
+            {
+                return false;
             }
         }
         true
     }
 
-    /// Puts in what the places of the set need, from this one on, as long as places come. Where a need isn't answered, the place that has it.
-    fn take_needs(
-        &mut self,
-        part: &Part<'_>,
-        base: &BaseSet,
-        lacking: &SparseSet,
-        from: usize,
-    ) -> Option<u32> {
-        for visited in from..part.index.len() as usize {
-            let Some(place) = self.set.as_slice().get(visited).copied() else {
+    /// Puts in what the places need, as long as places come: first only answers, of all places. Where a need isn't answered, the place that has it.
+    fn take_needs(&mut self, ground: &Ground) -> Option<u32> {
+        let index = ground.part.index;
+        // Only where all is asked for, what came first may be in the way of what has to come.
+        let mut forced = if ground.asks_all { 0 } else { usize::MAX };
+        let mut answered = 0;
+        // Each place is gone through twice.
+        for _ in 0..u64::from(index.len()) * 2 {
+            let places = self.more.members.as_slice();
+            let (place, most) = if forced < places.len() {
+                forced += 1;
+                (places[forced - 1], 1)
+            } else if answered < places.len() {
+                answered += 1;
+                (places[answered - 1], usize::MAX)
+            } else {
                 return None;
             };
-            if place >= part.index.len() {
-                return Some(place);
-            }
-            if !self.take_answers(part, base, lacking, place) {
+            if place >= index.len() || !self.take_answers(ground, place, most) {
                 return Some(place);
             }
         }
         None
     }
 
-    /// Makes a set of the package at a place and what the part asks for with it. Where something wasn't found, the place that needs it. What came
-    /// before the place that was ruled out last stays as it is.
-    pub(crate) fn grow(
-        &mut self,
-        part: &Part<'_>,
-        base: &BaseSet,
-        lacking: &SparseSet,
-        p: u32,
-    ) -> Option<u32> {
-        self.set.truncate(self.kept);
-        self.causes.truncate(self.kept);
-        if self.kept > 0 {
-            let from = self.from;
-            return self.take_needs(part, base, lacking, from);
-        }
-        if !self.take(p, None) || !self.take_essentials(part, base, lacking) {
+    /// Makes a set of the package at a place and what the part asks for with it. Where something wasn't found, the place that needs it.
+    pub(crate) fn grow(&mut self, ground: &Ground, p: u32) -> Option<u32> {
+        self.more.clear();
+        self.causes.clear();
+        if self.unfit.contains(p) || ground.asks_all && !is_fit(ground, &self.more, p) {
             return Some(p);
         }
-        self.take_needs(part, base, lacking, 0)
-    }
-
-    /// Whether what a place came for has another answer that may lead somewhere.
-    fn has_another(&self, index: &Index, cause: Cause) -> bool {
-        if !has_need(index, cause.place, cause.number) {
-            return false;
+        if !self.take(ground, p, None) || !self.take_essentials(ground) {
+            return Some(p);
         }
-        match index.answer_row(cause.place, cause.number) {
-            Some(row) => !has_all(&self.unfit, row),
-            None => false,
-        }
-    }
-
-    /// Has the next try go on with the needs of a place, before another place came for one of them.
-    fn go_back(&mut self, place: u32, other: u32) {
-        self.from = self.set.position_of(place).unwrap_or(0);
-        self.kept = self.set.position_of(other).unwrap_or(0);
+        self.take_needs(ground)
     }
 
     /// What a place came for.
     fn cause_of(&self, place: u32) -> Option<Cause> {
-        let number = self.set.position_of(place)?;
+        let number = self.more.members.position_of(place)?;
         *self.causes.get(number)?
     }
 
-    /// Rules out a place, and what it came for, as long as that has no other answer. `false` where all of the way to the first place is ruled
-    /// out.
+    /// Rules out a place, and what it came for, as long as that has no other answer. `false` where so is all of the way to the first place.
     pub(crate) fn rule_out(&mut self, index: &Index, place: u32) -> bool {
         let mut place = place;
         for _ in 0..self.causes.len() {
@@ -220,11 +229,24 @@ impl Witness {
             let Some(cause) = self.cause_of(place) else {
                 return false;
             };
-            if self.has_another(index, cause) {
-                self.go_back(cause.place, place);
+            if has_need(index, cause.place, cause.number)
+                && !is_unanswered(index, &self.unfit, cause.place, cause.number)
+            {
                 return true;
             }
             place = cause.place;
+        }
+        false
+    }
+    /// Whether `grow` comes to an end. Where a try leads nowhere, the next one goes without what led there.
+    pub(crate) fn comes_to_be(&mut self, ground: &Ground, p: u32) -> bool {
+        for _ in 0..WITNESS_TRIES {
+            let Some(place) = self.grow(ground, p) else {
+                return true;
+            };
+            if !self.rule_out(ground.part.index, place) {
+                return false;
+            }
         }
         false
     }

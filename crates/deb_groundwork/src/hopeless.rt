@@ -8,13 +8,13 @@ ghost use Rattle.deb_health.specs.Health.{IsHopeless};
 ghost use Rattle.deb_groundwork.specs.Hopeless.{AreHopeless};
 
 use crate::limits::PASSES;
-use crate::rows::has_all;
+use crate::rows::{essential_count, essential_row, has_all};
 use deb_index::Index;
 use number_sets::SparseSet;
 use std::alloc::AllocError;
 
 /// Whether hopeless places alone answer a need, or none. `false` where the answers are too many for a row.
-fn is_unanswered(index: &Index, hopeless: &SparseSet, place: u32, number: u32) -> bool
+pub(crate) fn is_unanswered(index: &Index, hopeless: &SparseSet, place: u32, number: u32) -> bool
     requires place { place < length index.now.packages }
     requires number { number < length (needs_at index.now place) }
     ensures { result ≡ true → IsWithin (answers index.now place number) (members_of hopeless.now) }
@@ -80,29 +80,15 @@ pub(crate) fn find_lacking(index: &Index, hopeless: &mut SparseSet) -> Result<()
     Ok(())
 }
 
-/// Whether all packages of some essential name are hopeless.
-fn lacks_essential(index: &Index, hopeless: &SparseSet) -> bool
+/// Whether all packages of some essential name are hopeless: then all packages are.
+pub(crate) fn lacks_essential(index: &Index, hopeless: &SparseSet) -> bool
     requires { AreHopeless index.now (members_of hopeless.now) }
     ensures { result ≡ true → (place : ℕ) → IsHopeless index.now place }
 {
-    for name in index.essential_names() {
-        if has_all(hopeless, index.places_named(*name)) {
+    for position in 0..essential_count(index) {
+        if has_all(hopeless, essential_row(index, position)) {
             return true;
         }
     }
     false
-}
-
-/// Puts in all places where all packages of an essential name are hopeless.
-pub(crate) fn spread_by_essential(index: &Index, hopeless: &mut SparseSet) -> Result<(), AllocError>
-    requires { AreHopeless index.now (members_of hopeless.old) }
-    ensures { OnOk result (AreHopeless index.now (members_of hopeless.new)) }
-{
-    if !lacks_essential(index, hopeless) {
-        return Ok(());
-    }
-    for place in 0..index.len() {
-        hopeless.insert(place)?;
-    }
-    Ok(())
 }

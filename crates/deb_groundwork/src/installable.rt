@@ -1,83 +1,47 @@
 //! Places that some healthy set is seen to have: the base set and a few more are found without a search, and each is looked up to be healthy.
 
 ghost use Rattle.std.specs.Prelude.{◌≡◌, ◌<◌, true, All, IfOk, length};
-ghost use Rattle.number_sets.specs.Sets.{members_of, MarksOnly};
-ghost use Rattle.deb_health.specs.Health.{IsHealthy, IsInstallable};
+ghost use Rattle.number_sets.specs.Sets.{MarksOnly};
+ghost use Rattle.deb_health.specs.Health.{IsInstallable};
+ghost use Rattle.deb_groundwork.specs.BaseSets.{IsBase};
 
-use crate::check::meets_part;
+use crate::base_set::BaseSet;
 use crate::groundwork::Groundwork;
-use crate::installation::{Installation, Lead, weight_of_all};
+use crate::growth::Witness;
+use crate::large_set::LargeSet;
 use crate::limits::{LARGE_SETS, LARGE_SETS_TIMES};
 use crate::part::Part;
+use crate::witness::is_seen_to_admit;
 use deb_index::Index;
-use number_sets::SparseSet;
 use std::alloc::{AllocError, Global};
 
-/// Whether a set is seen to be healthy. `false` where it isn't, or where there is too much to look at.
-fn is_healthy(index: &Index, set: &SparseSet) -> bool
-    requires { All (λ q. q < length index.now.packages) set.now }
-    ensures { result ≡ true → IsHealthy index.now (members_of set.now) }
-{
-    let all = Part {
-        index,
-        kept: &[],
-        rest: 0,
-        out: &[],
-    };
-    meets_part(&all, set)
-}
-
-/// Makes a set of a package, of essential ones, and of those asked ones that are not marked and fit. `false` where the package doesn't fit by itself.
-fn grow(
-    groundwork: &Groundwork<'_>,
-    asked: &[u32],
-    marks: &[bool],
-    start: u32,
-    lead: Lead,
-    installation: &mut Installation,
-) -> bool
-    requires asked { All (λ place. place < length groundwork.now.index.now.packages) asked.now }
-    requires start { start < length groundwork.now.index.now.packages }
-    requires marks { length marks.now ≡ length groundwork.now.index.now.packages }
-    ensures { All (λ member. member < length groundwork.now.index.now.packages) installation.new.members }
-{
-    installation.clear(lead);
-    if !installation.add(groundwork.index, &groundwork.hopeless, start) {
+/// Makes a set of a package, of essential ones, and of asked ones without a mark that fit. `false` where the package doesn't fit by itself.
+fn grow(large: &mut LargeSet<'_>, asked: &[u32], marks: &[bool], start: u32) -> bool {
+    if !large.add(start) {
         return false;
     }
-    if !installation.add_essentials(groundwork.index, &groundwork.hopeless) {
-        return true;
-    }
-    for place in asked {
-        if !marks[*place as usize] {
-            installation.add(groundwork.index, &groundwork.hopeless, *place);
+    if large.add_essentials() {
+        for place in asked {
+            if marks.get(*place as usize) == Some(&false) {
+                large.add(*place);
+            }
         }
     }
     true
 }
 
 /// Marks the places of a set where it is seen to be healthy.
-fn mark_healthy(index: &Index, set: &SparseSet, is_seen: bool, marks: &mut [bool])
-    requires set { All (λ q. q < length index.now.packages) set.now }
+fn mark_healthy(index: &Index, set: &BaseSet, marks: &mut [bool])
+    requires set { IsBase index.now set.now }
     requires count { length marks.old ≡ length index.now.packages }
     requires marks { MarksOnly (IsInstallable index.now) marks.old }
-    requires seen { is_seen ≡ true → IsHealthy index.now (members_of set.now) }
     ensures count { length marks.new ≡ length index.now.packages }
     ensures marks { MarksOnly (IsInstallable index.now) marks.new }
 {
-    if is_seen {
-        for place in set.as_slice() {
+    if set.is_healthy(index) {
+        for place in set.members.as_slice() {
             marks[*place as usize] = true;
         }
-    }
-}
-
-/// The lead of a large set, by how many were found before it.
-fn lead_of(sets: u32) -> Lead {
-    if sets % 2 == 0 {
-        Lead::LastOfName
-    } else {
-        Lead::First
     }
 }
 
@@ -85,7 +49,7 @@ fn lead_of(sets: u32) -> Lead {
 fn mark_sets(
     groundwork: &Groundwork<'_>,
     asked: &[u32],
-    installation: &mut Installation,
+    large: &mut LargeSet<'_>,
     marks: &mut [bool],
 )
     requires asked { All (λ place. place < length groundwork.now.index.now.packages) asked.now }
@@ -99,19 +63,14 @@ fn mark_sets(
         if sets >= LARGE_SETS {
             return;
         }
-        if marks[*place as usize] {
+        if marks[*place as usize] || groundwork.is_hopeless(*place) {
             continue;
         }
-        if grow(
-            groundwork,
-            asked,
-            marks,
-            *place,
-            lead_of(sets),
-            installation,
-        ) {
-            let is_seen = is_healthy(groundwork.index, &installation.members);
-            mark_healthy(groundwork.index, &installation.members, is_seen, marks);
+        large.clear(sets % 2 == 0);
+        if grow(large, asked, marks, *place) {
+            if large.set.is_base(groundwork.index) {
+                mark_healthy(groundwork.index, &large.set, marks);
+            }
             sets += 1;
         }
     }
@@ -135,13 +94,23 @@ pub fn find_installable(
 {
     let index = groundwork.index;
     let mut marks = vec![in alloc; false; index.len() as usize]?;
-    let is_seen = groundwork.base.is_healthy(index);
-    mark_healthy(index, &groundwork.base.members, is_seen, &mut marks);
-    let mut installation = Installation::new(
-        alloc,
-        weight_of_all(index).saturating_mul(LARGE_SETS_TIMES),
-    );
-    mark_sets(groundwork, asked, &mut installation, &mut marks);
-    drop(installation);
+    mark_healthy(index, &groundwork.base, &mut marks);
+    let mut large = LargeSet::new(alloc, index, &groundwork.lacking, LARGE_SETS_TIMES);
+    mark_sets(groundwork, asked, &mut large, &mut marks);
+    drop(large);
     Ok(marks)
+}
+
+/// Whether the package at a place is seen to be installable, without a search: by a set that grows for it on the base set.
+pub fn is_seen_installable(groundwork: &Groundwork<'_>, p: u32, witness: &mut Witness) -> bool
+    requires { p < length groundwork.now.index.now.packages }
+    ensures { result ≡ true → IsInstallable groundwork.now.index.now p }
+{
+    let all = Part {
+        index: groundwork.index,
+        kept: &[],
+        rest: 0,
+        out: &[],
+    };
+    is_seen_to_admit(&all, p, &groundwork.base, &groundwork.lacking, witness)
 }

@@ -6,11 +6,10 @@
 //!   whether it answers a need, be there a row or not; a `part` is some of the constraints of an index, by their positions.
 //! - The `groundwork` knows what all verdicts of an index have in common: `forced` finds places that are in every healthy set, `hopeless` places that
 //!   no healthy set has, and a `base_set` has many packages, each with what it asks for.
-//! - `installable` finds many packages that some healthy set has, for which no set need be shown: an `installation` grows without a search, and is
-//!   looked up by `check`.
-//! - Whether a part admits none with a package. `witness` sees that some set meets it: that is the `growth` of a set on the base set, by a `choice` of
-//!   one answer for each need, and `check` looks it up. `propagation` refutes it by what the package asks for with no choice, down to a
-//!   `conflict`; `derivation` has the steps of such a refutation, and checks them.
+//! - One way sets grow without a search: `growth`, on a base set, by a `choice` of one answer for each need. Nothing is claimed of it. A `large_set`
+//!   grows so package by package; what it comes to is looked up, and is a base set. `installable` marks the packages of such sets.
+//! - Whether a part admits none with a package. `witness` sees that some set meets it, which grows and is looked up by `check`. `propagation` refutes
+//!   it by what the package asks for with no choice, down to a `conflict`; `derivation` has the steps of such a refutation, and checks them.
 #![tactic(auto)]
 
 mod answering;
@@ -24,7 +23,7 @@ mod groundwork;
 mod growth;
 mod hopeless;
 mod installable;
-mod installation;
+mod large_set;
 mod limits;
 mod part;
 mod propagation;
@@ -34,8 +33,8 @@ mod witness;
 pub use base_set::BaseSet;
 pub use groundwork::Groundwork;
 pub use growth::Witness;
-pub use installable::find_installable;
+pub use installable::{find_installable, is_seen_installable};
 pub use part::{Part, is_among};
 pub use propagation::{Propagation, refute_by_forcing};
 pub use rows::{Places, has_any};
-pub use witness::{is_seen_installable, is_seen_to_admit};
+pub use witness::is_seen_to_admit;

@@ -22,8 +22,5 @@ pub(crate) const LARGE_SETS_TIMES: u64 = 8;
 /// How many large sets are found at most: eight times as many took the same time.
 pub(crate) const LARGE_SETS: u32 = 64;
 
-/// How often at most a package is tried in one set.
-pub(crate) const PACKAGE_TRIES: u32 = 8;
-
 /// How many sets a witness tries at most: with one alone, bookworm with causes takes 1,723 million instructions for 1,454.
 pub(crate) const WITNESS_TRIES: u32 = 16;

@@ -1,9 +1,10 @@
 //! A part of the constraints of an index.
 
-ghost use Rattle.std.specs.Prelude.{◌≡◌, false, true};
+ghost use Rattle.std.specs.Prelude.{◌≡◌};
 ghost use Rattle.std.specs.List.Sorted.{IsStrictlyIncreasing};
 ghost use Rattle.number_sets.specs.Sets.{members_of};
 
+use crate::rows::essential_count;
 use deb_index::Index;
 
 /// Some constraints of an index by their positions in the list of all, and all from one position on, without those that are taken out.
@@ -35,14 +36,9 @@ impl<'a> Part<'a> {
         (position >= self.rest || is_among(self.kept, position)) && !is_among(self.out, position)
     }
 
-    /// Whether it lacks the constraint at a position before the rest: few of these are kept, so this is seen sooner than an answer.
-    pub(crate) fn passes_over(&self, position: u32) -> bool
-        ensures { result ≡ true → positions_in self.now position ≡ false }
-    {
-        if position >= self.rest {
-            return false;
-        }
-        !self.has(position)
+    /// Whether it has all that packages ask for.
+    pub(crate) fn asks_all(&self) -> bool {
+        self.out.is_empty() && self.rest <= essential_count(self.index)
     }
 
     /// Whether it may lack a constraint.

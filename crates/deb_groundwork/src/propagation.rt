@@ -6,8 +6,9 @@ ghost use Rattle.deb_groundwork.specs.Parts.{IsRefutedBy};
 
 use crate::base_set::BaseSet;
 use crate::conflict::conflict_in;
-use crate::derivation::{Outcome, Step, is_refutation, name_outcome, need_outcome};
+use crate::derivation::{Step, is_refutation};
 use crate::part::Part;
+use crate::rows::{essential_count, essential_row};
 use deb_index::Index;
 use number_sets::SparseSet;
 use std::alloc::Global;
@@ -20,9 +21,9 @@ pub struct Propagation {
     forced: SparseSet,
     /// The step that forced each of these but the first.
     causes: Vec<Step>,
-    /// Which of these steps the contradiction rests on.
-    needed: Vec<bool>,
-    /// The steps that it rests on, with its own.
+    /// The places that a contradiction rests on.
+    needed: SparseSet,
+    /// The steps that it rests on, its own first.
     steps: Vec<Step>,
     /// What is in by the steps that are checked.
     checked: SparseSet,
@@ -34,54 +35,13 @@ pub struct Propagation {
     whole: Option<(u32, usize)>,
 }
 
-/// Marks the step that forced a place; the first place needs none.
-fn mark(forced: &SparseSet, place: u32, needed: &mut [bool])
-    ensures { length needed.new ≡ length needed.old }
-{
-    if let Some(number) = forced.position_of(place) {
-        if number > 0 && number <= needed.len() {
-            needed[number - 1] = true;
-        }
-    }
-}
-
-/// Marks the steps that forced the places that a step is held against.
-fn mark_places(forced: &SparseSet, step: Step, needed: &mut [bool])
-    ensures { length needed.new ≡ length needed.old }
-{
-    match step {
-        Step::Essential(_) => {}
-        Step::Need(place, _) => mark(forced, place, needed),
-        Step::Apart(place, _, other) => {
-            mark(forced, place, needed);
-            mark(forced, other, needed);
-        }
-        Step::Only(first, second) => {
-            mark(forced, first, needed);
-            mark(forced, second, needed);
-        }
-    }
-}
-
-/// Marks the steps that marked ones rest on: these are earlier.
-fn mark_causes(forced: &SparseSet, causes: &[Step], needed: &mut [bool])
-    requires { length needed.old ≡ length causes.now }
-    ensures { length needed.new ≡ length needed.old }
-{
-    for number in (0..causes.len()).rev() {
-        if needed[number] {
-            mark_places(forced, causes[number], needed);
-        }
-    }
-}
-
 impl Propagation {
     /// Buffers with no room yet.
     pub fn new(alloc: Global) -> Propagation {
         Propagation {
             forced: SparseSet::new(alloc),
             causes: Vec::new(alloc),
-            needed: Vec::new(alloc),
+            needed: SparseSet::new(alloc),
             steps: Vec::new(alloc),
             checked: SparseSet::new(alloc),
             positions: Vec::new(alloc),
@@ -90,14 +50,12 @@ impl Propagation {
         }
     }
 
-    /// Takes in what a step gives: a place, unless an earlier step forced it, or it is in the base set. `true`: the step contradicts.
-    fn take(&mut self, base: &BaseSet, outcome: Option<Outcome>, step: Step) -> bool {
-        let Some(gives) = outcome else {
-            return false;
-        };
-        let place = match gives {
-            Outcome::Forced(place) => place,
-            Outcome::Contradiction => return true,
+    /// Takes in the place of a row of one, unless an earlier step forced it, or it is in the base set. `true`: the row has none.
+    fn take(&mut self, base: &BaseSet, row: &[u32], step: Step) -> bool {
+        let place = match row {
+            [] => return true,
+            [only] => *only,
+            _ => return false,
         };
         if base.members.contains(place) || self.forced.contains(place) {
             return false;
@@ -118,8 +76,10 @@ impl Propagation {
                 continue;
             }
             let step = Step::Need(place, number);
-            if self.take(base, need_outcome(part.index, place, number), step) {
-                return Some(step);
+            if let Some(row) = part.index.answer_row(place, number) {
+                if self.take(base, row, step) {
+                    return Some(step);
+                }
             }
         }
         None
@@ -144,14 +104,11 @@ impl Propagation {
 
     /// Forces the packages of essential names that have one only.
     fn force_essential(&mut self, part: &Part<'_>, base: &BaseSet) {
-        let index = part.index;
-        let _names = index.name_count();
-        for (number, name) in index.essential_names().iter().enumerate() {
-            let number = number as u32;
-            if !part.has(number) {
-                continue;
+        for number in 0..essential_count(part.index) {
+            if part.has(number) {
+                let row = essential_row(part.index, number);
+                self.take(base, row, Step::Essential(number));
             }
-            self.take(base, name_outcome(index, *name), Step::Essential(number));
         }
     }
 
@@ -195,21 +152,37 @@ impl Propagation {
         false
     }
 
-    /// Writes down the steps that a contradiction rests on. `false` for want of memory.
+    /// Writes down a step, and that the places are needed that it is held against.
+    fn write(&mut self, step: Step) -> bool {
+        let (first, second) = match step {
+            Step::Essential(_) => return self.steps.push(step).is_ok(),
+            Step::Need(place, _) => (place, place),
+            Step::Apart(place, _, other) => (place, other),
+            Step::Only(first, second) => (first, second),
+        };
+        self.needed.insert(first).is_ok()
+            && self.needed.insert(second).is_ok()
+            && self.steps.push(step).is_ok()
+    }
+
+    /// Writes down the steps that a contradiction rests on, the last one first. `false` for want of memory.
     fn derive(&mut self, conflict: Step) -> bool {
         self.needed.clear();
-        let Ok(()) = self.needed.resize(self.causes.len(), false) else {
-            return false;
-        };
-        mark_places(&self.forced, conflict, &mut self.needed);
-        mark_causes(&self.forced, &self.causes, &mut self.needed);
         self.steps.clear();
-        for (cause, is_needed) in self.causes.iter().zip(&self.needed) {
-            if *is_needed && self.steps.push(*cause).is_err() {
+        let mut written = self.write(conflict);
+        // No step forced the first place.
+        for number in (0..self.causes.len()).rev() {
+            let Some(cause) = self.causes.get(number).copied() else {
                 return false;
+            };
+            let Some(place) = self.forced.as_slice().get(number + 1).copied() else {
+                return false;
+            };
+            if self.needed.contains(place) {
+                written &= self.write(cause);
             }
         }
-        self.steps.push(conflict).is_ok()
+        written
     }
 }
 

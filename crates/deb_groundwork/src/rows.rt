@@ -2,10 +2,11 @@
 
 ghost use Rattle.std.specs.Prelude.{◌≡◌, ℕ, ◌<◌, true, false, IfNone, length};
 ghost use Rattle.std.specs.List.{list_any, list_all};
-ghost use Rattle.deb_index.specs.Packages.{aparts_at, package_at, places_of};
+ghost use Rattle.deb_index.specs.Packages.{aparts_at, essential_names, package_at, places_of};
 ghost use Rattle.deb_index.specs.Constraints.{Holds};
 ghost use Rattle.number_sets.specs.Sets.{NumberSet, members_of, IsWithin};
 ghost use Rattle.deb_groundwork.specs.BaseSets.{HasHits};
+ghost use Rattle.deb_groundwork.specs.Groundwork.{IsEssentialRow};
 
 use crate::limits::FEW;
 use deb_index::{Constraint, Index};
@@ -86,9 +87,9 @@ pub(crate) fn hits_no_other<P: Places>(index: &Index, set: &P, place: u32, numbe
 }
 
 /// Whether no entry of a package hits another place of a set. `false` where what one hits is too much for a row.
-pub(crate) fn stands_apart(index: &Index, set: &SparseSet, place: u32) -> bool
+pub(crate) fn stands_apart<P: Places>(index: &Index, set: &P, place: u32) -> bool
     requires { place < length index.now.packages }
-    ensures { result ≡ true → (j : ℕ) → j < length (aparts_at index.now place) → Holds index.now (members_of set.now) (Constraint.Apart place j) }
+    ensures { result ≡ true → (j : ℕ) → j < length (aparts_at index.now place) → Holds index.now (P.members set.now) (Constraint.Apart place j) }
 {
     for number in 0..index.apart_count(place) {
         if !hits_no_other(index, set, place, number) {
@@ -113,4 +114,20 @@ pub(crate) fn take_hits(index: &Index, place: u32, hit: &mut SparseSet) -> bool
         };
     }
     true
+}
+
+/// How many essential names there are. Each is a name, so that their number fits 32 bits.
+pub(crate) fn essential_count(index: &Index) -> u32
+    ensures { result ≡ length (essential_names index.now) }
+{
+    let _names = index.name_count();
+    index.essential_names().len() as u32
+}
+
+/// The places of an essential name, by its number among them, which is its position in the list of constraints.
+pub(crate) fn essential_row(index: &Index, position: u32) -> &[u32]
+    requires { position < length (essential_names index.now) }
+    ensures { IsEssentialRow index.now position result.now }
+{
+    index.places_named(index.essential_names()[position as usize])
 }

@@ -4,13 +4,13 @@
 ghost use Rattle.std.specs.Prelude.{◌≡◌, ℕ, ◌<◌, true, IfNone, length};
 ghost use Rattle.number_sets.specs.Sets.{members_of};
 ghost use Rattle.deb_health.specs.Causes.{either};
-ghost use Rattle.deb_health.specs.Health.{Admits, IsInstallable};
+ghost use Rattle.deb_health.specs.Health.{Admits};
 ghost use Rattle.deb_groundwork.specs.BaseSets.{HasRoom, IsBase};
 ghost use Rattle.deb_groundwork.specs.Parts.{positions_in, MeetsAskedOf};
 
 use crate::base_set::{BaseSet, OnBase};
 use crate::check::{meets_essentials, meets_place};
-use crate::groundwork::Groundwork;
+use crate::choice::Ground;
 use crate::growth::Witness;
 use crate::limits::WITNESS_TRIES;
 use crate::part::Part;
@@ -34,8 +34,7 @@ fn place_amiss(part: &Part<'_>, base: &BaseSet, more: &SparseSet) -> Option<u32>
     None
 }
 
-/// Whether places on a base set, with which nothing is amiss, are the package at a place and others, and have the essential names that the part
-/// asks for.
+/// Whether places on a base set, with which nothing is amiss, have the package at a place, and with the base set the essential names.
 fn is_witness(part: &Part<'_>, p: u32, base: &BaseSet, more: &SparseSet) -> bool
     requires base { IsBase part.now.index.now base.now }
     requires room { (q : ℕ) → members_of more.now q ≡ true → HasRoom part.now.index.now base.now q }
@@ -61,35 +60,27 @@ pub fn is_seen_to_admit(
     requires base { IsBase part.now.index.now base.now }
     ensures { result ≡ true → Admits part.now.index.now p (positions_in part.now) }
 {
+    let ground = Ground {
+        part: *part,
+        base,
+        lacking,
+        asks_all: part.asks_all(),
+        last_first: false,
+    };
     witness.start();
     if !base.has_room(part.index, p) {
         return false;
     }
     for _ in 0..WITNESS_TRIES {
-        let place = match witness.grow(part, base, lacking, p) {
-            Some(place) => place,
-            None => match place_amiss(part, base, &witness.set) {
-                Some(place) => place,
-                None => return is_witness(part, p, base, &witness.set),
-            },
+        if !witness.comes_to_be(&ground, p) {
+            return false;
+        }
+        let Some(place) = place_amiss(part, base, &witness.more.members) else {
+            return is_witness(part, p, base, &witness.more.members);
         };
         if !witness.rule_out(part.index, place) {
             return false;
         }
     }
     false
-}
-
-/// Whether the package at a place is seen to be installable, without a search: by a set that grows for it on the base set.
-pub fn is_seen_installable(groundwork: &Groundwork<'_>, p: u32, witness: &mut Witness) -> bool
-    requires { p < length groundwork.now.index.now.packages }
-    ensures { result ≡ true → IsInstallable groundwork.now.index.now p }
-{
-    let all = Part {
-        index: groundwork.index,
-        kept: &[],
-        rest: 0,
-        out: &[],
-    };
-    is_seen_to_admit(&all, p, &groundwork.base, &groundwork.lacking, witness)
 }

@@ -1,12 +1,7 @@
 use Rattle.std.proofs.Common.{◌∙◌, sym}
 use Rattle.deb_relation.specs.AtomView.{atom_view}
-use Rattle.deb_groundwork.proofs.BearerLemmas.{bearer_is_place, met_by_one}
+use Rattle.deb_groundwork.proofs.BearerLemmas.{met_by_one}
 use Rattle.deb_groundwork.proofs.answering.has_bearer.Goals as goal
-
-pub meets_need-requires : goal.meets_need-requires
-meets_need-requires g c =
-    bearer_is_place c.args.index.now c.as_slice.result.now c.as_slice-2.result.now c.places_of-named.result.now c.provides_of-provided.result.now c.in-Some.place
-    c.places_of-named.ensures c.provides_of-provided.ensures c.in-Some.ensures
 
 pub returns-then-meets_need : goal.returns-then-meets_need
 returns-then-meets_need g c = λ holds.

@@ -1,5 +1,5 @@
 use Rattle.deb_groundwork.specs.Groundwork.{KeepsForced}
 use Rattle.deb_groundwork.proofs.forced.force_essential.Given as goal
 
-abbrev pub invariant-loop-name : goal.invariant-loop-name
-invariant-loop-name l = KeepsForced l.index l.initial.forced l.forced
+abbrev pub invariant-loop-position : goal.invariant-loop-position
+invariant-loop-position l = KeepsForced l.index l.initial.forced l.forced

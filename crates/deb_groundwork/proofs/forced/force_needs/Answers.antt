@@ -5,8 +5,8 @@ use Rattle.deb_groundwork.proofs.Forcing.{forced_both, forced_by_need, forced_mo
 use Rattle.deb_groundwork.proofs.forced.force_needs.Goals as goal
 use Rattle.deb_groundwork.proofs.forced.force_needs.Goals.{in-Some+in_ok-take_only, in_default}
 
-pub returns-then-is_marked : goal.returns-then-is_marked
-returns-then-is_marked c = forced_none c.args.index.now c.args.forced.now
+pub returns-then-eq : goal.returns-then-eq
+returns-then-eq c = forced_none c.args.index.now c.args.forced.now
 
 pub loop-number-preserved : goal.loop-number-preserved
 loop-number-preserved c =

@@ -1,5 +1,5 @@
 use Rattle.deb_groundwork.proofs.InstallableLemmas.{healthy_from_all}
-use Rattle.deb_groundwork.proofs.witness.is_seen_installable.Goals as goal
+use Rattle.deb_groundwork.proofs.installable.is_seen_installable.Goals as goal
 
 pub is_seen_to_admit-requires-clause-base : goal.is_seen_to_admit-requires-clause-base
 is_seen_to_admit-requires-clause-base c = c.args.groundwork.now.stands

@@ -1,5 +1,0 @@
-use Rattle.std.proofs.Common.{◌<◌, All, length}
-use Rattle.deb_groundwork.proofs.base_set.BaseSet.find.Given as goal
-
-abbrev pub invariant-loop-place : goal.invariant-loop-place
-invariant-loop-place l = All (λ member. member < length l.index.packages) l.installation.members

@@ -1,7 +1,0 @@
-use Rattle.std.proofs.Common.{ℕ, ◌<◌}
-use Rattle.deb_index.specs.declared.constraint.Constraint.TheVariants.{Apart}
-use Rattle.deb_groundwork.specs.Parts.{MeetsAsked}
-use Rattle.deb_groundwork.proofs.check.meets_aparts.Given as goal
-
-abbrev pub invariant-loop-number : goal.invariant-loop-number
-invariant-loop-number g l = (j : ℕ) → j < l.number → MeetsAsked l.part (g.P.Places.members l.set) (Apart l.place j)
