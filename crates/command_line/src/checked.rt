@@ -169,27 +169,21 @@ pub(crate) fn tells_more_reasons(matches: &ArgMatches<'_>) -> bool
     is_set(matches, "all-reasons") || is_set(matches, "why")
 }
 
-// The refusal of an option that tells of packages that cannot be installed alone, where those that can be are asked for alone.
-fn untold(matches: &ArgMatches<'_>) -> Refusal<'static> {
-    let option = if is_set(matches, "why") {
-        "--why"
-    } else {
-        "--all-reasons"
-    };
-    Refusal::BesideSuccesses {
-        option,
-        but: " unless '--failures' is there, too",
-    }
-}
-
-// Which packages are shown.
+// Which packages are shown. What tells of those that cannot be installed alone is refused where the others are asked for alone.
 fn show<'a>(matches: &ArgMatches<'a>) -> Result<Show, Refusal<'a>>
     ensures { IsReadIf (has_good_reasons (rows_in matches.now)) result (λ shown.
         shown ≡ show_of (is_set (codes "failures") (rows_in matches.now)) (is_set (codes "successes") (rows_in matches.now))) }
 {
     match (is_set(matches, "failures"), is_set(matches, "successes")) {
         (true, false) => Ok(Show::Failures),
-        (false, true) if tells_more_reasons(matches) => Err(untold(matches)),
+        (false, true) if tells_more_reasons(matches) => Err(Refusal::BesideSuccesses {
+            option: if is_set(matches, "why") {
+                "--why"
+            } else {
+                "--all-reasons"
+            },
+            but: " unless '--failures' is there, too",
+        }),
         (false, true) => Ok(Show::Successes),
         _ => Ok(Show::All),
     }

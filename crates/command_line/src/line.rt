@@ -69,10 +69,7 @@ fn only(alloc: Global, list: Option<&str>) -> Result<Option<Vec<Vec<u8>>>, Alloc
 fn only_file(list: Option<&str>) -> Option<&str>
     ensures { option_map (λ file. file.now) result ≡ file_named (option_map (λ text. text.now) list.entry) }
 {
-    match list {
-        Some(list) => file_in(list),
-        None => None,
-    }
+    list.and_then(file_in)
 }
 
 // The text of a value by itself.

@@ -1,5 +1,5 @@
 -- Lemmas on a text that is read piece by piece.
-use Rattle.std.proofs.Common.{◌≡◌, ◌≢◌, ◌∙◌, ℕ, ◌+◌, ◌<◌, ◌≤◌, Bool, List, [], ◌++◌, Option, Some, None, Result, Ok, Err, IfSome, OnOk, ap, append-nil, append_assoc, arith, drop, inl, inr, length, length-append, refl, subst, sym}
+use Rattle.std.proofs.Common.{◌≡◌, ◌≢◌, ◌∙◌, ℕ, ◌+◌, ◌<◌, ◌≤◌, Bool, List, [], ◌++◌, Option, Some, None, Result, Ok, Err, IfSome, ap, append-nil, append_assoc, arith, drop, inl, inr, length, length-append, refl, subst, sym}
 use Rattle.std.proofs.lemmas.List.{drop_at}
 use Rattle.std.specs.Io.KnownBytes.{Consumes, IsAtEnd}
 use Rattle.deb_control.specs.Stanzas.{IsClosed, runs, stanzas_of}
@@ -7,13 +7,12 @@ use Rattle.deb_control.proofs.LineLemmas.{content_lines-nil}
 use Rattle.deb_control.proofs.RunLemmas.{runs-nil, stanzas_of-is}
 use Rattle.deb_index.specs.declared.error.IndexError.{IndexError}
 use Rattle.deb_index.specs.declared.error.IndexError.TheVariants as index_error
-use Rattle.deb_index.specs.Packages.{IndexView}
-use Rattle.deb_index.specs.Reading.{byte_limit, index_of, index_of_both}
+use Rattle.deb_index.specs.Reading.{byte_limit, index_of}
 use Rattle.run_settings.specs.Settings.{Settings}
 use Rattle.deb_input.specs.declared.fault.RunFault.{RunFault}
 use Rattle.deb_input.specs.declared.fault.RunFault.TheVariants.{Read, TooLong, BackgroundRead, BackgroundTooLong, EarlierRead, EarlierTooLong, NamesRead, NamesTooLong, BadNameLine, Index, Background, Earlier, UnknownAsked, Slipped, Memory, Write}
 use Rattle.deb_index.specs.Pieces.{Accepts, FrontView, IsFrontOf, Refuses}
-use Rattle.deb_input.specs.Pieces.{FailsInPieces, FailsToFinish, IsClosedFront, MakesIndex, ReadsAll, ReadsFront, ReadsText, RefusesPiece, TakesLast, TakesPiece}
+use Rattle.deb_input.specs.Pieces.{FailsToFinish, IsClosedFront, ReadsAll, ReadsFront, ReadsText, RefusesPiece, TakesLast, TakesPiece}
 use Rattle.deb_input.specs.Inputs.{FailsAtRead, FailsToRead}
 use Rattle.deb_input.proofs.DeviceLemmas.{consumes_more, consumes_nothing}
 use Rattle.deb_input.proofs.IndexLemmas.{fore-fails}
@@ -129,14 +128,6 @@ reads-last settings old new before failed front held outcome reads ends kept wit
 pub fault-finishes : (settings : Settings) (fault : IndexError) (more : List ℕ) → FailsToFinish settings (Err fault) more (Index fault)
 fault-finishes settings fault more text comes = (comes.0, fore-fails text more settings.arch settings.essential fault comes.1)
 
-pub pieces-make : (settings : Settings) (old new : Option (List ℕ)) (before failed : Bool) (outcome : Result FrontView IndexError) (more : List ℕ) (index : IndexView) → ReadsText settings old new before failed outcome
-    → MakesIndex settings outcome more index → (bytes : List ℕ) × ReadsAll old new before failed bytes × (index_of_both bytes more settings.arch settings.essential ≡ Ok index)
-pieces-make settings old new before failed outcome more index reads makes = (reads.0, reads.1, makes reads.0 reads.2)
-
-pub pieces-make-none : (settings : Settings) (old new : Option (List ℕ)) (before failed : Bool) (outcome : Result FrontView IndexError) (more : List ℕ) (fault : RunFault) → ReadsText settings old new before failed outcome
-    → FailsToFinish settings outcome more fault → FailsInPieces settings old new before failed more fault
-pieces-make-none settings old new before failed outcome more fault reads fails = inr (reads.0, reads.1, fails reads.0 reads.2)
-
 -- ---- why reading ends
 
 pub fails-at-read : (text : Option (List ℕ)) (before mid failed : Bool) (limit : ℕ) (fault : RunFault) → mid ≡ before → FailsAtRead mid failed fault → FailsToRead text before failed limit fault
@@ -202,8 +193,3 @@ fault-behind settings old mid new before failed front held rest room fault reads
       record { consumes = consumes_more old mid new (reads.text ++ held) rest reads.consumes consumes; ends = ends; unfailed = kept; within = omega arith },
       (meant, refuses meant reads.text rest reads.is_front),
     )
-
--- what holds anyhow holds after `Ok`
-pub on-ok : {X E : Type 0} (r : Result X E) (P : Type 0) → P → OnOk r P
-on-ok (Ok x) P h = h
-on-ok (Err e) P h = tt

@@ -1,5 +1,5 @@
 -- What is read of a text piece by piece, and why it is no index.
-use Rattle.std.specs.Prelude.{◌≡◌, ◌≢◌, ◌⊎◌, ℕ, ◌+◌, ◌<◌, ◌≤◌, Bool, false, true, List, ◌++◌, Option, Result, Ok, Err, length}
+use Rattle.std.specs.Prelude.{◌≡◌, ◌≢◌, ℕ, ◌+◌, ◌<◌, ◌≤◌, Bool, false, true, List, ◌++◌, Option, Result, Ok, Err, length}
 use Rattle.std.specs.Io.KnownBytes.{Consumes, IsAtEnd}
 use Rattle.deb_index.specs.declared.error.IndexError.{IndexError}
 use Rattle.deb_index.specs.declared.error.IndexError.TheVariants as index_error
@@ -9,7 +9,7 @@ use Rattle.run_settings.specs.Settings.{Settings}
 use Rattle.deb_control.specs.Stanzas.{IsClosed}
 use Rattle.deb_index.specs.Pieces.{FrontView, IsFrontOf}
 use Rattle.deb_input.specs.declared.fault.RunFault.{RunFault}
-use Rattle.deb_input.specs.Inputs.{FailsToAccept, FailsToRead}
+use Rattle.deb_input.specs.Inputs.{FailsToAccept}
 
 -- the index so far is that of this text, over whose end no stanza goes on
 pub record IsClosedFront (settings : Settings) (text : List ℕ) (front : FrontView) : Type 0 where
@@ -67,8 +67,3 @@ MakesIndex settings outcome more index = (text : List ℕ) → ComesTo settings 
 -- why they make none
 abbrev pub FailsToFinish : Settings → Result FrontView IndexError → List ℕ → RunFault → Type 0
 FailsToFinish settings outcome more fault = (text : List ℕ) → ComesTo settings text outcome → FailsToAccept settings text more fault
-
--- why there is no index of all that was left in a reader and of what stands behind it: it was not read; or it was, and is refused
-abbrev pub FailsInPieces : Settings → Option (List ℕ) → Option (List ℕ) → Bool → Bool → List ℕ → RunFault → Type 0
-FailsInPieces settings old new before failed more fault =
-    FailsToRead old before failed byte_limit fault ⊎ ((bytes : List ℕ) × ReadsAll old new before failed bytes × FailsToAccept settings bytes more fault)

@@ -18,5 +18,5 @@ mod strict;
 pub use fault::{RunFault, fault_line, memory_line};
 pub use input::read_all;
 pub use names::read_names;
-pub use pieces::{TextRead, finish, read_pieces, read_text};
+pub use pieces::{TextRead, finish, read_text};
 pub use strict::{Slip, slip_in, slip_of};

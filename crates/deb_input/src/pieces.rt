@@ -1,10 +1,10 @@
 //! A text that is read piece by piece: little more of it is held than a piece.
 
-ghost use Rattle.std.specs.Prelude.{◌≡◌, ◌<◌, ◌≤◌, ◌+◌, ◌-◌, [], ℕ, List, IfErr, IfOk, Ok, OnOk, drop, false, length, true};
-ghost use Rattle.std.specs.Io.KnownBytes.{Consumes, IsAtEnd};
-ghost use Rattle.deb_index.specs.Reading.{byte_limit, index_of_both};
+ghost use Rattle.std.specs.Prelude.{◌≡◌, ◌<◌, ◌≤◌, ◌+◌, ◌-◌, [], IfErr, IfOk, OnOk, drop, false, length, true};
+ghost use Rattle.std.specs.Io.KnownBytes.{IsAtEnd};
+ghost use Rattle.deb_index.specs.Reading.{byte_limit};
 ghost use Rattle.run_settings.specs.Settings.{settings_of};
-ghost use Rattle.deb_input.specs.Pieces.{FailsInPieces, FailsToFinish, HoldsMore, MakesIndex, ReadsAll, ReadsText};
+ghost use Rattle.deb_input.specs.Pieces.{FailsToFinish, HoldsMore, MakesIndex, ReadsText};
 ghost use Rattle.deb_input.specs.Pieces.{RefusesPiece, TakesLast, TakesPiece};
 ghost use Rattle.deb_input.specs.Inputs.{FailsToRead, is_unread};
 
@@ -143,7 +143,8 @@ fn read_outcome<S: Source, R: Threads + Sync>(
 }
 
 /// Reads all that is left in a reader, a piece of at least so many bytes at a time, each of which is taken into the index by the workers side by side
-/// and given back.
+/// and given back, for any number of workers (0 count as 1). A few times as many bytes are held, and more only where a long part of the text has no empty
+/// line.
 ///
 /// `Read` where a read failed; `TooLong` where there are over `deb_index::TEXT_LIMIT` bytes; or `Memory`.
 pub fn read_text<S: Source, R: Threads + Sync>(
@@ -194,33 +195,4 @@ pub fn finish<R: Threads + Sync>(
             Err(BothError::Back(fault)) => Err(RunFault::Background(fault)),
         },
     }
-}
-
-/// The index of all that is left in a reader, and of what stands behind it, as `deb_index::Index::read_both` has it: for any piece from 1, and for
-/// any number of workers (0 count as 1). The reader is read to its end. At least so many bytes as a piece has are read before some of them are
-/// taken into the index and given back; a few times as many are held, and more only where a long part of the text has no empty line.
-///
-/// The first of these faults is answered: `Read` (some read failed), `TooLong` (over `deb_index::TEXT_LIMIT` bytes), `Index` (the first stanza with
-/// a fault), `Background` (the first one of what stands behind). Want of memory is `Memory`; it may come at any time, and never after a failed read.
-pub fn read_pieces<E: Source, R: Threads + Sync>(
-    rt: &R,
-    alloc: Global,
-    config: &Config,
-    reader: &mut E,
-    more: &[u8],
-    piece: usize,
-) -> Result<Index, RunFault>
-    requires more { length more.now ≤ byte_limit }
-    requires piece { 0 < piece }
-    ensures end { OnOk result (IsAtEnd (E.remaining reader.new)) }
-    ensures mark { OnOk result (E.failed reader.new ≡ E.failed reader.old) }
-    ensures index { IfOk result (λ index. (bytes : List ℕ)
-        × ReadsAll (E.remaining reader.old) (E.remaining reader.new) (E.failed reader.old) (E.failed reader.new) bytes
-        × (index_of_both bytes more.now (settings_of config.now).arch (settings_of config.now).essential ≡ Ok index)) }
-    ensures refused { IfErr result (FailsInPieces (settings_of config.now)
-        (E.remaining reader.old) (E.remaining reader.new) (E.failed reader.old) (E.failed reader.new) more.now) }
-    ensures may_fail { IfErr result (λ fault. fault ≡ RunFault.Read → E.may_fail reader.old ≡ true) }
-{
-    let read = read_text(rt, alloc, config, reader, piece)?;
-    finish(rt, alloc, config, read.outcome, more)
 }

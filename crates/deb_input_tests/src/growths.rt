@@ -48,7 +48,7 @@ fn expect_read(
 
 /// A text in many pieces.
 #[test]
-fn of_read_pieces(rt: HostRuntime) -> Result<(), AllocError> {
+fn of_read_text(rt: HostRuntime) -> Result<(), AllocError> {
     let told = comes_to(&rt, &mut source_of(TEXT, 11), 1);
     if told == "no memory" {
         return Err(AllocError);

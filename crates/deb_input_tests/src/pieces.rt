@@ -3,7 +3,7 @@
 ghost use Rattle.std.specs.Prelude.{◌<◌};
 
 use deb_index::{Index, IndexError};
-use deb_input::{RunFault, read_pieces};
+use deb_input::{RunFault, finish, read_text};
 use run_settings::Config;
 use std::alloc::{AllocError, Global};
 use std::process::Abort;
@@ -81,7 +81,10 @@ pub fn comes_to(
     let Ok(config) = Config::usual(rt.alloc()) else {
         return "no memory";
     };
-    let outcome = read_pieces(rt, rt.alloc(), &config, reader, &[], piece);
+    let outcome = match read_text(rt, rt.alloc(), &config, reader, piece) {
+        Ok(read) => finish(rt, rt.alloc(), &config, read.outcome, &[]),
+        Err(fault) => Err(fault),
+    };
     drop(config);
     let told = told_by(&outcome);
     drop(outcome);

@@ -224,6 +224,10 @@ pub fault_told : (abandoned : Bool) (errors : Written) (fault : RunFault) → Te
 unfolding TellsOutcome
 fault_told abandoned errors fault told = told
 
+pub fault_untold : (abandoned : Bool) (errors : Written) (fault : RunFault) → TellsOutcome abandoned errors (Err fault) → TellsUnless (is_silent abandoned fault) errors fault
+unfolding TellsOutcome
+fault_untold abandoned errors fault told = told
+
 pub ends_run : (words : Result (List Text) LineFault) (files : Named) (text : Input) (rest : Option (List ℕ)) (output errors : Written) (status : ℕ) (config : Config) → Asks words (Ok config)
     → RunsTo config files text rest output errors status → Ends words files text rest output errors status
 unfolding Ends

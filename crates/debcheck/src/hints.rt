@@ -12,13 +12,6 @@ use run_settings::Config;
 use std::alloc::Global;
 use std::io::{IsTerminal, Write};
 
-/// Notes a text, where there is one.
-pub(crate) fn note<S: Source>(reader: &S, text: Option<Vec<u8>>) {
-    if let Some(text) = text {
-        reader.note(text);
-    }
-}
-
 /// Notes what a name is that was asked in vain, where that ended a run.
 pub(crate) fn note_unknown<S: Source>(
     alloc: Global,
@@ -27,18 +20,7 @@ pub(crate) fn note_unknown<S: Source>(
     told: &Result<(Vec<u8>, Summary), RunFault>,
 ) {
     if let Err(RunFault::UnknownAsked { name }) = told {
-        note(reader, name_text(alloc, index, name.as_slice()));
-    }
-}
-
-// Whether a run ended with a report, or with a fault of this input.
-fn is_in_question(outcome: &Result<Summary, RunFault>, input: Input) -> bool {
-    match (outcome, input) {
-        (Ok(_), _) => true,
-        (Err(RunFault::Index(_)), Input::Index) => true,
-        (Err(RunFault::Background(_)), Input::Background) => true,
-        (Err(RunFault::Earlier(_)), Input::Earlier) => true,
-        _ => false,
+        reader.note(name_text(alloc, index, name.as_slice()));
     }
 }
 
@@ -51,22 +33,18 @@ pub(crate) fn note_input<S: Source, B: Source>(
     input: Input,
     of: &B,
 ) {
-    let is_of_it = is_in_question(outcome, input);
+    let is_of_it = match outcome {
+        Ok(_) => true,
+        Err(RunFault::Index(_)) => input == Input::Index,
+        Err(RunFault::Background(_)) => input == Input::Background,
+        Err(RunFault::Earlier(_)) => input == Input::Earlier,
+        _ => false,
+    };
     if is_of_it || matches!(outcome, Err(RunFault::Background(_))) {
-        note(reader, of.take_note());
+        reader.note(of.take_note());
     }
     if is_of_it {
-        note(reader, beginning_text(alloc, input, of.front()));
-    }
-}
-
-// The file that a run couldn't open or read, where that ended it.
-fn unread_file<'c>(config: &'c Config, fault: &RunFault) -> Option<(Input, &'c String)> {
-    match fault {
-        RunFault::BackgroundRead => Some((Input::Background, config.bg.as_ref()?)),
-        RunFault::EarlierRead => Some((Input::Earlier, config.since.as_ref()?)),
-        RunFault::NamesRead => Some((Input::Names, config.only_file.as_ref()?)),
-        _ => None,
+        reader.note(beginning_text(alloc, input, of.front()));
     }
 }
 
@@ -78,17 +56,15 @@ fn text_of<O: Opener>(
     is_folder: bool,
     outcome: &Result<Summary, RunFault>,
 ) -> Option<Vec<u8>> {
-    let text = match outcome {
-        Ok(summary) => summary_text(summary)?,
-        Err(fault) => match unread_file(config, fault) {
-            Some((input, name)) => {
-                let obstacle = files.obstacle(name.as_str());
-                return file_text(alloc, input, name.as_str().as_bytes(), obstacle);
-            }
-            None => fault_text(fault, is_folder)?,
-        },
+    let (input, name) = match outcome {
+        Ok(summary) => return Vec::from_slice(alloc, summary_text(summary)?).ok(),
+        Err(RunFault::BackgroundRead) => (Input::Background, config.bg.as_ref()?),
+        Err(RunFault::EarlierRead) => (Input::Earlier, config.since.as_ref()?),
+        Err(RunFault::NamesRead) => (Input::Names, config.only_file.as_ref()?),
+        Err(fault) => return Vec::from_slice(alloc, fault_text(fault, is_folder)?).ok(),
     };
-    Vec::from_slice(alloc, text).ok()
+    let name = name.as_str();
+    file_text(alloc, input, name.as_bytes(), files.obstacle(name))
 }
 
 /// Tells on a screen what looks like a slip, where that is a terminal and quiet isn't asked for. Where there is no memory for the line, or the
@@ -105,14 +81,10 @@ pub(crate) fn tell_hint<O: Opener, S: Source, T: IsTerminal + Write + Copy>(
         return;
     }
     note_input(alloc, reader, outcome, Input::Index, reader);
-    let text = match reader.take_note() {
-        Some(text) => Some(text),
-        None => text_of(alloc, config, files, reader.is_folder(), outcome),
-    };
-    let Some(text) = text else {
-        return;
-    };
-    if let Ok(line) = [b"hint: ", text.as_slice(), b"\n"].concat(alloc) {
+    let noted = reader.take_note();
+    let text = noted.or_else(|| text_of(alloc, config, files, reader.is_folder(), outcome));
+    let line = text.map(|text| [b"hint: ", text.as_slice(), b"\n"].concat(alloc));
+    if let Some(Ok(line)) = line {
         let mut screen = screen;
         let _ = screen.write(line.as_slice());
     }

@@ -16,7 +16,7 @@ pub enum Input {
 }
 
 /// What an input is called.
-pub(crate) fn name_of(input: Input) -> &'static [u8] {
+pub(crate) fn name_of<'t>(input: Input) -> &'t [u8] {
     match input {
         Input::Index => b"the index",
         Input::Background => b"the background",
@@ -26,7 +26,7 @@ pub(crate) fn name_of(input: Input) -> &'static [u8] {
 }
 
 /// The option that names its file, with what stands between the two; the index has none.
-pub(crate) fn option_of(input: Input) -> &'static [u8] {
+pub(crate) fn option_of<'t>(input: Input) -> &'t [u8] {
     match input {
         Input::Index => b"",
         Input::Background => b"--bg ",
@@ -38,16 +38,4 @@ pub(crate) fn option_of(input: Input) -> &'static [u8] {
 /// A text of these parts; none where there is no memory for it.
 pub(crate) fn text_of(alloc: Global, parts: &[&[u8]]) -> Option<Vec<u8>> {
     parts.concat(alloc).ok()
-}
-
-/// A text of these five parts.
-pub(crate) fn joined<'t>(
-    alloc: Global,
-    one: &'t [u8],
-    two: &'t [u8],
-    three: &'t [u8],
-    four: &'t [u8],
-    five: &'t [u8],
-) -> Option<Vec<u8>> {
-    text_of(alloc, &[one, two, three, four, five])
 }

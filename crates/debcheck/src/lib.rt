@@ -7,10 +7,8 @@
 //! - `phases`: a run, from bytes to bytes, and the `job` that its parts share; `since`: one that reads an earlier index first; `asked`: the places that
 //!   are asked in it; `verdicts`: what is told of them, and the report of that.
 //! - `hints`: what is guessed of inputs and of a run is noted, and told on a screen, in a line that begins with `hint: `. Of a guess nothing is promised, and
-//!   what a run answers and writes is the same without it. `input` has the inputs that are told of, and the texts of lines; `lines` the lines and fields of a
-//!   text; `beginning` what the first bytes of an input tell; `stanza` of which package the stanza is for whose fault it is refused; `architecture` that it
-//!   is of another architecture; `reading` which of these is told of an index that was read, or refused; `name` what a name is that is asked in vain;
-//!   `outcome` what the numbers or the fault of a run tell.
+//!   what a run answers and writes is the same without it. A guess is made by an input's first bytes (`beginning`), by the stanza for whose fault it is
+//!   refused (`stanza`), by its `architecture`, by either of these (`reading`), by a `name` that is asked in vain, or by the `outcome` of a run.
 //! - `exit_status`: the status of a run; `output`: the lines of faults, written.
 //! - `laws`: what holds of runs and of reports.
 //! - `program`: a program, from its words to its exit status, on the files that are opened by their names, one of which may have the names that are
@@ -43,15 +41,16 @@ pub use architecture::elsewhere_text;
 pub use asked::asked_places;
 pub use beginning::beginning_text;
 pub use command_line::{LineFault, VERSION_LINE, line_status, read_line, words_of};
-pub use deb_input::{RunFault, Slip, fault_line, read_all, read_pieces};
+pub use deb_input::{RunFault, Slip, fault_line, read_all};
 pub use deb_report::{Summary, report};
 pub use devices::{DeviceFault, Disk, OpenFault, Opener, Recording, Sink, Source, Std};
 pub use exit_status::status;
 pub use input::Input;
+pub use job::Job;
 pub use name::name_text;
 pub use outcome::{fault_text, file_text, summary_text};
 pub use output::{write_fault, write_line_fault};
-pub use phases::{After, run};
+pub use phases::run;
 pub use program::{Ended, run_process, run_program};
 pub use progress::Progress;
 pub use run_settings::{CHUNK_LIMIT, Config, Format, Show};

@@ -8,27 +8,17 @@ pub(crate) fn is_blank(line: &[u8]) -> bool {
     line.iter().all(|b| *b == b' ' || *b == b'\t')
 }
 
-/// Whether a line begins with a field's name, which has its colon.
-pub(crate) fn is_line_of(line: &[u8], name: &[u8]) -> bool {
-    line[..name.len().min(line.len())].eq_ignore_ascii_case(name)
+/// What stands behind a field's name and its colon, with which a line begins, without the white space at both ends.
+pub(crate) fn value_in<'t>(line: &'t [u8], name: &[u8]) -> Option<&'t [u8]> {
+    let (front, value) = line.split_at_checked(name.len())?;
+    front.eq_ignore_ascii_case(name).then(|| value.trim_ascii())
 }
 
 /// Whether the first stanza of a text has a field of this name, which has its colon.
 pub(crate) fn has_field(text: &[u8], name: &[u8]) -> bool {
-    for line in text.split(|b| *b == b'\n') {
-        if is_blank(line) {
-            return false;
-        }
-        if is_line_of(line, name) {
-            return true;
-        }
-    }
-    false
-}
-
-/// What stands behind a field's name and its colon, without the white space at both ends.
-pub(crate) fn value_in<'t>(line: &'t [u8], name: &[u8]) -> &'t [u8] {
-    line[name.len().min(line.len())..].trim_ascii()
+    text.split(|b| *b == b'\n')
+        .take_while(|line| !is_blank(line))
+        .any(|line| value_in(line, name).is_some())
 }
 
 /// As much of a value as is shown, where it has printable bytes alone, and some.

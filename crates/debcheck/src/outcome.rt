@@ -1,6 +1,6 @@
 //! What the numbers or the fault of a run tell.
 
-use crate::input::{Input, joined, option_of};
+use crate::input::{Input, option_of, text_of};
 use deb_input::{RunFault, Slip, slip_in};
 use deb_report::Summary;
 use std::alloc::Global;
@@ -40,24 +40,17 @@ pub fn fault_text(fault: &RunFault, is_folder: bool) -> Option<&'static [u8]> {
     }
 }
 
-// Whether a name could do more to a terminal than to be shown.
-fn has_control(name: &[u8]) -> bool {
-    name.iter().any(|b| *b < 32 || *b == 127 || *b == 194)
-}
-
-/// That the file of an input can't be opened or read, and what keeps it from that. None where its name may have control characters.
+/// That the file of an input can't be opened or read, and what keeps it from that. None where its name has what could do more to a terminal than to be
+/// shown.
 pub fn file_text(alloc: Global, input: Input, name: &[u8], obstacle: ErrorKind) -> Option<Vec<u8>> {
-    if has_control(name) {
+    if name.iter().any(|b| *b < 32 || *b == 127 || *b == 194) {
         return None;
     }
-    joined(alloc, option_of(input), name, reason_of(obstacle), b"", b"")
-}
-
-fn reason_of(obstacle: ErrorKind) -> &'static [u8] {
-    match obstacle {
+    let reason: &[u8] = match obstacle {
         ErrorKind::NotFound => b": there is no such file",
         ErrorKind::IsADirectory => b": this is a folder",
         ErrorKind::PermissionDenied => b": this file may not be read",
         _ => b": no file that can be read stands there",
-    }
+    };
+    text_of(alloc, &[option_of(input), name, reason])
 }

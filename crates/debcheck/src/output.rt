@@ -5,7 +5,7 @@ ghost use Rattle.std.specs.Io.KnownBytes.{Appends};
 ghost use Rattle.devices.specs.Devices.{AppendsPart};
 ghost use Rattle.deb_input.specs.Faults.{told_line};
 ghost use Rattle.debcheck.specs.LineFaults.{KeepsOther, TellsFront, TellsLine, mark_of};
-ghost use Rattle.debcheck.specs.Program.{Refuses, TellsOutcome, TellsUnless, is_silent};
+ghost use Rattle.debcheck.specs.Program.{Refuses, TellsOutcome, is_silent};
 ghost use Rattle.debcheck.specs.Run.{written};
 
 use crate::exit_status::status;
@@ -72,17 +72,6 @@ fn is_silent(abandoned: bool, fault: &RunFault) -> bool
     }
 }
 
-// Tells a fault, unless nobody reads the output any more for which it stands. A line that cannot be written changes no status.
-fn tell_fault<E: Sink>(alloc: Global, errors: &mut E, fault: &RunFault, abandoned: bool)
-    ensures { TellsUnless (is_silent abandoned fault.now)
-        (written (E.contents errors.old) (E.contents errors.new) (E.failed errors.new) (E.flushed errors.new) (E.abandoned errors.new)) fault.now }
-{
-    if is_silent(abandoned, fault) {
-        return;
-    }
-    let _ = write_fault(alloc, errors, fault);
-}
-
 /// Says what there is to say of a line that gives no configuration. The answer is the exit status.
 pub(crate) fn refuse<K: Sink, E: Sink>(
     alloc: Global,
@@ -98,8 +87,9 @@ pub(crate) fn refuse<K: Sink, E: Sink>(
         Err(_) => match fault {
             // Help that nobody got is no success: a script has to see it.
             LineFault::Help { .. } => {
-                tell_fault(alloc, errors, &RunFault::Write, output.is_abandoned());
-                status(&Err(RunFault::Write))
+                let outcome = Err(RunFault::Write);
+                tell_outcome(alloc, errors, &outcome, output.is_abandoned());
+                status(&outcome)
             }
             LineFault::Refused { .. } => line_status(fault),
             LineFault::Memory => line_status(fault),
@@ -107,7 +97,7 @@ pub(crate) fn refuse<K: Sink, E: Sink>(
     }
 }
 
-/// Tells the fault of a run that has one.
+/// Tells the fault of a run that has one, unless nobody reads the output any more for which it stands. A line that cannot be written changes no status.
 pub(crate) fn tell_outcome<E: Sink>(
     alloc: Global,
     errors: &mut E,
@@ -119,6 +109,11 @@ pub(crate) fn tell_outcome<E: Sink>(
 {
     match outcome {
         Ok(_) => {}
-        Err(fault) => tell_fault(alloc, errors, fault, abandoned),
+        Err(fault) => {
+            if is_silent(abandoned, fault) {
+                return;
+            }
+            let _ = write_fault(alloc, errors, fault);
+        }
     }
 }

@@ -5,10 +5,9 @@ ghost use Rattle.std.specs.Io.KnownBytes.{IsAtEnd};
 ghost use Rattle.run_settings.specs.Settings.{settings_of};
 ghost use Rattle.deb_report.specs.Since.{broken_view};
 ghost use Rattle.deb_input.specs.Inputs.{IsReadAs, input, is_unread};
-ghost use Rattle.debcheck.specs.Run.{FailsToIndex, FailsToReadBehind, FailsToReport, IsReportOn, ReadsAs, RunsOn, Tells, behind, written};
+ghost use Rattle.debcheck.specs.Run.{FailsToIndex, FailsToReadBehind, ReadsAs, RunsOn, Tells, behind, written};
 
-use crate::asked::asked_places;
-use crate::hints::{note, note_unknown};
+use crate::hints::note_unknown;
 use crate::input::Input;
 use crate::job::Job;
 use crate::reading::reading_text;
@@ -23,20 +22,12 @@ use std::mem::forget;
 use std::thread::Threads;
 use work_draw::Gate;
 
-/// What comes behind a run.
-#[derive(Clone, Copy)]
-pub enum After {
-    /// Its caller goes on, so the index is given back.
-    Caller,
-    /// The process ends, and all its memory goes back at once: an index is given back in some hundred thousand pieces.
-    End,
-}
-
 // Gives an index back, where somebody has use for its memory.
-fn let_go(index: Index, after: After) {
-    match after {
-        After::Caller => drop(index),
-        After::End => forget(index),
+fn let_go(index: Index, is_last: bool) {
+    if is_last {
+        forget(index);
+    } else {
+        drop(index);
     }
 }
 
@@ -99,32 +90,10 @@ pub(crate) fn read_index<S: Source, B: Source, G: Gate + Sync, R: Threads + Sync
         }
     };
     let read = finish(job.rt, job.alloc, job.config, outcome, more.as_slice());
-    let text = reading_text(
-        job.alloc,
-        job.config,
-        of,
-        &read,
-        last.as_slice(),
-        more.as_slice(),
-    );
-    note(reader, text);
+    let (piece, behind) = (last.as_slice(), more.as_slice());
+    reader.note(reading_text(job.alloc, job.config, of, &read, piece, behind));
     let index = read?;
     Ok((index, more))
-}
-
-// Checks the asked places and makes the report; since these packages were broken, where an earlier index is told of.
-fn check_and_report<G: Gate + Sync, R: Threads + Sync>(
-    job: &Job<'_, G, R>,
-    index: &Index,
-    before: Option<&[BrokenPackage]>,
-) -> Result<(Vec<u8>, Summary), RunFault>
-    ensures report { IfOk result (λ r.
-        IsReportOn (option_map (λ list. map broken_view list.now) before.entry) (settings_of job.now.config.now) index.now r.0.items r.1) }
-    ensures refused { IfErr result (FailsToReport (settings_of job.now.config.now) index.now) }
-{
-    let asked = asked_places(job.alloc, index, job.config)?;
-    let told = check_and_tell(job, index, asked.as_slice(), before)?;
-    Ok(told)
 }
 
 /// Checks the asked places of an index, writes the report and flushes. The index is let go; what a name is that is asked in vain, is noted on the reader.
@@ -134,16 +103,15 @@ pub(crate) fn report_and_write<S: Source, K: Sink, G: Gate + Sync, R: Threads + 
     index: Index,
     before: Option<&[BrokenPackage]>,
     writer: &mut K,
-    after: After,
 ) -> Result<Summary, RunFault>
     requires writer { K.failed writer.old ≡ false }
     ensures tells { Tells (option_map (λ list. map broken_view list.now) before.entry) (settings_of job.now.config.now) index
         (written (K.contents writer.old) (K.contents writer.new) (K.failed writer.new) (K.flushed writer.new) (K.abandoned writer.new)) result }
     ensures untouched { IfErr result (λ fault. fault ≢ RunFault.Write → writer.new ≡ writer.old) }
 {
-    let told = check_and_report(job, &index, before);
+    let told = check_and_tell(job, &index, before);
     note_unknown(job.alloc, reader, &index, &told);
-    let_go(index, after);
+    let_go(index, job.is_last);
     let (output, summary) = told?;
     match write_all(writer, output.as_slice()) {
         Ok(()) => Ok(summary),
@@ -151,13 +119,12 @@ pub(crate) fn report_and_write<S: Source, K: Sink, G: Gate + Sync, R: Threads + 
     }
 }
 
-/// `run`, which ends as `after` says.
+/// `run`, which ends as the job says.
 pub(crate) fn run_ending<S: Source, B: Source, K: Sink, G: Gate + Sync, R: Threads + Sync>(
     job: &Job<'_, G, R>,
     reader: &mut S,
     background: &mut B,
     writer: &mut K,
-    after: After,
 ) -> Result<Summary, RunFault>
     requires reader { S.failed reader.old ≡ false }
     requires background { B.failed background.old ≡ false }
@@ -174,7 +141,7 @@ pub(crate) fn run_ending<S: Source, B: Source, K: Sink, G: Gate + Sync, R: Threa
 {
     let (index, more) = read_index(job, Input::Index, reader, background)?;
     drop(more);
-    report_and_write(job, reader, index, None, writer, after)
+    report_and_write(job, reader, index, None, writer)
 }
 
 /// Reads the index to its end, and with `bg` the background; checks each asked package of the index, writes the report and flushes. It may wait
@@ -217,6 +184,7 @@ pub fn run<S: Source, B: Source, K: Sink, G: Gate + Sync, R: Threads + Sync>(
         alloc,
         config,
         gate,
+        is_last: false,
     };
-    run_ending(&job, reader, background, writer, After::Caller)
+    run_ending(&job, reader, background, writer)
 }

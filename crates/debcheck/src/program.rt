@@ -13,7 +13,7 @@ use crate::hints::{note_input, tell_hint};
 use crate::input::Input;
 use crate::job::Job;
 use crate::output::{refuse, tell_outcome};
-use crate::phases::{After, run_ending};
+use crate::phases::run_ending;
 use crate::progress::Progress;
 use crate::since::run_since;
 use crate::wiping::Wiping;
@@ -56,21 +56,11 @@ fn run_behind<O: Opener, S: Source, B: Source, K: Sink, G: Gate + Sync, R: Threa
     ensures may_fail { IfErr result (λ fault. fault ≡ RunFault.BackgroundRead → B.may_fail background.old ≡ true) }
 {
     let Some(file) = &job.config.since else {
-        return run_ending(job, reader, background, output, After::End);
+        return run_ending(job, reader, background, output);
     };
     match files.open(file.as_str()) {
         Ok(mut earlier) => {
-            let outcome = run_since(
-                job.rt,
-                job.alloc,
-                job.config,
-                reader,
-                background,
-                &mut earlier,
-                output,
-                job.gate,
-                After::End,
-            );
+            let outcome = run_since(job, reader, background, &mut earlier, output);
             note_input(job.alloc, reader, &outcome, Input::Earlier, &earlier);
             outcome
         }
@@ -149,18 +139,15 @@ fn name_and_run<O: Opener, S: Source, K: Sink, G: Gate + Sync, R: Threads + Sync
         (input (S.remaining reader.old) (S.failed reader.new)) (S.remaining reader.new)
         (written (K.contents output.old) (K.contents output.new) (K.failed output.new) (K.flushed output.new) (K.abandoned output.new)) result }
 {
-    match take_names(rt.alloc(), files, config) {
-        Ok(()) => {
-            let job = Job {
-                rt,
-                alloc: rt.alloc(),
-                config,
-                gate,
-            };
-            open_and_run(&job, files, reader, output)
-        }
-        Err(fault) => Err(fault),
-    }
+    take_names(rt.alloc(), files, config)?;
+    let job = Job {
+        rt,
+        alloc: rt.alloc(),
+        config,
+        gate,
+        is_last: true,
+    };
+    open_and_run(&job, files, reader, output)
 }
 
 // The configuration that the words ask for.
@@ -181,13 +168,10 @@ fn config_of(alloc: Global, words: Result<Vec<String>, LineFault>) -> Result<Con
 /// earlier index; where one can't be opened, that is told as a failed read of it. After a report the output has got it, flushed, and the errors have
 /// got nothing. Under a fault its line, or that of want of memory, goes to the errors, and the output has got nothing, but for a front of the report
 /// where it failed. Help and the version go to the output, and where it fails, that is told as of a report; a refusal goes to the errors. Of an output
-/// that nobody reads any more no line is told. The status
-/// is that of `status` or of `line_status`: a line that the errors don't take changes none.
-///
-/// The index isn't given back, since a program ends with it.
+/// that nobody reads any more no line is told. The status is that of `status` or of `line_status`: a line that the errors don't take changes none.
 ///
 /// The screen may be where the errors go: the line of progress is taken away before anything else is written. Where something looks like a slip, a
-/// line that begins with `hint: ` is written to it behind all else, if it is a terminal and quiet isn't asked for.
+/// hint is written to it behind all else, if it is a terminal and quiet isn't asked for.
 pub fn run_program<
     O: Opener,
     S: Source + IsTerminal,
@@ -235,13 +219,6 @@ pub fn run_program<
     }
 }
 
-// The process ends with this status.
-fn code_of(status: u8) -> ExitCode
-    ensures { exit_status result ≡ status }
-{
-    ExitCode::from(status)
-}
-
 /// The program on the words, the files and the standard streams of its process, which ends with the status of `run_program`.
 pub fn run_process<R: Env + Files + Clock + Threads + Sync + AllocGlobal>(
     rt: &R,
@@ -260,5 +237,5 @@ pub fn run_process<R: Env + Files + Clock + Threads + Sync + AllocGlobal>(
         &mut Std::new(errors),
         errors,
     );
-    code_of(ended.status)
+    ExitCode::from(ended.status)
 }

@@ -8,7 +8,7 @@ use std::time::{Clock, Duration, Instant};
 use work_draw::Gate;
 
 // How often in a second the line is written.
-const TURNS: u32 = 5;
+const TURNS: u64 = 5;
 
 // What is told while the index is read, and where it is typed on a terminal.
 const READING: &[u8] = b"\rreading the index";
@@ -20,11 +20,8 @@ const BLANK: &[u8] = b"\r                                                       
 
 // The turn at a time since the start; the first second has the turns below `TURNS`.
 fn turn_at(spent: Duration) -> u64 {
-    let turns = u64::from(spent.subsec_millis() / (1000 / TURNS));
-    spent
-        .as_secs()
-        .saturating_mul(u64::from(TURNS))
-        .saturating_add(turns)
+    let turns = u64::from(spent.subsec_millis()) / (1000 / TURNS);
+    spent.as_secs().saturating_mul(TURNS).saturating_add(turns)
 }
 
 // A number's digits, with commas between the thousands.
@@ -73,15 +70,8 @@ impl<'a, R: Clock + AllocGlobal, T: IsTerminal + Write + Copy> Progress<'a, R, T
             chunk: config.chunk,
             all: AtomicU32::new(0),
             checked: AtomicU32::new(0),
-            told: AtomicU64::new(u64::from(TURNS)),
+            told: AtomicU64::new(TURNS),
         }
-    }
-
-    // How many packages the chunk with a number has: the last one may be small.
-    fn size_of(&self, number: u32) -> u32 {
-        let all = self.all.load(Ordering::SeqCst);
-        all.saturating_sub(number.saturating_mul(self.chunk))
-            .min(self.chunk)
     }
 
     // Writes the line. Where it cannot be written, nothing is told.
@@ -99,10 +89,7 @@ impl<'a, R: Clock + AllocGlobal, T: IsTerminal + Write + Copy> Progress<'a, R, T
 
     // Tells how far the check has come, where a turn has begun in which nobody told it.
     fn tell_in_turn(&self) {
-        let Some(began) = self.began else {
-            return;
-        };
-        let Ok(spent) = began.elapsed(self.rt) else {
+        let Some(Ok(spent)) = self.began.map(|began| began.elapsed(self.rt)) else {
             return;
         };
         let turn = turn_at(spent);
@@ -123,16 +110,14 @@ impl<'a, R: Clock + AllocGlobal, T: IsTerminal + Write + Copy> Progress<'a, R, T
         if self.began.is_none() {
             return;
         }
-        let turns = u64::from(TURNS);
-        self.told.store(turns.saturating_add(1), Ordering::SeqCst);
+        self.told.store(TURNS + 1, Ordering::SeqCst);
         let mut screen = self.screen;
         let _ = screen.write(if is_typed { TYPED } else { READING });
     }
 
     /// Takes the line away, where it stands.
     pub fn wipe(&self) {
-        let turns = u64::from(TURNS);
-        if self.told.swap(turns, Ordering::SeqCst) > turns {
+        if self.told.swap(TURNS, Ordering::SeqCst) > TURNS {
             let mut screen = self.screen;
             let _ = screen.write(BLANK);
         }
@@ -150,9 +135,12 @@ impl<R: Clock + AllocGlobal, T: IsTerminal + Write + Copy> Gate for Progress<'_,
 
     fn before(&self, _number: u32) {}
 
+    // The last chunk may be small.
     fn after(&self, number: u32) {
+        let before = number.saturating_mul(self.chunk);
+        let left = self.all.load(Ordering::SeqCst).saturating_sub(before);
         self.checked
-            .fetch_add(self.size_of(number), Ordering::SeqCst);
+            .fetch_add(left.min(self.chunk), Ordering::SeqCst);
         self.tell_in_turn();
     }
 }

@@ -1,6 +1,6 @@
 //! A run since an earlier index: that is read and checked first, and what is kept of it is its broken packages.
 
-ghost use Rattle.std.specs.Prelude.{◌≡◌, ◌≢◌, ◌<◌, ◌≤◌, IfErr, IfOk, OnOk, Some, false, length, map, true};
+ghost use Rattle.std.specs.Prelude.{◌≡◌, ◌≢◌, ◌≤◌, IfErr, IfOk, OnOk, Some, false, length, map, true};
 ghost use Rattle.std.specs.Io.KnownBytes.{IsAtEnd};
 ghost use Rattle.deb_index.specs.Reading.{byte_limit};
 ghost use Rattle.run_settings.specs.Settings.{settings_of};
@@ -8,17 +8,14 @@ ghost use Rattle.deb_report.specs.Since.{broken_view};
 ghost use Rattle.deb_input.specs.Inputs.{Input, IsReadAs, input};
 ghost use Rattle.debcheck.specs.Run.{FailsEarlier, FailsToIndex, IfIndexed, IsOfEarlier, ReadsAs, RunsOn, WereBroken, behind, earlier_fault, written};
 
-use crate::hints::note;
 use crate::job::Job;
-use crate::phases::{After, read_index, report_and_write};
+use crate::phases::{read_index, report_and_write};
 use crate::reading::reading_text;
 use crate::verdicts::find_broken_packages;
 use deb_index::Index;
 use deb_input::{RunFault, TextRead, finish, read_text};
 use deb_report::{BrokenPackage, Summary};
 use devices::{Sink, Source};
-use run_settings::Config;
-use std::alloc::Global;
 use std::thread::Threads;
 use work_draw::Gate;
 
@@ -85,8 +82,7 @@ fn read_now<S: Source, G: Gate + Sync, R: Threads + Sync>(
     let TextRead { outcome, last } = read_text(job.rt, job.alloc, job.config, reader, size)?;
     let index = finish(job.rt, job.alloc, job.config, outcome, more);
     let (of, piece) = (crate::input::Input::Index, last.as_slice());
-    let text = reading_text(job.alloc, job.config, of, &index, piece, more);
-    note(reader, text);
+    reader.note(reading_text(job.alloc, job.config, of, &index, piece, more));
     index
 }
 
@@ -97,43 +93,31 @@ fn read_now<S: Source, G: Gate + Sync, R: Threads + Sync>(
 /// of the earlier index with a fault) and `Background` (the first one of the background); and then, of the index, those of `run`. Nothing of the
 /// index is read where there is no earlier one. Want of memory is `Memory`, as for `run`.
 pub fn run_since<S: Source, B: Source, E: Source, K: Sink, G: Gate + Sync, R: Threads + Sync>(
-    rt: &R,
-    alloc: Global,
-    config: &Config,
+    job: &Job<'_, G, R>,
     reader: &mut S,
     background: &mut B,
     earlier: &mut E,
     writer: &mut K,
-    gate: &G,
-    after: After,
 ) -> Result<Summary, RunFault>
-    requires workers { (0 < config.now.workers) × (config.now.workers ≤ 64) }
-    requires chunk { 0 < config.now.chunk }
     requires reader { S.failed reader.old ≡ false }
     requires background { B.failed background.old ≡ false }
     requires earlier { E.failed earlier.old ≡ false }
     requires writer { K.failed writer.old ≡ false }
     ensures end { OnOk result (IsAtEnd (S.remaining reader.new)) }
-    ensures background_end { OnOk result ((settings_of config.now).background ≡ true → IsAtEnd (B.remaining background.new)) }
+    ensures background_end { OnOk result ((settings_of job.now.config.now).background ≡ true → IsAtEnd (B.remaining background.new)) }
     ensures earlier_end { OnOk result (IsAtEnd (E.remaining earlier.new)) }
-    ensures spared { (settings_of config.now).background ≡ false → background.new ≡ background.old }
+    ensures spared { (settings_of job.now.config.now).background ≡ false → background.new ≡ background.old }
     ensures unbegun { IfErr result (λ fault. IsOfEarlier fault → reader.new ≡ reader.old) }
     ensures untouched { IfErr result (λ fault. fault ≢ RunFault.Write → writer.new ≡ writer.old) }
-    ensures runs { RunsOn (settings_of config.now) (Some (input (E.remaining earlier.old) (E.failed earlier.new)))
+    ensures runs { RunsOn (settings_of job.now.config.now) (Some (input (E.remaining earlier.old) (E.failed earlier.new)))
         (input (S.remaining reader.old) (S.failed reader.new)) (input (B.remaining background.old) (B.failed background.new))
         (written (K.contents writer.old) (K.contents writer.new) (K.failed writer.new) (K.flushed writer.new) (K.abandoned writer.new)) result }
     ensures may_fail { IfErr result (λ fault. fault ≡ RunFault.BackgroundRead → B.may_fail background.old ≡ true) }
     ensures earlier_may_fail { IfErr result (λ fault. fault ≡ RunFault.EarlierRead → E.may_fail earlier.old ≡ true) }
 {
-    let job = Job {
-        rt,
-        alloc,
-        config,
-        gate,
-    };
-    let (before, more) = read_before(&job, earlier, background)?;
-    let index = read_now(&job, reader, more.as_slice())?;
+    let (before, more) = read_before(job, earlier, background)?;
+    let index = read_now(job, reader, more.as_slice())?;
     drop(more);
     let before = Some(before.as_slice());
-    report_and_write(&job, reader, index, before, writer, after)
+    report_and_write(job, reader, index, before, writer)
 }

@@ -1,52 +1,38 @@
 //! Of which package a stanza is.
 
 use crate::input::{Input, name_of, text_of};
-use crate::lines::{is_blank, is_line_of, shown, value_in};
+use crate::lines::{is_blank, shown, value_in};
 use deb_index::{Index, IndexError, TEXT_LIMIT};
 use run_settings::Config;
 use std::alloc::Global;
 
-const FIELD: &[u8] = b"Package:";
+const TWO_INDEXES: &[u8] =
+    b", and has a second Package: is there no empty line between two indexes?";
 
-// What is seen of a stanza.
-#[derive(Drop)]
-struct Seen<'t> {
-    // The package of its first line that begins so.
-    package: Option<&'t [u8]>,
-    // It has another such line.
-    has_second: bool,
-    // The text ends in a line of it.
-    is_cut: bool,
-}
+const CUT_OFF: &[u8] = b", and its last line has no end: was the file cut off?";
 
-// What is seen of the stanza with a number, counted from 1. A comment neither opens nor ends one.
-fn look_at(text: &[u8], number: u64) -> Seen<'_> {
-    let mut seen = Seen {
-        package: None,
-        has_second: false,
-        is_cut: false,
-    };
+// Of which package the stanza with a number is, counted from 1, and what may be wrong beside. A comment neither opens nor ends one.
+fn look_at<'t>(text: &'t [u8], number: u64) -> (Option<&'t [u8]>, &'t [u8]) {
+    let mut package = None;
     let mut left = number;
     let mut open = false;
     for line in text.split(|b| *b == b'\n') {
         if is_blank(line) {
             if open && left == 0 {
-                return seen;
+                return (package, b"");
             }
             open = false;
         } else if !line.starts_with(b"#") {
-            if !open {
-                left = left.saturating_sub(1);
-                open = true;
-            }
-            if left == 0 && is_line_of(line, FIELD) {
-                seen.has_second = seen.package.is_some();
-                seen.package = seen.package.or(Some(value_in(line, FIELD)));
+            left = left.saturating_sub(u64::from(!open));
+            open = true;
+            match value_in(line, b"Package:") {
+                Some(_) if left == 0 && package.is_some() => return (package, TWO_INDEXES),
+                Some(value) if left == 0 => package = Some(value),
+                _ => {}
             }
         }
     }
-    seen.is_cut = true;
-    seen
+    (package, CUT_OFF)
 }
 
 // The stanza that a fault is of.
@@ -62,25 +48,6 @@ fn stanza_of(fault: &IndexError) -> Option<u64> {
     }
 }
 
-// The number that the first stanza with a fault has in a piece, which is read by itself for that.
-fn own_number(alloc: Global, config: &Config, piece: &[u8]) -> Option<u64> {
-    if piece.len() > TEXT_LIMIT {
-        return None;
-    }
-    stanza_of(&Index::fault_of(alloc, piece, config.arch.as_str(), config.essential)?)
-}
-
-// What may be wrong beside.
-fn suspicion(seen: &Seen<'_>) -> &'static [u8] {
-    if seen.has_second {
-        b", and has a second Package: is there no empty line between two indexes?"
-    } else if seen.is_cut {
-        b", and its last line has no end: was the file cut off?"
-    } else {
-        b""
-    }
-}
-
 /// Of which package the stanza is for whose fault an input is refused, by the piece of it that has the fault.
 pub fn stanza_text(
     alloc: Global,
@@ -90,22 +57,17 @@ pub fn stanza_text(
     piece: &[u8],
 ) -> Option<Vec<u8>> {
     let number = stanza_of(fault)?.to_string(alloc).ok()?;
-    let seen = look_at(piece, own_number(alloc, config, piece)?);
-    let package = shown(seen.package?)?;
-    let digits = number.as_str().as_bytes();
-    line_of(alloc, digits, name_of(input), package, suspicion(&seen))
-}
-
-fn line_of<'t>(
-    alloc: Global,
-    digits: &'t [u8],
-    name: &'t [u8],
-    package: &'t [u8],
-    more: &'t [u8],
-) -> Option<Vec<u8>> {
-    let is = b" is of the package ";
-    text_of(
+    if piece.len() > TEXT_LIMIT {
+        return None;
+    }
+    // The piece is read by itself for the number that the stanza has in it.
+    let own = Index::fault_of(alloc, piece, config.arch.as_str(), config.essential)?;
+    let (package, more) = look_at(piece, stanza_of(&own)?);
+    let (name, package) = (name_of(input), shown(package?)?);
+    let rest = text_of(
         alloc,
-        &[b"stanza ", digits, b" of ", name, is, package, more],
-    )
+        &[b" of ", name, b" is of the package ", package, more],
+    )?;
+    let digits = number.as_str().as_bytes();
+    text_of(alloc, &[b"stanza ", digits, rest.as_slice()])
 }

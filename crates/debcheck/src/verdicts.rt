@@ -1,19 +1,21 @@
 //! What a report tells of packages. Where it tells no set, none is looked for, and where it tells no core, none either; since an earlier index cores are
 //! looked for of the newly broken alone.
 
-ghost use Rattle.std.specs.Prelude.{◌≡◌, ◌^◌, ◌<◌, ℕ, [], All, IfOk, false, length, map, slice_index_or, true};
+ghost use Rattle.std.specs.Prelude.{◌≡◌, ◌^◌, ◌<◌, ℕ, [], All, IfErr, IfOk, false, length, map, slice_index_or, true};
 ghost use Rattle.std.specs.Option.{ForSome, option_map};
 ghost use Rattle.deb_health.specs.Health.{IsInstallable};
 ghost use Rattle.deb_report.specs.Told.{before_view};
 ghost use Rattle.run_settings.specs.Settings.{settings_of};
 ghost use Rattle.deb_report.specs.Since.{broken_view};
 ghost use Rattle.work_draw.specs.Checks.{AnswersEach};
-ghost use Rattle.debcheck.specs.Run.{IsAsked, IsReportOn, WereBroken};
+ghost use Rattle.debcheck.specs.Run.{FailsToReport, IsReportOn, WereBroken};
 ghost use Rattle.debcheck.specs.Telling.{IsToldAt, wanted_by};
 
+use crate::asked::asked_places;
 use crate::job::Job;
 use deb_health::Told;
 use deb_index::Index;
+use deb_input::RunFault;
 use deb_report::{Before, BrokenPackage, Summary, broken_packages, earlier_places, report_told};
 use deb_verdict::{Cores, Groundwork, Wanted, Workspace, find_installable, told_in};
 use run_settings::{Config, Show};
@@ -181,38 +183,35 @@ fn tell_each<G: Gate + Sync, R: Threads + Sync>(
 fn report_on<G: Gate + Sync, R: Threads + Sync>(
     job: &Job<'_, G, R>,
     index: &Index,
-    asked: &[u32],
     before: Option<&Before<'_>>,
-) -> Result<(Vec<u8>, Summary), AllocError>
-    requires asked { IsAsked (settings_of job.now.config.now) index.now asked.now }
-    requires within { All (λ place. place < length index.now.packages) asked.now }
-    requires few { length asked.now < 2 ^ 32 }
-    requires before { ForSome before (λ before. before.now.index.now ≡ index.now) }
-    ensures { IfOk result (λ r. IsReportOn (before_view before.entry) (settings_of job.now.config.now) index.now r.0.items r.1) }
+) -> Result<(Vec<u8>, Summary), RunFault>
+    requires { ForSome before (λ before. before.now.index.now ≡ index.now) }
+    ensures report { IfOk result (λ r. IsReportOn (before_view before.entry) (settings_of job.now.config.now) index.now r.0.items r.1) }
+    ensures refused { IfErr result (FailsToReport (settings_of job.now.config.now) index.now) }
 {
+    let asked = asked_places(job.alloc, index, job.config)?;
+    let asked = asked.as_slice();
     let wanted = wanted_of(job.config, before.is_some());
     let told = tell_each(job, index, asked, before, wanted)?;
-    report_told(job.alloc, index, asked, told.as_slice(), before, job.config)
+    let told = told.as_slice();
+    Ok(report_told(job.alloc, index, asked, told, before, job.config)?)
 }
 
 // The same, since these packages were broken, where an earlier index is told of.
 pub(crate) fn check_and_tell<G: Gate + Sync, R: Threads + Sync>(
     job: &Job<'_, G, R>,
     index: &Index,
-    asked: &[u32],
     before: Option<&[BrokenPackage]>,
-) -> Result<(Vec<u8>, Summary), AllocError>
-    requires asked { IsAsked (settings_of job.now.config.now) index.now asked.now }
-    requires within { All (λ place. place < length index.now.packages) asked.now }
-    requires few { length asked.now < 2 ^ 32 }
-    ensures { IfOk result (λ r.
+) -> Result<(Vec<u8>, Summary), RunFault>
+    ensures report { IfOk result (λ r.
         IsReportOn (option_map (λ list. map broken_view list.now) before.entry) (settings_of job.now.config.now) index.now r.0.items r.1) }
+    ensures refused { IfErr result (FailsToReport (settings_of job.now.config.now) index.now) }
 {
     match before {
-        None => report_on(job, index, asked, None),
+        None => report_on(job, index, None),
         Some(packages) => {
             let before = Before::new(job.alloc, index, packages)?;
-            let told = report_on(job, index, asked, Some(&before));
+            let told = report_on(job, index, Some(&before));
             drop(before);
             told
         }

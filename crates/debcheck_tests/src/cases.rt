@@ -6,7 +6,7 @@ use crate::tally::Tally;
 use deb_index::IndexError;
 use deb_input::RunFault;
 use deb_report::Summary;
-use debcheck::{After, run, run_since, status};
+use debcheck::{Job, run, run_since, status};
 use run_settings::{Config, Format, Show};
 use std::alloc::{AllocError, Global};
 use std::process::Abort;
@@ -228,17 +228,16 @@ fn outcome_of(
             &OpenGate,
         ),
         Way::Counted => run_counted(rt, config, &mut index, &mut background, output),
-        Way::Since => run_since(
-            rt,
-            alloc,
-            config,
-            &mut index,
-            &mut background,
-            &mut earlier,
-            output,
-            &OpenGate,
-            After::Caller,
-        ),
+        Way::Since => {
+            let job = Job {
+                rt,
+                alloc,
+                config,
+                gate: &OpenGate,
+                is_last: false,
+            };
+            run_since(&job, &mut index, &mut background, &mut earlier, output)
+        }
     };
     let begun = index.reads.min(1) + background.reads.min(1) + earlier.reads.min(1);
     (outcome, begun)

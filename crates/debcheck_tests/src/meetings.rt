@@ -2,7 +2,7 @@
 
 ghost use Rattle.std.specs.Prelude.{◌<◌, ◌≤◌};
 
-use debcheck::{After, run, run_since};
+use debcheck::{Job, run, run_since};
 use run_settings::{Config, Show};
 use std::alloc::AllocError;
 use std::sync::atomic::{AtomicU32, Ordering};
@@ -95,17 +95,14 @@ fn checks_of(
     let mut earlier = source_of(EARLIER, 50);
     let mut output = sink_of(alloc, 50, 0, false);
     if since {
-        let _ = run_since(
+        let job = Job {
             rt,
             alloc,
-            &config,
-            &mut index,
-            &mut background,
-            &mut earlier,
-            &mut output,
-            &gate,
-            After::Caller,
-        );
+            config: &config,
+            gate: &gate,
+            is_last: false,
+        };
+        let _ = run_since(&job, &mut index, &mut background, &mut earlier, &mut output);
     } else {
         let _ = run(
             rt,

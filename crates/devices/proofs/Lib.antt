@@ -1,2 +1,1 @@
-mod RecordingLemmas
 mod WriteLemmas

@@ -1,5 +1,5 @@
 -- What a device's mark says, what is read and written, and what an opened file holds.
-use Rattle.std.specs.Prelude.{◌≡◌, ◌≢◌, ℕ, ◌==◌, ◌&&◌, not, Bool, true, List, ◌++◌, length, take, Option, Some, None, Result, Ok, Err, IfSome}
+use Rattle.std.specs.Prelude.{◌≡◌, ◌≢◌, ℕ, ◌==◌, ◌&&◌, not, Bool, true, List, ◌++◌, length, Option, Some, None, IfSome}
 
 -- a write took no byte of a text that has some
 abbrev pub is_stuck : ℕ → List ℕ → Bool
@@ -10,15 +10,6 @@ abbrev pub AppendsPart : Option (List ℕ) → Option (List ℕ) → List ℕ �
 AppendsPart None new bytes = Unit {0}
 AppendsPart (Some held) None bytes = ⊥
 AppendsPart (Some held) (Some now_held) bytes = (part : List ℕ) × (rest : List ℕ) × (bytes ≡ part ++ rest) × (now_held ≡ held ++ part)
-
--- how many of the first bytes of a source are kept
-abbrev pub front_limit : ℕ
-front_limit = 4096
-
--- what is kept of a source, from before a read to after it: the front of that, with what was read behind it
-abbrev pub KeepsFront : {E : Type 0} → List ℕ → List ℕ → Result ℕ E → List ℕ → Type 0
-KeepsFront old new (Ok count) bytes = new ≡ take front_limit (old ++ take count bytes)
-KeepsFront old new (Err fault) bytes = new ≡ old
 
 -- what is known of what stands under a name: where that is told, its bytes, or nothing that can be opened; and whether a read of it may fail
 pub record Stands : Type 0 where

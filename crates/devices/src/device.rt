@@ -39,8 +39,8 @@ pub trait Source {
         &[]
     }
 
-    /// Notes a text on it, in the place of what was noted before; a source need not keep any.
-    fn note(&self, _text: Vec<u8>) {}
+    /// Notes a text on it, where there is one, in the place of what was noted before; a source need not keep any.
+    fn note(&self, _text: Option<Vec<u8>>) {}
 
     /// Takes the text that was noted on it last.
     fn take_note(&self) -> Option<Vec<u8>> {

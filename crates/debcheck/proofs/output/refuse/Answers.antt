@@ -1,5 +1,5 @@
 use Rattle.std.proofs.Common.{refl}
-use Rattle.debcheck.proofs.ProgramLemmas.{all_told, front_told, help_told}
+use Rattle.debcheck.proofs.ProgramLemmas.{all_told, fault_untold, front_told, help_told}
 use Rattle.debcheck.proofs.output.refuse.Goals as goal
 
 pub returns-in-Ok : goal.returns-in-Ok
@@ -8,7 +8,7 @@ returns-in-Ok g c = all_told _ _ _ _ c.line_status.ensures c.in-Ok.ensures.told 
 pub returns-in-Help : goal.returns-in-Help
 returns-in-Help g c =
     help_told _ _ _ (g.E.Sink.contents c.write_line_fault.new.errors) (g.E.Sink.failed c.write_line_fault.new.errors) _ (rw c.in-Help.is refl) c.status.ensures c.in-Err.ensures.front c.in-Err.ensures.failed c.in-Err.ensures.kept
-    (rw c.is_abandoned.ensures at c.tell_fault.ensures)
+    (fault_untold _ _ _ (rw c.is_abandoned.ensures at c.tell_outcome.ensures))
 
 pub returns-in-Refused : goal.returns-in-Refused
 returns-in-Refused g c =

@@ -8,12 +8,12 @@ use Rattle.debcheck.proofs.phases.report_and_write.Goals as goal
 pub returns-in_err-output-clause-tells : goal.returns-in_err-output-clause-tells
 returns-in_err-output-clause-tells g c =
     let p = err_from_is_err_and c.from_residual.result c.from_residual.ensures.1 in
-    let h = rw c.in_err-output.was at c.check_and_report-told.ensures.refused in
+    let h = rw c.in_err-output.was at c.check_and_tell-told.ensures.refused in
     rw (p.1, p.2) (tells-none _ _ _ _ _ h (kept-itself _))
 
 pub returns-in-Ok-clause-tells : goal.returns-in-Ok-clause-tells
 returns-in-Ok-clause-tells g c =
-    let on = rw c.in_ok-output.was at c.check_and_report-told.ensures.report in
+    let on = rw c.in_ok-output.was at c.check_and_tell-told.ensures.report in
     record {
       report = (
         c.in_ok-output.output.items,
@@ -29,7 +29,7 @@ returns-in-Ok-clause-tells g c =
 
 pub returns-clause-tells : goal.returns-clause-tells
 returns-clause-tells g c =
-    let on = rw c.in_ok-output.was at c.check_and_report-told.ensures.report in
+    let on = rw c.in_ok-output.was at c.check_and_tell-told.ensures.report in
     record {
       report = tt;
       flushed = tt;

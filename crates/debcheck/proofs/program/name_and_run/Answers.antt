@@ -1,15 +1,18 @@
 use Rattle.std.proofs.Common.{◌≡◌, ap, option_map, string_bytes}
+use Rattle.std.proofs.lemmas.Result.{err_from_is_err_and}
 use Rattle.run_settings.specs.Settings.{settings_of}
 use Rattle.debcheck.proofs.ProgramLemmas.{runs_taken, runs_untaken}
 use Rattle.debcheck.proofs.program.name_and_run.Goals as goal
 
-pub returns-in-Ok : goal.returns-in-Ok
-returns-in-Ok g c =
+pub returns : goal.returns
+returns g c =
     let taken = c.take_names.new.config in
     let before = c.args.config.now in
     let bg : option_map string_bytes taken.bg ≡ option_map string_bytes before.bg = ap (option_map string_bytes) c.take_names.ensures.background in
     let since : option_map string_bytes taken.since ≡ option_map string_bytes before.since = ap (option_map string_bytes) c.take_names.ensures.since in
-    runs_taken _ (settings_of before) (settings_of taken) _ _ _ _ _ _ c.open_and_run.result c.in-Ok.ensures.taken (rw bg at (rw since at c.open_and_run.ensures))
+    runs_taken _ (settings_of before) (settings_of taken) _ _ _ _ _ _ c.open_and_run.result c.in_ok-take_names.ensures.taken (rw bg at (rw since at c.open_and_run.ensures))
 
-pub returns-in-Err : goal.returns-in-Err
-returns-in-Err g c = runs_untaken _ _ _ _ _ _ _ _ _ _ _ c.in-Err.fault c.requires.reader c.in-Err.ensures.refused
+pub returns-in_err-take_names : goal.returns-in_err-take_names
+returns-in_err-take_names g c =
+    let p = err_from_is_err_and c.from_residual.result c.from_residual.ensures.1 in
+    rw (p.1, p.2) (runs_untaken _ _ _ _ _ _ _ _ _ _ _ c.in_err-take_names.field-0.0 c.requires.reader c.in_err-take_names.ensures.refused)

@@ -15,7 +15,7 @@ returns-in_err-before-clause-runs g c =
     let earlier = input (g.E.Source.remaining c.args.earlier.now) (g.E.Source.failed c.read_before.new.earlier) in
     let text = input (g.S.Source.remaining c.args.reader.now) (g.S.Source.failed c.args.reader.now) in
     let background = input (g.B.Source.remaining c.args.background.now) (g.B.Source.failed c.read_before.new.background) in
-    rw (p.1, p.2) (runs-behind (settings_of c.args.config.now) earlier text background _ c.in_err-before.field-0.0 c.requires.reader c.in_err-before.ensures.refused (kept-itself _))
+    rw (p.1, p.2) (runs-behind (settings_of c.args.job.now.config.now) earlier text background _ c.in_err-before.field-0.0 c.requires.reader c.in_err-before.ensures.refused (kept-itself _))
 
 pub returns-in_err-before-clause-unbegun : goal.returns-in_err-before-clause-unbegun
 returns-in_err-before-clause-unbegun g c =
@@ -40,7 +40,7 @@ returns-in_err-before-clause-earlier_may_fail g c =
 pub returns-in_err-index-clause-runs : goal.returns-in_err-index-clause-runs
 returns-in_err-index-clause-runs g c =
     let p = err_from_is_err_and c.from_residual-in_err-index.result c.from_residual-in_err-index.ensures.1 in
-    let settings = settings_of c.args.config.now in
+    let settings = settings_of c.args.job.now.config.now in
     let earlier = input (g.E.Source.remaining c.args.earlier.now) (g.E.Source.failed c.read_before.new.earlier) in
     let text = input (g.S.Source.remaining c.args.reader.now) (g.S.Source.failed c.read_now.new.reader) in
     let background = input (g.B.Source.remaining c.args.background.now) (g.B.Source.failed c.read_before.new.background) in
@@ -52,7 +52,7 @@ returns-in_err-index-clause-runs g c =
 pub returns-in_err-index-clause-unbegun : goal.returns-in_err-index-clause-unbegun
 returns-in_err-index-clause-unbegun g c =
     let p = err_from_is_err_and c.from_residual-in_err-index.result c.from_residual-in_err-index.ensures.1 in
-    let settings = settings_of c.args.config.now in
+    let settings = settings_of c.args.job.now.config.now in
     let text = input (g.S.Source.remaining c.args.reader.now) (g.S.Source.failed c.read_now.new.reader) in
     let background = input (g.B.Source.remaining c.args.background.now) (g.B.Source.failed c.read_before.new.background) in
     let second = rw (← c.as_slice.ensures.value) at c.in_ok-before.ensures.behind in
@@ -66,7 +66,7 @@ returns-in_err-index-clause-untouched g c =
 pub returns-in_err-index-clause-may_fail : goal.returns-in_err-index-clause-may_fail
 returns-in_err-index-clause-may_fail g c =
     let p = err_from_is_err_and c.from_residual-in_err-index.result c.from_residual-in_err-index.ensures.1 in
-    let settings = settings_of c.args.config.now in
+    let settings = settings_of c.args.job.now.config.now in
     let text = input (g.S.Source.remaining c.args.reader.now) (g.S.Source.failed c.read_now.new.reader) in
     let background = input (g.B.Source.remaining c.args.background.now) (g.B.Source.failed c.read_before.new.background) in
     let second = rw (← c.as_slice.ensures.value) at c.in_ok-before.ensures.behind in
@@ -78,7 +78,7 @@ returns-in_err-index-clause-may_fail g c =
 pub returns-in_err-index-clause-earlier_may_fail : goal.returns-in_err-index-clause-earlier_may_fail
 returns-in_err-index-clause-earlier_may_fail g c =
     let p = err_from_is_err_and c.from_residual-in_err-index.result c.from_residual-in_err-index.ensures.1 in
-    let settings = settings_of c.args.config.now in
+    let settings = settings_of c.args.job.now.config.now in
     let text = input (g.S.Source.remaining c.args.reader.now) (g.S.Source.failed c.read_now.new.reader) in
     let background = input (g.B.Source.remaining c.args.background.now) (g.B.Source.failed c.read_before.new.background) in
     let second = rw (← c.as_slice.ensures.value) at c.in_ok-before.ensures.behind in
@@ -86,7 +86,7 @@ returns-in_err-index-clause-earlier_may_fail g c =
 
 pub returns-clause-runs : goal.returns-clause-runs
 returns-clause-runs g c =
-    let settings = settings_of c.args.config.now in
+    let settings = settings_of c.args.job.now.config.now in
     let earlier = input (g.E.Source.remaining c.args.earlier.now) (g.E.Source.failed c.read_before.new.earlier) in
     let text = input (g.S.Source.remaining c.args.reader.now) (g.S.Source.failed c.read_now.new.reader) in
     let background = input (g.B.Source.remaining c.args.background.now) (g.B.Source.failed c.read_before.new.background) in
@@ -99,14 +99,14 @@ returns-clause-runs g c =
 pub returns-clause-unbegun : goal.returns-clause-unbegun
 returns-clause-unbegun g c =
     IfErr-weaker c.report_and_write.result _ _
-    (λ fault h of. absurd (write-of-none (settings_of c.args.config.now) c.in_ok-index.index _ fault h of)) c.report_and_write.ensures.tells.refused
+    (λ fault h of. absurd (write-of-none (settings_of c.args.job.now.config.now) c.in_ok-index.index _ fault h of)) c.report_and_write.ensures.tells.refused
 
 pub returns-clause-may_fail : goal.returns-clause-may_fail
 returns-clause-may_fail g c =
     IfErr-weaker c.report_and_write.result _ _
-    (λ fault h e. absurd ((all-read (settings_of c.args.config.now) c.in_ok-index.index _ fault h).1 e)) c.report_and_write.ensures.tells.refused
+    (λ fault h e. absurd ((all-read (settings_of c.args.job.now.config.now) c.in_ok-index.index _ fault h).1 e)) c.report_and_write.ensures.tells.refused
 
 pub returns-clause-earlier_may_fail : goal.returns-clause-earlier_may_fail
 returns-clause-earlier_may_fail g c =
     IfErr-weaker c.report_and_write.result _ _
-    (λ fault h e. absurd ((all-read (settings_of c.args.config.now) c.in_ok-index.index _ fault h).2 e)) c.report_and_write.ensures.tells.refused
+    (λ fault h e. absurd ((all-read (settings_of c.args.job.now.config.now) c.in_ok-index.index _ fault h).2 e)) c.report_and_write.ensures.tells.refused
