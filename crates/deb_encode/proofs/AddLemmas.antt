@@ -1,17 +1,12 @@
--- Clauses that are added, one after another, and what they say together.
-use Rattle.std.proofs.Common.{◌≡◌, ◌⊎◌, ℕ, ◌+◌, ◌<◌, ◌≤◌, true, false, ◌||◌, eqb, List, [], ◌∷◌, ◌++◌, length, get_or, take, Some, slice_get, All, ◌↔◌, refl, sym, subst, ◌∙◌, ap, inl, inr, arith, append_assoc}
-use Rattle.std.proofs.lemmas.Bool.{cases_lt, false≢true, or_cases, or_left, or_right, eqb-true, eq-eqb}
-use Rattle.std.proofs.lemmas.List.{take_more, append-nil, get_or_append_left, get_or_push, length-append}
-use Rattle.std.proofs.lemmas.List.Elements.{All-nil, All-append, All-weaker}
+-- Clauses that are added, one after another, and what they say together; and numbers that come to a list.
+use Rattle.std.proofs.Common.{◌≡◌, ◌⊎◌, ℕ, ◌+◌, ◌<◌, true, false, ◌||◌, eqb, List, [], ◌∷◌, ◌++◌, length, get_or, take, All, ◌↔◌, refl, sym, subst, ◌∙◌, ap, inl, inr, arith, append_assoc}
+use Rattle.std.proofs.lemmas.Bool.{false≢true, or_cases, or_left, or_right, eqb-true, eq-eqb}
+use Rattle.std.proofs.lemmas.List.{take_more, append-nil}
+use Rattle.std.proofs.lemmas.List.Elements.{All-nil, All-append}
 use Rattle.std.proofs.lemmas.List.Folds.{list_any-append}
-use Rattle.std.proofs.lemmas.Option.{slice_get-get_or, slice_get_within, get_or_from_slice_get}
-use Rattle.deb_index.specs.declared.constraint.Constraint.{Constraint}
-use Rattle.deb_index.specs.Packages.{IndexView}
-use Rattle.deb_index.specs.Constraints.{Holds}
 use Rattle.number_sets.specs.Sets.{NumberSet, members_of}
-use Rattle.sat_solve.specs.Clauses.{Clause, Clauses, clause_holds}
-use Rattle.deb_encode.specs.Adding.{GroupHolds, Adds}
-use Rattle.deb_encode.specs.Play.{placed, TellsPlaces}
+use Rattle.sat_solve.specs.Clauses.{Clauses, clause_holds}
+use Rattle.deb_encode.specs.Adding.{Adds}
 use Rattle.number_sets.proofs.ListLemmas.{All-front, All-back}
 
 -- nothing is added, for what holds anyway
@@ -81,63 +76,8 @@ module _ (xs : List ℕ) (i : ℕ) (inside : i < length xs) where
   pub taken_last : members_of (take (i + 1) xs) (get_or xs i 0) ≡ true
   taken_last = ap (λ list. members_of list (get_or xs i 0)) (take_more xs i 0 inside) ∙ last_in (take i xs) (get_or xs i 0)
 
--- ---- the clauses of all constraints, one constraint more
-
-apart_groups : (set : NumberSet) (group : ℕ) (clauses : List Clause) → All (λ clause. clause.group ≡ group → ⊥) clauses → GroupHolds clauses group set
-apart_groups set group clauses other = All-weaker (λ clause. clause.group ≡ group → ⊥) (λ clause. clause.group ≡ group → clause_holds set clause.literals ≡ true) (λ clause no same. absurd (no same)) clauses other
-
-get_front : {A : Type 0} (xs : List A) (x y : A) (k : ℕ) → k < length xs → slice_get (xs ++ x ∷ []) k ≡ Some y → slice_get xs k ≡ Some y
-get_front xs x y k inside there =
-    slice_get-get_or xs k y inside ∙ ap Some (sym (get_or_append_left xs (x ∷ []) y k inside) ∙ get_or_from_slice_get (xs ++ x ∷ []) k y y there)
-
-get_last : {A : Type 0} (xs : List A) (x y : A) (k : ℕ) → length xs ≤ k → slice_get (xs ++ x ∷ []) k ≡ Some y → (k ≡ length xs) × (x ≡ y)
-get_last xs x y k past there =
-    let within : k < length (xs ++ x ∷ []) = slice_get_within (xs ++ x ∷ []) k y there in
-    let here : k ≡ length xs = omega (arith, length-append xs (x ∷ [])) in
-    (here, sym (get_or_push xs x y k (sym here)) ∙ get_or_from_slice_get (xs ++ x ∷ []) k y y there)
-
-module _ (index : IndexView) (forced candidates : List ℕ) (constraints : List Constraint) (constraint : Constraint) (before after : Clauses)
-    (tells : TellsPlaces index forced candidates constraints before.clauses) (adds : Adds (length constraints) (λ vars. Holds index (placed forced candidates vars) constraint) before after) where
-  told_in_groups : All (λ clause. clause.group < length (constraints ++ constraint ∷ [])) (before.clauses ++ adds.more)
-  told_in_groups =
-      All-append (λ clause. clause.group < length (constraints ++ constraint ∷ [])) before.clauses adds.more
-      (All-weaker (λ clause. clause.group < length constraints) (λ clause. clause.group < length (constraints ++ constraint ∷ [])) (λ clause below. omega (arith, length-append constraints (constraint ∷ []))) before.clauses tells.in_groups)
-      (All-weaker (λ clause. clause.group ≡ length constraints) (λ clause. clause.group < length (constraints ++ constraint ∷ [])) (λ clause same. omega (arith, length-append constraints (constraint ∷ []))) adds.more adds.in_group)
-
-  told_old : (set : NumberSet) (group : ℕ) (old : Constraint) → group < length constraints → slice_get constraints group ≡ Some old
-      → (GroupHolds (before.clauses ++ adds.more) group set ↔ Holds index (placed forced candidates set) old)
-  told_old set group old below there = (
-    λ holds. (tells.says set group old there).0 (All-front (λ clause. clause.group ≡ group → clause_holds set clause.literals ≡ true) before.clauses adds.more holds),
-    λ holds.
-        All-append (λ clause. clause.group ≡ group → clause_holds set clause.literals ≡ true) before.clauses adds.more
-        ((tells.says set group old there).1 holds)
-        (apart_groups set group adds.more (All-weaker (λ clause. clause.group ≡ length constraints) (λ clause. clause.group ≡ group → ⊥) (λ clause same other. omega arith) adds.more adds.in_group)),
-  )
-
-  told_new : (set : NumberSet) → (GroupHolds (before.clauses ++ adds.more) (length constraints) set ↔ Holds index (placed forced candidates set) constraint)
-  told_new set = (
-    λ holds.
-        (adds.says set).0
-        (λ k d inside. All-back (λ clause. clause.group ≡ length constraints → clause_holds set clause.literals ≡ true) before.clauses adds.more holds k d inside (adds.in_group k d inside)),
-    λ holds.
-        All-append (λ clause. clause.group ≡ length constraints → clause_holds set clause.literals ≡ true) before.clauses adds.more
-        (apart_groups set (length constraints) before.clauses (All-weaker (λ clause. clause.group < length constraints) (λ clause. clause.group ≡ length constraints → ⊥) (λ clause below same. omega arith) before.clauses tells.in_groups))
-        (All-weaker (λ clause. clause_holds set clause.literals ≡ true) (λ clause. clause.group ≡ length constraints → clause_holds set clause.literals ≡ true) (λ clause held same. held) adds.more ((adds.says set).1 holds)),
-  )
-
-  pub tells_more : TellsPlaces index forced candidates (constraints ++ constraint ∷ []) after.clauses
-  tells_more =
-      let TellsAll : List Clause → Type 0 = λ clauses. TellsPlaces index forced candidates (constraints ++ constraint ∷ []) clauses in
-      subst TellsAll (sym adds.appended) (record {
-        in_groups = told_in_groups;
-        says = λ set group one there.
-            elim (cases_lt group (length constraints)) [
-              | inl below ↦ told_old set group one below (get_front constraints constraint one group below there)
-              | inr past ↦
-                  let last = get_last constraints constraint one group past there in
-                  let At : ℕ → Constraint → Type 0 = λ g c. GroupHolds (before.clauses ++ adds.more) g set ↔ Holds index (placed forced candidates set) c in
-                  let there_too : At (length constraints) one = subst (At (length constraints)) last.1 (told_new set) in
-                  let AtGroup : ℕ → Type 0 = λ g. At g one in
-                  subst AtGroup (sym last.0) there_too
-            ];
-      })
+-- numbers below a limit, in a list that is another
+pub below_moved : (xs ys : List ℕ) (limit bound : ℕ) → xs ≡ ys → limit ≡ bound → All (λ q. q < bound) ys → All (λ q. q < limit) xs
+below_moved xs ys limit bound same size below =
+    let Below : List ℕ → Type 0 = λ zs. All (λ q. q < limit) zs in
+    subst Below (sym same) (λ k d inside. omega (arith, below k d inside, size))

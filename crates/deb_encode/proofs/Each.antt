@@ -1,129 +1,86 @@
--- Clauses that are added for one number after the other, and what they say together.
+-- What an encoder adds for one number after the other, and what it says together.
 use Rattle.std.proofs.Common.{◌≡◌, ℕ, ◌+◌, ◌<◌, ◌≤◌, true, List, [], ◌∷◌, ◌++◌, length, get_or, take, All, ◌↔◌, sym, subst, ◌∙◌, ap, inl, inr, arith}
-use Rattle.std.proofs.lemmas.Bool.{cases_lt, or_cases, or_left, or_right}
+use Rattle.std.proofs.lemmas.Bool.{cases_lt, false≢true}
 use Rattle.std.proofs.lemmas.List.{take_more}
-use Rattle.std.proofs.lemmas.List.Elements.{All-head, All-push}
-use Rattle.deb_index.specs.declared.constraint.Constraint.TheVariants.{Essential, Apart, Only}
-use Rattle.deb_index.specs.Packages.{IndexView, aparts_at}
-use Rattle.deb_index.specs.Constraints.{Holds}
+use Rattle.std.proofs.lemmas.List.Elements.{All-nil, All-head, All-push}
 use Rattle.number_sets.specs.Sets.{NumberSet, members_of}
 use Rattle.sat_solve.specs.Clauses.{Clause, Clauses}
+use Rattle.deb_encode.specs.declared.encoder.Encoder.{Encoder}
+use Rattle.deb_encode.specs.declared.play.Play.{Play}
 use Rattle.deb_encode.specs.Adding.{Adds, AllHold}
-use Rattle.deb_encode.specs.Play.{placed, places_in_play}
-use Rattle.deb_encode.specs.Standings.{is_narrow, MeetsNarrow}
+use Rattle.deb_encode.specs.Encoders.{AddsVars}
 use Rattle.number_sets.proofs.ListLemmas.{All-front, All-back}
-use Rattle.deb_encode.proofs.AddLemmas.{adds_both, adds_as, taken_either, taken_before, taken_last}
+use Rattle.deb_encode.proofs.AddLemmas.{taken_either, taken_before, taken_last}
+use Rattle.deb_encode.proofs.EncoderLemmas.{tells_none, tells_as, tells_both}
 use Rattle.number_sets.proofs.ListMembers.{take_whole}
 
-module _ (group : ℕ) (Means : ℕ → NumberSet → Type 0) where
+module _ (Means : ℕ → Play → NumberSet → Type 0) where
   -- each number of a list was told
-  abbrev pub AddsEach : List ℕ → Clauses → Clauses → Type 0
-  AddsEach xs before after = Adds group (λ vars. (q : ℕ) → members_of xs q ≡ true → Means q vars) before after
+  abbrev pub AddsEach : List ℕ → Encoder → Encoder → Type 0
+  AddsEach xs = AddsVars (λ play vars. (q : ℕ) → members_of xs q ≡ true → Means q play vars)
 
-  pub each_more : (xs : List ℕ) (i : ℕ) (before between after : Clauses) → i < length xs → AddsEach (take i xs) before between → Adds group (Means (get_or xs i 0)) between after
-      → AddsEach (take (i + 1) xs) before after
-  each_more xs i before between after inside so_far one =
-      let Old : NumberSet → Type 0 = λ vars. (q : ℕ) → members_of (take i xs) q ≡ true → Means q vars in
-      let New : NumberSet → Type 0 = λ vars. (q : ℕ) → members_of (take (i + 1) xs) q ≡ true → Means q vars in
-      adds_as group (λ vars. Old vars × Means (get_or xs i 0) vars) New before after
-      (λ vars. (
+  pub each_none : (start : Encoder) → AddsEach [] start start
+  each_none start = tells_none (λ play vars. (q : ℕ) → members_of [] q ≡ true → Means q play vars) start (λ vars q never. absurd (false≢true never))
+
+  pub each_more : (xs : List ℕ) (i x : ℕ) (start now next : Encoder) → i < length xs → x ≡ get_or xs i 0 → AddsEach (take i xs) start now → AddsVars (Means x) now next → AddsEach (take (i + 1) xs) start next
+  each_more xs i x start now next inside here so_far one =
+      tells_as (λ play vars. ((q : ℕ) → members_of (take i xs) q ≡ true → Means q play vars) × Means x play vars) (λ play vars. (q : ℕ) → members_of (take (i + 1) xs) q ≡ true → Means q play vars) start next
+      (λ vars.
+      let At : ℕ → Type 0 = λ r. Means r start.play vars in (
         λ both q is_in.
             elim (taken_either xs i inside q is_in) [
               | inl old ↦ both.0 q old
-              | inr here ↦ let At : ℕ → Type 0 = λ r. Means r vars in subst At here both.1
+              | inr last ↦ subst At (here ∙ last) both.1
             ],
-        λ all. (λ q is_in. all q (taken_before xs i inside q is_in), all (get_or xs i 0) (taken_last xs i inside)),
+        λ all. (λ q is_in. all q (taken_before xs i inside q is_in), subst At (sym here) (all (get_or xs i 0) (taken_last xs i inside))),
       ))
-      (adds_both group Old (Means (get_or xs i 0)) before between after so_far one)
+      (tells_both (λ play vars. (q : ℕ) → members_of (take i xs) q ≡ true → Means q play vars) (Means x) start now next so_far one)
 
-  pub each_whole : (xs : List ℕ) (i : ℕ) (before after : Clauses) → length xs ≤ i → AddsEach (take i xs) before after → AddsEach xs before after
-  each_whole xs i before after past so_far =
-      let For : List ℕ → Type 0 = λ list. AddsEach list before after in
-      subst For (take_whole xs i past) so_far
+  pub each_whole : (xs : List ℕ) (i : ℕ) (start now : Encoder) → length xs ≤ i → AddsEach (take i xs) start now → AddsEach xs start now
+  each_whole xs i start now past so_far = (let For : List ℕ → Type 0 = λ list. AddsEach list start now in subst For (take_whole xs i past) so_far)
 
   -- each number below a limit was told
-  abbrev pub AddsBelow : ℕ → Clauses → Clauses → Type 0
-  AddsBelow limit before after = Adds group (λ vars. (j : ℕ) → j < limit → Means j vars) before after
+  abbrev pub AddsBelow : ℕ → Encoder → Encoder → Type 0
+  AddsBelow limit = AddsVars (λ play vars. (j : ℕ) → j < limit → Means j play vars)
 
-  pub below_next : (i : ℕ) (before between after : Clauses) → AddsBelow i before between → Adds group (Means i) between after → AddsBelow (i + 1) before after
-  below_next i before between after so_far one =
-      let Old : NumberSet → Type 0 = λ vars. (j : ℕ) → j < i → Means j vars in
-      let New : NumberSet → Type 0 = λ vars. (j : ℕ) → j < i + 1 → Means j vars in
-      adds_as group (λ vars. Old vars × Means i vars) New before after
+  pub below_none : (start : Encoder) → AddsBelow 0 start start
+  below_none start = tells_none (λ play vars. (j : ℕ) → j < 0 → Means j play vars) start (λ vars j never. absurd (omega (arith, never)))
+
+  pub below_next : (i : ℕ) (start now next : Encoder) → AddsBelow i start now → AddsVars (Means i) now next → AddsBelow (i + 1) start next
+  below_next i start now next so_far one =
+      tells_as (λ play vars. ((j : ℕ) → j < i → Means j play vars) × Means i play vars) (λ play vars. (j : ℕ) → j < i + 1 → Means j play vars) start next
       (λ vars. (
         λ both j less.
             elim (cases_lt j i) [
               | inl old ↦ both.0 j old
-              | inr here ↦ let same : i ≡ j = omega arith in let At : ℕ → Type 0 = λ k. Means k vars in subst At same both.1
+              | inr last ↦ let same : i ≡ j = omega arith in let At : ℕ → Type 0 = λ k. Means k start.play vars in subst At same both.1
             ],
         λ all. (λ j less. all j (omega arith), all i (omega arith)),
       ))
-      (adds_both group Old (Means i) before between after so_far one)
+      (tells_both (λ play vars. (j : ℕ) → j < i → Means j play vars) (Means i) start now next so_far one)
 
-module _ {A : Type 0} (group : ℕ) (Means : A → NumberSet → Type 0) where
+module _ {A : Type 0} (Means : A → Play → NumberSet → Type 0) where
   -- each element of a list was told
-  abbrev pub AddsAll : List A → Clauses → Clauses → Type 0
-  AddsAll xs before after = Adds group (λ vars. All (λ x. Means x vars) xs) before after
+  abbrev pub AddsAll : List A → Encoder → Encoder → Type 0
+  AddsAll xs = AddsVars (λ play vars. All (λ x. Means x play vars) xs)
 
-  pub all_more : (xs : List A) (i : ℕ) (d : A) (before between after : Clauses) → i < length xs → AddsAll (take i xs) before between → Adds group (Means (get_or xs i d)) between after
-      → AddsAll (take (i + 1) xs) before after
-  all_more xs i d before between after inside so_far one =
+  pub all_none : (start : Encoder) → AddsAll [] start start
+  all_none start = tells_none (λ play vars. All (λ x. Means x play vars) []) start (λ vars. All-nil (λ x. Means x start.play vars))
+
+  pub all_more : (xs : List A) (i : ℕ) (d : A) (start now next : Encoder) → i < length xs → AddsAll (take i xs) start now → AddsVars (Means (get_or xs i d)) now next → AddsAll (take (i + 1) xs) start next
+  all_more xs i d start now next inside so_far one =
       let x : A = get_or xs i d in
-      let Old : NumberSet → Type 0 = λ vars. All (λ y. Means y vars) (take i xs) in
-      let New : NumberSet → Type 0 = λ vars. All (λ y. Means y vars) (take i xs ++ x ∷ []) in
-      let For : List A → Type 0 = λ list. AddsAll list before after in
+      let For : List A → Type 0 = λ list. AddsAll list start next in
       subst For (sym (take_more xs i d inside))
-      (adds_as group (λ vars. Old vars × Means x vars) New before after
+      (tells_as (λ play vars. All (λ y. Means y play vars) (take i xs) × Means x play vars) (λ play vars. All (λ y. Means y play vars) (take i xs ++ x ∷ [])) start next
       (λ vars. (
-        λ both. All-push (λ y. Means y vars) (take i xs) x both.0 both.1,
-        λ all. (All-front (λ y. Means y vars) (take i xs) (x ∷ []) all, All-head (λ y. Means y vars) x [] (All-back (λ y. Means y vars) (take i xs) (x ∷ []) all)),
+        λ both. All-push (λ y. Means y start.play vars) (take i xs) x both.0 both.1,
+        λ all. (All-front (λ y. Means y start.play vars) (take i xs) (x ∷ []) all, All-head (λ y. Means y start.play vars) x [] (All-back (λ y. Means y start.play vars) (take i xs) (x ∷ []) all)),
       ))
-      (adds_both group Old (Means x) before between after so_far one))
+      (tells_both (λ play vars. All (λ y. Means y play vars) (take i xs)) (Means x) start now next so_far one))
 
-  pub all_whole : (xs : List A) (i : ℕ) (before after : Clauses) → length xs ≤ i → AddsAll (take i xs) before after → AddsAll xs before after
-  all_whole xs i before after past so_far =
-      let For : List A → Type 0 = λ list. AddsAll list before after in
-      subst For (take_whole xs i past) so_far
-
--- what is told of the forced places and of the candidates is told of all places in play
-module _ (group : ℕ) (forced candidates : List ℕ) (Means : ℕ → NumberSet → Type 0) where
-  pub in_play_added : (first second : List ℕ) (before between after : Clauses) → first ≡ forced → second ≡ candidates → AddsEach group Means first before between → AddsEach group Means second between after
-      → Adds group (λ vars. (q : ℕ) → places_in_play (members_of forced) candidates q ≡ true → Means q vars) before after
-  in_play_added first second before between after is_forced is_candidates one two =
-      let First : List ℕ → Type 0 = λ list. AddsEach group Means list before between in
-      let Second : List ℕ → Type 0 = λ list. AddsEach group Means list between after in
-      let Among : List ℕ → NumberSet → Type 0 = λ list vars. (q : ℕ) → members_of list q ≡ true → Means q vars in
-      adds_as group (λ vars. Among forced vars × Among candidates vars) (λ vars. (q : ℕ) → places_in_play (members_of forced) candidates q ≡ true → Means q vars) before after
-      (λ vars. (
-        λ both q in_play.
-            elim (or_cases (members_of forced q) (members_of candidates q) in_play) [
-              | inl is_in ↦ both.0 q is_in
-              | inr member ↦ both.1 q member
-            ],
-        λ all. (λ q is_in. all q (or_left (members_of forced q) (members_of candidates q) is_in), λ q is_in. all q (or_right (members_of forced q) (members_of candidates q) is_in)),
-      ))
-      (adds_both group (Among forced) (Among candidates) before between after (subst First is_forced one) (subst Second is_candidates two))
-
-module _ (index : IndexView) (forced candidates : List ℕ) where
-  -- a constraint, told of the places
-  abbrev pub meaning_of_essential : ℕ → NumberSet → Type 0
-  meaning_of_essential number vars = Holds index (placed forced candidates vars) (Essential number)
-
-  abbrev pub meaning_of_narrow : ℕ → NumberSet → Type 0
-  meaning_of_narrow place vars = MeetsNarrow index (placed forced candidates vars) place
-
-  abbrev pub meaning_of_row : ℕ → ℕ → NumberSet → Type 0
-  meaning_of_row place j vars = is_narrow index place j ≡ true → Holds index (placed forced candidates vars) (Apart place j)
-
-  abbrev pub meaning_of_only : ℕ → NumberSet → Type 0
-  meaning_of_only number vars = Holds index (placed forced candidates vars) (Only number)
-
-  -- what a package keeps out
-  pub narrow_added : (group place aparts : ℕ) (before after : Clauses) → aparts ≡ length (aparts_at index place) → AddsBelow group (meaning_of_row place) aparts before after
-      → Adds group (meaning_of_narrow place) before after
-  narrow_added group place aparts before after aparts_are adds =
-      let For : ℕ → Type 0 = λ count. AddsBelow group (meaning_of_row place) count before after in
-      subst For aparts_are adds
+  pub all_whole : (xs : List A) (i : ℕ) (start now : Encoder) → length xs ≤ i → AddsAll (take i xs) start now → AddsAll xs start now
+  all_whole xs i start now past so_far = (let For : List A → Type 0 = λ list. AddsAll list start now in subst For (take_whole xs i past) so_far)
 
 -- what was added to no clauses is all of the formula
 module _ (group count groups : ℕ) (Means : NumberSet → Type 0) (before after : Clauses) (empty : before ≡ record { vars = count; groups = groups; clauses = [] }) (adds : Adds group Means before after) where

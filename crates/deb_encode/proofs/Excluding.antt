@@ -1,7 +1,7 @@
 -- Lists of variables that exclude each other, and the places that they stand for.
-use Rattle.std.proofs.Common.{◌≡◌, ◌⊎◌, ℕ, ◌+◌, ◌<◌, Bool, true, false, ◌||◌, not, if◌then◌else◌, eqb, List, [], ◌∷◌, ◌++◌, map, take, flat_map, All, length, get_or, Some, slice_get, ◌↔◌, refl, sym, subst, ◌∙◌, ap, inl, inr, arith}
+use Rattle.std.proofs.Common.{◌≡◌, ℕ, ◌+◌, ◌<◌, Bool, true, false, ◌||◌, not, if◌then◌else◌, eqb, List, [], ◌∷◌, ◌++◌, map, take, flat_map, All, length, get_or, Some, slice_get, ◌↔◌, refl, sym, subst, ◌∙◌, ap, inl, inr, arith}
 use Rattle.std.specs.List.Sorted.{IsStrictlyIncreasing}
-use Rattle.std.proofs.lemmas.Bool.{cases_Bool, false≢true, or_left, or_right, not-true, not_from_false, eqb-true, eq-eqb, both_ways}
+use Rattle.std.proofs.lemmas.Bool.{cases_Bool, false≢true, or_right, eqb-true, eq-eqb, both_ways}
 use Rattle.std.proofs.lemmas.List.{get_or-map, get_or_default, length-map}
 use Rattle.std.proofs.lemmas.List.Elements.{All-nil, All-cons, All-append, All-map, All-contains}
 use Rattle.std.proofs.lemmas.Option.{slice_get_within, get_or_from_slice_get}
@@ -11,12 +11,12 @@ use Rattle.sat_solve.specs.Clauses.{Clause, Clauses, clause_holds, not_both, exc
 use Rattle.sat_solve.proofs.FlatLemmas.{all_flat, flat_all}
 use Rattle.sat_solve.proofs.ExclusionLemmas.{exclusions_in, exclusions_have}
 use Rattle.deb_encode.specs.Adding.{Adds}
-use Rattle.deb_encode.specs.Play.{placed, AddsPlaces}
+use Rattle.deb_encode.specs.Play.{placed}
+use Rattle.deb_encode.specs.Encoders.{KeepsOut}
 use Rattle.deb_encode.specs.Exclusions.{AreNotIn, AreNumbersOf}
 use Rattle.deb_index.specs.Apart.{AreApart}
-use Rattle.deb_encode.specs.Standings.{is_other}
 use Rattle.number_sets.proofs.ListMembers.{members_of_at, at_members_of}
-use Rattle.deb_encode.proofs.AddLemmas.{adds_both, adds_as, in_push, front_in, last_in, taken_either, taken_before, taken_last}
+use Rattle.deb_encode.proofs.AddLemmas.{in_push, front_in, last_in, taken_either, taken_before, taken_last}
 use Rattle.number_sets.proofs.PositionsOf.{position_in, group_at, one_group}
 
 -- ---- what the clauses of an owner say
@@ -149,7 +149,7 @@ module _ (forced candidates places list : List ℕ) (none_in : AreNotIn forced p
 
 module _ (forced candidates owners places vars list : List ℕ) (rising : IsStrictlyIncreasing candidates) (no_owner_in : AreNotIn forced owners)
     (none_in : AreNotIn forced places) (of_owners : AreNumbersOf candidates owners vars) (of_places : AreNumbersOf candidates places list) where
-  apart_placed : (set : NumberSet) → (HasApart vars list set ↔ AreApart owners places (placed forced candidates set))
+  pub apart_placed : (set : NumberSet) → (HasApart vars list set ↔ AreApart owners places (placed forced candidates set))
   apart_placed set = (
     λ one q r q_there r_there q_in r_in.
         let v = var_of forced candidates owners vars no_owner_in of_owners set q q_there q_in in
@@ -161,65 +161,26 @@ module _ (forced candidates owners places vars list : List ℕ) (rising : IsStri
         (place_of forced candidates owners vars no_owner_in of_owners set v v_there v_in) (place_of forced candidates places list none_in of_places set w w_there w_in)),
   )
 
-  pub apart_places : (group : ℕ) (before after : Clauses) → Adds group (HasApart vars list) before after → AddsPlaces group forced candidates (AreApart owners places) before after
-  apart_places group before after adds = adds_as group (HasApart vars list) (λ set. AreApart owners places (placed forced candidates set)) before after apart_placed adds
-
 -- ---- places of which some are in anyway
 
-module _ (forced candidates owners places : List ℕ) (place : ℕ) (is_in : members_of forced place ≡ true) where
-  placed_in : (vars : NumberSet) → placed forced candidates vars place ≡ true
-  placed_in vars = or_left (members_of forced place) (positions_of candidates vars place) is_in
+module _ (owners places : List ℕ) (place : ℕ) (set : NumberSet) (is_in : set place ≡ true) where
+  pub owner_alone : members_of owners place ≡ true → members_of places place ≡ false → (KeepsOut place places set ↔ AreApart owners places set)
+  owner_alone owns lacks = (
+    λ out q r q_there r_there q_in r_in. absurd (both_ways (members_of places place) lacks (ap (members_of places) (sym (out r r_there is_in r_in)) ∙ r_there)),
+    λ apart r r_there has r_in. sym (apart place r owns r_there is_in r_in),
+  )
 
-  abbrev Out : List ℕ → NumberSet → Type 0
-  Out list vars = (q : ℕ) → members_of list q ≡ true → true ≡ true → is_other place q ≡ true → placed forced candidates vars q ≡ true → ⊥
+  pub owner_both : members_of owners place ≡ true → members_of places place ≡ true → ((KeepsOut place places set × KeepsOut place owners set) ↔ AreApart owners places set)
+  owner_both owns there = (
+    λ both q r q_there r_there q_in r_in. both.1 q q_there is_in q_in ∙ sym (both.0 r r_there is_in r_in),
+    λ apart. (λ r r_there has r_in. sym (apart place r owns r_there is_in r_in), λ q q_there has q_in. apart q place q_there there q_in is_in),
+  )
 
-  is_it : (list : List ℕ) (vars : NumberSet) → Out list vars → (q : ℕ) → members_of list q ≡ true → placed forced candidates vars q ≡ true → q ≡ place
-  is_it list vars out q there q_in =
-      elim (cases_Bool (eqb q place)) [
-        | inl same ↦ eqb-true q place same
-        | inr differs ↦ absurd (out q there refl (not_from_false (eqb q place) differs) q_in)
-      ]
-
-  -- each that is in is it
-  out_if : (list : List ℕ) (vars : NumberSet) → ((q : ℕ) → members_of list q ≡ true → placed forced candidates vars q ≡ true → q ≡ place) → Out list vars
-  out_if list vars each q there has other q_in = both_ways (eqb q place) (not-true (eqb q place) other) (eq-eqb q place (each q there q_in))
-
-  module _ (owns : members_of owners place ≡ true) where
-    owner_out : (vars : NumberSet) → AreApart owners places (placed forced candidates vars) → Out places vars
-    owner_out vars apart = out_if places vars (λ r r_there r_in. sym (apart place r owns r_there (placed_in vars) r_in))
-
-    pub owner_in_alone : (group : ℕ) (before after : Clauses) → (members_of places place ≡ false) ⊎ (owners ≡ places) → Adds group (Out places) before after → AddsPlaces group forced candidates (AreApart owners places) before after
-    owner_in_alone group before after either adds =
-        adds_as group (Out places) (λ vars. AreApart owners places (placed forced candidates vars)) before after
-        (λ vars. (
-          λ out q r q_there r_there q_in r_in.
-              let is_r : r ≡ place = is_it places vars out r r_there r_in in
-              elim either [
-                | inl lacks ↦ absurd (both_ways (members_of places place) lacks (ap (members_of places) (sym is_r) ∙ r_there))
-                | inr same ↦ is_it places vars out q (ap (λ list. members_of list q) (sym same) ∙ q_there) q_in ∙ sym is_r
-              ],
-          owner_out vars,
-        ))
-        adds
-
-    pub owner_in_both : (group : ℕ) (before between after : Clauses) → members_of places place ≡ true → Adds group (Out places) before between → Adds group (Out owners) between after
-        → AddsPlaces group forced candidates (AreApart owners places) before after
-    owner_in_both group before between after has first second =
-        adds_as group (λ vars. Out places vars × Out owners vars) (λ vars. AreApart owners places (placed forced candidates vars)) before after
-        (λ vars. (
-          λ both q r q_there r_there q_in r_in. is_it owners vars both.1 q q_there q_in ∙ sym (is_it places vars both.0 r r_there r_in),
-          λ apart. (owner_out vars apart, out_if owners vars (λ q q_there q_in. apart q place q_there has q_in (placed_in vars))),
-        ))
-        (adds_both group (Out places) (Out owners) before between after first second)
-
-  pub place_in_alone : (group : ℕ) (before after : Clauses) → members_of places place ≡ true → AreNotIn forced owners → Adds group (Out owners) before after → AddsPlaces group forced candidates (AreApart owners places) before after
-  place_in_alone group before after has no_owner_in adds =
-      adds_as group (Out owners) (λ vars. AreApart owners places (placed forced candidates vars)) before after
-      (λ vars. (
-        λ out q r q_there r_there q_in r_in. absurd (both_ways (members_of forced place) (ap (members_of forced) (sym (is_it owners vars out q q_there q_in)) ∙ no_owner_in q q_there) is_in),
-        λ apart. out_if owners vars (λ q q_there q_in. apart q place q_there has q_in (placed_in vars)),
-      ))
-      adds
+  pub place_alone : members_of places place ≡ true → ((q : ℕ) → members_of owners q ≡ true → q ≡ place → ⊥) → (KeepsOut place owners set ↔ AreApart owners places set)
+  place_alone there no_owner = (
+    λ out q r q_there r_there q_in r_in. absurd (no_owner q q_there (out q q_there is_in q_in)),
+    λ apart q q_there has q_in. apart q place q_there there q_in is_in,
+  )
 
 -- ---- the variables of places, one place after the other
 

@@ -1,6 +1,4 @@
 pub mod AddLemmas
-pub mod AddSteps
-pub mod Clearing
 pub mod Each
 pub mod EncoderLemmas
 pub mod Excluding
@@ -8,7 +6,6 @@ pub mod Filtered
 pub mod Grouped
 pub mod OneVersion
 pub mod PlayLemmas
-pub mod Skipped
 pub mod Told
 pub mod WideEntries
 pub mod Widening

@@ -1,23 +1,17 @@
 -- Entries that very many packages may meet: gathered, and told run by run.
-use Rattle.std.proofs.Common.{◌≡◌, ◌⊎◌, ℕ, ◌+◌, ◌<◌, ◌≤◌, true, false, ◌&&◌, eqb, List, [], ◌∷◌, ◌++◌, take, All, Contains, length, get_or, ◌↔◌, sym, subst, ◌∙◌, ap, inl, inr, arith}
-use Rattle.std.proofs.lemmas.Bool.{cases_lt, false≢true, or_cases, and_parts, and_from, both_ways, eqb-true, eq-eqb}
+use Rattle.std.proofs.Common.{◌≡◌, ℕ, ◌+◌, ◌<◌, ◌≤◌, Bool, true, false, ◌&&◌, eqb, List, [], ◌∷◌, ◌++◌, take, All, Contains, length, get_or, ◌↔◌, sym, subst, ◌∙◌, ap, inl, inr, arith}
+use Rattle.std.proofs.lemmas.Bool.{cases_Bool, cases_lt, false≢true, and_parts, and_from, both_ways, eqb-true, eq-eqb}
 use Rattle.std.proofs.lemmas.List.{get_or_default}
 use Rattle.std.proofs.lemmas.List.Elements.{All-push, All-contains, Contains-append_left, Contains-push}
-use Rattle.deb_relation.specs.Relationship.{AtomText}
-use Rattle.deb_index.specs.declared.constraint.Constraint.TheVariants.{Apart}
 use Rattle.deb_index.specs.Packages.{IndexView, aparts_at, apart_at}
 use Rattle.deb_index.specs.Meets.{meets_at}
-use Rattle.deb_index.specs.Constraints.{Holds}
 use Rattle.number_sets.specs.Sets.{NumberSet, members_of}
-use Rattle.sat_solve.specs.Clauses.{Clauses}
 use Rattle.deb_encode.specs.declared.rivals.Entry.{Entry}
-use Rattle.deb_encode.specs.Play.{places_in_play, placed, AddsPlaces}
-use Rattle.deb_encode.specs.Exclusions.{IsWide, AddsWide, entry_at, IsRun}
+use Rattle.deb_encode.specs.Play.{placed}
+use Rattle.deb_encode.specs.Exclusions.{IsWide, EntryHolds, AddsWide, entry_at, IsRun}
 use Rattle.deb_index.specs.Apart.{IsAlone, AreApart}
-use Rattle.deb_encode.specs.Standings.{is_narrow, MeetsWide}
-use Rattle.deb_encode.proofs.AddLemmas.{adds_both, adds_as, taken_either, in_push, front_in, last_in}
-use Rattle.number_sets.proofs.ListMembers.{take_whole}
-use Rattle.deb_encode.proofs.Each.{AddsBelow}
+use Rattle.deb_encode.specs.Standings.{is_narrow, MeetsEntries, MeetsNarrow}
+use Rattle.deb_encode.proofs.AddLemmas.{taken_either, in_push, front_in, last_in}
 use Rattle.deb_encode.proofs.Told.{in_play_placed}
 
 abbrev entry_of : ℕ → ℕ → Entry
@@ -29,6 +23,9 @@ pub record ListsWide (index : IndexView) (place limit : ℕ) (before after : Lis
   pub wide : All (IsWide index) before → All (IsWide index) after
   pub kept : (entry : Entry) → Contains before entry → Contains after entry
   pub all : (j : ℕ) → j < limit → is_narrow index place j ≡ false → Contains after (record { place = place; number = j })
+
+pub lists_none : (index : IndexView) (place : ℕ) (entries : List Entry) → ListsWide index place 0 entries entries
+lists_none index place entries = record { wide = λ all. all; kept = λ entry there. there; all = λ j never. absurd (omega (arith, never)) }
 
 pub lists_more : (index : IndexView) (place number : ℕ) (before between after : List Entry) → place < length index.packages → number < length (aparts_at index place) → is_narrow index place number ≡ false
     → after ≡ between ++ record { place = place; number = number } ∷ [] → ListsWide index place number before between → ListsWide index place (number + 1) before after
@@ -78,8 +75,8 @@ lists_whole index place number before after past lists = record {
 pub wide_none : (index : IndexView) (entries : List Entry) → AddsWide index (members_of []) entries entries
 wide_none index entries = record { wide = λ all. all; kept = λ entry there. there; all = λ q is_in. absurd (false≢true is_in) }
 
-module _ (index : IndexView) (places : List ℕ) (i : ℕ) (inside : i < length places) (before between : List Entry) (so_far : AddsWide index (members_of (take i places)) before between) where
-  pub wide_more : (after : List Entry) → AddsWide index (λ q. eqb q (get_or places i 0)) between after → AddsWide index (members_of (take (i + 1) places)) before after
+module _ (index : IndexView) (places : List ℕ) (i x : ℕ) (inside : i < length places) (here : x ≡ get_or places i 0) (before between : List Entry) (so_far : AddsWide index (members_of (take i places)) before between) where
+  pub wide_more : (after : List Entry) → AddsWide index (λ q. eqb q x) between after → AddsWide index (members_of (take (i + 1) places)) before after
   wide_more after one = record {
     wide = λ all. one.wide (so_far.wide all);
     kept = λ entry there. one.kept entry (so_far.kept entry there);
@@ -89,36 +86,24 @@ module _ (index : IndexView) (places : List ℕ) (i : ℕ) (inside : i < length 
             | inl alone ↦ inl alone
             | inr each ↦ inr (λ j less is_wide. one.kept (entry_of q j) (each j less is_wide))
           ]
-          | inr last ↦ one.all q (eq-eqb q (get_or places i 0) (sym last))
+          | inr last ↦ one.all q (eq-eqb q x (sym (here ∙ last)))
         ];
   }
 
-  pub wide_passed : IsAlone index (get_or places i 0) → AddsWide index (members_of (take (i + 1) places)) before between
+  pub wide_passed : IsAlone index x → AddsWide index (members_of (take (i + 1) places)) before between
   wide_passed alone = record {
     wide = so_far.wide;
     kept = so_far.kept;
     all = λ q is_in.
         elim (taken_either places i inside q is_in) [
           | inl old ↦ so_far.all q old
-          | inr last ↦ (let Alone : ℕ → Type 0 = λ p. IsAlone index p in inl (subst Alone last alone))
+          | inr last ↦ (let Alone : ℕ → Type 0 = λ p. IsAlone index p in inl (subst Alone (here ∙ last) alone))
         ];
   }
-
-pub wide_whole : (index : IndexView) (places : List ℕ) (i : ℕ) (before after : List Entry) → length places ≤ i → AddsWide index (members_of (take i places)) before after → AddsWide index (members_of places) before after
-wide_whole index places i before after past adds =
-    let For : List ℕ → Type 0 = λ list. AddsWide index (members_of list) before after in
-    subst For (take_whole places i past) adds
 
 -- ---- a run of entries of one atom
 
 module _ (index : IndexView) (entries : List Entry) (start : ℕ) where
-  pub run_none : IsRun index entries start start []
-  run_none = record {
-    one_atom = λ k from below. absurd (omega (arith, from, below));
-    owned = λ k from below. absurd (omega (arith, from, below));
-    only = λ q never. absurd (false≢true never);
-  }
-
   pub run_more : (end : ℕ) (before after : List ℕ) → start ≤ end → apart_at index (entry_at entries end).place (entry_at entries end).number ≡ apart_at index (entry_at entries start).place (entry_at entries start).number
       → after ≡ before ++ (entry_at entries end).place ∷ [] → IsRun index entries start end before → IsRun index entries start (end + 1) after
   run_more end before after past same after_is run =
@@ -147,85 +132,64 @@ module _ (index : IndexView) (entries : List Entry) (start : ℕ) where
 
 -- ---- runs, one after the other
 
-module _ (index : IndexView) (forced candidates : List ℕ) (entries : List Entry) where
-  abbrev pub meaning_of_entry : ℕ → NumberSet → Type 0
-  meaning_of_entry k vars = Holds index (placed forced candidates vars) (Apart (entry_at entries k).place (entry_at entries k).number)
+module _ (index : IndexView) (forced candidates : List ℕ) (vars : NumberSet) (entries : List Entry) where
+  -- the entry with a number
+  abbrev pub HoldsAt : ℕ → Type 0
+  HoldsAt k = EntryHolds index (placed forced candidates vars) (entry_at entries k)
 
-  module _ (start end : ℕ) (owners met : List ℕ) (atom : AtomText) (run : IsRun index entries start end owners) (atom_is : atom ≡ apart_at index (entry_at entries start).place (entry_at entries start).number)
-      (are_met : (q : ℕ) → members_of met q ≡ (places_in_play (members_of forced) candidates q && meets_at index q atom)) where
-    run_says : (vars : NumberSet) → (AreApart owners met (placed forced candidates vars) ↔ ((k : ℕ) → start ≤ k → k < end → meaning_of_entry k vars))
-    run_says vars = (
-      λ apart k from below p_in r r_in hit.
-          let r_met : meets_at index r atom ≡ true = ap (meets_at index r) (atom_is ∙ sym (run.one_atom k from below)) ∙ hit in
-          sym (apart (entry_at entries k).place r (run.owned k from below) (are_met r ∙ and_from (places_in_play (members_of forced) candidates r) (meets_at index r atom) (in_play_placed forced candidates vars r r_in) r_met) p_in r_in),
-      λ each q r q_there r_there q_in r_in.
-          let k = run.only q q_there in
-          let parts = and_parts (places_in_play (members_of forced) candidates r) (meets_at index r atom) (sym (are_met r) ∙ r_there) in
-          let hit : meets_at index r (apart_at index (entry_at entries k.0).place (entry_at entries k.0).number) ≡ true = ap (meets_at index r) (run.one_atom k.0 k.1 k.2 ∙ sym atom_is) ∙ parts.1 in
-          sym (each k.0 k.1 k.2 (ap (placed forced candidates vars) k.3 ∙ q_in) r r_in hit ∙ k.3),
+  module _ (start end : ℕ) (owners met : List ℕ) (run : IsRun index entries start end owners)
+      (are_met : (q : ℕ) → members_of met q ≡ (members_of (forced ++ candidates) q && meets_at index q (apart_at index (entry_at entries start).place (entry_at entries start).number))) where
+    abbrev meets_first : ℕ → Bool
+    meets_first q = meets_at index q (apart_at index (entry_at entries start).place (entry_at entries start).number)
+
+    pub run_says : start ≤ end → ((((k : ℕ) → k < start → HoldsAt k) × AreApart owners met (placed forced candidates vars)) ↔ ((k : ℕ) → k < end → HoldsAt k))
+    run_says forward = (
+      λ both k below.
+          elim (cases_lt k start) [
+            | inl old ↦ both.0 k old
+            | inr from ↦ λ p_in r r_in hit.
+                sym (both.1 (entry_at entries k).place r (run.owned k from below)
+                (are_met r ∙ and_from (members_of (forced ++ candidates) r) (meets_first r) (in_play_placed forced candidates vars r r_in) (ap (meets_at index r) (sym (run.one_atom k from below)) ∙ hit)) p_in r_in)
+          ],
+      λ all. (
+        λ k less. all k (omega (arith, less, forward)),
+        λ q r q_there r_there q_in r_in.
+            let k = run.only q q_there in
+            let parts = and_parts (members_of (forced ++ candidates) r) (meets_first r) (sym (are_met r) ∙ r_there) in
+            sym (all k.0 k.2 (ap (placed forced candidates vars) k.3 ∙ q_in) r r_in (ap (meets_at index r) (run.one_atom k.0 k.1 k.2) ∙ parts.1) ∙ k.3),
+      ),
     )
 
-    pub run_told : (group : ℕ) → start < end → (before between after : Clauses) → AddsBelow group meaning_of_entry start before between → AddsPlaces group forced candidates (AreApart owners met) between after → AddsBelow group meaning_of_entry end before after
-    run_told group forward before between after so_far run_adds =
-        let Old : NumberSet → Type 0 = λ vars. (k : ℕ) → k < start → meaning_of_entry k vars in
-        let New : NumberSet → Type 0 = λ vars. (k : ℕ) → k < end → meaning_of_entry k vars in
-        let Last : NumberSet → Type 0 = λ vars. AreApart owners met (placed forced candidates vars) in
-        adds_as group (λ vars. Old vars × Last vars) New before after
-        (λ vars. (
-          λ both k below.
-              elim (cases_lt k start) [
-                | inl old ↦ both.0 k old
-                | inr from ↦ (run_says vars).0 both.1 k from below
-              ],
-          λ all. (λ k less. all k (omega (arith, less, forward)), (run_says vars).1 (λ k from below. all k below)),
-        ))
-        (adds_both group Old Last before between after so_far run_adds)
-
   -- all entries of the list were told
-  pub all_runs : (group : ℕ) (start : ℕ) (before after : Clauses) → start ≡ length entries → AddsBelow group meaning_of_entry start before after
-      → AddsPlaces group forced candidates (λ set. All (λ entry. Holds index set (Apart entry.place entry.number)) entries) before after
-  all_runs group start before after past adds =
-      adds_as group (λ vars. (k : ℕ) → k < start → meaning_of_entry k vars) (λ vars. All (λ entry. Holds index (placed forced candidates vars) (Apart entry.place entry.number)) entries) before after
-      (λ vars. (
-        λ all k d inside.
-            (let HoldsOf : Entry → Type 0 = λ entry. Holds index (placed forced candidates vars) (Apart entry.place entry.number) in
-            subst HoldsOf (get_or_default entries k (entry_of 0 0) d inside) (all k (omega (arith, inside, past)))),
-        λ each k less. each k (entry_of 0 0) (omega (arith, less, past)),
-      ))
-      adds
+  pub all_runs : (start : ℕ) → start ≡ length entries → (((k : ℕ) → k < start → HoldsAt k) ↔ All (EntryHolds index (placed forced candidates vars)) entries)
+  all_runs start past = (
+    λ all k d inside.
+        (let HoldsOf : Entry → Type 0 = λ entry. EntryHolds index (placed forced candidates vars) entry in
+        subst HoldsOf (get_or_default entries k (entry_of 0 0) d inside) (all k (omega (arith, inside, past)))),
+    λ each k less. each k (entry_of 0 0) (omega (arith, less, past)),
+  )
 
--- ---- all wide entries of the places in play
+-- ---- all entries of the places in play
 
-module _ (index : IndexView) (forced candidates forced_row candidates_row : List ℕ) (start first entries : List Entry) (forced_are : forced_row ≡ forced) (candidates_are : candidates_row ≡ candidates) (empty : start ≡ [])
-    (one : AddsWide index (members_of forced_row) start first) (two : AddsWide index (members_of candidates_row) first entries) where
-  pub all_wide : All (IsWide index) entries
-  all_wide = two.wide (one.wide (λ k d inside. absurd (omega (arith, inside, ap length empty))))
+pub all_wide : (index : IndexView) (places : NumberSet) (start entries : List Entry) → start ≡ [] → AddsWide index places start entries → All (IsWide index) entries
+all_wide index places start entries empty lists = lists.wide (λ k d inside. absurd (omega (arith, inside, ap length empty)))
 
-  has_entry : (q : ℕ) → places_in_play (members_of forced) candidates q ≡ true → IsAlone index q ⊎ ((j : ℕ) → j < length (aparts_at index q) → is_narrow index q j ≡ false → Contains entries (entry_of q j))
-  has_entry q in_play =
-      elim (or_cases (members_of forced q) (members_of candidates q) in_play) [
-        | inl is_in ↦ elim (one.all q (ap (λ list. members_of list q) forced_are ∙ is_in)) [
-          | inl alone ↦ inl alone
-          | inr each ↦ inr (λ j less is_wide. two.kept (entry_of q j) (each j less is_wide))
+pub entries_say : (index : IndexView) (forced candidates : List ℕ) (vars : NumberSet) (start entries : List Entry) → start ≡ [] → AddsWide index (members_of (forced ++ candidates)) start entries
+    → ((((q : ℕ) → members_of (forced ++ candidates) q ≡ true → MeetsNarrow index (placed forced candidates vars) q) × All (EntryHolds index (placed forced candidates vars)) entries)
+    ↔ ((q : ℕ) → members_of (forced ++ candidates) q ≡ true → MeetsEntries index (placed forced candidates vars) q))
+entries_say index forced candidates vars start entries empty lists = (
+  λ both q in_play j less.
+      elim (cases_Bool (is_narrow index q j)) [
+        | inl narrow ↦ both.0 q in_play j less narrow
+        | inr is_wide ↦ elim (lists.all q in_play) [
+          | inl alone ↦ λ has r r_in hit. alone.hits_none j less r hit
+          | inr each ↦ All-contains (EntryHolds index (placed forced candidates vars)) entries (entry_of q j) both.1 (each j less is_wide)
         ]
-        | inr member ↦ two.all q (ap (λ list. members_of list q) candidates_are ∙ member)
-      ]
-
-  pub wide_added : (group : ℕ) (given : List Entry) (before after : Clauses) → given ≡ entries → AddsPlaces group forced candidates (λ set. All (λ entry. Holds index set (Apart entry.place entry.number)) given) before after
-      → AddsPlaces group forced candidates (λ set. (q : ℕ) → places_in_play (members_of forced) candidates q ≡ true → MeetsWide index set q) before after
-  wide_added group given before after given_is adds =
-      let Told : List Entry → Type 0 = λ list. AddsPlaces group forced candidates (λ set. All (λ entry. Holds index set (Apart entry.place entry.number)) list) before after in
-      let Each : NumberSet → Type 0 = λ vars. All (λ entry. Holds index (placed forced candidates vars) (Apart entry.place entry.number)) entries in
-      let Wide : NumberSet → Type 0 = λ vars. (q : ℕ) → places_in_play (members_of forced) candidates q ≡ true → MeetsWide index (placed forced candidates vars) q in
-      adds_as group Each Wide before after
-      (λ vars. (
-        λ all q in_play j less is_wide.
-            elim (has_entry q in_play) [
-              | inl alone ↦ λ has r r_in hit. alone.hits_none j less r hit
-              | inr each ↦ All-contains (λ entry. Holds index (placed forced candidates vars) (Apart entry.place entry.number)) entries (entry_of q j) all (each j less is_wide)
-            ],
-        λ wide k d inside p_in.
-            let entry = all_wide k d inside in
-            wide (get_or entries k d).place (in_play_placed forced candidates vars (get_or entries k d).place p_in) (get_or entries k d).number entry.numbered entry.wide p_in,
-      ))
-      (subst Told given_is adds)
+      ],
+  λ all. (
+    λ q in_play j less narrow. all q in_play j less,
+    λ k d inside p_in.
+        let entry = all_wide index (members_of (forced ++ candidates)) start entries empty lists k d inside in
+        all (get_or entries k d).place (in_play_placed forced candidates vars (get_or entries k d).place p_in) (get_or entries k d).number entry.numbered p_in,
+  ),
+)

@@ -1,15 +1,17 @@
 -- Clauses in the making, and what is added with them.
-use Rattle.std.proofs.Common.{◌≡◌, ℕ, zero, suc, ◌+◌, ◌<◌, ◌≤◌, Bool, true, false, ◌||◌, List, [], ◌∷◌, length, get_or, take, All, refl, sym, subst, ◌∙◌, ap, inl, inr, arith}
+use Rattle.std.proofs.Common.{◌≡◌, ℕ, zero, suc, ◌+◌, ◌<◌, ◌≤◌, Bool, true, false, ◌||◌, List, [], ◌∷◌, length, get_or, take, All, not, ◌↔◌, refl, sym, subst, ◌∙◌, ap, inl, inr, arith}
 use Rattle.std.specs.List.{list_any}
 use Rattle.std.proofs.lemmas.Bool.{false≢true, or_cases, or_left, or_right}
 use Rattle.std.proofs.lemmas.List.Folds.{list_any_more}
 use Rattle.sat_solve.specs.declared.clause.Lit.{Lit}
 use Rattle.number_sets.specs.Sets.{NumberSet}
-use Rattle.sat_solve.specs.Clauses.{Clauses, clause_holds}
-use Rattle.deb_encode.specs.Adding.{Adds}
+use Rattle.sat_solve.specs.Clauses.{clause_holds}
+use Rattle.deb_encode.specs.declared.encoder.Encoder.{Encoder}
+use Rattle.deb_encode.specs.declared.play.Play.{Play}
+use Rattle.deb_encode.specs.Encoders.{IsSame, AddsVars}
 use Rattle.deb_encode.specs.Standings.{Widens}
+use Rattle.deb_encode.proofs.EncoderLemmas.{tells_here, tells_as, tells_from}
 use Rattle.number_sets.proofs.ListMembers.{take_whole}
-use Rattle.deb_encode.proofs.AddLemmas.{adds_as}
 
 or_assoc : (a b c : Bool) → ((a || b) || c) ≡ (a || (b || c))
 or_assoc true b c = refl
@@ -80,38 +82,47 @@ module _ (count : ℕ) where
 
 -- ---- what is added with them
 
--- a clause that was made from none, added unless it holds anyway, says that the test passes
-pub widened_adds : (group count : ℕ) (test : NumberSet → Bool) (empty clause given : List Lit) (anyway : Bool) (before after : Clauses) → empty ≡ [] → given ≡ clause → Widens test count empty clause anyway
-    → Adds group (λ vars. (anyway || clause_holds vars given) ≡ true) before after → Adds group (λ vars. test vars ≡ true) before after
-widened_adds group count test empty clause given anyway before after is_empty same widens adds =
-    let from_none : (vars : NumberSet) → (anyway || clause_holds vars given) ≡ test vars =
-    λ vars. ap (λ literals. anyway || clause_holds vars literals) same ∙ (widens.says vars ∙ ap (λ literals. clause_holds vars literals || test vars) is_empty) in
-    adds_as group (λ vars. (anyway || clause_holds vars given) ≡ true) (λ vars. test vars ≡ true) before after
-    (λ vars. (λ holds. sym (from_none vars) ∙ holds, λ holds. from_none vars ∙ holds)) adds
+module _ (count : ℕ) (test : NumberSet → Bool) (empty clause : List Lit) (anyway : Bool) (is_empty : empty ≡ []) (widens : Widens test count empty clause anyway) where
+  -- a clause that was made from none says that the test passes
+  pub widened_says : (vars : NumberSet) → (anyway || clause_holds vars clause) ≡ test vars
+  widened_says vars = widens.says vars ∙ ap (λ literals. clause_holds vars literals || test vars) is_empty
 
--- what holds anyway passes in each set
-pub settled_passes : (count : ℕ) (test : NumberSet → Bool) (empty clause : List Lit) (anyway : Bool) → anyway ≡ true → empty ≡ [] → Widens test count empty clause anyway → (vars : NumberSet) → test vars ≡ true
-settled_passes count test empty clause anyway is_true is_empty widens vars =
-    sym (widens.says vars ∙ ap (λ literals. clause_holds vars literals || test vars) is_empty) ∙ ap (λ b. b || clause_holds vars clause) is_true
+  -- what holds anyway passes in each set
+  pub settled_passes : anyway ≡ true → (vars : NumberSet) → test vars ≡ true
+  settled_passes is_true vars = sym (widened_says vars) ∙ ap (λ b. b || clause_holds vars clause) is_true
 
--- the literals of a clause made from none are of variables
-pub widened_below : (count limit : ℕ) (test : NumberSet → Bool) (empty clause given : List Lit) (anyway : Bool) → limit ≡ count → empty ≡ [] → given ≡ clause → Widens test count empty clause anyway
-    → All (λ (literal : Lit). literal.var < limit) given
-widened_below count limit test empty clause given anyway size is_empty same widens =
-    let Below : List Lit → Type 0 = λ literals. All (λ (literal : Lit). literal.var < count) literals in
-    let all : Below given = subst Below (sym same) (widens.in_range (subst Below (sym is_empty) (λ k d inside. absurd (omega arith)))) in
-    λ k d inside. omega (arith, all k d inside, size)
+  -- its literals are of variables
+  pub widened_below : All (λ (literal : Lit). literal.var < count) clause
+  widened_below =
+      let Below : List Lit → Type 0 = λ literals. All (λ (literal : Lit). literal.var < count) literals in
+      widens.in_range (subst Below (sym is_empty) (λ k d inside. absurd (omega (arith, inside))))
 
-module _ (count : ℕ) (A B : NumberSet → Bool) (empty between clause given : List Lit) (first anyway : Bool) (is_open : first ≡ false) (is_empty : empty ≡ []) (same : given ≡ clause)
-    (one : Widens A count empty between first) (other : Widens B count between clause anyway) where
-  abbrev Either : NumberSet → Bool
-  Either vars = A vars || B vars
+-- after a step that leaves the clause open
+pub widens_next : (count : ℕ) (A B : NumberSet → Bool) (empty between clause : List Lit) (first anyway : Bool) → first ≡ false → Widens A count empty between first → Widens B count between clause anyway
+    → Widens (λ vars. A vars || B vars) count empty clause anyway
+widens_next count A B empty between clause first anyway is_open one other =
+    let With : Bool → Type 0 = λ b. Widens A count empty between b in
+    widens_both count A B empty between clause anyway (subst With is_open one) other
 
-  widens_pair : Widens Either count empty clause anyway
-  widens_pair = (let With : Bool → Type 0 = λ b. Widens A count empty between b in widens_both count A B empty between clause anyway (subst With is_open one) other)
+module _ (A : Play → NumberSet → Type 0) (count : ℕ) (test : NumberSet → Bool) (empty clause : List Lit) (anyway : Bool) (start now : Encoder) (same : IsSame start now) (is : now.formula.now ≡ start.formula.now)
+    (is_empty : empty ≡ []) (widens : Widens test count empty clause anyway) where
+  -- so nothing is added where it holds anyway
+  pub clause_settled : anyway ≡ true → ((vars : NumberSet) → test vars ≡ true → A start.play vars) → AddsVars A start now
+  clause_settled is_true says = tells_here A start now same is (λ vars. says vars (settled_passes count test empty clause anyway is_empty widens is_true vars))
 
-  pub pair_below : (limit : ℕ) → limit ≡ count → All (λ (literal : Lit). literal.var < limit) given
-  pair_below limit size = widened_below count limit Either empty clause given anyway size is_empty same widens_pair
+  -- and else what the test says
+  pub clause_told : (next : Encoder) → ((vars : NumberSet) → ((test vars ≡ true) ↔ A start.play vars)) → AddsVars (λ play vars. (anyway || clause_holds vars clause) ≡ true) now next → AddsVars A start next
+  clause_told next says told =
+      tells_as (λ play vars. (anyway || clause_holds vars clause) ≡ true) A start next
+      (λ vars.
+      let same_test = widened_says count test empty clause anyway is_empty widens vars in (
+        λ holds. (says vars).0 (sym same_test ∙ holds),
+        λ means. same_test ∙ (says vars).1 means,
+      ))
+      (tells_from (λ play vars. (anyway || clause_holds vars clause) ≡ true) start now next same is told)
 
-  pub pair_adds : (group : ℕ) (before after : Clauses) → Adds group (λ vars. (anyway || clause_holds vars given) ≡ true) before after → Adds group (λ vars. (A vars || B vars) ≡ true) before after
-  pair_adds group before after adds = widened_adds group count Either empty clause given anyway before after is_empty same widens_pair adds
+-- of two places not both are in
+pub not_both_says : (a b : Bool) → ((not a || not b) ≡ true) ↔ (a ≡ true → b ≡ true → ⊥)
+not_both_says true true = (λ holds has also. false≢true holds, λ apart. absurd (apart refl refl))
+not_both_says true false = (λ holds has also. false≢true also, λ apart. refl)
+not_both_says false b = (λ holds has also. false≢true has, λ apart. refl)

@@ -1,5 +1,5 @@
 -- What is gathered of places that may not stand together: names of which one package at most is in, and the variables of places.
-use Rattle.std.specs.Prelude.{◌≡◌, ◌⊎◌, ℕ, ◌<◌, ◌≤◌, true, false, ◌||◌, List, All, Contains, length, slice_index, slice_index_or}
+use Rattle.std.specs.Prelude.{◌≡◌, ◌⊎◌, ℕ, ◌<◌, ◌≤◌, true, false, List, All, Contains, length, slice_index, slice_index_or}
 use Rattle.std.specs.Str.{bytes_eq}
 use Rattle.deb_index.specs.declared.constraint.Constraint.TheVariants.{Apart}
 use Rattle.deb_index.specs.Packages.{IndexView, package_at, names, name_at, aparts_at, apart_at}
@@ -12,10 +12,6 @@ use Rattle.deb_encode.specs.Standings.{is_narrow}
 -- a list has just the numbers of a set
 abbrev pub Lists : NumberSet → List ℕ → Type 0
 Lists set list = (q : ℕ) → members_of list q ≡ set q
-
--- the numbers of a set came to a list
-abbrev pub AddsNumbers : NumberSet → List ℕ → List ℕ → Type 0
-AddsNumbers set before after = Lists (λ q. members_of before q || set q) after
 
 -- none of these places is forced
 abbrev pub AreNotIn : List ℕ → List ℕ → Type 0
@@ -33,10 +29,6 @@ pub record AreNamesOf (index : IndexView) (places : NumberSet) (numbers : List �
   pub among : (number : ℕ) → members_of numbers number ≡ true → (q : ℕ) × (places q ≡ true) × (name_at index number ≡ (package_at index q).name)
   pub all : (q : ℕ) → places q ≡ true → IsAlone index q
       ⊎ ((number : ℕ) × (members_of numbers number ≡ true) × (name_at index number ≡ (package_at index q).name))
-
--- the names of these places came to the numbers, but those whose only package stands alone
-abbrev pub AddsNames : IndexView → List ℕ → List ℕ → List ℕ → Type 0
-AddsNames index places before after = (some : NumberSet) → AreNamesOf index some before → AreNamesOf index (λ q. some q || members_of places q) after
 
 -- the package at a place has the name with a number
 abbrev pub is_of_name : IndexView → ℕ → NumberSet

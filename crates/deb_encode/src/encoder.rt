@@ -2,8 +2,38 @@
 
 ghost use Rattle.std.specs.Prelude.{◌≡◌, ◌<◌, length};
 
+use crate::exclusion::Exclusion;
 use crate::play::Play;
+use crate::rivals::Entry;
+use number_sets::SparseSet;
 use sat_solve::{Formula, Lit};
+use std::alloc::Global;
+
+/// The buffers in which names, entries and places are gathered.
+#[derive(Drop)]
+pub struct Gathered {
+    pub(crate) names: SparseSet,
+    pub(crate) entries: Vec<Entry>,
+    pub(crate) owners: Vec<u32>,
+    pub(crate) places: Vec<u32>,
+    pub(crate) exclusion: Exclusion,
+}
+
+impl Gathered {
+    /// Buffers with no room yet.
+    pub fn new(alloc: Global) -> Gathered {
+        Gathered {
+            names: SparseSet::new(alloc),
+            entries: Vec::new(alloc),
+            owners: Vec::new(alloc),
+            places: Vec::new(alloc),
+            exclusion: Exclusion {
+                list: Vec::new(alloc),
+                owners: Vec::new(alloc),
+            },
+        }
+    }
+}
 
 /// The places in play, a formula with a variable for each candidate, and the group of it that clauses are added to.
 ///

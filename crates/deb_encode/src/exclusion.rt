@@ -6,29 +6,16 @@ ghost use Rattle.deb_encode.specs.Encoders.{Tells};
 ghost use Rattle.deb_encode.specs.Exclusions.{AreNotIn, AreNumbersOf};
 ghost use Rattle.deb_index.specs.Apart.{AreApart};
 
-use crate::conflicts::Keeper;
 use crate::encoder::Encoder;
-use crate::play::{Play, Standing};
+use crate::play::Play;
 use sat_solve::Owner;
-use std::alloc::{AllocError, Global};
+use std::alloc::AllocError;
 
-/// The buffers of a list of variables that exclude each other.
+/// The buffers of a list of variables that exclude each other, and of those of them that are owners.
 #[derive(Drop)]
 pub(crate) struct Exclusion {
-    vars: Vec<u32>,
-    list: Vec<u32>,
-    owners: Vec<Owner>,
-}
-
-impl Exclusion {
-    /// Buffers with no room yet.
-    pub(crate) fn new(alloc: Global) -> Exclusion {
-        Exclusion {
-            vars: Vec::new(alloc),
-            list: Vec::new(alloc),
-            owners: Vec::new(alloc),
-        }
-    }
+    pub(crate) list: Vec<u32>,
+    pub(crate) owners: Vec<Owner>,
 }
 
 /// Lists the variables of those places that have one.
@@ -37,8 +24,8 @@ fn list_variables(play: &Play<'_>, places: &[u32], list: &mut Vec<u32>) -> Resul
 {
     list.clear();
     for place in places {
-        if let Some(var) = play.variable(*place) {
-            list.push(var)?;
+        if let Some(number) = play.candidates.position_of(*place) {
+            list.push(number as u32)?;
         }
     }
     Ok(())
@@ -79,13 +66,12 @@ impl Encoder<'_> {
     ) -> Result<(), AllocError>
         requires no_owner_in { AreNotIn self.old.play.forced.now owners.now }
         requires none_in { AreNotIn self.old.play.forced.now places.now }
-        ensures same_formula { self.new.formula.ghost_name ≡ self.old.formula.ghost_name }
-        ensures adds { OnOk result (Tells (λ play. AreApart owners.now places.now) self.old self.new) }
+        ensures { OnOk result (Tells (λ play. AreApart owners.now places.now) self.old self.new) }
     {
         let play = self.play;
-        list_variables(&play, owners, &mut exclusion.vars)?;
+        list_variables(&play, owners, &mut exclusion.list)?;
+        own_all(self.group, &exclusion.list, &mut exclusion.owners)?;
         list_variables(&play, places, &mut exclusion.list)?;
-        own_all(self.group, &exclusion.vars, &mut exclusion.owners)?;
         self.formula.exclude(&exclusion.owners, &exclusion.list)
     }
 
@@ -96,21 +82,18 @@ impl Encoder<'_> {
         places: &[u32],
         exclusion: &mut Exclusion,
     ) -> Result<(), AllocError>
-        ensures same_formula { self.new.formula.ghost_name ≡ self.old.formula.ghost_name }
-        ensures adds { OnOk result (Tells (λ play. AreApart owners.now places.now) self.old self.new) }
+        ensures { OnOk result (Tells (λ play. AreApart owners.now places.now) self.old self.new) }
     {
         let play = self.play;
-        let standing = Standing::In;
         if let Some(place) = first_in(&play, owners) {
-            let keeper = Keeper { place, standing };
-            self.add_apart_from(keeper, places)?;
-            if !places.contains(&place) || owners == places {
+            self.add_apart_from(place, places)?;
+            if !places.contains(&place) {
                 return Ok(());
             }
-            return self.add_apart_from(keeper, owners);
+            return self.add_apart_from(place, owners);
         }
         if let Some(place) = first_in(&play, places) {
-            return self.add_apart_from(Keeper { place, standing }, owners);
+            return self.add_apart_from(place, owners);
         }
         self.exclude_others(owners, places, exclusion)
     }

@@ -5,43 +5,45 @@ ghost use Rattle.deb_index.specs.Constraints.{Holds, IsOfIndex};
 ghost use Rattle.deb_encode.specs.Encoders.{Tells};
 ghost use Rattle.deb_encode.specs.Play.{TellsPlaces};
 
-use crate::encoder::Encoder;
+use crate::encoder::{Encoder, Gathered};
 use crate::play::Play;
-use crate::versions::{Named, Versions};
 use deb_index::Constraint;
 use sat_solve::{Formula, Lit};
 use std::alloc::AllocError;
 
 impl Encoder<'_> {
-    /// Adds what a constraint says.
+    /// Adds what a constraint says. `gathered` are buffers.
     fn add_constraint(
         &mut self,
         constraint: Constraint,
-        named: &mut Named,
+        gathered: &mut Gathered,
     ) -> Result<(), AllocError>
         requires { IsOfIndex self.old.play.index.now constraint }
-        ensures same_formula { self.new.formula.ghost_name ≡ self.old.formula.ghost_name }
-        ensures adds { OnOk result (Tells (λ play set. Holds play.index.now set constraint) self.old self.new) }
+        ensures { OnOk result (Tells (λ play set. Holds play.index.now set constraint) self.old self.new) }
     {
         match constraint {
             Constraint::Essential(name) => self.add_essential(name),
             Constraint::Need(place, number) => self.add_need(place, number),
-            Constraint::Apart(place, number) => self.add_apart(place, number),
-            Constraint::Only(name) => self.add_only(name, named),
+            Constraint::Apart(place, number) => self.add_apart(place, number, &mut gathered.places),
+            Constraint::Only(name) => self.add_only(
+                name,
+                &mut gathered.places,
+                &mut gathered.exclusion,
+            ),
         }
     }
 }
 
 /// Adds the clauses of each constraint in the group with its number: they hold in just the sets of variables whose places meet it.
 ///
-/// The constraints are of the index of the places in play, and there are as many as the formula has groups. `clause`, `found` and `versions`
+/// The constraints are of the index of the places in play, and there are as many as the formula has groups. `clause`, `found` and `gathered`
 /// are buffers. The error is want of memory.
 pub fn encode_each(
     play: &Play<'_>,
     constraints: &[Constraint],
     clause: &mut Vec<Lit>,
     found: &mut Vec<u32>,
-    versions: &mut Versions,
+    gathered: &mut Gathered,
     formula: &mut Formula,
 ) -> Result<(), AllocError>
     requires empty { formula.old ≡ record { vars = length play.now.candidates.now; groups = length constraints.now; clauses = [] } }
@@ -52,7 +54,7 @@ pub fn encode_each(
 {
     for group in 0..formula.groups() {
         let mut encoder = Encoder::new(*play, formula, group, clause, found);
-        encoder.add_constraint(constraints[group as usize], &mut versions.named)?;
+        encoder.add_constraint(constraints[group as usize], gathered)?;
     }
     Ok(())
 }

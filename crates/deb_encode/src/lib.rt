@@ -2,18 +2,17 @@
 //!
 //! The modules in reading order:
 //!
-//! - `play` has the places in play, and how each place stands in the sets that are looked for.
+//! - `play` has the places in play, and makes a clause hold where a place is in, or out.
 //! - `encoder` holds them and the formula that it adds to. Its calls stand by topic: each adds clauses that hold in just the sets that meet
 //!   one thing.
 //! - `needs` adds what an essential name or a need says, `conflicts` what an entry of Conflicts or Breaks says.
 //! - `exclusion` tells that of some places one at most is in; by it `versions` adds that a name stands once.
-//! - `entries` and `rivals` add what all entries of the places in play say: those that hit few packages, and the others.
+//! - `rivals` adds what all entries of the places in play say: those that hit few packages each by itself, the others by lists.
 //! - `groups` adds each constraint of a list in a group of its own.
 #![tactic(auto)]
 
 mod conflicts;
 mod encoder;
-mod entries;
 mod exclusion;
 mod groups;
 mod needs;
@@ -21,8 +20,6 @@ mod play;
 mod rivals;
 mod versions;
 
-pub use encoder::Encoder;
+pub use encoder::{Encoder, Gathered};
 pub use groups::encode_each;
 pub use play::Play;
-pub use rivals::Rivals;
-pub use versions::Versions;

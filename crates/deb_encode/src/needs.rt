@@ -1,10 +1,10 @@
 //! An essential name, or a need, as a clause over the places in play.
 
-ghost use Rattle.std.specs.Prelude.{◌≡◌, ℕ, ◌<◌, ◌||◌, true, All, IfOk, OnOk, length};
+ghost use Rattle.std.specs.Prelude.{◌≡◌, ◌<◌, ◌||◌, true, All, IfOk, OnOk, length};
 ghost use Rattle.deb_index.specs.Packages.{names, needs_at};
 ghost use Rattle.deb_index.specs.Constraints.{Holds};
 ghost use Rattle.sat_solve.specs.Clauses.{clause_holds};
-ghost use Rattle.deb_encode.specs.Encoders.{AddsVars, Tells, WidensBySome, answers_of};
+ghost use Rattle.deb_encode.specs.Encoders.{AddsVars, Tells, WidensBySome};
 ghost use Rattle.deb_encode.specs.Standings.{MeetsEssentials};
 
 use crate::encoder::Encoder;
@@ -18,35 +18,18 @@ fn or_some(play: &Play<'_>, places: &[u32], clause: &mut Vec<Lit>) -> Result<boo
     ensures { IfOk result (λ anyway. WidensBySome play.now places.now clause.old.items clause.new.items anyway) }
 {
     for place in places {
-        if play.standing(*place).or_in(clause)? {
+        if play.or_place(*place, true, clause)? {
             return Ok(true);
         }
     }
     Ok(false)
 }
 
-/// Makes a clause hold where a place that answers a group is in, too. `true`: it holds anyway, whatever its literals say. `found` is a buffer.
-fn or_answers(
-    play: &Play<'_>,
-    place: u32,
-    number: u32,
-    found: &mut Vec<u32>,
-    clause: &mut Vec<Lit>,
-) -> Result<bool, AllocError>
-    requires place { place < length play.now.index.now.packages }
-    requires number { number < length (needs_at play.now.index.now place) }
-    ensures { IfOk result (λ anyway. WidensBySome play.now (answers_of play.now place number) clause.old.items clause.new.items anyway) }
-{
-    let row = play.index.answers(place, number, found)?;
-    or_some(play, row, clause)
-}
-
 impl Encoder<'_> {
     /// Adds the clause that was made, unless what it says holds anyway.
     pub(crate) fn add_unless(&mut self, anyway: bool) -> Result<(), AllocError>
         requires { All (λ literal. literal.var < length self.old.play.candidates.now) self.old.clause.now.items }
-        ensures same_formula { self.new.formula.ghost_name ≡ self.old.formula.ghost_name }
-        ensures adds { OnOk result (AddsVars (λ play vars. (anyway || clause_holds vars self.old.clause.now.items) ≡ true) self.old self.new) }
+        ensures { OnOk result (AddsVars (λ play vars. (anyway || clause_holds vars self.old.clause.now.items) ≡ true) self.old self.new) }
     {
         if anyway {
             return Ok(());
@@ -57,23 +40,19 @@ impl Encoder<'_> {
     /// Adds that some package of an essential name is in. The error is want of memory.
     pub fn add_essential(&mut self, name: u32) -> Result<(), AllocError>
         requires { name < length (names self.old.play.index.now) }
-        ensures same_formula { self.new.formula.ghost_name ≡ self.old.formula.ghost_name }
-        ensures adds { OnOk result (Tells (λ play set. Holds play.index.now set (Constraint.Essential name)) self.old self.new) }
+        ensures { OnOk result (Tells (λ play set. Holds play.index.now set (Constraint.Essential name)) self.old self.new) }
     {
-        let play = self.play;
         self.clause.clear();
-        let row = play.index.places_named(name);
-        let anyway = or_some(&play, row, self.clause)?;
+        let row = self.play.index.places_named(name);
+        let anyway = or_some(&self.play, row, self.clause)?;
         self.add_unless(anyway)
     }
 
     /// Adds that of each essential name some package is in. The error is want of memory.
     pub fn add_essentials(&mut self) -> Result<(), AllocError>
-        ensures same_formula { self.new.formula.ghost_name ≡ self.old.formula.ghost_name }
-        ensures adds { OnOk result (Tells (λ play set. MeetsEssentials play.index.now set) self.old self.new) }
+        ensures { OnOk result (Tells (λ play set. MeetsEssentials play.index.now set) self.old self.new) }
     {
-        let play = self.play;
-        for name in play.index.essential_names() {
+        for name in self.play.index.essential_names() {
             self.add_essential(*name)?;
         }
         Ok(())
@@ -85,15 +64,15 @@ impl Encoder<'_> {
     pub fn add_need(&mut self, place: u32, number: u32) -> Result<(), AllocError>
         requires place { place < length self.old.play.index.now.packages }
         requires number { number < length (needs_at self.old.play.index.now place) }
-        ensures same_formula { self.new.formula.ghost_name ≡ self.old.formula.ghost_name }
-        ensures adds { OnOk result (Tells (λ play set. Holds play.index.now set (Constraint.Need place number)) self.old self.new) }
+        ensures { OnOk result (Tells (λ play set. Holds play.index.now set (Constraint.Need place number)) self.old self.new) }
     {
         let play = self.play;
         self.clause.clear();
-        if play.standing(place).or_out(self.clause)? {
+        if play.or_place(place, false, self.clause)? {
             return Ok(());
         }
-        let anyway = or_answers(&play, place, number, self.found, self.clause)?;
+        let row = play.index.answers(place, number, self.found)?;
+        let anyway = or_some(&play, row, self.clause)?;
         self.add_unless(anyway)
     }
 }

@@ -1,63 +1,14 @@
-//! The places in play, and how each place stands in the sets that are looked for.
+//! The places in play, and clauses that hold where one of them is in, or out.
 
-ghost use Rattle.std.specs.Prelude.{◌≡◌, ℕ, ◌<◌, ◌^◌, ◌||◌, not, true, false, Some, All, IfOk, IfSome, IfNone, length, slice_get};
+ghost use Rattle.std.specs.Prelude.{◌≡◌, ◌<◌, ◌^◌, true, All, IfOk, length, slice_index};
 ghost use Rattle.std.specs.List.Sorted.{IsStrictlyIncreasing};
-ghost use Rattle.number_sets.specs.Sets.{NumberSet, members_of, MarksOnly};
+ghost use Rattle.number_sets.specs.Sets.{MarksOnly};
 ghost use Rattle.deb_index.specs.Apart.{IsAlone};
-ghost use Rattle.deb_encode.specs.Play.{placed};
-ghost use Rattle.deb_encode.specs.Standings.{is_in, is_out, IsBelow, Widens};
 
 use deb_index::Index;
 use number_sets::SparseSet;
 use sat_solve::Lit;
 use std::alloc::AllocError;
-
-/// How a place stands in the sets that are looked for.
-#[derive(Clone, Copy)]
-pub(crate) enum Standing {
-    /// It is in all of them.
-    In,
-    /// It is in those that have the variable.
-    Variable(u32),
-    /// It is in none.
-    Out,
-}
-
-impl Standing {
-    /// Makes a clause hold where the place is in, too. `true`: it holds anyway, whatever its literals say.
-    pub(crate) fn or_in(self, clause: &mut Vec<Lit>) -> Result<bool, AllocError>
-        ensures { IfOk result (λ anyway. (count : ℕ) → IsBelow count self → Widens (is_in self) count clause.old.items clause.new.items anyway) }
-    {
-        match self {
-            Standing::In => Ok(true),
-            Standing::Variable(var) => {
-                clause.push(Lit {
-                    var,
-                    positive: true,
-                })?;
-                Ok(false)
-            }
-            Standing::Out => Ok(false),
-        }
-    }
-
-    /// Makes a clause hold where the place is out, too. `true`: it holds anyway, whatever its literals say.
-    pub(crate) fn or_out(self, clause: &mut Vec<Lit>) -> Result<bool, AllocError>
-        ensures { IfOk result (λ anyway. (count : ℕ) → IsBelow count self → Widens (is_out self) count clause.old.items clause.new.items anyway) }
-    {
-        match self {
-            Standing::In => Ok(false),
-            Standing::Variable(var) => {
-                clause.push(Lit {
-                    var,
-                    positive: false,
-                })?;
-                Ok(false)
-            }
-            Standing::Out => Ok(true),
-        }
-    }
-}
 
 /// The places in play: an index, the places that are forced, so in every set that is looked for, and the candidates, each of which has a
 /// variable: its number in their list. No other place is in any of these sets.
@@ -76,6 +27,8 @@ pub struct Play<'a> {
 }
 
 impl<'a> Play<'a> {
+    ghost use Rattle.deb_encode.specs.Encoders.{WidensByPlace, all_places};
+
     /// The places in play. Both sets have places of the index, and the candidates rise.
     ///
     /// `alone` marks, by place, packages whose conflicts need not be told: no entry of them hits another one, and no other one has their
@@ -104,27 +57,46 @@ impl<'a> Play<'a> {
         }
     }
 
-    /// How a place stands.
-    pub(crate) fn standing(&self, place: u32) -> Standing
-        ensures below { IsBelow (length self.now.candidates.now) result }
-        ensures says { (vars : NumberSet) → placed self.now.forced.now self.now.candidates.now vars place ≡ is_in result vars }
+    /// Makes a clause hold where a place is in, too, or where it is out. `true`: it holds anyway, whatever its literals say.
+    pub(crate) fn or_place(
+        &self,
+        place: u32,
+        positive: bool,
+        clause: &mut Vec<Lit>,
+    ) -> Result<bool, AllocError>
+        ensures { IfOk result (λ anyway. WidensByPlace self.now place positive clause.old.items clause.new.items anyway) }
     {
         if self.forced.contains(place) {
-            return Standing::In;
+            return Ok(positive);
         }
-        match self.candidates.position_of(place) {
-            Some(number) => Standing::Variable(number as u32),
-            None => Standing::Out,
-        }
+        let Some(number) = self.candidates.position_of(place) else {
+            return Ok(!positive);
+        };
+        clause.push(Lit {
+            var: number as u32,
+            positive,
+        })?;
+        Ok(false)
     }
 
-    /// The variable of a place, if it has one.
-    pub(crate) fn variable(&self, place: u32) -> Option<u32>
-        ensures some { IfSome result (λ var. slice_get self.now.candidates.now var ≡ Some place) }
-        ensures none { IfNone result (members_of self.now.candidates.now place ≡ false) }
+    /// How many places there are.
+    pub(crate) fn count(&self) -> usize
+        ensures { result ≡ length (all_places self.now) }
     {
-        let number = self.candidates.position_of(place)?;
-        Some(number as u32)
+        self.forced.as_slice().len() + self.candidates.as_slice().len()
+    }
+
+    /// The place with a number: the forced ones come first.
+    pub(crate) fn place(&self, number: usize) -> u32
+        requires { number < length (all_places self.now) }
+        ensures at { result ≡ slice_index (all_places self.now) number }
+        ensures within { result < length self.now.index.now.packages }
+    {
+        let forced = self.forced.as_slice();
+        if number < forced.len() {
+            return forced[number];
+        }
+        self.candidates.as_slice()[number - forced.len()]
     }
 
     /// Whether a place is known to keep out no other one, and to be the only one of its name.
@@ -135,10 +107,5 @@ impl<'a> Play<'a> {
             Some(alone) => *alone,
             None => false,
         }
-    }
-
-    /// Whether a row of places is no longer than the list of the places in play.
-    pub(crate) fn is_short(&self, row: &[u32]) -> bool {
-        row.len() <= self.forced.as_slice().len() + self.candidates.as_slice().len()
     }
 }

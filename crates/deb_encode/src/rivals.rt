@@ -1,21 +1,22 @@
-//! Entries that hit many packages: each atom is told once, with all the places that keep out what meets it.
+//! What the entries of all places in play say: those that hit few packages each by itself. Of the others each atom is told once, with all the
+//! places that keep out what meets it.
 
-ghost use Rattle.std.specs.Prelude.{◌≡◌, ℕ, ◌<◌, ◌≤◌, ◌&&◌, ◌==◌, true, None, All, IfOk, OnOk, length};
+ghost use Rattle.std.specs.Prelude.{◌≡◌, ℕ, ◌<◌, ◌≤◌, ◌==◌, not, true, None, All, IfOk, OnOk, length};
 ghost use Rattle.deb_relation.specs.AtomView.{atom_view};
-ghost use Rattle.deb_index.specs.Packages.{apart_at};
-ghost use Rattle.deb_index.specs.Meets.{meets_at};
-ghost use Rattle.number_sets.specs.Sets.{members_of};
+ghost use Rattle.deb_index.specs.Packages.{apart_at, aparts_at};
 ghost use Rattle.deb_encode.specs.Encoders.{Tells, in_play};
-ghost use Rattle.deb_encode.specs.Exclusions.{Lists, AddsNumbers, IsWide, EntryHolds, AddsWide, IsRun};
-ghost use Rattle.deb_encode.specs.Standings.{MeetsWide};
+ghost use Rattle.deb_encode.specs.Exclusions.{IsWide, EntryHolds, AddsWide, IsRun};
+ghost use Rattle.deb_encode.specs.Standings.{is_narrow, MeetsEntries, MeetsNarrow};
 
-use crate::encoder::Encoder;
-use crate::entries::is_wide;
+use crate::conflicts::list_meeting;
+use crate::encoder::{Encoder, Gathered};
 use crate::exclusion::Exclusion;
-use crate::play::Play;
 use deb_index::Index;
 use deb_relation::Atom;
-use std::alloc::{AllocError, Global};
+use std::alloc::AllocError;
+
+// How many packages an entry hits at most that gets a clause for each of them. Where it hits more, a list serves all who hit the same.
+const NARROW_LIMIT: usize = 64;
 
 /// An entry: the place whose it is, and its number there.
 #[derive(Clone, Copy)]
@@ -24,59 +25,16 @@ pub(crate) struct Entry {
     number: u32,
 }
 
-/// The buffers in which the entries of one atom are told.
-#[derive(Drop)]
-pub(crate) struct OneAtom {
-    owners: Vec<u32>,
-    met: Vec<u32>,
-    exclusion: Exclusion,
-}
-
-/// The buffers in which entries are gathered and told.
-#[derive(Drop)]
-pub struct Rivals {
-    entries: Vec<Entry>,
-    one: OneAtom,
-}
-
-impl Rivals {
-    /// Buffers with no room yet.
-    pub fn new(alloc: Global) -> Rivals {
-        Rivals {
-            entries: Vec::new(alloc),
-            one: OneAtom {
-                owners: Vec::new(alloc),
-                met: Vec::new(alloc),
-                exclusion: Exclusion::new(alloc),
-            },
-        }
-    }
-}
-
-/// Adds the entries of a place that hit many packages.
-fn push_wide(index: &Index, place: u32, entries: &mut Vec<Entry>) -> Result<(), AllocError>
-    requires { place < length index.now.packages }
-    ensures { OnOk result (AddsWide index.now (λ q. q == place) entries.old.items entries.new.items) }
+/// Whether an entry hits many packages, or very many may meet it.
+fn is_wide(index: &Index, place: u32, number: u32) -> bool
+    requires place { place < length index.now.packages }
+    requires number { number < length (aparts_at index.now place) }
+    ensures { result ≡ not (is_narrow index.now place number) }
 {
-    for number in 0..index.apart_count(place) {
-        if is_wide(index, place, number) {
-            entries.push(Entry { place, number })?;
-        }
+    match index.hit_row(place, number) {
+        Some(row) => row.len() > NARROW_LIMIT,
+        None => true,
     }
-    Ok(())
-}
-
-/// Adds the entries of these places that hit many packages.
-fn gather_wide(play: &Play<'_>, places: &[u32], entries: &mut Vec<Entry>) -> Result<(), AllocError>
-    requires { All (λ q. q < length play.now.index.now.packages) places.now }
-    ensures { OnOk result (AddsWide play.now.index.now (members_of places.now) entries.old.items entries.new.items) }
-{
-    for place in places {
-        if !play.is_alone(*place) {
-            push_wide(play.index, *place, entries)?;
-        }
-    }
-    Ok(())
 }
 
 /// Whether an atom has a name alone.
@@ -124,66 +82,69 @@ fn take_run(
     Ok(end)
 }
 
-/// Adds those of these places that meet an atom.
-fn push_meeting(
-    index: &Index,
-    atom: &Atom,
-    places: &[u32],
-    found: &mut Vec<u32>,
-) -> Result<(), AllocError>
-    requires places { All (λ q. q < length index.now.packages) places.now }
-    ensures { OnOk result (AddsNumbers (λ q. members_of places.now q && meets_at index.now q (atom_view atom.now)) found.old.items found.new.items) }
-{
-    for place in places {
-        if index.meets(*place, atom) {
-            found.push(*place)?;
-        }
-    }
-    Ok(())
-}
-
-/// Lists the places in play that meet an atom.
-fn list_meeting(play: &Play<'_>, atom: &Atom, found: &mut Vec<u32>) -> Result<(), AllocError>
-    ensures { OnOk result (Lists (λ q. in_play play.now q && meets_at play.now.index.now q (atom_view atom.now)) found.new.items) }
-{
-    found.clear();
-    push_meeting(play.index, atom, play.forced.as_slice(), found)?;
-    push_meeting(play.index, atom, play.candidates.as_slice(), found)
-}
-
 impl Encoder<'_> {
-    /// Adds what these entries say, run by run.
-    fn add_runs(&mut self, entries: &[Entry], one: &mut OneAtom) -> Result<(), AllocError>
+    /// Adds what the package at a place keeps out by entries that hit few packages, and lists the others. `found` is a buffer.
+    fn add_entries(
+        &mut self,
+        place: u32,
+        entries: &mut Vec<Entry>,
+        found: &mut Vec<u32>,
+    ) -> Result<(), AllocError>
+        requires place { place < length self.old.play.index.now.packages }
+        ensures adds { OnOk result (Tells (λ play set. MeetsNarrow play.index.now set place) self.old self.new) }
+        ensures wide { OnOk result (AddsWide self.old.play.index.now (λ q. q == place) entries.old.items entries.new.items) }
+    {
+        let index = self.play.index;
+        for number in 0..index.apart_count(place) {
+            if is_wide(index, place, number) {
+                entries.push(Entry { place, number })?;
+            } else {
+                self.add_apart(place, number, found)?;
+            }
+        }
+        Ok(())
+    }
+
+    /// Adds what these entries say, run by run. `owners`, `places` and `exclusion` are buffers.
+    fn add_runs(
+        &mut self,
+        entries: &[Entry],
+        owners: &mut Vec<u32>,
+        places: &mut Vec<u32>,
+        exclusion: &mut Exclusion,
+    ) -> Result<(), AllocError>
         requires { All (IsWide self.old.play.index.now) entries.now }
-        ensures same_formula { self.new.formula.ghost_name ≡ self.old.formula.ghost_name }
-        ensures adds { OnOk result (Tells (λ play set. All (EntryHolds play.index.now set) entries.now) self.old self.new) }
+        ensures { OnOk result (Tells (λ play set. All (EntryHolds play.index.now set) entries.now) self.old self.new) }
     {
         let play = self.play;
         let mut start = 0;
         while start < entries.len() {
-            let end = take_run(play.index, entries, start, &mut one.owners)?;
-            let atom = play
-                .index
-                .apart(entries[start].place, entries[start].number);
-            list_meeting(&play, atom, &mut one.met)?;
-            self.add_all_apart(&one.owners, &one.met, &mut one.exclusion)?;
+            let Entry { place, number } = entries[start];
+            let end = take_run(play.index, entries, start, owners)?;
+            list_meeting(&play, play.index.apart(place, number), places)?;
+            self.add_all_apart(owners, places, exclusion)?;
             start = end;
         }
         Ok(())
     }
 
-    /// Adds what the places in play keep out by entries of Conflicts and Breaks that hit many packages. The error is want of
-    /// memory.
-    ///
-    /// `rivals` are buffers.
-    pub fn add_wide(&mut self, rivals: &mut Rivals) -> Result<(), AllocError>
-        ensures same_formula { self.new.formula.ghost_name ≡ self.old.formula.ghost_name }
-        ensures adds { OnOk result (Tells (λ play set. (q : ℕ) → in_play play q ≡ true → MeetsWide play.index.now set q) self.old self.new) }
+    /// Adds what the places in play keep out by entries of Conflicts and Breaks. `gathered` are buffers. The error is want of memory.
+    pub fn add_conflicts(&mut self, gathered: &mut Gathered) -> Result<(), AllocError>
+        ensures { OnOk result (Tells (λ play set. (q : ℕ) → in_play play q ≡ true → MeetsEntries play.index.now set q) self.old self.new) }
     {
         let play = self.play;
-        rivals.entries.clear();
-        gather_wide(&play, play.forced.as_slice(), &mut rivals.entries)?;
-        gather_wide(&play, play.candidates.as_slice(), &mut rivals.entries)?;
-        self.add_runs(&rivals.entries, &mut rivals.one)
+        gathered.entries.clear();
+        for number in 0..play.count() {
+            let place = play.place(number);
+            if !play.is_alone(place) {
+                self.add_entries(place, &mut gathered.entries, &mut gathered.places)?;
+            }
+        }
+        self.add_runs(
+            &gathered.entries,
+            &mut gathered.owners,
+            &mut gathered.places,
+            &mut gathered.exclusion,
+        )
     }
 }

@@ -1,7 +1,7 @@
 -- Cores that are found one after the other, each with its cause taken out.
-use Rattle.std.proofs.Common.{◌≡◌, ℕ, zero, suc, ◌+◌, ◌<◌, ◌≤◌, Bool, true, false, ◌&&◌, ◌||◌, eqb, leb, List, [], ◌∷◌, ◌++◌, Global, Option, None, Vec, IfNone, IfSome, length, map, get_or, take, All, Some, slice_get, if◌then◌else◌, refl, sym, subst, ◌∙◌, ap, append_assoc, append-nil, inl, inr, arith}
+use Rattle.std.proofs.Common.{◌≡◌, ℕ, zero, suc, ◌+◌, ◌<◌, ◌≤◌, Bool, true, false, ◌&&◌, ◌||◌, eqb, List, [], ◌∷◌, ◌++◌, Global, Option, None, Vec, IfNone, IfSome, length, map, get_or, take, All, Some, slice_get, if◌then◌else◌, refl, sym, subst, ◌∙◌, ap, append_assoc, append-nil, inl, inr, arith}
 use mathlib.Core.Path.{fun_ext}
-use Rattle.std.proofs.lemmas.Bool.{cases_Bool, cases_lt, and_parts, eqb-true, le-leb, or_left, or_right}
+use Rattle.std.proofs.lemmas.Bool.{cases_Bool, cases_lt, and_parts, eqb-true, or_left, or_right}
 use Rattle.std.proofs.lemmas.List.{map-append, take_more}
 use Rattle.deb_index.specs.declared.constraint.Constraint.{Constraint}
 use Rattle.deb_index.specs.Packages.{IndexView}
@@ -13,7 +13,7 @@ use Rattle.number_sets.proofs.MembersLemmas.{members_of_push}
 use Rattle.deb_health.specs.Causes.{AreCores, AreCoresWithout, cause_at, either, is_final_at, IsFirstWithout, nothing, without}
 use Rattle.deb_health.specs.Health.{Admits, AdmitsNone, admits_none_upward, IsHopeless}
 use Rattle.deb_health.proofs.CauseLemmas.{core_has_final}
-use Rattle.deb_health.proofs.CoreLemmas.{core_left, without_more, without_nothing}
+use Rattle.deb_health.proofs.CoreLemmas.{core_left, without_nothing}
 use Rattle.deb_verdict.proofs.AdmitsSome.{admits_some}
 use Rattle.deb_verdict.proofs.Whole.{all_admit_none}
 

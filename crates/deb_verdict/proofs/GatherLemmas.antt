@@ -1,8 +1,8 @@
 -- Candidates and needs that come, so that what is asked for is told.
-use Rattle.std.proofs.Common.{◌≡◌, ◌⊎◌, ℕ, ◌+◌, ◌<◌, ◌≤◌, true, ◌||◌, List, [], ◌∷◌, ◌++◌, length, get_or, All, Contains, refl, sym, subst, ◌∙◌, ap, inl, inr, arith}
+use Rattle.std.proofs.Common.{◌≡◌, ◌⊎◌, ℕ, ◌+◌, ◌<◌, ◌≤◌, Bool, true, ◌||◌, eqb, List, [], ◌∷◌, ◌++◌, length, get_or, All, Contains, refl, sym, subst, ◌∙◌, ap, inl, inr, arith}
 use Rattle.std.specs.List.{list_any}
 use Rattle.std.specs.List.Sorted.{IsStrictlyIncreasing}
-use Rattle.std.proofs.lemmas.Bool.{cases_lt, false≢true, or_cases, or_left, or_right}
+use Rattle.std.proofs.lemmas.Bool.{cases_lt, false≢true, or_cases, or_left, or_right, eqb-true}
 use Rattle.std.proofs.lemmas.List.{get_or_past, get_or_default}
 use Rattle.std.proofs.lemmas.List.Elements.{All-nil, All-push, Contains-append_left, Contains-push}
 use Rattle.deb_relation.specs.Relationship.{AtomText}
@@ -10,14 +10,15 @@ use Rattle.deb_index.specs.declared.constraint.Constraint.TheVariants.{Need}
 use Rattle.deb_index.specs.Packages.{IndexView, name_at, places_of, essential_names, needs_at, need_at}
 use Rattle.deb_index.specs.Meets.{meets_need_at, group_satisfiers}
 use Rattle.deb_index.specs.Constraints.{has_name, answers, IsOfIndex}
-use Rattle.number_sets.specs.Sets.{NumberSet, members_of, IsWithin}
+use Rattle.number_sets.specs.Sets.{NumberSet, members_of, IsWithin, MarksOnly}
 use Rattle.number_sets.specs.SparseSets.{AreNumbers, Grows}
-use Rattle.number_sets.proofs.ListMembers.{members_of_at, any_member, below_members}
+use Rattle.number_sets.proofs.ListMembers.{members_of_at, at_members_of, any_member, member_any, below_members}
 use Rattle.number_sets.proofs.Placing.{grows_none, grows_both, grows_keeps}
 use Rattle.deb_encode.specs.Play.{places_in_play}
 use Rattle.deb_index.proofs.IndexFacts.{member_named}
 use Rattle.deb_verdict.specs.declared.gather.UnmetNeed.{UnmetNeed}
 use Rattle.deb_verdict.specs.declared.gather.Candidates.{Candidates}
+use Rattle.deb_verdict.specs.Closure.{IsClosed}
 use Rattle.deb_verdict.specs.Gathering.{HasNames, IsTold, Gathers, IsGathered}
 use Rattle.deb_groundwork.specs.Groundwork.{HasAnswers}
 use Rattle.deb_verdict.proofs.Cutting.{IsEnough}
@@ -174,13 +175,12 @@ module _ (index : IndexView) (forced : NumberSet) where
       gathers_as (λ q j. (place ≡ q) × (j < number)) (λ q j. place ≡ q) before after
       (λ q j less same. (same, omega (arith, less, past, ap (λ p. length (needs_at index p)) same)))
 
-  pub gathers_met_place : (known : NumberSet) (place : ℕ) (here : Candidates) → IsWithin known forced → HasAnswers index known place → Gathers index forced (λ q j. place ≡ q) here here
-  gathers_met_place known place here within met =
+  pub gathers_met_place : (place : ℕ) (here : Candidates) → HasAnswers index forced place → Gathers index forced (λ q j. place ≡ q) here here
+  gathers_met_place place here met =
       gathers_none (λ q j. place ≡ q) here here refl refl
       (λ q j less same.
-      (let Of : ℕ → Type 0 = λ p. HasAnswers index known p in
-      let found = answered_by_row index known q j (group_satisfiers index (need_at index q j)) refl (subst Of same met j less) in
-      (found.0, within found.0 found.1, found.2)))
+      (let Of : ℕ → Type 0 = λ p. HasAnswers index forced p in
+      answered_by_row index forced q j (group_satisfiers index (need_at index q j)) refl (subst Of same met j less)))
 
   -- ---- the places of a list
 
@@ -252,3 +252,38 @@ enough index forced candidates gathered =
             | inr past ↦ inr (λ q answered. absurd (no_answer index member j q past answered))
           ];
     }
+
+-- the next place of a list is in it
+pub next_is_in : (places list : List ℕ) (i q : ℕ) → i < length places → list ≡ places → eqb (get_or list i 0) q ≡ true → members_of places q ≡ true
+next_is_in places list i q inside same is = ap (members_of places) (sym (eqb-true (get_or list i 0) q is) ∙ ap (λ xs. get_or xs i 0) same) ∙ at_members_of places i inside
+
+-- each of a list that is that of the essential names is one
+pub essential_right : (index : IndexView) (list : List ℕ) → list ≡ essential_names index → (k : ℕ) → k < length list → Contains (essential_names index) (get_or list k 0)
+essential_right index list same k inside =
+    let below : k < length (essential_names index) = omega (arith, inside, ap length same) in
+    (k, below, get_or_default (essential_names index) k (get_or list k 0) 0 below ∙ ap (λ xs. get_or xs k 0) (sym same))
+
+-- where no place is forced, they are closed
+pub closed_alone : (index : IndexView) (p : ℕ) (forced : List ℕ) (candidates : Candidates) → forced ≡ [] → IsGathered index (members_of forced) candidates → members_of candidates.places p ≡ true
+    → IsClosed index p (members_of candidates.places)
+closed_alone index p forced candidates none gathered start =
+    let never : (q : ℕ) → members_of forced q ≡ true → ⊥ = λ q is_in. false≢true (sym (ap (λ list. members_of list q) none) ∙ is_in) in
+    record {
+      start = start;
+      essential = λ number q right named. elim (gathered.names number right) [ inl one ↦ absurd (never one.0 one.1) | inr all ↦ all q named ];
+      answered = λ member j q is_in answered.
+          elim (cases_lt j (length (needs_at index member))) [
+            | inl less ↦ elim (gathered.told member j less (or_right (members_of forced member) (members_of candidates.places member) is_in)) [
+              | inl one ↦ absurd (never one.0 one.1)
+              | inr all ↦ all.0 q answered
+            ]
+            | inr past ↦ absurd (no_answer index member j q past answered)
+          ];
+    }
+
+-- what more places answer
+pub marks_more : (index : IndexView) (known forced : NumberSet) (marks : List Bool) → IsWithin known forced → MarksOnly (HasAnswers index known) marks → MarksOnly (HasAnswers index forced) marks
+marks_more index known forced marks within met number marked j less =
+    let row : List ℕ = group_satisfiers index (need_at index number j) in
+    let found = any_member known row (met number marked j less) in
+    member_any forced row found.0 (within found.0 found.1) found.2

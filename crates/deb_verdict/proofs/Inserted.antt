@@ -1,34 +1,11 @@
 -- Places that come to a list one by one.
-use Rattle.std.proofs.Common.{◌≡◌, ℕ, zero, suc, ◌+◌, ◌<◌, ◌≤◌, Bool, true, false, ◌||◌, eqb, List, All, [], ◌∷◌, ◌++◌, length, get_or, Option, Some, None, sym, ◌∙◌, ap, refl, inl, inr, ◌⊎◌, arith}
-use Rattle.std.specs.Prelude.{IfNone}
-use Rattle.std.specs.Option.{IsSome}
-use Rattle.std.specs.List.Sorted.{IsStrictlyIncreasing}
-use Rattle.std.proofs.lemmas.Bool.{cases_lt, false≢true, or_cases, or_left, or_right, eqb-true, eq-eqb}
+use Rattle.std.proofs.Common.{◌≡◌, ℕ, ◌+◌, ◌<◌, ◌≤◌, Bool, true, false, ◌||◌, eqb, List, All, [], ◌∷◌, ◌++◌, length, get_or, sym, ◌∙◌, ap, refl, inl, inr, ◌⊎◌, arith}
+use Rattle.std.proofs.lemmas.Bool.{cases_lt, or_cases, or_left, or_right, eqb-true, eq-eqb}
 use Rattle.std.proofs.lemmas.List.Folds.{list_any-append}
 use Rattle.number_sets.specs.Sets.{members_of, positions_of}
 use Rattle.deb_encode.specs.Play.{placed}
 use Rattle.number_sets.proofs.ListMembers.{members_of_at, at_members_of, same_test, below_members}
 use Rattle.number_sets.proofs.PositionsOf.{position_in, group_at}
-use Rattle.number_sets.proofs.SparseSetLemmas.{position_at_most}
-
-count_le : (numbers : List ℕ) (bound : ℕ) → IsStrictlyIncreasing numbers → All (λ number. number < bound) numbers → (count : ℕ) → count ≤ length numbers → count ≤ bound
-count_le numbers bound rising below zero short = omega arith
-count_le numbers bound rising below (suc k) short = omega (arith, position_at_most numbers k rising (omega arith), below k 0 (omega arith))
-
--- so a rising list of numbers below a bound is no longer than it
-pub rising_length : (numbers : List ℕ) (bound : ℕ) → IsStrictlyIncreasing numbers → All (λ number. number < bound) numbers → length numbers ≤ bound
-rising_length numbers bound rising below = count_le numbers bound rising below (length numbers) (omega arith)
-
--- a list with the same numbers has the same bound
-pub same_below : (numbers same : List ℕ) (bound : ℕ) → ((q : ℕ) → members_of same q ≡ members_of numbers q) → All (λ number. number < bound) numbers → All (λ number. number < bound) same
-same_below numbers same bound are below =
-    below_members same bound (λ q is_in. (let at = members_of_at numbers q (sym (are q) ∙ is_in) in omega (arith, below at.0 0 at.1, at.2)))
-
--- a number that is there has a position
-pub position_found : (numbers : List ℕ) (number : ℕ) (position : Option ℕ) → IfNone position (members_of numbers number ≡ false)
-    → members_of numbers number ≡ true → IsSome position
-position_found numbers number (Some k) none is_in = refl
-position_found numbers number None none is_in = absurd (false≢true (sym none ∙ is_in))
 
 module _ (places : List ℕ) (place q : ℕ) where
   or_nothing : (b : Bool) → (b || false) ≡ b

@@ -7,11 +7,8 @@ pub mod Encoded
 pub mod FirstSet
 pub mod GatherLemmas
 pub mod Inserted
-pub mod JoinLemmas
 pub mod Listing
 pub mod OneVerdict
-pub mod ReachLemmas
-pub mod Reaching
 pub mod Settled
 pub mod Whole
 pub mod KnownLemmas

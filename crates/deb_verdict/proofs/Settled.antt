@@ -7,7 +7,7 @@ use Rattle.deb_index.specs.declared.constraint.Constraint.{Constraint}
 use Rattle.deb_index.specs.Packages.{IndexView}
 use Rattle.deb_index.specs.Constraints.{constraints_of}
 use Rattle.number_sets.specs.Sets.{NumberSet, members_of, IsWithin}
-use Rattle.sat_solve.specs.Clauses.{Clause, Clauses, IsTrueSet}
+use Rattle.sat_solve.specs.Clauses.{Clauses, IsTrueSet}
 use Rattle.deb_encode.specs.Play.{placed, TellsPlaces}
 use Rattle.deb_verdict.specs.Closure.{cut, kept, IsClosed}
 use Rattle.deb_verdict.specs.Formulas.{IsChosen}
@@ -15,15 +15,6 @@ use Rattle.deb_health.specs.Health.{AdmitsNone}
 use Rattle.number_sets.proofs.ListMembers.{members_of_at, at_members_of}
 use Rattle.deb_verdict.proofs.Cutting.{fewer_meets, kept_admits}
 use Rattle.deb_verdict.proofs.Encoded.{none_true, true_meets}
-
--- the same of places in play that are the same
-pub tells_moved : (a b : IndexView) (forced forced_too candidates candidates_too : List ℕ) (constraints : List Constraint) (clauses : List Clause) → a ≡ b → forced ≡ forced_too → candidates ≡ candidates_too
-    → TellsPlaces a forced candidates constraints clauses → TellsPlaces b forced_too candidates_too constraints clauses
-tells_moved a b forced forced_too candidates candidates_too constraints clauses same_index same_forced same_candidates tells =
-    let Of : IndexView → Type 0 = λ index. TellsPlaces index forced candidates constraints clauses in
-    let Forced : List ℕ → Type 0 = λ list. TellsPlaces b list candidates constraints clauses in
-    let Candidates : List ℕ → Type 0 = λ list. TellsPlaces b forced_too list constraints clauses in
-    subst Candidates same_candidates (subst Forced same_forced (subst Of same_index tells))
 
 -- the positions whose groups are kept are of the part
 pub kept_has : (part : NumberSet) (positions : List ℕ) (group : ℕ) → group < length positions → slice_get (map part positions) group ≡ Some true → part (get_or positions group 0) ≡ true

@@ -1,5 +1,5 @@
 -- Places and needs that a healthy set's forced places leave open.
-use Rattle.std.specs.Prelude.{◌≡◌, ◌⊎◌, ℕ, ◌<◌, true, All, Contains, length}
+use Rattle.std.specs.Prelude.{◌≡◌, ◌⊎◌, ℕ, ◌<◌, true, List, All, Contains, length}
 use Rattle.std.specs.List.Sorted.{IsStrictlyIncreasing}
 use Rattle.deb_index.specs.declared.constraint.Constraint.TheVariants.{Need}
 use Rattle.deb_index.specs.Packages.{IndexView, essential_names, needs_at}
@@ -7,6 +7,7 @@ use Rattle.deb_index.specs.Constraints.{has_name, answers, IsOfIndex}
 use Rattle.number_sets.specs.Sets.{NumberSet, members_of, IsWithin}
 use Rattle.number_sets.specs.SparseSets.{Grows}
 use Rattle.deb_encode.specs.Play.{places_in_play}
+use Rattle.deb_verdict.specs.Closure.{IsClosed}
 use Rattle.deb_verdict.specs.declared.gather.UnmetNeed.{UnmetNeed}
 use Rattle.deb_verdict.specs.declared.gather.Candidates.{Candidates}
 
@@ -37,3 +38,7 @@ pub record IsGathered (index : IndexView) (forced : NumberSet) (candidates : Can
   pub names : HasNames index forced (members_of candidates.places)
   pub needs : All (λ need. IsOfIndex index (Need need.place need.number)) candidates.unmet.items
   pub told : (place j : ℕ) → j < length (needs_at index place) → places_in_play forced candidates.places place ≡ true → IsTold index forced candidates place j
+
+-- each closed set that has these places, and what was there, has what came too
+abbrev pub Reaches : IndexView → NumberSet → List ℕ → List ℕ → Type 0
+Reaches index visited before after = (p : ℕ) (other : NumberSet) → IsClosed index p other → IsWithin visited other → IsWithin (members_of before) other → IsWithin (members_of after) other

@@ -11,10 +11,10 @@ ghost use Rattle.deb_verdict.specs.Known.{AreKnown, AreNeeded};
 
 use crate::core_formula::CoreFormula;
 use crate::first_set::count_of;
+use crate::gather::Ground;
 use crate::kept_positions::{list_constraints, list_positions};
 use crate::known::Known;
 use crate::limits::SHARE;
-use crate::reach::reach;
 use crate::workspace::Workspace;
 use deb_encode::{Play, encode_each};
 use deb_groundwork::Part;
@@ -31,27 +31,31 @@ fn describe(
     workspace: &mut Workspace,
 ) -> Result<CoreFormula, AllocError>
     requires { p < length index.now.packages }
-    ensures tells { IfOk result (Tells index.now p) }
-    ensures still { OnOk result (workspace.new.used ≡ workspace.old.used) }
+    ensures { IfOk result (Tells index.now p) }
 {
     workspace.nothing.clear();
-    reach(alloc, index, p, &mut workspace.closure)?;
-    workspace.closure.sort();
+    let ground = Ground {
+        index,
+        forced: &workspace.nothing.members,
+        met: &[],
+    };
+    workspace.candidates.gather(&ground, p)?;
+    let closure = &workspace.candidates.places;
     let mut positions = Vec::new(alloc);
-    let members = workspace.closure.as_slice();
+    let members = closure.as_slice();
     list_positions(index, members, &mut positions)?;
     list_constraints(index, &positions, &mut workspace.constraints)?;
     let mut formula = Formula::new(alloc, count_of(index, members), positions.len() as u32)?;
-    let play = Play::new(index, &workspace.nothing.members, &workspace.closure, &[]);
+    let play = Play::new(index, &workspace.nothing.members, closure, &[]);
     encode_each(
         &play,
         &workspace.constraints,
         &mut workspace.clause,
         &mut workspace.found,
-        &mut workspace.versions,
+        &mut workspace.gathered,
         &mut formula,
     )?;
-    let must = workspace.closure.position_of(p).unwrap();
+    let must = closure.position_of(p).unwrap();
     Ok(CoreFormula {
         positions,
         formula,
@@ -95,7 +99,6 @@ fn refute_described(
     requires { Tells part.now.index.now p described.now }
     ensures refuted { IfOk result (λ refuted. refuted ≡ true → IsRefutedBy workspace.new.used.items part.now p) }
     ensures admitted { IfOk result (λ refuted. refuted ≡ false → AdmitsNone part.now.index.now p (positions_in part.now) → ⊥) }
-    ensures still { IfOk result (λ refuted. refuted ≡ false → workspace.new.used ≡ workspace.old.used) }
 {
     mark_kept(part, &described.positions, &mut workspace.keep)?;
     let found = described.formula.solve_marked(
@@ -190,7 +193,6 @@ fn take_formula(
     requires formula { ForSome formula.old (Tells index.now p) }
     ensures formula { ForSome formula.new (Tells index.now p) }
     ensures tells { IfOk result (Tells index.now p) }
-    ensures still { OnOk result (workspace.new.used ≡ workspace.old.used) }
 {
     match formula.take() {
         Some(described) => Ok(described),
@@ -199,7 +201,7 @@ fn take_formula(
 }
 
 /// Whether a part of the constraints admits no set with the package at a place. Where it admits none, the workspace's `used` then has the
-/// positions of constraints of the part that already do; where it admits one, `used` stays.
+/// positions of constraints of the part that already do.
 ///
 /// The package's formula is made where it isn't there yet.
 pub(crate) fn refute_by_formula(
@@ -214,7 +216,6 @@ pub(crate) fn refute_by_formula(
     ensures formula { ForSome formula.new (Tells part.now.index.now p) }
     ensures refuted { IfOk result (λ refuted. refuted ≡ true → IsRefutedBy workspace.new.used.items part.now p) }
     ensures admitted { IfOk result (λ refuted. refuted ≡ false → AdmitsNone part.now.index.now p (positions_in part.now) → ⊥) }
-    ensures still { IfOk result (λ refuted. refuted ≡ false → workspace.new.used ≡ workspace.old.used) }
 {
     let described = take_formula(alloc, part.index, p, formula, workspace)?;
     let refuted = refute_described(alloc, part, p, &described, workspace);

@@ -13,10 +13,9 @@ ghost use Rattle.deb_health.specs.Verdicts.{AreToldCores, IsTold, IsVerdict, Spe
 use crate::all_causes::all_cores;
 use crate::first_core::first_core;
 use crate::first_set::first_set;
-use crate::installability::is_installable;
-use crate::reach::reach;
+use crate::gather::{Candidates, Ground};
 use crate::workspace::Workspace;
-use deb_groundwork::Groundwork;
+use deb_groundwork::{Groundwork, is_seen_installable};
 use deb_health::{Cores, Told, Verdict, Wanted};
 use deb_index::{Constraint, Index};
 use number_sets::SparseSet;
@@ -32,10 +31,15 @@ pub fn closure(alloc: Global, index: &Index, p: u32) -> Result<Vec<u32>, AllocEr
     ensures rising { IfOk result (λ members. IsStrictlyIncreasing members.items) }
     ensures least { IfOk result (λ members. IsClosure index.now p (members_of members.items)) }
 {
-    let mut members = SparseSet::new(alloc);
-    reach(alloc, index, p, &mut members)?;
-    members.sort();
-    Vec::from_slice(alloc, members.as_slice())
+    let nothing = SparseSet::new(alloc);
+    let ground = Ground {
+        index,
+        forced: &nothing,
+        met: &[],
+    };
+    let mut candidates = Candidates::new(alloc);
+    candidates.gather(&ground, p)?;
+    Vec::from_slice(alloc, candidates.places.as_slice())
 }
 
 /// What is told of the package at a place that some healthy set has: its first set, where that is wanted. `None` where no healthy set has it.
@@ -51,19 +55,19 @@ fn told_set(
     ensures within { IfOk result (λ found. IfSome found (λ told. SpeaksOf groundwork.now.index.now (told_view told))) }
     ensures none { IfOk result (λ found. IfNone found (IsHopeless groundwork.now.index.now p)) }
 {
-    if !wanted.sets {
-        if is_installable(alloc, workspace, groundwork, p)? {
-            return Ok(Some(Told::Installable));
-        }
-        return Ok(None);
-    }
     if groundwork.is_hopeless(p) {
         return Ok(None);
     }
-    match first_set(alloc, workspace, groundwork, p)? {
-        Some(places) => Ok(Some(Told::Set(places))),
-        None => Ok(None),
+    if !wanted.sets && is_seen_installable(groundwork, p, &mut workspace.witness) {
+        return Ok(Some(Told::Installable));
     }
+    let Some(places) = first_set(alloc, workspace, groundwork, p)? else {
+        return Ok(None);
+    };
+    if wanted.sets {
+        return Ok(Some(Told::Set(places)));
+    }
+    Ok(Some(Told::Installable))
 }
 
 /// As many cores as are wanted of a package that no healthy set has.

@@ -8,7 +8,9 @@ ghost use Rattle.deb_encode.specs.Play.{placed};
 ghost use Rattle.deb_health.specs.Verdicts.{IsFirstInstallation};
 
 use crate::describe::describe;
+use crate::gather::Ground;
 use crate::workspace::Workspace;
+use deb_encode::Play;
 use deb_groundwork::Groundwork;
 use deb_index::Index;
 use number_sets::sort_once;
@@ -58,19 +60,27 @@ pub(crate) fn first_set(
     ensures none { IfOk result (λ found. IfNone found (IsHopeless groundwork.now.index.now p)) }
 {
     groundwork.force(p, &mut workspace.forced)?;
-    workspace
-        .candidates
-        .gather(groundwork, p, &workspace.forced)?;
+    let ground = Ground {
+        index: groundwork.index,
+        forced: &workspace.forced,
+        met: &groundwork.met,
+    };
+    workspace.candidates.gather(&ground, p)?;
     let count = count_of(groundwork.index, workspace.candidates.places.as_slice());
     workspace.formula.restart(count, 1);
-    describe(
-        groundwork,
+    let candidates = &workspace.candidates.places;
+    let play = Play::new(
+        groundwork.index,
         &workspace.forced,
-        &workspace.candidates,
+        candidates,
+        &groundwork.alone,
+    );
+    describe(
+        play,
+        &workspace.candidates.unmet,
         &mut workspace.clause,
         &mut workspace.found,
-        &mut workspace.rivals,
-        &mut workspace.versions,
+        &mut workspace.gathered,
         &mut workspace.formula,
     )?;
     let must = workspace.candidates.places.position_of(p).unwrap();

@@ -4,10 +4,10 @@
 //! `deb_health` says. `specs/Lib` names first the definitions that public contracts cite, then those of the inside. The modules, room by room:
 //!
 //! - `workspace` has the buffers that one verdict leaves to the next. What is told without a search, `deb_groundwork` tells.
-//! - The closure: `reach` finds it.
+//! - The closure: `gather` finds it, where no place is forced.
 //! - The first healthy set: `gather` finds the candidates beside the places that are in every healthy set, and the needs that these leave open,
 //!   `describe` has the encoder of `deb_encode` make clauses of all constraints that speak of these places, and `first_set` has the solver find the
-//!   first true set of the clauses. `installability` tells whether there is one, by a set that is seen at once, or else by the first.
+//!   first true set of the clauses.
 //! - The first core: `first_core` finds the first set of constraints that no set meets. The crate `core_extract` takes out those that no
 //!   refutation needs, and asks `question` whether a part of the constraints admits none: where `deb_groundwork` can't tell, `by_formula` does. It
 //!   knows of each part, by the `core_formula` of the package, which is made once: each constraint that speaks of the closure (`kept_positions`
@@ -24,13 +24,11 @@ mod describe;
 mod first_core;
 mod first_set;
 mod gather;
-mod installability;
 mod kept_positions;
 mod known;
 pub mod laws;
 mod limits;
 mod question;
-mod reach;
 mod workspace;
 
 pub use deb_groundwork::{Groundwork, find_installable};

@@ -6,7 +6,6 @@ ghost use Rattle.std.specs.List.Sorted.{IsStrictlyIncreasing};
 ghost use Rattle.number_sets.specs.Sets.{all_of, members_of};
 ghost use Rattle.deb_health.specs.Causes.{without};
 ghost use Rattle.deb_health.specs.Health.{AdmitsNone};
-ghost use Rattle.deb_groundwork.specs.BaseSets.{IsBase};
 ghost use Rattle.deb_groundwork.specs.Parts.{positions_in, IsRefutedBy};
 ghost use Rattle.deb_verdict.specs.Formulas.{Tells};
 ghost use Rattle.deb_verdict.specs.Known.{AreKnown};
@@ -17,30 +16,34 @@ use crate::known::Known;
 use crate::limits::MANY;
 use crate::workspace::Workspace;
 use core_extract::{Question, next_of};
-use deb_groundwork::{BaseSet, Groundwork, Part, is_seen_to_admit, refute_by_forcing};
-use number_sets::{SparseSet, sort_once};
+use deb_groundwork::{Groundwork, Part, is_seen_to_admit, refute_by_forcing};
+use number_sets::sort_once;
 use std::alloc::{AllocError, Global};
 use std::mem;
 
 /// Whether a part of the constraints admits no set with the package at a place. Where it admits none, the workspace's `used` then has the
-/// positions of constraints of the part that already do; where it admits one, `used` stays.
-pub(crate) fn refute_part(
+/// positions of constraints of the part that already do.
+fn refute_part(
     alloc: Global,
     part: &Part<'_>,
     p: u32,
-    base: &BaseSet,
-    lacking: &SparseSet,
+    groundwork: &Groundwork<'_>,
     formula: &mut Option<CoreFormula>,
     workspace: &mut Workspace,
 ) -> Result<bool, AllocError>
     requires place { p < length part.now.index.now.packages }
-    requires base { IsBase part.now.index.now base.now }
+    requires index { groundwork.now.index.now ≡ part.now.index.now }
     requires formula { ForSome formula.old (Tells part.now.index.now p) }
     ensures formula { ForSome formula.new (Tells part.now.index.now p) }
     ensures refuted { IfOk result (λ refuted. refuted ≡ true → IsRefutedBy workspace.new.used.items part.now p) }
     ensures admitted { IfOk result (λ refuted. refuted ≡ false → AdmitsNone part.now.index.now p (positions_in part.now) → ⊥) }
-    ensures still { IfOk result (λ refuted. refuted ≡ false → workspace.new.used.items ≡ workspace.old.used.items) }
 {
+    workspace.set.clear();
+    if workspace.alone {
+        return refute_by_formula(alloc, part, p, formula, workspace);
+    }
+    let base = &groundwork.base;
+    let lacking = &groundwork.lacking;
     let propagation = &mut workspace.propagation;
     let used = &mut workspace.used;
     // Each package whose core is looked for is broken, so only without some constraints is there a set. Where all are asked about but those of
@@ -74,39 +77,6 @@ pub(crate) fn refute_part(
 /// Whether a question is put to the formula alone, where so many were asked before.
 fn is_for_formula(formula: &Option<CoreFormula>, used: &[u32], asked: u32) -> bool {
     asked >= MANY && tells_more(formula, used)
-}
-
-/// What `refute_part` says, or the package's formula alone.
-fn refute_next(
-    alloc: Global,
-    part: &Part<'_>,
-    p: u32,
-    groundwork: &Groundwork<'_>,
-    alone: bool,
-    formula: &mut Option<CoreFormula>,
-    workspace: &mut Workspace,
-) -> Result<bool, AllocError>
-    requires place { p < length part.now.index.now.packages }
-    requires index { groundwork.now.index.now ≡ part.now.index.now }
-    requires formula { ForSome formula.old (Tells part.now.index.now p) }
-    ensures formula { ForSome formula.new (Tells part.now.index.now p) }
-    ensures refuted { IfOk result (λ refuted. refuted ≡ true → IsRefutedBy workspace.new.used.items part.now p) }
-    ensures admitted { IfOk result (λ refuted. refuted ≡ false → AdmitsNone part.now.index.now p (positions_in part.now) → ⊥) }
-{
-    workspace.set.clear();
-    if alone {
-        return refute_by_formula(alloc, part, p, formula, workspace);
-    }
-    let base = &groundwork.base;
-    refute_part(
-        alloc,
-        part,
-        p,
-        base,
-        &groundwork.lacking,
-        formula,
-        workspace,
-    )
 }
 
 /// The number before the rest, if the last refutation used it as the first behind the kept ones, and the formula may tell of more. It is a hint.
@@ -185,13 +155,12 @@ impl<'a> Question for Blocking<'a> {
             rest,
             out: self.out,
         };
-        let alone = is_for_formula(&self.formula, &self.used, self.asked);
-        let refuted = refute_next(
+        self.workspace.alone = is_for_formula(&self.formula, &self.used, self.asked);
+        let refuted = refute_part(
             alloc,
             &part,
             self.p,
             self.groundwork,
-            alone,
             &mut self.formula,
             self.workspace,
         )?;

@@ -1,10 +1,7 @@
 //! The buffers of a verdict.
 
-ghost use Rattle.std.specs.Prelude.{IfOk};
-ghost use Rattle.deb_verdict.specs.Workspaces.{IsFresh};
-
 use crate::gather::Candidates;
-use deb_encode::{Rivals, Versions};
+use deb_encode::Gathered;
 use deb_groundwork::{BaseSet, Propagation, Witness};
 use deb_index::Constraint;
 use number_sets::SparseSet;
@@ -21,19 +18,19 @@ pub struct Workspace {
     pub(crate) forced: SparseSet,
     pub(crate) candidates: Candidates,
     pub(crate) formula: Formula,
-    /// A clause in the making, and the places that answer a need.
+    /// A clause in the making, the places that answer a need, and what is gathered of those in play.
     pub(crate) clause: Vec<Lit>,
     pub(crate) found: Vec<u32>,
-    pub(crate) rivals: Rivals,
-    pub(crate) versions: Versions,
+    pub(crate) gathered: Gathered,
     pub(crate) solver: sat_solve::Workspace,
     pub(crate) propagation: Propagation,
     pub(crate) witness: Witness,
     /// A base set of nothing.
     pub(crate) nothing: BaseSet,
-    /// The closure of a broken package, and the constraints that speak of it.
-    pub(crate) closure: SparseSet,
+    /// The constraints that speak of the closure of a broken package.
     pub(crate) constraints: Vec<Constraint>,
+    /// Whether the next question is put to the package's formula alone.
+    pub(crate) alone: bool,
     /// The groups that a solve keeps, and those that it used.
     pub(crate) keep: Vec<bool>,
     pub(crate) marks: Vec<bool>,
@@ -47,9 +44,7 @@ pub struct Workspace {
 
 impl Workspace {
     /// Buffers with nothing in them and no room yet. The error is want of memory.
-    pub fn new(alloc: Global) -> Result<Workspace, AllocError>
-        ensures { IfOk result IsFresh }
-    {
+    pub fn new(alloc: Global) -> Result<Workspace, AllocError> {
         let formula = Formula::new(alloc, 0, 0)?;
         Ok(Workspace {
             forced: SparseSet::new(alloc),
@@ -57,14 +52,13 @@ impl Workspace {
             formula,
             clause: Vec::new(alloc),
             found: Vec::new(alloc),
-            rivals: Rivals::new(alloc),
-            versions: Versions::new(alloc),
+            gathered: Gathered::new(alloc),
             solver: sat_solve::Workspace::new(alloc),
             propagation: Propagation::new(alloc),
             witness: Witness::new(alloc),
             nothing: BaseSet::empty(alloc),
-            closure: SparseSet::new(alloc),
             constraints: Vec::new(alloc),
+            alone: false,
             keep: Vec::new(alloc),
             marks: Vec::new(alloc),
             set: Vec::new(alloc),

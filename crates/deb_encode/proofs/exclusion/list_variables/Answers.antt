@@ -7,10 +7,10 @@ loop-place-init c = numbers_none c.args.play.now.candidates.now c.clear.new.self
 
 pub loop-place-preserved : goal.loop-place-preserved
 loop-place-preserved c =
-    elim c.match-variable.branch [
+    elim c.match-position_of.branch [
       | in-Some+in_ok-push w ↦
           rw w.list-is
-          (numbers_more c.args.play.now.candidates.now c.args.places.now c.loop-place.place-index c.loop-place-test.true c.args.play.now.rising c.loop-place.list.items w.push.new.self.items w.in-Some.var
+          (numbers_more c.args.play.now.candidates.now c.args.places.now c.loop-place.place-index c.loop-place-test.true c.args.play.now.rising c.loop-place.list.items w.push.new.self.items w.in-Some.number
           w.in-Some.ensures.some w.in_ok-push.ensures.items c.loop-place.invariant)
       | in_default w ↦
           rw w.list-is

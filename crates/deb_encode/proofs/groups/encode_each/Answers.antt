@@ -1,4 +1,4 @@
-use Rattle.std.proofs.Common.{rules, ◌<◌, ◌≤◌, length, ap, arith}
+use Rattle.std.proofs.Common.{rules, ◌≡◌, ◌<◌, length, ap, arith}
 use Rattle.sat_solve.specs.Clauses.{Clauses}
 use Rattle.deb_encode.proofs.EncoderLemmas.{adds_first}
 use Rattle.deb_encode.proofs.Grouped.{encoded_none, next_of_index, encoded_more, encoded_whole}
@@ -6,9 +6,8 @@ use Rattle.deb_encode.proofs.groups.encode_each.Goals as goal
 
 pub loop-group-preserved : goal.loop-group-preserved
 loop-group-preserved c =
-    let inside : c.loop-group.group < length c.args.constraints.now = omega (arith, c.loop-group-test.true, c.groups-group-end.ensures, ap (λ (f : Clauses). f.groups) c.requires.empty) in
-    encoded_more c.args.play.now c.args.constraints.now c.loop-group.group _ c.loop-group.formula c.add_constraint.new.self.formula.now _ (search rules) inside c.loop-group.invariant
-    (adds_first _ c.args.play.now c.loop-group.group c.loop-group.formula c.new-encoder.result c.add_constraint.new.self c.new-encoder.ensures.play c.new-encoder.ensures.group c.new-encoder.ensures.formula c.in_ok-add_constraint.ensures.adds)
+    encoded_more c.args.play.now c.args.constraints.now c.loop-group.group _ c.loop-group.formula c.add_constraint.new.self.formula.now _ (search rules) c.loop-group.invariant
+    (adds_first _ c.args.play.now c.loop-group.group c.loop-group.formula c.new-encoder.result c.add_constraint.new.self c.new-encoder.ensures.play c.new-encoder.ensures.group c.new-encoder.ensures.formula c.in_ok-add_constraint.ensures)
 
 pub add_constraint-requires : goal.add_constraint-requires
 add_constraint-requires c =
@@ -20,9 +19,10 @@ loop-group-init c = encoded_none c.args.play.now c.args.constraints.now c.args.f
 
 pub returns : goal.returns
 returns c =
-    let past : length c.args.constraints.now ≤ c.loop-group.group = omega (arith, c.loop-group-test.false, c.groups-group-end.ensures, ap (λ (f : Clauses). f.groups) c.requires.empty) in
+    let whole : c.loop-group.group ≡ length c.args.constraints.now =
+    omega (arith, c.loop-group-test.false, c.loop-group.auto.group-end, c.groups-group-end.ensures, ap (λ (f : Clauses). f.groups) c.requires.empty) in
     record {
       vars = c.loop-group.invariant.vars;
       groups = c.loop-group.invariant.groups;
-      tells = encoded_whole c.args.play.now c.args.constraints.now c.loop-group.group c.loop-group.formula past c.loop-group.invariant;
+      tells = encoded_whole c.args.play.now c.args.constraints.now c.loop-group.group c.loop-group.formula whole c.loop-group.invariant;
     }

@@ -1,21 +1,14 @@
-use Rattle.std.proofs.Common.{length, sym, get_or}
+use Rattle.std.proofs.Common.{length}
 use Rattle.deb_encode.specs.Play.{placed}
-use Rattle.deb_encode.specs.Standings.{is_in}
-use Rattle.deb_encode.proofs.Widening.{widens_as, some_settled, some_open}
+use Rattle.deb_encode.proofs.Widening.{some_settled, some_open}
 use Rattle.deb_encode.proofs.needs.or_some.Goals as goal
 
 pub returns-then-branch : goal.returns-then-branch
 returns-then-branch c =
     some_settled (length c.args.play.now.candidates.now) (placed c.args.play.now.forced.now c.args.play.now.candidates.now) c.args.places.now c.loop-place.place-index 0
-    c.args.clause.now.items c.loop-place.clause.items c.or_in.new.clause.items c.in_ok-or_in.field-0 c.if-branch.true c.loop-place-test.true c.loop-place.invariant
-    (widens_as (length c.args.play.now.candidates.now) (is_in c.standing.result) (λ vars. placed c.args.play.now.forced.now c.args.play.now.candidates.now vars (get_or c.args.places.now c.loop-place.place-index 0))
-    c.loop-place.clause.items c.or_in.new.clause.items c.in_ok-or_in.field-0 (λ vars. sym (c.standing.ensures.says vars))
-    (c.in_ok-or_in.ensures (length c.args.play.now.candidates.now) c.standing.ensures.below))
+    c.args.clause.now.items c.loop-place.clause.items c.or_place.new.clause.items c.in_ok-or_place.field-0 c.if-branch.true c.loop-place-test.true c.loop-place.invariant c.in_ok-or_place.ensures
 
 pub loop-place-preserved : goal.loop-place-preserved
 loop-place-preserved c =
     some_open (length c.args.play.now.candidates.now) (placed c.args.play.now.forced.now c.args.play.now.candidates.now) c.args.places.now c.loop-place.place-index 0
-    c.args.clause.now.items c.loop-place.clause.items c.or_in.new.clause.items c.in_ok-or_in.field-0 c.if-branch.false c.loop-place-test.true c.loop-place.invariant
-    (widens_as (length c.args.play.now.candidates.now) (is_in c.standing.result) (λ vars. placed c.args.play.now.forced.now c.args.play.now.candidates.now vars (get_or c.args.places.now c.loop-place.place-index 0))
-    c.loop-place.clause.items c.or_in.new.clause.items c.in_ok-or_in.field-0 (λ vars. sym (c.standing.ensures.says vars))
-    (c.in_ok-or_in.ensures (length c.args.play.now.candidates.now) c.standing.ensures.below))
+    c.args.clause.now.items c.loop-place.clause.items c.or_place.new.clause.items c.in_ok-or_place.field-0 c.if-branch.false c.loop-place-test.true c.loop-place.invariant c.in_ok-or_place.ensures

@@ -5,7 +5,7 @@ use Rattle.std.proofs.lemmas.List.Elements.{All-nil, All-push}
 use Rattle.deb_index.specs.declared.constraint.Constraint.{Constraint}
 use Rattle.deb_index.specs.Constraints.{IsOfIndex, constraints_of}
 use Rattle.deb_index.proofs.ConstraintLemmas.{constraints-within}
-use Rattle.deb_encode.proofs.AddSteps.{below_moved}
+use Rattle.deb_encode.proofs.AddLemmas.{below_moved}
 use Rattle.number_sets.specs.Sets.{all_of, members_of}
 use Rattle.deb_health.specs.Causes.{cause_at, either, IsFirstWithout, without}
 use Rattle.deb_health.specs.Health.{Admits}
@@ -17,9 +17,6 @@ pub first_positions-requires-clause-rising : goal.first_positions-requires-claus
 first_positions-requires-clause-rising c =
     let Rising : List ℕ → Type 0 = λ list. IsStrictlyIncreasing list in
     subst Rising (sym c.deref.ensures.value) c.loop-out.invariant.rising
-
-pub first_positions-requires-clause-formula : goal.first_positions-requires-clause-formula
-first_positions-requires-clause-formula c = c.loop-out.invariant.told
 
 pub take_out-requires : goal.take_out-requires
 take_out-requires c =
@@ -82,9 +79,6 @@ returns-clause-cores c =
     let One : List ℕ → Type 0 = λ list. Admits index p (without (members_of list) all_of) in
     all_found index p (members_of c.loop-out.out.items) (map (λ (core : Vec Constraint Global). core.items) c.loop-out.cores.items)
     c.loop-out.invariant.found (subst One c.deref.ensures.value (rw c.in_default.is at c.in_ok-positions.ensures.none))
-
-pub returns-clause-within : goal.returns-clause-within
-returns-clause-within c = c.loop-out.invariant.within
 
 pub loop-out-init : goal.loop-out-init
 loop-out-init c =

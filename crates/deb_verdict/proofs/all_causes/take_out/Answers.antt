@@ -36,9 +36,6 @@ loop-position-preserved c = λ k.
       | else-branch w ↦ rw w.out-is (cause_passes index out core i c.loop-position-test.true k before (is ∙ w.if-branch.false) (c.loop-position.invariant k))
     ]
 
-pub returns-clause-rising : goal.returns-clause-rising
-returns-clause-rising c = c.sort_once.ensures.rising
-
 pub returns-clause-taken : goal.returns-clause-taken
 returns-clause-taken c = λ k.
     c.sort_once.ensures.same k

@@ -1,26 +1,26 @@
-use Rattle.std.proofs.Common.{◌≡◌, ◌∙◌, ℕ, ◌<◌, List, [], All, Some, length, map, slice_get, sym, ap, subst, true, refl, arith}
-use mathlib.Core.Path.{fun_ext}
-use Rattle.std.specs.List.Sorted.{IsStrictlyIncreasing}
+use Rattle.std.proofs.Common.{◌≡◌, ◌∙◌, ℕ, ◌<◌, List, [], All, Some, length, map, slice_get, sym, ap, subst, refl, arith}
 use Rattle.std.proofs.lemmas.List.Elements.{All-nil}
-use Rattle.std.proofs.lemmas.Option.{none-some, slice_get_within}
+use Rattle.std.proofs.lemmas.Option.{slice_get_within}
 use Rattle.deb_index.specs.declared.constraint.Constraint.{Constraint}
 use Rattle.deb_index.specs.Packages.{IndexView}
 use Rattle.deb_index.specs.Constraints.{IsOfIndex, constraints_of}
 use Rattle.deb_index.proofs.ConstraintLemmas.{constraints-within}
-use Rattle.number_sets.specs.Sets.{NumberSet, members_of, IsWithin}
+use Rattle.number_sets.specs.Sets.{members_of, IsWithin}
 use Rattle.sat_solve.specs.Clauses.{Clauses}
-use Rattle.deb_encode.proofs.AddSteps.{below_moved}
-use Rattle.deb_verdict.specs.Closure.{IsClosed, kept}
-use Rattle.deb_verdict.proofs.Inserted.{position_found, same_below}
-use Rattle.deb_verdict.proofs.Settled.{tells_moved, IsOfClosure, told_refuted, told_admitted}
+use Rattle.deb_encode.proofs.AddLemmas.{below_moved}
+use Rattle.deb_verdict.specs.Closure.{kept}
+use Rattle.deb_verdict.proofs.GatherLemmas.{closed_alone}
+use Rattle.deb_encode.specs.Play.{TellsPlaces}
+use Rattle.deb_verdict.proofs.Described.{carry}
+use Rattle.deb_verdict.proofs.Settled.{IsOfClosure, told_refuted, told_admitted}
 use Rattle.deb_verdict.proofs.Encoded.{sizes}
 use Rattle.deb_verdict.proofs.Whole.{named_all}
 use Rattle.deb_verdict.proofs.by_formula.describe.Goals as goal
 
 pub list_positions-requires : goal.list_positions-requires
 list_positions-requires c = record {
-  members = below_moved c.as_slice-members.result.now c.sort.new.self _ _ c.as_slice-members.ensures refl
-      (same_below c.reach.new.members c.sort.new.self _ c.sort.ensures.same c.in_ok-reach.ensures.within);
+  members = below_moved c.as_slice-members.result.now c.gather.new.self.places _ _ c.as_slice-members.ensures refl
+      c.in_ok-gather.ensures.gathered.within;
 }
 
 pub list_constraints-requires : goal.list_constraints-requires
@@ -28,30 +28,8 @@ list_constraints-requires c = below_moved c.deref.result.now c.list_positions.ne
 
 pub count_of-requires-clause-within : goal.count_of-requires-clause-within
 count_of-requires-clause-within c =
-    below_moved c.as_slice-members.result.now c.sort.new.self _ _ c.as_slice-members.ensures refl
-    (same_below c.reach.new.members c.sort.new.self _ c.sort.ensures.same c.in_ok-reach.ensures.within)
-
-pub new-play-requires-clause-candidates_within : goal.new-play-requires-clause-candidates_within
-new-play-requires-clause-candidates_within c = same_below c.reach.new.members c.sort.new.self _ c.sort.ensures.same c.in_ok-reach.ensures.within
-
-pub count_of-requires-clause-rising : goal.count_of-requires-clause-rising
-count_of-requires-clause-rising c =
-    let Rising : List ℕ → Type 0 = λ list. IsStrictlyIncreasing list in
-    subst Rising (sym c.as_slice-members.ensures) c.sort.ensures.rising
-
-pub new-play-requires-clause-rising : goal.new-play-requires-clause-rising
-new-play-requires-clause-rising c = c.sort.ensures.rising
-
-pub new-play-requires-clause-forced_within : goal.new-play-requires-clause-forced_within
-new-play-requires-clause-forced_within c =
-    below_moved c.clear.new.self.members [] _ _ c.clear.ensures.members refl (All-nil (λ q. q < length c.args.index.now.packages))
-
-pub new-play-requires-clause-alone : goal.new-play-requires-clause-alone
-new-play-requires-clause-alone c = λ number never. absurd (none-some true never)
-
-pub unwrap-must-requires : goal.unwrap-must-requires
-unwrap-must-requires c =
-    position_found c.sort.new.self c.args.p c.position_of.result c.position_of.ensures.none (c.sort.ensures.same c.args.p ∙ c.in_ok-reach.ensures.least.0.start)
+    below_moved c.as_slice-members.result.now c.gather.new.self.places _ _ c.as_slice-members.ensures refl
+    c.in_ok-gather.ensures.gathered.within
 
 pub encode_each-requires-clause-empty : goal.encode_each-requires-clause-empty
 encode_each-requires-clause-empty c =
@@ -61,7 +39,7 @@ encode_each-requires-clause-empty c =
     let stand : Stand positions = subst Stand c.deref.ensures.value (c.in_ok-list_constraints.ensures ∙ ap (map (λ (x : Constraint). Some x)) (sym c.deref-2.ensures.value)) in
     let Of : ℕ → ℕ → Clauses = λ vars groups. record { vars = vars; groups = groups; clauses = [] } in
     let vars_is : c.count_of.result ≡ length c.new-play.result.candidates.now = c.count_of.ensures ∙ (ap length c.as_slice-members.ensures ∙ sym (ap length c.new-play.ensures.candidates)) in
-    let groups_is : c.len.result ≡ length constraints = omega (arith, c.len.ensures, sizes c.args.index.now c.sort.new.self positions constraints stand, c.list_positions.new.positions.ok) in
+    let groups_is : c.len.result ≡ length constraints = omega (arith, c.len.ensures, sizes c.args.index.now c.gather.new.self.places positions constraints stand, c.list_positions.new.positions.ok) in
     c.in_ok-formula.ensures ∙ (ap (λ (n : ℕ). Of n c.len.result) vars_is ∙ ap (λ (n : ℕ). Of (length c.new-play.result.candidates.now) n) groups_is)
 
 pub encode_each-requires-clause-of_index : goal.encode_each-requires-clause-of_index
@@ -73,10 +51,10 @@ encode_each-requires-clause-of_index c =
 
 pub overflow_cast-result : goal.overflow_cast-result
 overflow_cast-result c =
-    let there : slice_get c.sort.new.self c.unwrap-must.result ≡ Some c.args.p = rw c.unwrap-must.ensures at c.position_of.ensures.some in
+    let there : slice_get c.gather.new.self.places c.unwrap-must.result ≡ Some c.args.p = rw c.unwrap-must.ensures at c.position_of.ensures.some in
     omega (
       arith,
-      slice_get_within c.sort.new.self c.unwrap-must.result c.args.p there,
+      slice_get_within c.gather.new.self.places c.unwrap-must.result c.args.p there,
       ap length c.as_slice-members.ensures,
       c.count_of.ensures,
       c.count_of.type_inv,
@@ -88,30 +66,29 @@ invariant_of-result c =
     let constraints : List Constraint = c.deref-2.result.now in
     let Stand : List ℕ → Type 0 = λ list. map (slice_get (constraints_of c.args.index.now)) list ≡ map (λ (x : Constraint). Some x) constraints in
     let stand : Stand positions = subst Stand c.deref.ensures.value (c.in_ok-list_constraints.ensures ∙ ap (map (λ (x : Constraint). Some x)) (sym c.deref-2.ensures.value)) in
-    let there : slice_get c.sort.new.self c.unwrap-must.result ≡ Some c.args.p = rw c.unwrap-must.ensures at c.position_of.ensures.some in
+    let there : slice_get c.gather.new.self.places c.unwrap-must.result ≡ Some c.args.p = rw c.unwrap-must.ensures at c.position_of.ensures.some in
     record {
-      groups = c.in_ok-encode_each.ensures.groups ∙ sym (sizes c.args.index.now c.sort.new.self positions constraints stand);
-      variable = omega (arith, slice_get_within c.sort.new.self c.unwrap-must.result c.args.p there, c.in_ok-encode_each.ensures.vars, ap length c.new-play.ensures.candidates);
+      groups = c.in_ok-encode_each.ensures.groups ∙ sym (sizes c.args.index.now c.gather.new.self.places positions constraints stand);
+      variable = omega (arith, slice_get_within c.gather.new.self.places c.unwrap-must.result c.args.p there, c.in_ok-encode_each.ensures.vars, ap length c.new-play.ensures.candidates);
     }
 
-pub returns-clause-tells : goal.returns-clause-tells
-returns-clause-tells c =
+pub returns : goal.returns
+returns c =
     let index = c.args.index.now in
-    let members : List ℕ = c.sort.new.self in
+    let members : List ℕ = c.gather.new.self.places in
     let positions : List ℕ = c.list_positions.new.positions.items in
     let constraints : List Constraint = c.deref-2.result.now in
     let formula = c.encode_each.new.formula in
-    let Closed : NumberSet → Type 0 = λ set. IsClosed index c.args.p set in
     let Within : List ℕ → Type 0 = λ list. IsWithin (kept index (members_of list)) (members_of positions) in
     let Stand : List ℕ → Type 0 = λ list. map (slice_get (constraints_of index)) list ≡ map (λ (x : Constraint). Some x) constraints in
     let there : slice_get members c.unwrap-must.result ≡ Some c.args.p = rw c.unwrap-must.ensures at c.position_of.ensures.some in
     let of_closure : IsOfClosure index c.args.p members positions constraints formula = record {
-      closed = subst Closed (sym (fun_ext c.sort.ensures.same)) c.in_ok-reach.ensures.least.0;
+      closed = closed_alone index c.args.p c.clear.new.self.members c.gather.new.self c.clear.ensures.members c.in_ok-gather.ensures.gathered c.in_ok-gather.ensures.start;
       all = subst Within c.as_slice-members.ensures c.in_ok-list_positions.ensures.all;
       vars = c.in_ok-encode_each.ensures.vars ∙ ap length c.new-play.ensures.candidates;
       stand = subst Stand c.deref.ensures.value (c.in_ok-list_constraints.ensures ∙ ap (map (λ (x : Constraint). Some x)) (sym c.deref-2.ensures.value));
       tells =
-          tells_moved c.new-play.result.index.now index c.new-play.result.forced.now [] c.new-play.result.candidates.now members constraints formula.clauses
+          carry (λ one forced candidates. TellsPlaces one forced candidates constraints formula.clauses) c.new-play.result.index.now index c.new-play.result.forced.now [] c.new-play.result.candidates.now members
           c.new-play.ensures.index (c.new-play.ensures.forced ∙ c.clear.ensures.members) c.new-play.ensures.candidates c.in_ok-encode_each.ensures.tells;
     } in
     record {
@@ -119,5 +96,6 @@ returns-clause-tells c =
       admitted = told_admitted index c.args.p members positions constraints formula of_closure c.unwrap-must.result there;
     }
 
-pub returns-clause-still : goal.returns-clause-still
-returns-clause-still c = refl
+pub invariant_of-ground-clause-within : goal.invariant_of-ground-clause-within
+invariant_of-ground-clause-within c =
+    below_moved c.clear.new.self.members [] _ _ c.clear.ensures.members refl (All-nil (λ q. q < length c.args.index.now.packages))

@@ -1,13 +1,7 @@
-use Rattle.std.proofs.Common.{subst, ◌∙◌}
+use Rattle.std.proofs.Common.{subst}
 use Rattle.std.proofs.lemmas.Option.{same_Some}
-use Rattle.std.proofs.lemmas.Result.{IfOk-weaker}
 use Rattle.deb_verdict.specs.Formulas.{Tells}
 use Rattle.deb_verdict.proofs.by_formula.refute_by_formula.Goals as goal
 
 pub returns-clause-formula : goal.returns-clause-formula
 returns-clause-formula c = λ x is. subst (Tells c.args.part.now.index.now c.args.p) (same_Some c.in_ok-described.described x is) c.in_ok-described.ensures.tells
-
-pub returns-clause-still : goal.returns-clause-still
-returns-clause-still c =
-    IfOk-weaker c.refute_described-refuted.result _ _ (λ refuted still is. still is ∙ c.in_ok-described.ensures.still)
-    c.refute_described-refuted.ensures.still

@@ -1,7 +1,5 @@
-use Rattle.std.proofs.Common.{◌≡◌, ℕ, List, Bool, Option, None, Vec, Global, length, map, refl, sym, ◌∙◌, ap, subst}
+use Rattle.std.proofs.Common.{◌≡◌, ℕ, List, Bool, Option, None, Vec, Global, map, sym, ◌∙◌, ap, subst}
 use Rattle.std.specs.Prelude.{IfSome, IfNone}
-use Rattle.std.proofs.lemmas.Bool.{false≢true, true≢false}
-use Rattle.std.proofs.lemmas.List.{length-map}
 use Rattle.number_sets.specs.Sets.{NumberSet, members_of, IsFirst}
 use Rattle.sat_solve.specs.Clauses.{IsTrueSet, AreWithin}
 use Rattle.deb_verdict.specs.Formulas.{IsChosen}
@@ -11,21 +9,6 @@ use Rattle.deb_verdict.proofs.by_formula.refute_described.Goals as goal
 
 none_there : {T : Type 0} (o : Option T) (Q : Type 0) → o ≡ None → IfNone o Q → Q
 none_there o Q is holds = subst (λ found. IfNone found Q) is holds
-
-pub solve_marked-requires-clause-keep : goal.solve_marked-requires-clause-keep
-solve_marked-requires-clause-keep c =
-    let part : NumberSet = positions_in c.args.part.now in
-    ap length (c.deref-2.ensures.value ∙ (c.in_ok-mark_kept.ensures ∙ ap (map part) c.deref.ensures.value))
-    ∙ (length-map c.args.described.now.positions.items part ∙ sym c.args.described.now.groups)
-
-pub take_marked-requires : goal.take_marked-requires
-take_marked-requires c =
-    let part : NumberSet = positions_in c.args.part.now in
-    let sized = none_there c.in_ok-found.found _ c.in_default.is c.in_ok-found.ensures.sized in
-    ap length c.deref-4.ensures.value
-    ∙ (sized
-    ∙ (ap length (c.deref-2.ensures.value ∙ (c.in_ok-mark_kept.ensures ∙ ap (map part) c.deref.ensures.value))
-    ∙ (length-map c.args.described.now.positions.items part ∙ ap length (sym c.deref-3.ensures.value))))
 
 pub returns-in-Some-clause-admitted : goal.returns-in-Some-clause-admitted
 returns-in-Some-clause-admitted c = λ is.
@@ -55,15 +38,3 @@ returns-clause-refuted c = λ is.
           sym (ap part at.3) ∙ kept_has part positions at.0 at.1 (kept at.0 at.2));
       fails = c.requires.refuted marks (members_of used) chosen (none_there c.in_ok-found.found _ none c.in_ok-found.ensures.marked);
     }
-
-pub returns-in-Some-clause-refuted : goal.returns-in-Some-clause-refuted
-returns-in-Some-clause-refuted c = λ is. absurd (false≢true is)
-
-pub returns-in-Some-clause-still : goal.returns-in-Some-clause-still
-returns-in-Some-clause-still c = λ _. refl
-
-pub returns-clause-admitted : goal.returns-clause-admitted
-returns-clause-admitted c = λ is. absurd (true≢false is)
-
-pub returns-clause-still : goal.returns-clause-still
-returns-clause-still c = λ is. absurd (true≢false is)

@@ -1,6 +1,6 @@
-use Rattle.std.proofs.Common.{◌≡◌, subst, sym}
+use Rattle.std.proofs.Common.{subst, sym}
 use Rattle.deb_health.specs.declared.told.Wanted.{Wanted}
-use Rattle.deb_health.specs.Verdicts.{IsTold, IsVerdict, SpeaksOf, ToldView, told_view, verdict_view}
+use Rattle.deb_health.specs.Verdicts.{IsTold, IsVerdict, SpeaksOf, told_view}
 use Rattle.deb_verdict.proofs.decision.verdict_in.Goals as goal
 
 pub returns-clause-verdict : goal.returns-clause-verdict

@@ -3,7 +3,7 @@ use Rattle.std.proofs.lemmas.List.Elements.{All-cons, All-nil}
 use Rattle.deb_index.specs.declared.constraint.Constraint.{Constraint}
 use Rattle.deb_index.specs.Constraints.{IsOfIndex, constraints_of}
 use Rattle.deb_index.proofs.ConstraintLemmas.{constraints-within}
-use Rattle.deb_encode.proofs.AddSteps.{below_moved}
+use Rattle.deb_encode.proofs.AddLemmas.{below_moved}
 use Rattle.deb_health.specs.Causes.{IsFirstWithout}
 use Rattle.deb_health.proofs.CoreLemmas.{first_of_all}
 use Rattle.number_sets.specs.Sets.{members_of}

@@ -16,6 +16,3 @@ pub returns-clause-placed : goal.returns-clause-placed
 returns-clause-placed c = λ q.
     c.sort_once.ensures.same q
     ∙ inserted_all c.args.forced.now c.args.candidates.now c.args.vars.now c.loop-var.var-index c.loop-var.places.items (omega (arith, c.loop-var-test.false)) c.requires c.loop-var.invariant q
-
-pub returns-clause-rising : goal.returns-clause-rising
-returns-clause-rising c = c.sort_once.ensures.rising

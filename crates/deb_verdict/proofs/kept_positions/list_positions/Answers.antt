@@ -5,7 +5,7 @@ use Rattle.number_sets.specs.Sets.{members_of}
 use Rattle.deb_verdict.specs.Listing.{Lists}
 use Rattle.deb_verdict.proofs.Listing.{IsAnEssential}
 use Rattle.number_sets.proofs.ListMembers.{take_whole, below_members}
-use Rattle.deb_verdict.proofs.Inserted.{rising_length}
+use Rattle.deb_index.proofs.IndexFacts.{rising_length}
 use Rattle.deb_verdict.proofs.Listing.{IsAskedIn, lists_first, lists_place, lists_only, listed_all, listed_below}
 use Rattle.deb_verdict.proofs.kept_positions.list_positions.Goals as goal
 
@@ -38,16 +38,7 @@ returns c =
       in_list = in_list;
       few = omega (
         arith,
-        rising_length positions (length (constraints_of index)) c.sort_once.ensures.rising in_list,
+        rising_length positions c.sort_once.ensures.rising (length (constraints_of index)) in_list,
         constraints-few index c.len-limit.ensures.few c.len-limit.ensures.few_asked,
       );
     }
-
-pub name_of-requires : goal.name_of-requires
-name_of-requires c = c.requires.members c.loop-place.place-index 0 c.loop-place-test.true
-
-pub add_aparts-requires : goal.add_aparts-requires
-add_aparts-requires c = c.requires.members c.loop-place.place-index 0 c.loop-place-test.true
-
-pub add_needs-requires : goal.add_needs-requires
-add_needs-requires c = c.requires.members c.loop-place.place-index 0 c.loop-place-test.true

@@ -1,28 +1,21 @@
+use Rattle.std.proofs.Common.{◌&&◌, ◌∙◌, ap}
 use Rattle.std.proofs.lemmas.Result.{on_ok_weaker}
-use Rattle.deb_relation.specs.AtomView.{atom_view}
-use Rattle.deb_encode.specs.Standings.{is_in}
-use Rattle.deb_encode.proofs.EncoderLemmas.{same_still, adds_since}
-use Rattle.deb_encode.proofs.Told.{apart_row, apart_in_play}
+use Rattle.deb_index.specs.Meets.{meets_at}
+use Rattle.number_sets.specs.Sets.{members_of}
+use Rattle.deb_encode.specs.Encoders.{all_places}
+use Rattle.deb_encode.specs.Play.{placed}
+use Rattle.deb_encode.proofs.EncoderLemmas.{tells_as}
+use Rattle.deb_encode.proofs.Told.{row_says, meeting_says}
 use Rattle.deb_encode.proofs.encoder.Encoder.add_apart.Goals as goal
 
-pub returns-then-is_short-clause-adds : goal.returns-then-is_short-clause-adds
-returns-then-is_short-clause-adds c =
+pub returns-then-row-count : goal.returns-then-row-count
+returns-then-row-count c =
     on_ok_weaker c.add_apart_from.result
-    (λ added. record {
-      same = added.same;
-      adds =
-          apart_row c.args.self.now.play.index.now c.args.self.now.play.forced.now c.args.self.now.play.candidates.now c.args.self.now.group c.args.self.now.formula.now c.add_apart_from.new.self.formula.now c.args.place (is_in c.standing-standing.result)
-          c.standing-standing.ensures.says c.args.number c.in-Some.row.now c.in-Some.ensures.row added.adds;
-    }) c.add_apart_from.ensures.adds
+    (tells_as _ _ c.args.self.now c.add_apart_from.new.self (λ vars. row_says c.args.self.now.play.index.now (placed c.args.self.now.play.forced.now c.args.self.now.play.candidates.now vars) c.args.place c.args.number c.in-Some.row.now c.in-Some.ensures.row)) c.add_apart_from.ensures
 
-pub returns-clause-adds : goal.returns-clause-adds
-returns-clause-adds c =
-    on_ok_weaker c.add_apart_among-2.result
-    (λ added. record {
-      same = same_still c.args.self.now c.add_apart_among.new.self c.add_apart_among-2.new.self c.in_ok-add_apart_among.ensures.adds.same added.same;
-      adds =
-          apart_in_play c.args.self.now.play.index.now c.args.self.now.play.forced.now c.args.self.now.play.candidates.now c.args.self.now.group c.args.self.now.formula.now c.add_apart_among-2.new.self.formula.now c.args.place (is_in c.standing-standing.result)
-          c.standing-standing.ensures.says c.args.number (atom_view c.apart-atom.result.now) c.as_slice.result.now c.as_slice-2.result.now c.add_apart_among.new.self.formula.now c.apart-atom.ensures
-          c.as_slice.ensures c.as_slice-2.ensures c.in_ok-add_apart_among.ensures.adds.adds
-          (adds_since _ c.args.self.now c.add_apart_among.new.self c.add_apart_among-2.new.self c.in_ok-add_apart_among.ensures.adds.same added);
-    }) c.add_apart_among-2.ensures.adds
+pub returns : goal.returns
+returns c =
+    on_ok_weaker c.add_apart_from-2.result
+    (tells_as _ _ c.args.self.now c.add_apart_from-2.new.self
+    (λ vars. meeting_says c.args.self.now.play.index.now c.args.self.now.play.forced.now c.args.self.now.play.candidates.now vars c.args.place c.args.number c.deref.result.now
+    (λ q. ap (λ list. members_of list q) c.deref.ensures.value ∙ (c.in_ok-list_meeting.ensures q ∙ ap (λ atom. members_of (all_places c.args.self.now.play) q && meets_at c.args.self.now.play.index.now q atom) c.apart.ensures)))) c.add_apart_from-2.ensures

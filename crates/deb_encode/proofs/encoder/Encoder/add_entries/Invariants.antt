@@ -1,11 +1,13 @@
-use Rattle.std.proofs.Common.{◌≡◌}
-use Rattle.deb_encode.specs.Encoders.{IsSame}
-use Rattle.deb_encode.proofs.Each.{AddsBelow, meaning_of_row}
+use Rattle.std.proofs.Common.{◌≡◌, ℕ, ◌<◌, true}
+use Rattle.deb_index.specs.declared.constraint.Constraint.TheVariants.{Apart}
+use Rattle.deb_index.specs.Constraints.{Holds}
+use Rattle.deb_encode.specs.Encoders.{Tells}
+use Rattle.deb_encode.specs.Standings.{is_narrow}
+use Rattle.deb_encode.proofs.WideEntries.{ListsWide}
 use Rattle.deb_encode.proofs.encoder.Encoder.add_entries.Given as goal
 
 abbrev pub invariant-loop-number : goal.invariant-loop-number
 invariant-loop-number l = record {
-  same : IsSame l.initial.self l.self;
-  same_formula : l.self.formula.ghost_name ≡ l.initial.self.formula.ghost_name;
-  adds : AddsBelow l.initial.self.group (meaning_of_row l.initial.self.play.index.now l.initial.self.play.forced.now l.initial.self.play.candidates.now l.place) l.number l.initial.self.formula.now l.self.formula.now;
+  adds : Tells (λ play set. (j : ℕ) → j < l.number → is_narrow play.index.now l.place j ≡ true → Holds play.index.now set (Apart l.place j)) l.initial.self l.self;
+  wide : ListsWide l.initial.self.play.index.now l.place l.number l.initial.entries.items l.entries.items;
 }

@@ -1,40 +1,31 @@
 use Rattle.std.proofs.Common.{length, not, refl}
 use Rattle.std.specs.List.{list_any}
 use Rattle.std.proofs.lemmas.Result.{on_ok_weaker}
-use Rattle.deb_index.specs.Packages.{need_at}
-use Rattle.deb_index.specs.Meets.{group_satisfiers}
 use Rattle.deb_encode.specs.Play.{placed}
-use Rattle.deb_encode.specs.Standings.{is_in}
-use Rattle.deb_encode.proofs.EncoderLemmas.{same_still}
-use Rattle.deb_encode.proofs.Widening.{settled_passes, pair_below, pair_adds}
-use Rattle.deb_encode.proofs.Told.{need_settled, need_added}
+use Rattle.deb_encode.proofs.Widening.{widens_next, widened_below, clause_settled, clause_told}
+use Rattle.deb_encode.proofs.Told.{need_out, need_by_row}
 use Rattle.deb_encode.proofs.encoder.Encoder.add_need.Goals as goal
 
-pub returns-then-branch-clause-adds : goal.returns-then-branch-clause-adds
-returns-then-branch-clause-adds c = record {
-  same = record { play = refl; group = refl };
-  adds =
-      need_settled c.args.self.now.play.index.now c.args.self.now.play.forced.now c.args.self.now.play.candidates.now c.args.self.now.group c.args.self.now.formula.now c.args.self.now.formula.now c.args.place (is_in c.standing.result) c.standing.ensures.says c.args.number
-      (settled_passes (length c.args.self.now.play.candidates.now) (λ vars. not (is_in c.standing.result vars)) c.clear.new.self.items c.or_out.new.clause.items c.in_ok-or_out.field-0 c.if-branch.true c.clear.ensures.items
-      (c.in_ok-or_out.ensures (length c.args.self.now.play.candidates.now) c.standing.ensures.below));
-}
+pub returns-then-branch : goal.returns-then-branch
+returns-then-branch c =
+    clause_settled _ (length c.args.self.now.play.candidates.now) (λ vars. not (placed c.args.self.now.play.forced.now c.args.self.now.play.candidates.now vars c.args.place))
+    c.clear.new.self.items c.or_place.new.clause.items c.in_ok-or_place.field-0 c.args.self.now _ (record { play = refl; group = refl; formula = refl }) refl c.clear.ensures.items c.in_ok-or_place.ensures c.if-branch.true
+    (λ vars. need_out c.args.self.now.play.index.now (placed c.args.self.now.play.forced.now c.args.self.now.play.candidates.now vars) c.args.place c.args.number)
 
 pub add_unless-requires : goal.add_unless-requires
 add_unless-requires c =
-    pair_below (length c.args.self.now.play.candidates.now) (λ vars. not (is_in c.standing.result vars))
-    (λ vars. list_any (placed c.args.self.now.play.forced.now c.args.self.now.play.candidates.now vars) (group_satisfiers c.args.self.now.play.index.now (need_at c.args.self.now.play.index.now c.args.place c.args.number)))
-    c.clear.new.self.items c.or_out.new.clause.items c.or_answers.new.clause.items c.or_answers.new.clause.items c.in_ok-or_out.field-0 c.in_ok-anyway.anyway c.if-branch.false c.clear.ensures.items refl
-    (c.in_ok-or_out.ensures (length c.args.self.now.play.candidates.now) c.standing.ensures.below) c.in_ok-anyway.ensures (length c.args.self.now.play.candidates.now) refl
+    widened_below (length c.args.self.now.play.candidates.now) _ c.clear.new.self.items c.or_some.new.clause.items c.in_ok-anyway.anyway c.clear.ensures.items
+    (widens_next (length c.args.self.now.play.candidates.now) (λ vars. not (placed c.args.self.now.play.forced.now c.args.self.now.play.candidates.now vars c.args.place))
+    (λ vars. list_any (placed c.args.self.now.play.forced.now c.args.self.now.play.candidates.now vars) c.in_ok-row.row.now)
+    c.clear.new.self.items c.or_place.new.clause.items c.or_some.new.clause.items c.in_ok-or_place.field-0 c.in_ok-anyway.anyway c.if-branch.false c.in_ok-or_place.ensures c.in_ok-anyway.ensures)
 
-pub returns-clause-adds : goal.returns-clause-adds
-returns-clause-adds c =
+pub returns : goal.returns
+returns c =
     on_ok_weaker c.add_unless.result
-    (λ added. record {
-      same = same_still c.args.self.now _ c.add_unless.new.self (record { play = refl; group = refl }) added.same;
-      adds =
-          need_added c.args.self.now.play.index.now c.args.self.now.play.forced.now c.args.self.now.play.candidates.now c.args.self.now.group c.args.self.now.formula.now c.add_unless.new.self.formula.now c.args.place (is_in c.standing.result) c.standing.ensures.says c.args.number
-          (pair_adds (length c.args.self.now.play.candidates.now) (λ vars. not (is_in c.standing.result vars))
-          (λ vars. list_any (placed c.args.self.now.play.forced.now c.args.self.now.play.candidates.now vars) (group_satisfiers c.args.self.now.play.index.now (need_at c.args.self.now.play.index.now c.args.place c.args.number)))
-          c.clear.new.self.items c.or_out.new.clause.items c.or_answers.new.clause.items c.or_answers.new.clause.items c.in_ok-or_out.field-0 c.in_ok-anyway.anyway c.if-branch.false c.clear.ensures.items refl
-          (c.in_ok-or_out.ensures (length c.args.self.now.play.candidates.now) c.standing.ensures.below) c.in_ok-anyway.ensures c.args.self.now.group c.args.self.now.formula.now c.add_unless.new.self.formula.now added.adds);
-    }) c.add_unless.ensures.adds
+    (clause_told _ (length c.args.self.now.play.candidates.now) _ c.clear.new.self.items c.or_some.new.clause.items c.in_ok-anyway.anyway c.args.self.now _ (record { play = refl; group = refl; formula = refl }) refl c.clear.ensures.items
+    (widens_next (length c.args.self.now.play.candidates.now) (λ vars. not (placed c.args.self.now.play.forced.now c.args.self.now.play.candidates.now vars c.args.place))
+    (λ vars. list_any (placed c.args.self.now.play.forced.now c.args.self.now.play.candidates.now vars) c.in_ok-row.row.now)
+    c.clear.new.self.items c.or_place.new.clause.items c.or_some.new.clause.items c.in_ok-or_place.field-0 c.in_ok-anyway.anyway c.if-branch.false c.in_ok-or_place.ensures c.in_ok-anyway.ensures)
+    c.add_unless.new.self
+    (λ vars. need_by_row c.args.self.now.play.index.now (placed c.args.self.now.play.forced.now c.args.self.now.play.candidates.now vars) c.args.place c.args.number c.in_ok-row.row.now c.in_ok-row.ensures))
+    c.add_unless.ensures

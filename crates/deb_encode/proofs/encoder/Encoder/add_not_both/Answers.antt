@@ -1,36 +1,29 @@
 use Rattle.std.proofs.Common.{length, not, refl}
+use Rattle.std.proofs.lemmas.Bool.{both_ways, not-true}
 use Rattle.std.proofs.lemmas.Result.{on_ok_weaker}
 use Rattle.deb_encode.specs.Play.{placed}
-use Rattle.deb_encode.specs.Standings.{is_in}
-use Rattle.deb_encode.proofs.EncoderLemmas.{same_still}
-use Rattle.deb_encode.proofs.Widening.{pair_below}
-use Rattle.deb_encode.proofs.Clearing.{not_both_settled, not_both_added}
+use Rattle.deb_encode.proofs.Widening.{widens_next, widened_below, clause_settled, clause_told, not_both_says}
 use Rattle.deb_encode.proofs.encoder.Encoder.add_not_both.Goals as goal
 
-pub returns-then-branch-clause-adds : goal.returns-then-branch-clause-adds
-returns-then-branch-clause-adds c = record {
-  same = record { play = refl; group = refl };
-  adds =
-      not_both_settled c.args.self.now.group (length c.args.self.now.play.candidates.now) (is_in c.args.keeper.standing) (λ vars. placed c.args.self.now.play.forced.now c.args.self.now.play.candidates.now vars c.args.other)
-      c.clear.new.self.items c.or_out.new.clause.items c.in_ok-or_out.field-0 c.clear.ensures.items (c.in_ok-or_out.ensures (length c.args.self.now.play.candidates.now) c.requires.keeper)
-      c.args.self.now.formula.now c.if-branch.true;
-}
+pub returns-then-branch : goal.returns-then-branch
+returns-then-branch c =
+    clause_settled _ (length c.args.self.now.play.candidates.now) (λ vars. not (placed c.args.self.now.play.forced.now c.args.self.now.play.candidates.now vars c.args.place))
+    c.clear.new.self.items c.or_place.new.clause.items c.in_ok-or_place.field-0 c.args.self.now _ (record { play = refl; group = refl; formula = refl }) refl c.clear.ensures.items c.in_ok-or_place.ensures c.if-branch.true
+    (λ vars out has also. both_ways _ (not-true _ out) has)
 
 pub add_unless-requires : goal.add_unless-requires
 add_unless-requires c =
-    pair_below (length c.args.self.now.play.candidates.now) (λ vars. not (is_in c.args.keeper.standing vars)) (λ vars. not (is_in c.standing.result vars))
-    c.clear.new.self.items c.or_out.new.clause.items c.or_out-2.new.clause.items c.or_out-2.new.clause.items c.in_ok-or_out.field-0 c.in_ok-anyway.anyway c.if-branch.false c.clear.ensures.items refl
-    (c.in_ok-or_out.ensures (length c.args.self.now.play.candidates.now) c.requires.keeper) (c.in_ok-anyway.ensures (length c.args.self.now.play.candidates.now) c.standing.ensures.below)
-    (length c.args.self.now.play.candidates.now) refl
+    widened_below (length c.args.self.now.play.candidates.now) _ c.clear.new.self.items c.or_place-2.new.clause.items c.in_ok-anyway.anyway c.clear.ensures.items
+    (widens_next (length c.args.self.now.play.candidates.now) (λ vars. not (placed c.args.self.now.play.forced.now c.args.self.now.play.candidates.now vars c.args.place))
+    (λ vars. not (placed c.args.self.now.play.forced.now c.args.self.now.play.candidates.now vars c.args.other))
+    c.clear.new.self.items c.or_place.new.clause.items c.or_place-2.new.clause.items c.in_ok-or_place.field-0 c.in_ok-anyway.anyway c.if-branch.false c.in_ok-or_place.ensures c.in_ok-anyway.ensures)
 
-pub returns-clause-adds : goal.returns-clause-adds
-returns-clause-adds c =
+pub returns : goal.returns
+returns c =
     on_ok_weaker c.add_unless.result
-    (λ added. record {
-      same = same_still c.args.self.now _ c.add_unless.new.self (record { play = refl; group = refl }) added.same;
-      adds =
-          not_both_added c.args.self.now.group (length c.args.self.now.play.candidates.now) (is_in c.args.keeper.standing) (λ vars. placed c.args.self.now.play.forced.now c.args.self.now.play.candidates.now vars c.args.other)
-          c.clear.new.self.items c.or_out.new.clause.items c.in_ok-or_out.field-0 c.clear.ensures.items (c.in_ok-or_out.ensures (length c.args.self.now.play.candidates.now) c.requires.keeper)
-          (is_in c.standing.result) c.or_out-2.new.clause.items c.or_out-2.new.clause.items c.in_ok-anyway.anyway c.args.self.now.formula.now c.add_unless.new.self.formula.now c.if-branch.false refl c.standing.ensures.says
-          (c.in_ok-anyway.ensures (length c.args.self.now.play.candidates.now) c.standing.ensures.below) added.adds;
-    }) c.add_unless.ensures.adds
+    (clause_told _ (length c.args.self.now.play.candidates.now) _ c.clear.new.self.items c.or_place-2.new.clause.items c.in_ok-anyway.anyway c.args.self.now _ (record { play = refl; group = refl; formula = refl }) refl c.clear.ensures.items
+    (widens_next (length c.args.self.now.play.candidates.now) (λ vars. not (placed c.args.self.now.play.forced.now c.args.self.now.play.candidates.now vars c.args.place))
+    (λ vars. not (placed c.args.self.now.play.forced.now c.args.self.now.play.candidates.now vars c.args.other))
+    c.clear.new.self.items c.or_place.new.clause.items c.or_place-2.new.clause.items c.in_ok-or_place.field-0 c.in_ok-anyway.anyway c.if-branch.false c.in_ok-or_place.ensures c.in_ok-anyway.ensures)
+    c.add_unless.new.self (λ vars. not_both_says _ _))
+    c.add_unless.ensures

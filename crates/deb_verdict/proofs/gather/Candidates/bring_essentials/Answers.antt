@@ -1,17 +1,18 @@
-use Rattle.std.proofs.Common.{◌∙◌, ◌<◌, ℕ, length, get_or, arith, refl}
+use Rattle.std.proofs.Common.{◌∙◌, ◌<◌, ℕ, length, get_or, arith, refl, sym, ap, inl, inr}
 use Rattle.std.proofs.lemmas.List.Elements.{All-same}
 use Rattle.number_sets.specs.Sets.{members_of}
 use Rattle.number_sets.proofs.Placing.{grows_none, grows_both}
 use Rattle.deb_index.specs.Packages.{places_of, name_at}
-use Rattle.deb_index.proofs.IndexFacts.{named_below}
+use Rattle.deb_index.proofs.IndexFacts.{named_below, member_named}
 use Rattle.deb_groundwork.proofs.RowLemmas.{essential_below}
-use Rattle.deb_verdict.proofs.GatherLemmas.{names_more, names_all}
+use Rattle.deb_verdict.proofs.GatherLemmas.{names_more, names_all, essential_right}
 use Rattle.deb_verdict.proofs.gather.Candidates.bring_essentials.Goals as goal
 
 pub loop-name-init : goal.loop-name-init
 loop-name-init c = record {
   grows = grows_none (length c.args.index.now.packages) c.args.self.now.places;
   names = λ k below. absurd (omega (arith, below));
+  reaches = λ p other closed visited within. within;
   unmet = refl;
 }
 
@@ -30,6 +31,13 @@ loop-name-preserved c =
       names =
           names_more c.args.index.now (members_of c.args.forced.now) c.essential_names-name-items.result.now c.loop-name.name-index c.places_named.result.now c.loop-name.self.places c.bring.new.self.places
           c.places_named.ensures grows c.in_ok-bring.ensures.has c.loop-name.invariant.names;
+      reaches = λ p other closed visited within q is_in.
+          elim (c.in_ok-bring.ensures.only q is_in) [
+            | inl old ↦ c.loop-name.invariant.reaches p other closed visited within q old
+            | inr row ↦
+                closed.essential name q (essential_right c.args.index.now c.essential_names-name-items.result.now c.essential_names-name-items.ensures c.loop-name.name-index c.loop-name-test.true)
+                (sym (ap (λ list. members_of list q) c.places_named.ensures ∙ member_named c.args.index.now name q) ∙ row)
+          ];
       unmet = c.in_ok-bring.ensures.unmet ∙ c.loop-name.invariant.unmet;
     }
 

@@ -1,5 +1,4 @@
 use Rattle.std.proofs.Common.{ℕ, List}
-use Rattle.std.proofs.lemmas.Bool.{true≢false}
 use Rattle.number_sets.specs.Sets.{NumberSet, members_of}
 use Rattle.core_extract.specs.Reduction.{left, listed}
 use Rattle.deb_health.specs.Causes.{without}
@@ -12,17 +11,8 @@ returns-clause-refuted c = λ _.
     let p = c.args.self.now.p in
     let out : NumberSet = members_of c.args.self.now.out.now in
     let part : NumberSet = left (members_of c.args.kept.now) c.args.rest in
-    let used : List ℕ = c.refute_next.new.workspace.used.items in
+    let used : List ℕ = c.refute_part.new.workspace.used.items in
     let sorted : List ℕ = c.take_rising.new.used.items in
     refuted_without index p out part (listed sorted)
     (refuted_listed index p c.len-limit.ensures.few c.len-limit.ensures.few_asked (without out part) sorted
     (refuted_same index p (without out part) used sorted c.take_rising.ensures.same (c.in_ok-refuted.ensures.refuted c.if-not-refuted.false)))
-
-pub returns-clause-admitted : goal.returns-clause-admitted
-returns-clause-admitted c = λ is. absurd (true≢false is)
-
-pub returns-clause-still : goal.returns-clause-still
-returns-clause-still c = λ is. absurd (true≢false is)
-
-pub returns-clause-same : goal.returns-clause-same
-returns-clause-same c = λ set. (λ none. none, λ none. none)
