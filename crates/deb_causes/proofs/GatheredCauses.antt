@@ -18,8 +18,8 @@ use Rattle.deb_health.specs.Verdicts.{ToldView}
 use Rattle.number_sets.proofs.ListLemmas.{all_seen, map-twice}
 use Rattle.deb_causes.specs.declared.gathered.Cause.{Cause}
 use Rattle.deb_causes.specs.declared.gathered.Part.{Part}
-use Rattle.deb_causes.specs.declared.numbered.NumberedCore.{NumberedCore}
-use Rattle.deb_causes.specs.declared.numbered.NumberedPackage.{NumberedPackage}
+use Rattle.deb_causes.specs.declared.gathered.NumberedCore.{NumberedCore}
+use Rattle.deb_causes.specs.declared.gathered.NumberedPackage.{NumberedPackage}
 use Rattle.deb_causes.specs.declared.wrongs.Wrongs.{Wrongs}
 use Rattle.deb_causes.specs.Causes.{CauseView, IsCauseOf, by_count, by_first, causes_list, cause_view, cores_of, cores_with, found_causes, gathered, has_cause, has_count, is_broken_by, is_need, is_said, is_version_in, needs_in, same_cause, same_constraint, says, says_same, versions_in}
 use Rattle.deb_causes.specs.Gathered.{cause_from}

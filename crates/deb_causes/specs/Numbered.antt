@@ -1,8 +1,8 @@
 -- Broken packages and the cores of their causes, with the numbers of these.
 use Rattle.std.specs.Prelude.{ℕ, List, map}
 use Rattle.deb_index.specs.declared.constraint.Constraint.{Constraint}
-use Rattle.deb_causes.specs.declared.numbered.NumberedCore.{NumberedCore}
-use Rattle.deb_causes.specs.declared.numbered.NumberedPackage.{NumberedPackage}
+use Rattle.deb_causes.specs.declared.gathered.NumberedCore.{NumberedCore}
+use Rattle.deb_causes.specs.declared.gathered.NumberedPackage.{NumberedPackage}
 
 abbrev pub core_view : NumberedCore → ℕ × List Constraint
 core_view core = (core.number, core.core.now)

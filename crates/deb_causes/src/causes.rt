@@ -8,8 +8,7 @@ ghost use Rattle.deb_causes.specs.Gathering.{part_view};
 ghost use Rattle.deb_health.specs.Shown.{IsAskedOf, shown_view};
 
 use crate::cores::{needs_in, versions_in, wrongs_in};
-use crate::gathered::{Cause, Part, parts_of};
-use crate::numbered::number_packages;
+use crate::gathered::{Cause, Part, number_packages, parts_of};
 use crate::wrongs::Wrongs;
 use deb_health::Shown;
 use deb_index::Index;

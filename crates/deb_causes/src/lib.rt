@@ -3,10 +3,10 @@
 //!
 //! The modules, in reading order:
 //!
-//! - `missing`: whether no package meets a need; `near`: the packages that have the name of an alternative, or provide it.
+//! - `near`: the packages that have the name of an alternative, or provide it.
 //! - `stems`: what is left of names without their numbers; `similar`: the names of an index with such a stem.
-//! - `numbering` gives each text a number, `wrongs` one to each cause, `numbered` to each core that of its cause;
-//! - `gathered` gathers by these numbers, `cores` says what the cores of a cause tell, and `causes` lists them.
+//! - `numbering` gives each text a number, `wrongs` one to each cause;
+//! - `gathered` gathers cores by the numbers of their causes, `cores` says what the cores of a cause tell, and `causes` lists them.
 //! - `laws`: what holds of the packages that a cause frees.
 #![tactic(auto)]
 
@@ -14,9 +14,7 @@ mod causes;
 mod cores;
 mod gathered;
 pub mod laws;
-mod missing;
 mod near;
-mod numbered;
 mod numbering;
 mod similar;
 mod stems;
@@ -24,6 +22,6 @@ mod wrongs;
 
 pub use causes::causes_of;
 pub use gathered::Cause;
-pub use missing::is_missing;
 pub use near::{NearMiss, near_misses};
 pub use similar::Similar;
+pub use wrongs::is_missing;

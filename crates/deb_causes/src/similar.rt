@@ -90,13 +90,6 @@ impl<'s> Told<'s> {
         }
         Ok(())
     }
-
-    /// The names that are told.
-    fn into_names(self) -> Vec<&'s [u8]>
-        ensures { result ≡ self.entry.names }
-    {
-        self.names
-    }
 }
 
 /// The names of an index with certain stems.
@@ -233,10 +226,8 @@ impl Similar {
             known: HashSet::new(alloc),
             names: Vec::new(alloc),
         };
-        let done = self.tell(alloc, atoms.as_slice(), &mut told);
-        drop(atoms);
-        let names = told.into_names();
-        done?;
+        self.tell(alloc, atoms.as_slice(), &mut told)?;
+        let Told { known: _, names } = told;
         Ok(names)
     }
 }

@@ -136,8 +136,6 @@ pub(crate) fn stems_of(
 {
     let atoms = alternatives_of(alloc, index, constraints)?;
     let mut lists = HashMap::new(alloc);
-    let added = add_stems(alloc, atoms.as_slice(), &mut lists);
-    drop(atoms);
-    added?;
+    add_stems(alloc, atoms.as_slice(), &mut lists)?;
     Ok(lists)
 }

@@ -2,18 +2,28 @@
 
 ghost use Rattle.std.specs.Prelude.{◌≡◌, ◌++◌, ◌∷◌, [], ℕ, List, All, IfOk, OnOk, Some, length, map};
 ghost use Rattle.deb_index.specs.Constraints.{IsOfIndex};
+ghost use Rattle.deb_index.specs.Packages.{need_at};
 ghost use Rattle.deb_index.specs.Tables.{number_in};
 ghost use Rattle.deb_health.specs.Causes.{cause_in, is_final};
 ghost use Rattle.deb_causes.specs.Causes.{says};
+ghost use Rattle.deb_causes.specs.Missing.{is_missing};
 ghost use Rattle.deb_causes.specs.Numbering.{Grows, IsFront, texts_of, with_text};
 ghost use Rattle.deb_causes.specs.Said.{number_said};
 
-use crate::missing::is_missing;
 use crate::numbering::Numbering;
 use deb_index::{Constraint, Index};
 use deb_relation::push_group;
 use number_sets::sort_once;
 use std::alloc::{AllocError, Global};
+
+/// Whether no package meets a group of a package, as a dependency (Debian Policy 7.2). `AllocError` where there is no memory to look.
+pub fn is_missing(alloc: Global, index: &Index, place: u32, number: u32) -> Result<bool, AllocError>
+    requires { IsOfIndex index.now (Constraint.Need place number) }
+    ensures { IfOk result (λ missing. missing ≡ is_missing index.now (need_at index.now place number)) }
+{
+    let mut found = Vec::new(alloc);
+    Ok(index.answers(place, number, &mut found)?.is_empty())
+}
 
 /// Whether a constraint is no need that some package of the index meets. `AllocError` where there is no memory to look.
 pub(crate) fn is_final(

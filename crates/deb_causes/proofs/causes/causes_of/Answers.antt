@@ -5,8 +5,8 @@ use Rattle.number_sets.proofs.ListLemmas.{all_seen}
 use Rattle.deb_index.specs.Constraints.{IsOfIndex, below}
 use Rattle.deb_health.specs.Shown.{IsAskedOf, shown_view}
 use Rattle.deb_health.specs.Verdicts.{ToldView}
-use Rattle.deb_causes.specs.declared.numbered.NumberedCore.{NumberedCore}
-use Rattle.deb_causes.specs.declared.numbered.NumberedPackage.{NumberedPackage}
+use Rattle.deb_causes.specs.declared.gathered.NumberedCore.{NumberedCore}
+use Rattle.deb_causes.specs.declared.gathered.NumberedPackage.{NumberedPackage}
 use Rattle.deb_causes.specs.Causes.{IsCauseOf, by_first, cause_view, causes_list, cores_of}
 use Rattle.deb_causes.specs.Gathered.{cause_from}
 use Rattle.deb_causes.specs.Gathering.{part_of, part_view}

@@ -2,7 +2,7 @@ use Rattle.std.proofs.Common.{◌≡◌, ◌∙◌, ◌<◌, ◌∷◌, [], ◌+
 use Rattle.std.proofs.lemmas.List.{length-set, map-append}
 use Rattle.deb_index.specs.declared.constraint.Constraint.{Constraint}
 use Rattle.number_sets.proofs.AtomSteps.{map_more}
-use Rattle.deb_causes.specs.declared.numbered.NumberedCore.{NumberedCore}
+use Rattle.deb_causes.specs.declared.gathered.NumberedCore.{NumberedCore}
 use Rattle.deb_causes.specs.declared.gathered.Part.{Part}
 use Rattle.deb_causes.specs.Gathering.{part_view, with_cores}
 use Rattle.deb_causes.specs.Numbered.{core_view}

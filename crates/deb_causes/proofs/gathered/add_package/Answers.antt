@@ -3,7 +3,7 @@ use Rattle.std.specs.List.{list_any}
 use Rattle.deb_index.specs.Constraints.{below}
 use Rattle.number_sets.specs.Sets.{members_of}
 use Rattle.number_sets.proofs.ListMembers.{below_members}
-use Rattle.deb_causes.specs.declared.numbered.NumberedCore.{NumberedCore}
+use Rattle.deb_causes.specs.declared.gathered.NumberedCore.{NumberedCore}
 use Rattle.deb_causes.specs.Gathering.{has_number, is_alone, part_of, with_cores, with_share}
 use Rattle.deb_causes.specs.Numbered.{core_view, package_view}
 use Rattle.deb_causes.proofs.GatheringLemmas.{number-below, part-more}

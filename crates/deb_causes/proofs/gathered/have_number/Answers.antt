@@ -1,5 +1,5 @@
 use Rattle.std.proofs.Common.{rules, ◌≡◌, ◌<◌, ◌==◌, [], arith, false, get_or, length, sym}
-use Rattle.deb_causes.specs.declared.numbered.NumberedCore.{NumberedCore}
+use Rattle.deb_causes.specs.declared.gathered.NumberedCore.{NumberedCore}
 use Rattle.deb_causes.specs.Gathering.{has_number}
 use Rattle.deb_causes.specs.Numbered.{core_view}
 use Rattle.deb_causes.proofs.GatheringLemmas.{all-stops}

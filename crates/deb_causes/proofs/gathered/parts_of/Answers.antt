@@ -3,8 +3,8 @@ use Rattle.std.proofs.lemmas.List.{length-map}
 use Rattle.deb_index.specs.Constraints.{below}
 use Rattle.number_sets.proofs.AtomSteps.{map_more}
 use Rattle.number_sets.proofs.ListLemmas.{all_item}
-use Rattle.deb_causes.specs.declared.numbered.NumberedCore.{NumberedCore}
-use Rattle.deb_causes.specs.declared.numbered.NumberedPackage.{NumberedPackage}
+use Rattle.deb_causes.specs.declared.gathered.NumberedCore.{NumberedCore}
+use Rattle.deb_causes.specs.declared.gathered.NumberedPackage.{NumberedPackage}
 use Rattle.deb_causes.specs.Gathering.{part_of, part_view}
 use Rattle.deb_causes.specs.Numbered.{package_view}
 use Rattle.deb_causes.proofs.GatheringLemmas.{length-range}

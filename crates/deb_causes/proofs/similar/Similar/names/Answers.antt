@@ -11,8 +11,8 @@ use Rattle.deb_causes.proofs.similar.Similar.names.Goals as goal
 abbrev view : Bor Atom → AtomText
 view atom = atom_view atom.now
 
-pub tell-done-requires-clause-sought : goal.tell-done-requires-clause-sought
-tell-done-requires-clause-sought c =
+pub tell-requires-clause-sought : goal.tell-requires-clause-sought
+tell-requires-clause-sought c =
     let sought : AtomText → Type 0 = λ atom. has_text (stems_in c.args.self.now) (stem atom.name) ≡ true in
     subst (All sought) (sym (ap (map view) c.as_slice.ensures.value ∙ c.in_ok-atoms.ensures)) c.requires.sought
 
@@ -21,6 +21,5 @@ unfolding similar_names
 returns c =
     let index = c.args.index.now in
     let similar : AtomText → List (List ℕ) = λ atom. similar_to index atom.name in
-    ap (λ names. map (λ name. name.now) names.items) c.into_names-names.ensures
-    ∙ (c.in_ok-done.ensures (flat_map (names_of index.arch) index.packages) c.requires.found).names_are
+    (c.in_ok-tell.ensures (flat_map (names_of index.arch) index.packages) c.requires.found).names_are
     ∙ ap (λ texts. first_told (filter (λ name. not (is_one_of texts name)) (flat_map similar texts))) (ap (map view) c.as_slice.ensures.value ∙ c.in_ok-atoms.ensures)

@@ -4,7 +4,7 @@ use Rattle.deb_causes.specs.Causes.{cores_of}
 use Rattle.deb_causes.specs.Numbered.{package_view, unnumbered}
 use Rattle.deb_health.specs.Shown.{shown_view}
 use Rattle.deb_causes.specs.Wrongs.{AreNumbered}
-use Rattle.deb_causes.proofs.numbered.number_packages.Given as goal
+use Rattle.deb_causes.proofs.gathered.number_packages.Given as goal
 
 abbrev pub invariant-loop-one : goal.invariant-loop-one
 invariant-loop-one l =

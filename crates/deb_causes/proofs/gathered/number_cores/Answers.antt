@@ -2,11 +2,11 @@ use Rattle.std.proofs.Common.{◌∙◌, ◌∷◌, [], Global, List, Vec, ap, m
 use Rattle.std.proofs.lemmas.List.{map-append}
 use Rattle.deb_index.specs.declared.constraint.Constraint.{Constraint}
 use Rattle.number_sets.proofs.AtomSteps.{pushed}
-use Rattle.deb_causes.specs.declared.numbered.NumberedCore.{NumberedCore}
+use Rattle.deb_causes.specs.declared.gathered.NumberedCore.{NumberedCore}
 use Rattle.deb_causes.specs.Numbered.{core_view}
 use Rattle.deb_causes.specs.Wrongs.{AreNumbered}
 use Rattle.deb_causes.proofs.WrongsLemmas.{numbered-more, numbered-none}
-use Rattle.deb_causes.proofs.numbered.number_cores.Goals as goal
+use Rattle.deb_causes.proofs.gathered.number_cores.Goals as goal
 
 pub loop-one-init : goal.loop-one-init
 loop-one-init c = rw c.new-numbered.ensures.items (record { cores = refl; numbers = numbered-none c.args.index.now c.args.wrongs.now })

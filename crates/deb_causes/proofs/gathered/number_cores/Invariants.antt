@@ -1,7 +1,7 @@
 use Rattle.std.proofs.Common.{◌≡◌, map, take}
 use Rattle.deb_causes.specs.Numbered.{core_view}
 use Rattle.deb_causes.specs.Wrongs.{AreNumbered}
-use Rattle.deb_causes.proofs.numbered.number_cores.Given as goal
+use Rattle.deb_causes.proofs.gathered.number_cores.Given as goal
 
 abbrev pub invariant-loop-one : goal.invariant-loop-one
 invariant-loop-one l =
