@@ -1,11 +1,9 @@
 -- What the core says of a package, constraint by constraint.
-use Rattle.std.proofs.Common.{◌≡◌, ℕ, ◌+◌, ◌<◌, cond, List, [], ◌∷◌, ◌++◌, filter, get_or, length, map, take, refl, sym, ap, ◌∙◌, inl, inr}
-use Rattle.std.proofs.lemmas.Bool.{cases_Bool}
+use Rattle.std.proofs.Common.{◌≡◌, ℕ, ◌+◌, ◌<◌, cond, List, [], ◌∷◌, ◌++◌, filter, get_or, length, take, sym, ap, ◌∙◌}
 use Rattle.std.proofs.lemmas.List.{take_more}
 use Rattle.std.proofs.lemmas.List.Elements.{filter-append}
 use Rattle.deb_index.specs.declared.constraint.Constraint.{Constraint}
-use Rattle.deb_report.specs.declared.walk.Step.TheVariants.{Tell}
-use Rattle.deb_report.specs.Walk.{is_own, own_steps}
+use Rattle.deb_report.specs.Walk.{is_own}
 
 -- what the core says, with one constraint more
 pub says-more : (core : List Constraint) (i q : ℕ) (d c : Constraint) (old new : List Constraint) → i < length core → c ≡ get_or core i d → new ≡ old ++ cond (is_own q c) (c ∷ []) []
@@ -13,13 +11,3 @@ pub says-more : (core : List Constraint) (i q : ℕ) (d c : Constraint) (old new
 says-more core i q d c old new inside is more before =
     more ∙ ap (λ list. list ++ cond (is_own q c) (c ∷ []) []) before
     ∙ sym (ap (filter (is_own q)) (take_more core i d inside ∙ ap (λ (last : Constraint). take i core ++ last ∷ []) (sym is)) ∙ filter-append (is_own q) (take i core) (c ∷ []))
-
--- the steps that tell it
-pub told_own : (core : List Constraint) (depth place : ℕ) → map (λ c. Tell depth c) (filter (is_own place) core) ≡ own_steps core depth place
-unfolding own_steps
-told_own [] depth place = refl
-told_own (c ∷ cs) depth place =
-    elim (cases_Bool (is_own place c)) [
-      | inl passes ↦ rw passes (ap (λ steps. Tell depth c ∷ steps) (told_own cs depth place))
-      | inr fails ↦ rw fails (told_own cs depth place)
-    ]

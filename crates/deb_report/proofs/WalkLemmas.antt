@@ -2,7 +2,7 @@
 use Rattle.std.proofs.Common.{◌≡◌, ◌==◌, ℕ, ◌+◌, ◌<◌, ◌||◌, Bool, List, [], ◌∷◌, ◌++◌, All, filter, length, get_or, take, map, reverse, append-nil, refl, sym, ap, ap₂, nat_eq, ◌∙◌, inl, inr, not}
 use Rattle.std.proofs.lemmas.Bool.{cases_Bool}
 use Rattle.std.proofs.lemmas.Grind.{flat_map-append}
-use Rattle.std.proofs.lemmas.List.{append_assoc, flat_map_more, reverse-append, take_more}
+use Rattle.std.proofs.lemmas.List.{append_assoc, reverse-append, take_more}
 use Rattle.std.proofs.lemmas.List.Elements.{All-append, All-cons, All-head, All-nil, All-tail}
 use Rattle.std.proofs.lemmas.List.Folds.{list_any-append}
 use Rattle.std.specs.Cmp.{nat_eq_equiv}
@@ -18,7 +18,7 @@ use Rattle.deb_index.specs.Packages.{IndexView, is_named, name_at, need_at, plac
 use Rattle.deb_index.proofs.MemberLemmas.{below-places_where}
 use Rattle.deb_report.specs.declared.walk.Step.{Step}
 use Rattle.deb_report.specs.declared.walk.Step.TheVariants.{Begin, Meet, Tell}
-use Rattle.deb_report.specs.Walk.{IsStepOf, are_told, begin_step, brought, comers, depth_of, essential_step, first_steps, hits_in, is_hit, is_own, met_steps, only_step, own_step, own_steps, steps_behind, versions_coming}
+use Rattle.deb_report.specs.Walk.{IsStepOf, are_told, begin_step, brought, comers, depth_of, first_steps, hits_in, is_hit, is_own, met_steps, named_step, own_steps, steps_behind, versions_coming}
 
 -- what is brought is of the index
 pub brought-within : (index : IndexView) (constraint : Constraint) → All (λ place. place < length index.packages) (brought index constraint)
@@ -50,13 +50,6 @@ coming_row index core i place d c old new row q inside is row_is before grown =
     grown ∙ ap (λ b. b || is_member nat_eq row q) before
     ∙ ap (λ b. members_of (comers index (take i core) place) q || b) (turned row q ∙ ap (λ ps. members_of ps q) row_is)
     ∙ sym (comers_more index core i place d c q inside is)
-
--- behind the steps stand those of one constraint more
-pub steps_more : (f : Constraint → List Step) (core : List Constraint) (i : ℕ) (d : Constraint) (start old new : List Step) → i < length core
-    → old ≡ start ++ flat_map f (take i core) → new ≡ old ++ f (get_or core i d) → new ≡ start ++ flat_map f (take (i + 1) core)
-steps_more f core i d start old new inside before grown =
-    grown ∙ ap (λ front. front ++ f (get_or core i d)) before ∙ flat_map_more f start (take i core) (get_or core i d)
-    ∙ ap (λ gone. start ++ flat_map f gone) (sym (take_more core i d inside))
 
 -- what holds of each element holds of those that are kept
 pub filter_all : {A : Type 0} (P : A → Type 0) (test : A → Bool) (xs : List A) → All P xs → All P (filter test xs)
@@ -120,13 +113,7 @@ module _ (index : IndexView) (P : Constraint → Type 0) where
 
   own-within : (core : List Constraint) (depth place : ℕ) → All P core → All Fits (own_steps core depth place)
   unfolding own_steps
-  own-within core depth place all = flat_all P Fits (own_step depth place) core one all
-    where
-      one : (c : Constraint) → P c → All Fits (own_step depth place c)
-      one c fits = elim (cases_Bool (is_own place c)) [
-        | inl passes ↦ rw passes (All-cons Fits (Tell depth c) [] fits (All-nil Fits))
-        | inr fails ↦ rw fails (All-nil Fits)
-      ]
+  own-within core depth place all = map_all P Fits (λ c. Tell depth c) (filter (is_own place) core) (λ c fits. fits) (filter_all P (is_own place) core all)
 
   met-within : (told : NumberSet) (depth : ℕ) (c : Constraint) → P c → All Fits (met_steps index told depth c)
   unfolding met_steps
@@ -165,21 +152,14 @@ module _ (index : IndexView) (P : Constraint → Type 0) where
   pub first-within : (core : List Constraint) (place : ℕ) → place < length index.packages → ((c : Constraint) → P c → IsOfIndex index c) → All P core → All Fits (first_steps core place)
   unfolding first_steps
   first-within core place inside of all =
-      All-cons Fits (Begin place) _ inside (All-append Fits (flat_map essential_step core ++ flat_map only_step core) (flat_map begin_step core)
-      (All-append Fits (flat_map essential_step core) (flat_map only_step core) (flat_all P Fits essential_step core essential all) (flat_all P Fits only_step core only all))
+      All-cons Fits (Begin place) _ inside (All-append Fits (flat_map named_step core) (flat_map begin_step core) (flat_all P Fits named_step core named all)
       (flat_all P Fits begin_step core (λ c fits. begin c (of c fits)) all))
     where
-      essential : (c : Constraint) → P c → All Fits (essential_step c)
-      essential (Essential name) fits = All-cons Fits (Tell 0 (Essential name)) [] fits (All-nil Fits)
-      essential (Need p j) fits = All-nil Fits
-      essential (Apart p j) fits = All-nil Fits
-      essential (Only name) fits = All-nil Fits
-
-      only : (c : Constraint) → P c → All Fits (only_step c)
-      only (Essential name) fits = All-nil Fits
-      only (Need p j) fits = All-nil Fits
-      only (Apart p j) fits = All-nil Fits
-      only (Only name) fits = All-cons Fits (Tell 0 (Only name)) [] fits (All-nil Fits)
+      named : (c : Constraint) → P c → All Fits (named_step c)
+      named (Essential name) fits = All-cons Fits (Tell 0 (Essential name)) [] fits (All-nil Fits)
+      named (Need p j) fits = All-nil Fits
+      named (Apart p j) fits = All-nil Fits
+      named (Only name) fits = All-cons Fits (Tell 0 (Only name)) [] fits (All-nil Fits)
 
       begin : (c : Constraint) → IsOfIndex index c → All Fits (begin_step c)
       begin (Essential name) within = All-nil Fits

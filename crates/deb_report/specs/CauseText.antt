@@ -1,5 +1,5 @@
 -- The blocks of causes.
-use Rattle.std.specs.Prelude.{ℕ, List, [], ◌∷◌, ◌++◌, Option, None, Some, length, codes, decimal}
+use Rattle.std.specs.Prelude.{ℕ, Bool, false, true, List, [], ◌∷◌, ◌++◌, Option, None, Some, length, codes, decimal, if◌then◌else◌}
 use Rattle.deb_index.specs.declared.constraint.Constraint.{Constraint}
 use Rattle.deb_index.specs.declared.constraint.Constraint.TheVariants.{Need}
 use Rattle.deb_index.specs.Packages.{IndexView, need_at, package_at}
@@ -11,28 +11,21 @@ use Rattle.deb_causes.specs.Causes.{CauseView}
 use Rattle.run_settings.specs.declared.config.Format.{Format}
 use Rattle.run_settings.specs.declared.config.Format.TheVariants.{Json, Text}
 
--- what is wrong: of a need its alternatives alone, which are missing
-unfoldable pub wrong_parts : IndexView → Constraint → List PartView
-wrong_parts index (Need place number) = OfKind (codes "missing") ∷ OfRelation (need_at index place number) ∷ []
-wrong_parts index constraint = reason_parts index constraint
+-- what is wrong, of a need its alternatives alone, which are missing; or who needs it
+unfoldable pub told_parts : Bool → IndexView → Constraint → List PartView
+told_parts needed index (Need place number) = let deb = package_at index place in let group = need_at index place number in
+    if needed then asked_parts deb (group_field deb number) group else OfKind (codes "missing") ∷ OfRelation group ∷ []
+told_parts needed index constraint = reason_parts index constraint
 
-abbrev pub wrong_in : Format → IndexView → Constraint → List ℕ
-wrong_in form index constraint = item_in form Within (wrong_parts index constraint)
-
--- who needs it
-unfoldable pub needed_parts : IndexView → Constraint → List PartView
-needed_parts index (Need place number) = let deb = package_at index place in asked_parts deb (group_field deb number) (need_at index place number)
-needed_parts index constraint = reason_parts index constraint
-
-abbrev pub needed_in : Format → IndexView → Constraint → List ℕ
-needed_in form index constraint = item_in form Within (needed_parts index constraint)
+abbrev pub told_in : Bool → Format → IndexView → Constraint → List ℕ
+told_in needed form index constraint = item_in form Within (told_parts needed index constraint)
 
 -- the block of a cause
 unfoldable pub cause_in : Format → IndexView → CauseView → List ℕ
 cause_in form index cause = number_in form Block (codes "packages") (length cause.places)
     ++ number_in form Within (codes "frees") cause.frees
-    ++ list_in form Within (codes "reasons") (wrong_in form index) cause.constraints
-    ++ some_in form (codes "needed-by") (needed_in form index) cause.needs
+    ++ list_in form Within (codes "reasons") (told_in false form index) cause.constraints
+    ++ some_in form (codes "needed-by") (told_in true form index) cause.needs
     ++ some_in form (codes "hits") (place_in form index) (hits_of index cause.constraints)
     ++ some_in form (codes "versions") (place_in form index) cause.versions
     ++ near_to_in form index cause.constraints

@@ -13,15 +13,15 @@ use Rattle.deb_report.specs.WalkLines.{walk_lines}
 use Rattle.deb_report.specs.declared.form.Lead.TheVariants.{Block, Other, Tall, Within}
 use Rattle.deb_report.specs.CauseText.{causes_in}
 use Rattle.deb_report.specs.Content.{ContentView}
-use Rattle.deb_report.specs.Report.{TellingView}
+use Rattle.run_settings.specs.Settings.{Settings}
 use Rattle.run_settings.specs.declared.config.Format.{Format}
 use Rattle.run_settings.specs.declared.config.Format.TheVariants.{Json, Text}
 
 -- ---- blocks
 
 -- a constraint of a core, with where a walk goes on from it
-unfoldable pub told_in : Format → IndexView → TellingView → Constraint → List ℕ
-told_in form index telling constraint = reason_front form index constraint ++ (if telling.why then links_in form index constraint else []) ++ item_end form
+unfoldable pub told_in : Format → IndexView → Settings → Constraint → List ℕ
+told_in form index settings constraint = reason_front form index constraint ++ (if settings.why then links_in form index constraint else []) ++ item_end form
 
 -- lines tell a walk as it goes
 abbrev pub is_walked : Format → Bool → Bool
@@ -29,48 +29,48 @@ is_walked Text why = why
 is_walked Json why = false
 
 -- a core of the package at a place, under a title
-unfoldable pub core_in : Format → IndexView → TellingView → ℕ → List ℕ → List Constraint → List ℕ
-core_in form index telling place title core =
-    if is_walked form telling.why then title_in form Within title ++ codes "\n" ++ walk_lines index place core
-    else list_in form Within title (told_in form index telling) core
+unfoldable pub core_in : Format → IndexView → Settings → ℕ → List ℕ → List Constraint → List ℕ
+core_in form index settings place title core =
+    if is_walked form settings.why then title_in form Within title ++ codes "\n" ++ walk_lines index place core
+    else list_in form Within title (told_in form index settings) core
 
 -- the title of the first core
 abbrev pub first_title : Bool → List ℕ
 first_title walked = if walked then codes "why" else codes "reasons"
 
 -- a core behind the first
-unfoldable pub later_core : Format → IndexView → TellingView → ℕ → List Constraint → List ℕ
-later_core Text index telling place core = core_in Text index telling place (codes "also") core
-later_core Json index telling place core = elements_in Json Within (told_in Json index telling) core
+unfoldable pub later_core : Format → IndexView → Settings → ℕ → List Constraint → List ℕ
+later_core Text index settings place core = core_in Text index settings place (codes "also") core
+later_core Json index settings place core = elements_in Json Within (told_in Json index settings) core
 
 -- those behind the first
-unfoldable pub later_cores : Format → IndexView → TellingView → ℕ → List (List Constraint) → List ℕ
-later_cores Text index telling place later = flat_map (later_core Text index telling place) later
-later_cores Json index telling place later = list_in Json Within (codes "also") (later_core Json index telling place) later
+unfoldable pub later_cores : Format → IndexView → Settings → ℕ → List (List Constraint) → List ℕ
+later_cores Text index settings place later = flat_map (later_core Text index settings place) later
+later_cores Json index settings place later = list_in Json Within (codes "also") (later_core Json index settings place) later
 
 -- how many there are behind the first
 unfoldable pub further_in : Format → ℕ → List ℕ
 further_in form count = if count == 0 then [] else number_in form Within (codes "further") count
 
 -- the first core of the package at a place, and those behind it, or how many they are
-unfoldable pub all_cores : Format → IndexView → TellingView → ℕ → List (List Constraint) → List ℕ
-all_cores form index telling place [] = []
-all_cores form index telling place (core ∷ later) = core_in form index telling place (first_title (is_walked form telling.why)) core
-    ++ (if telling.also then later_cores form index telling place later else further_in form (length later))
+unfoldable pub all_cores : Format → IndexView → Settings → ℕ → List (List Constraint) → List ℕ
+all_cores form index settings place [] = []
+all_cores form index settings place (core ∷ later) = core_in form index settings place (first_title (is_walked form settings.why)) core
+    ++ (if settings.all_reasons then later_cores form index settings place later else further_in form (length later))
 
 -- the set that was found, or what stands against each set
-unfoldable pub explanation_in : Format → IndexView → TellingView → ℕ × ToldView → List ℕ
-explanation_in form index telling (place, Installable) = []
-explanation_in form index telling (place, Found places) = list_in form Within (codes "installation-set") (place_in form index) places
-explanation_in form index telling (place, Blocked cores) = all_cores form index telling place cores
+unfoldable pub explanation_in : Format → IndexView → Settings → ℕ × ToldView → List ℕ
+explanation_in form index settings (place, Installable) = []
+explanation_in form index settings (place, Found places) = list_in form Within (codes "installation-set") (place_in form index) places
+explanation_in form index settings (place, Blocked cores) = all_cores form index settings place cores
 
 -- an asked place and what is told of it
-unfoldable pub block_in : Format → IndexView → TellingView → ℕ × ToldView → List ℕ
-block_in form index telling asked = let deb = package_at index asked.0 in string_in form Block (codes "package") deb.name
+unfoldable pub block_in : Format → IndexView → Settings → ℕ × ToldView → List ℕ
+block_in form index settings asked = let deb = package_at index asked.0 in string_in form Block (codes "package") deb.name
     ++ string_in form Within (codes "version") deb.version
     ++ string_in form Within (codes "architecture") deb.architecture
     ++ string_in form Within (codes "status") (status_of asked.1)
-    ++ (if telling.explain then explanation_in form index telling asked else [])
+    ++ (if settings.explain then explanation_in form index settings asked else [])
     ++ block_end form
 
 -- ---- the whole
@@ -97,10 +97,10 @@ report_end Text = []
 report_end Json = codes "}\n"
 
 -- the report: its head, the blocks, the numbers, the lists, the causes
-unfoldable pub text_in : Format → IndexView → TellingView → ContentView → List ℕ
-text_in form index telling content = head_in form telling.options
+unfoldable pub text_under : List (List ℕ) → Format → IndexView → Settings → ContentView → List ℕ
+text_under options form index settings content = head_in form options
     ++ string_in form Other (codes "architecture") index.arch
-    ++ list_in form Tall (codes "report") (block_in form index telling) content.blocks
+    ++ list_in form Tall (codes "report") (block_in form index settings) content.blocks
     ++ flat_map (counted_in form) content.numbers
     ++ flat_map (amended_in form) content.lists
     ++ causes_in form index content.causes

@@ -1,4 +1,3 @@
-pub mod Report
 pub mod Told
 pub mod Similar
 pub mod CauseText

@@ -1,4 +1,5 @@
 -- Which asked packages are shown with what is told of them, and the numbers of that.
+use Rattle.std.specs.Borrow.{Bor}
 use Rattle.std.specs.Prelude.{ℕ, ◌-◌, Bool, true, false, not, List, [], ◌∷◌, ◌++◌, Option, None, Some, codes, filter, if◌then◌else◌, length}
 use Rattle.std.specs.List.{zip}
 use Rattle.deb_index.specs.Packages.{IndexView}
@@ -6,7 +7,6 @@ use Rattle.deb_health.specs.Verdicts.{ToldView, Installable, Found, Blocked}
 use Rattle.run_settings.specs.declared.config.Show.{Show}
 use Rattle.run_settings.specs.declared.config.Show.TheVariants.{All, Failures, Successes}
 use Rattle.deb_report.specs.declared.summary.Counts.{Counts}
-use Rattle.deb_report.specs.declared.summary.Number.{Number}
 use Rattle.deb_report.specs.declared.summary.Summary.{Summary}
 
 -- ---- what is shown
@@ -62,5 +62,5 @@ numbers_of background summary = (codes "stanzas", summary.stanzas) ∷ (codes "s
     ∷ (if background then (codes "background", summary.background) ∷ [] else []) ++ (codes "asked", summary.asked) ∷ (codes "broken", summary.broken)
     ∷ number_if (codes "newly-broken") summary.newly_broken
 
-abbrev pub number_view : Number → List ℕ × ℕ
-number_view number = (number.title.now, number.number)
+abbrev pub number_view : Bor (List ℕ) × ℕ → List ℕ × ℕ
+number_view number = (number.0.now, number.1)

@@ -7,7 +7,7 @@ use Rattle.deb_index.specs.Packages.{IndexView}
 use Rattle.deb_health.specs.Verdicts.{ToldView, cores_in}
 use Rattle.deb_causes.specs.declared.similar.Similar.{Similar}
 use Rattle.deb_health.specs.declared.shown.Shown.{Shown}
-use Rattle.deb_report.specs.declared.telling.Telling.{Telling}
+use Rattle.run_settings.specs.declared.config.Config.{Config}
 use Rattle.deb_report.specs.FitsWalk.{FitsWalk}
 use Rattle.deb_health.specs.Shown.{IsAskedOf, shown_view}
 
@@ -16,15 +16,15 @@ abbrev pub constraints_in : ℕ × ToldView → List Constraint
 constraints_in one = flat_map (λ core. core) (cores_in one.1)
 
 -- a constraint of the index; where cores are walked, what is similar was looked for
-abbrev pub IsTold : IndexView → Telling → Similar → Constraint → Type 0
-IsTold index telling similar constraint = IsOfIndex index constraint × (telling.config.now.why ≡ true → FitsWalk index similar constraint)
+abbrev pub IsTold : IndexView → Config → Similar → Constraint → Type 0
+IsTold index config similar constraint = IsOfIndex index constraint × (config.why ≡ true → FitsWalk index similar constraint)
 
 -- what is similar was looked for, where its cores are walked
-abbrev pub IsWalked : IndexView → Telling → Similar → Shown → Type 0
-IsWalked index telling similar shown =
-    telling.config.now.explain ≡ true → telling.config.now.why ≡ true → All (All (FitsWalk index similar)) (cores_in (shown_view shown).1)
+abbrev pub IsWalked : IndexView → Config → Similar → Shown → Type 0
+IsWalked index config similar shown =
+    config.explain ≡ true → config.why ≡ true → All (All (FitsWalk index similar)) (cores_in (shown_view shown).1)
 
 -- a block of the index, and what is told of it
-pub record FitsBlock (index : IndexView) (telling : Telling) (similar : Similar) (shown : Shown) : Type 0 where
+pub record FitsBlock (index : IndexView) (config : Config) (similar : Similar) (shown : Shown) : Type 0 where
   pub asked : IsAskedOf index (shown_view shown)
-  pub walked : IsWalked index telling similar shown
+  pub walked : IsWalked index config similar shown

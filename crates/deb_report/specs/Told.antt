@@ -4,18 +4,12 @@ use Rattle.std.specs.Prelude.{List, Option, All, IfSome, map}
 use Rattle.std.specs.Option.{option_map}
 use Rattle.deb_index.specs.Packages.{IndexView}
 use Rattle.deb_report.specs.declared.content.Content.{Content}
-use Rattle.deb_report.specs.declared.telling.Telling.{Telling}
 use Rattle.deb_causes.specs.Causes.{IsCauseOf, cause_view}
 use Rattle.deb_report.specs.Content.{ContentView}
-use Rattle.deb_report.specs.Report.{TellingView, telling_of}
-use Rattle.run_settings.specs.Settings.{settings_of}
 use Rattle.deb_health.specs.Shown.{IsAskedOf, shown_view}
 use Rattle.deb_report.specs.Outcome.{number_view}
 use Rattle.deb_report.specs.declared.before.Before.{Before}
 use Rattle.deb_report.specs.Since.{BrokenView, amends_view, broken_view}
-
-abbrev pub telling_view : Telling → TellingView
-telling_view telling = telling_of (settings_of telling.config.now) telling.since
 
 abbrev pub content_view : Content → ContentView
 content_view content = record {

@@ -65,12 +65,9 @@ is_own place (Need asking number) = asking == place
 is_own place (Apart asking number) = asking == place
 is_own place (Only name) = false
 
-abbrev pub own_step : ℕ → ℕ → Constraint → List Step
-own_step depth place constraint = if is_own place constraint then Tell depth constraint ∷ [] else []
-
 -- what the core says of the package at a place
 unfoldable pub own_steps : List Constraint → ℕ → ℕ → List Step
-own_steps core depth place = flat_map (own_step depth place) core
+own_steps core depth place = map (λ constraint. Tell depth constraint) (filter (is_own place) core)
 
 -- the packages that a constraint brings, where one of them isn't told yet
 unfoldable pub met_steps : IndexView → NumberSet → ℕ → Constraint → List Step
@@ -89,18 +86,12 @@ told_behind told (Begin place) = with_place told place
 told_behind told (Meet depth place constraint) = with_place told place
 told_behind told (Tell depth constraint) = told
 
--- what a constraint begins a walk with: an essential name; a name that may stand once; a package that asks for something
-abbrev pub essential_step : Constraint → List Step
-essential_step (Essential name) = Tell 0 (Essential name) ∷ []
-essential_step (Need place number) = []
-essential_step (Apart place number) = []
-essential_step (Only name) = []
-
-abbrev pub only_step : Constraint → List Step
-only_step (Essential name) = []
-only_step (Need place number) = []
-only_step (Apart place number) = []
-only_step (Only name) = Tell 0 (Only name) ∷ []
+-- what a constraint begins a walk with: a name, which is essential or may stand once; a package that asks for something
+abbrev pub named_step : Constraint → List Step
+named_step (Essential name) = Tell 0 (Essential name) ∷ []
+named_step (Need place number) = []
+named_step (Apart place number) = []
+named_step (Only name) = Tell 0 (Only name) ∷ []
 
 abbrev pub begin_step : Constraint → List Step
 begin_step (Essential name) = []
@@ -108,9 +99,9 @@ begin_step (Need place number) = Begin place ∷ []
 begin_step (Apart place number) = Begin place ∷ []
 begin_step (Only name) = []
 
--- the steps of a walk: the package; the names of the core; the packages of the core that it didn't come by, of which a first core has none
+-- the steps of a walk: the package; the names of the core, of which the essential ones stand first; the packages of the core that it didn't come by, of which a first core has none
 unfoldable pub first_steps : List Constraint → ℕ → List Step
-first_steps core place = Begin place ∷ flat_map essential_step core ++ flat_map only_step core ++ flat_map begin_step core
+first_steps core place = Begin place ∷ flat_map named_step core ++ flat_map begin_step core
 
 -- ---- the walk
 

@@ -36,10 +36,6 @@ above_text told = if told then codes " (above)" else []
 unfoldable pub seen_text : IndexView → NumberSet → ℕ → List ℕ
 seen_text index told place = part_line (package_part (package_at index place)) ++ above_text (told place)
 
--- some of them, one after the other
-abbrev pub seen_texts : IndexView → NumberSet → List ℕ → List ℕ
-seen_texts index told places = join_by (seen_text index told) (codes ", ") places
-
 -- a near miss
 unfoldable pub near_text : NearMissView → List ℕ
 near_text miss = flat_map part_line (near_parts miss)
@@ -48,24 +44,12 @@ near_text miss = flat_map part_line (near_parts miss)
 abbrev pub asked_text : PackageView → List ℕ → List AtomText → List ℕ
 asked_text deb field relation = flat_map part_line (asked_parts deb field relation)
 
--- what comes near to a need
-unfoldable pub present_text : List NearMissView → List ℕ
-present_text misses = told_if (codes "; present: ") near_text misses
-
--- names that are similar to those of a need
-unfoldable pub similar_text : List (List ℕ) → List ℕ
-similar_text names = told_if (codes "; similar: ") (λ name. name) names
-
--- a need that nothing meets, with what comes near, and the names that are similar
+-- a need that nothing meets, with what comes near to it, and the names that are similar to its own
 unfoldable pub missing_text : List NearMissView → List (List ℕ) → List ℕ
-missing_text misses names = codes " missing" ++ present_text misses ++ similar_text names
-
--- what an entry hits
-unfoldable pub hits_text : IndexView → NumberSet → List ℕ → List ℕ
-hits_text index told places = told_if (codes " hits ") (seen_text index told) places
+missing_text misses names = codes " missing" ++ told_if (codes "; present: ") near_text misses ++ told_if (codes "; similar: ") (λ name. name) names
 
 -- how a need ends
-unfoldable pub need_ending : IndexView → NumberSet → Constraint → List AtomText → List ℕ
+abbrev pub need_ending : IndexView → NumberSet → Constraint → List AtomText → List ℕ
 need_ending index told constraint group = if is_missing index group
     then missing_text (near_misses index (constraint ∷ [])) (similar_names index (constraint ∷ []))
     else above_text (are_told told (brought index constraint))
@@ -76,8 +60,8 @@ constraint_text index coming told (Essential name) = codes "essential: " ++ name
 constraint_text index coming told (Need place number) = let deb = package_at index place in let group = need_at index place number in
     asked_text deb (group_field deb number) group ++ need_ending index told (Need place number) group
 constraint_text index coming told (Apart place number) = let deb = package_at index place in let entry = apart_at index place number in
-    asked_text deb (entry_field deb number) (entry ∷ []) ++ hits_text index told (hits_in index coming place entry)
-constraint_text index coming told (Only name) = codes "versions: " ++ seen_texts index told (versions_coming index coming name)
+    asked_text deb (entry_field deb number) (entry ∷ []) ++ told_if (codes " hits ") (seen_text index told) (hits_in index coming place entry)
+constraint_text index coming told (Only name) = codes "versions: " ++ join_by (seen_text index told) (codes ", ") (versions_coming index coming name)
 
 -- the line of a package, with the entry of Provides by which it is met
 unfoldable pub package_line : IndexView → ℕ → ℕ → List AtomText → Bool → List ℕ

@@ -3,15 +3,14 @@ use Rattle.std.specs.Prelude.{ℕ, List, Option, None, is_some}
 use Rattle.deb_index.specs.Packages.{IndexView}
 use Rattle.deb_health.specs.Verdicts.{ToldView}
 use Rattle.deb_report.specs.Content.{content_of}
-use Rattle.deb_report.specs.Document.{text_in}
-use Rattle.deb_report.specs.Report.{telling_of}
-use Rattle.run_settings.specs.Settings.{Settings}
+use Rattle.deb_report.specs.Document.{text_under}
+use Rattle.run_settings.specs.Settings.{Settings, options_of}
 use Rattle.deb_report.specs.Since.{BrokenView}
 
 -- what is written of the asked places, since these packages were broken, where an earlier index is read
 abbrev pub written_told : Settings → IndexView → List ℕ → List ToldView → Option (List BrokenView) → List ℕ
-written_told settings index asked told before = text_in settings.format index (telling_of settings (is_some before))
-    (content_of settings index asked told before)
+written_told settings index asked told before =
+    text_under (options_of settings (is_some before)) settings.format index settings (content_of settings index asked told before)
 
 -- of the verdicts alone
 abbrev pub written_report : Settings → IndexView → List ℕ → List ToldView → List ℕ

@@ -10,7 +10,7 @@ ghost use Rattle.run_settings.specs.Settings.{settings_of};
 
 use deb_index::Index;
 use run_settings::Config;
-use std::alloc::{AllocError, AllocFailed, Global};
+use std::alloc::{AllocError, Global};
 use thiserror::Error;
 
 /// Why no places are asked.
@@ -28,14 +28,6 @@ impl From<AllocError> for AskedFault {
     ghost from_gives = { λ _ e. e ≡ Memory };
 
     fn from(_e: AllocError) -> AskedFault {
-        AskedFault::Memory
-    }
-}
-
-impl<T: Drop> From<AllocFailed<T>> for AskedFault {
-    ghost from_gives = { λ _ e. e ≡ Memory };
-
-    fn from(_e: AllocFailed<T>) -> AskedFault {
         AskedFault::Memory
     }
 }

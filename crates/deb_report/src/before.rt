@@ -1,7 +1,6 @@
 //! The packages that were broken in an earlier index, by which it is told which of another one are newly broken.
 
-ghost use Rattle.std.specs.Prelude.{◌≡◌, ◌<◌, ℕ, Bool, List, length, map, not};
-ghost use Rattle.deb_index.specs.Packages.{names, package_at};
+ghost use Rattle.std.specs.Prelude.{map};
 ghost use Rattle.deb_report.specs.Since.{AreMarks, broken_view, was_broken};
 
 use crate::broken::BrokenPackage;
@@ -9,15 +8,6 @@ use crate::marks::marks_of;
 use deb_health::Shown;
 use deb_index::Index;
 use std::alloc::{AllocError, Global};
-
-/// Whether the name of the package at a place has no mark.
-fn is_unmarked(index: &Index, marks: &[bool], place: u32) -> bool
-    requires place { place < length index.now.packages }
-    requires marks { length marks.now ≡ length (names index.now) }
-    ensures { (test : List ℕ → Bool) → AreMarks index.now test marks.now → result ≡ not (test (package_at index.now place).name) }
-{
-    !marks[index.name_of(place) as usize]
-}
 
 /// The packages that were broken in an earlier index, and an index that is compared with that.
 #[derive(Drop)]
@@ -56,7 +46,8 @@ impl<'b> Before<'b> {
         requires { place < length self.now.index.now.packages }
         ensures { result ≡ is_new self.now.index.now (map broken_view self.now.packages.now) place }
     {
-        is_unmarked(self.index, self.marks.as_slice(), place)
+        let marks = self.marks.as_slice();
+        !marks[self.index.name_of(place) as usize]
     }
 
     /// Those of the broken that are newly broken. Their places are of the index. `AllocError` where there is no memory for it.

@@ -4,7 +4,7 @@ ghost use Rattle.std.specs.Prelude.{◌≡◌, ◌++◌, ◌<◌, All, OnOk, Som
 ghost use Rattle.deb_index.specs.Constraints.{IsOfIndex};
 ghost use Rattle.deb_report.specs.Hits.{hits_of};
 ghost use Rattle.deb_causes.specs.Causes.{IsCauseOf, cause_view};
-ghost use Rattle.deb_report.specs.CauseText.{cause_in, causes_in, count_in, needed_in, wrong_in};
+ghost use Rattle.deb_report.specs.CauseText.{cause_in, causes_in, count_in, told_in};
 ghost use Rattle.deb_report.specs.Similar.{FitsCause};
 
 use crate::form::{Lead, Writer, push_elements, push_list, push_some, push_title};
@@ -18,56 +18,34 @@ use deb_relation::{Print, push_texts};
 use run_settings::Format;
 use std::alloc::AllocError;
 
-/// What is wrong.
+/// The constraints of a cause: what is wrong, or who needs it.
 #[derive(Drop)]
-struct Wrong<'p, 'i> {
+struct Reasons<'p, 'i> {
     writer: &'p Writer<'i>,
+    needed: bool,
 }
 
-impl<'p, 'i> Print<Constraint> for Wrong<'p, 'i> {
-    ghost fits = { λ wrong constraint. IsOfIndex wrong.writer.now.index.now constraint };
+impl<'p, 'i> Print<Constraint> for Reasons<'p, 'i> {
+    ghost fits = { λ reasons constraint. IsOfIndex reasons.writer.now.index.now constraint };
 
-    ghost text = { λ wrong constraint. wrong_in wrong.writer.now.format wrong.writer.now.index.now constraint };
+    ghost text = { λ reasons constraint. told_in reasons.needed reasons.writer.now.format reasons.writer.now.index.now constraint };
 
-    #[tactic(auto, unfolding(crate::specs::CauseText::wrong_parts))]
+    #[tactic(auto, unfolding(crate::specs::CauseText::told_parts))]
     fn print(&self, out: &mut Vec<u8>, constraint: &Constraint) -> Result<(), AllocError> {
+        let writer = self.writer;
         match *constraint {
             Constraint::Need(place, number) => {
-                let relation = Part::Relation(self.writer.index.need(place, number));
-                self.writer
-                    .push_item(out, Lead::Within, &[Part::Kind(b"missing"), relation])?;
-            }
-            Constraint::Essential(_) | Constraint::Apart(_, _) | Constraint::Only(_) => {
-                self.writer.print(out, constraint)?;
-            }
-        }
-        Ok(())
-    }
-}
-
-/// Who needs it.
-#[derive(Drop)]
-struct Needed<'p, 'i> {
-    writer: &'p Writer<'i>,
-}
-
-impl<'p, 'i> Print<Constraint> for Needed<'p, 'i> {
-    ghost fits = { λ needed constraint. IsOfIndex needed.writer.now.index.now constraint };
-
-    ghost text = { λ needed constraint. needed_in needed.writer.now.format needed.writer.now.index.now constraint };
-
-    #[tactic(auto, unfolding(crate::specs::CauseText::needed_parts))]
-    fn print(&self, out: &mut Vec<u8>, constraint: &Constraint) -> Result<(), AllocError> {
-        match *constraint {
-            Constraint::Need(place, number) => {
-                let deb = self.writer.index.package(place);
+                let deb = writer.index.package(place);
                 let field = Part::Field(group_field(deb, number).as_bytes());
-                let relation = Part::Relation(self.writer.index.need(place, number));
-                self.writer
-                    .push_item(out, Lead::Within, &[package_part(deb), field, relation])?;
+                let relation = Part::Relation(writer.index.need(place, number));
+                if self.needed {
+                    writer.push_item(out, Lead::Within, &[package_part(deb), field, relation])?;
+                } else {
+                    writer.push_item(out, Lead::Within, &[Part::Kind(b"missing"), relation])?;
+                }
             }
             Constraint::Essential(_) | Constraint::Apart(_, _) | Constraint::Only(_) => {
-                self.writer.print(out, constraint)?;
+                writer.print(out, constraint)?;
             }
         }
         Ok(())
@@ -92,14 +70,21 @@ impl<'p, 'i> Causes<'p, 'i> {
         let writer = self.writer;
         let form = writer.format;
         let constraints = cause.constraints.as_slice();
-        let wrong = Wrong { writer };
+        let wrong = Reasons {
+            writer,
+            needed: false,
+        };
+        let needed = Reasons {
+            writer,
+            needed: true,
+        };
         let needs = cause.needs.as_slice();
         let versions = cause.versions.as_slice();
         let places = cause.places.as_slice();
         writer.push_number(out, Lead::Block, "packages", places.len())?;
         writer.push_number(out, Lead::Within, "frees", cause.frees)?;
         push_list(form, out, Lead::Within, "reasons", &wrong, constraints)?;
-        push_some(form, out, "needed-by", &Needed { writer }, needs)?;
+        push_some(form, out, "needed-by", &needed, needs)?;
         push_some(form, out, "hits", writer, hits)?;
         push_some(form, out, "versions", writer, versions)?;
         writer.push_near_to(out, &self.similar, constraints)?;

@@ -1,11 +1,11 @@
 //! What a report tells, whatever its form.
 
-ghost use Rattle.std.specs.Prelude.{◌≡◌, ◌<◌, None, Some, All, IfOk, IfSome, length, map};
+ghost use Rattle.std.specs.Prelude.{◌≡◌, ◌<◌, All, IfOk, IfSome, length, map};
 ghost use Rattle.std.specs.Option.{ForSome, option_map};
 ghost use Rattle.deb_health.specs.Shown.{IsAskedOf, shown_view};
 ghost use Rattle.deb_health.specs.Verdicts.{SpeaksOf, told_view};
 ghost use Rattle.deb_causes.specs.Causes.{IsCauseOf, cause_view};
-ghost use Rattle.deb_report.specs.Since.{broken_view, counts_of};
+ghost use Rattle.deb_report.specs.Since.{counts_of};
 ghost use Rattle.deb_report.specs.Content.{causes_if, content_of};
 ghost use Rattle.deb_report.specs.Told.{IsContentOf, before_view, content_view};
 ghost use Rattle.run_settings.specs.Settings.{settings_of};
@@ -13,7 +13,7 @@ ghost use Rattle.run_settings.specs.Settings.{settings_of};
 use crate::amends::{Amends, amends_of};
 use crate::before::Before;
 use crate::shown::shown_of;
-use crate::summary::{Counts, Number, numbers_of};
+use crate::summary::{Counts, numbers_of};
 use deb_causes::{Cause, causes_of};
 use deb_health::{Shown, Told};
 use deb_index::Index;
@@ -26,7 +26,7 @@ pub(crate) struct Content<'r> {
     /// The asked places that have a block.
     pub(crate) blocks: Vec<Shown<'r>>,
     pub(crate) counts: Counts,
-    pub(crate) numbers: Vec<Number>,
+    pub(crate) numbers: Vec<(&'static str, usize)>,
     /// What became of the packages that were broken in an earlier index; none where none is read.
     pub(crate) lists: Vec<Amends<'r>>,
     /// The causes, where they are asked for.
@@ -51,76 +51,6 @@ fn causes_if(
     }
 }
 
-/// What the report on the asked places tells.
-fn content_alone<'r>(
-    alloc: Global,
-    index: &Index,
-    asked: &[u32],
-    told: &'r [Told],
-    config: &Config,
-) -> Result<Content<'r>, AllocError>
-    requires same { length asked.now ≡ length told.now }
-    requires places { All (λ place. place < length index.now.packages) asked.now }
-    requires within { All (SpeaksOf index.now) (map told_view told.now) }
-    ensures content { IfOk result (λ content. content_view content ≡ content_of (settings_of config.now) index.now asked.now (map told_view told.now) None) }
-    ensures counts { IfOk result (λ content. content.counts ≡ counts_of index.now asked.now (map told_view told.now) None) }
-    ensures within { IfOk result (IsContentOf index.now) }
-{
-    let blocks = shown_of(alloc, asked, told, config.show)?;
-    let failures = shown_of(alloc, asked, told, Show::Failures)?;
-    let broken = failures.as_slice();
-    let causes = causes_if(alloc, index, broken, config.causes)?;
-    let counts = Counts {
-        asked: asked.len(),
-        broken: broken.len(),
-        newly_broken: None,
-    };
-    Ok(Content {
-        blocks,
-        counts,
-        numbers: numbers_of(alloc, index, counts, config.bg.is_some())?,
-        lists: Vec::new(alloc),
-        causes,
-    })
-}
-
-/// What the report on the asked places tells of what became of them since these packages were broken.
-fn content_since<'r>(
-    alloc: Global,
-    asked: &[u32],
-    told: &'r [Told],
-    before: &Before<'r>,
-    config: &Config,
-) -> Result<Content<'r>, AllocError>
-    requires same { length asked.now ≡ length told.now }
-    requires places { All (λ place. place < length before.now.index.now.packages) asked.now }
-    requires within { All (SpeaksOf before.now.index.now) (map told_view told.now) }
-    ensures content { IfOk result (λ content. content_view content ≡
-        content_of (settings_of config.now) before.now.index.now asked.now (map told_view told.now) (Some (map broken_view before.now.packages.now))) }
-    ensures counts { IfOk result (λ content.
-        content.counts ≡ counts_of before.now.index.now asked.now (map told_view told.now) (Some (map broken_view before.now.packages.now))) }
-    ensures within { IfOk result (IsContentOf before.now.index.now) }
-{
-    let index = before.index;
-    let failures = shown_of(alloc, asked, told, Show::Failures)?;
-    let broken = failures.as_slice();
-    let news = before.news_of(alloc, broken)?;
-    let lists = amends_of(alloc, index, asked, broken, before.packages)?;
-    let causes = causes_if(alloc, index, news.as_slice(), config.causes)?;
-    let counts = Counts {
-        asked: asked.len(),
-        broken: broken.len(),
-        newly_broken: Some(news.len()),
-    };
-    Ok(Content {
-        blocks: news,
-        counts,
-        numbers: numbers_of(alloc, index, counts, config.bg.is_some())?,
-        lists,
-        causes,
-    })
-}
-
 /// What the report on the asked places tells, since these packages were broken, where an earlier index is read.
 pub(crate) fn content_of<'r>(
     alloc: Global,
@@ -139,8 +69,43 @@ pub(crate) fn content_of<'r>(
     ensures counts { IfOk result (λ content. content.counts ≡ counts_of index.now asked.now (map told_view told.now) (before_view before.entry)) }
     ensures within { IfOk result (IsContentOf index.now) }
 {
+    let failures = shown_of(alloc, asked, told, Show::Failures)?;
+    let broken = failures.as_slice();
     match before {
-        None => content_alone(alloc, index, asked, told, config),
-        Some(before) => content_since(alloc, asked, told, before, config),
+        None => {
+            let blocks = shown_of(alloc, asked, told, config.show)?;
+            let causes = causes_if(alloc, index, broken, config.causes)?;
+            let counts = Counts {
+                asked: asked.len(),
+                broken: broken.len(),
+                newly_broken: None,
+            };
+            let numbers = numbers_of(alloc, index, counts, config.bg.is_some())?;
+            Ok(Content {
+                blocks,
+                counts,
+                numbers,
+                lists: Vec::new(alloc),
+                causes,
+            })
+        }
+        Some(before) => {
+            let news = before.news_of(alloc, broken)?;
+            let lists = amends_of(alloc, index, asked, broken, before.packages)?;
+            let causes = causes_if(alloc, index, news.as_slice(), config.causes)?;
+            let counts = Counts {
+                asked: asked.len(),
+                broken: broken.len(),
+                newly_broken: Some(news.len()),
+            };
+            let numbers = numbers_of(alloc, index, counts, config.bg.is_some())?;
+            Ok(Content {
+                blocks: news,
+                counts,
+                numbers,
+                lists,
+                causes,
+            })
+        }
     }
 }

@@ -3,7 +3,7 @@
 ghost use Rattle.std.specs.Prelude.{◌≡◌, ◌++◌, ◌<◌, All, OnOk, length, map};
 ghost use Rattle.deb_report.specs.Document.{all_cores, core_in, first_title, further_in, is_walked, later_core, later_cores, told_in};
 ghost use Rattle.deb_report.specs.Sought.{IsTold};
-ghost use Rattle.deb_report.specs.Told.{telling_view};
+ghost use Rattle.run_settings.specs.Settings.{settings_of};
 
 use crate::document::Document;
 use crate::form::{Lead, push_elements, push_list, push_title};
@@ -14,14 +14,14 @@ use run_settings::Format;
 use std::alloc::AllocError;
 
 impl<'i> Print<Constraint> for Document<'i> {
-    ghost fits = { λ document constraint. IsTold document.writer.index.now document.telling document.similar.now constraint };
+    ghost fits = { λ document constraint. IsTold document.writer.index.now document.config.now document.similar.now constraint };
 
-    ghost text = { λ document constraint. told_in document.writer.format document.writer.index.now (telling_view document.telling) constraint };
+    ghost text = { λ document constraint. told_in document.writer.format document.writer.index.now (settings_of document.config.now) constraint };
 
     #[tactic(auto, unfolding(crate::specs::Document::told_in))]
     fn print(&self, out: &mut Vec<u8>, constraint: &Constraint) -> Result<(), AllocError> {
         self.writer.push_reason_front(out, *constraint)?;
-        if self.telling.config.why {
+        if self.config.why {
             self.writer.push_links(out, self.similar, *constraint)?;
         }
         self.writer.push_item_end(out)?;
@@ -32,17 +32,17 @@ impl<'i> Print<Constraint> for Document<'i> {
 impl<'i> Document<'i> {
     /// Whether lines tell a walk as it goes.
     fn is_walked(&self) -> bool
-        ensures { result ≡ is_walked self.now.writer.format self.now.telling.config.now.why }
+        ensures { result ≡ is_walked self.now.writer.format self.now.config.now.why }
     {
         match self.writer.format {
-            Format::Text => self.telling.config.why,
+            Format::Text => self.config.why,
             Format::Json => false,
         }
     }
 
     /// The title of a first core.
     fn first_title(&self) -> &'static str
-        ensures { result.now ≡ first_title (is_walked self.now.writer.format self.now.telling.config.now.why) }
+        ensures { result.now ≡ first_title (is_walked self.now.writer.format self.now.config.now.why) }
     {
         if self.is_walked() { "why" } else { "reasons" }
     }
@@ -57,9 +57,9 @@ impl<'i> Document<'i> {
         core: &[Constraint],
     ) -> Result<(), AllocError>
         requires place { place < length self.now.writer.index.now.packages }
-        requires core { All (IsTold self.now.writer.index.now self.now.telling self.now.similar.now) core.now }
+        requires core { All (IsTold self.now.writer.index.now self.now.config.now self.now.similar.now) core.now }
         ensures { OnOk result (out.new.items ≡
-            out.old.items ++ core_in self.now.writer.format self.now.writer.index.now (telling_view self.now.telling) place title.now core.now) }
+            out.old.items ++ core_in self.now.writer.format self.now.writer.index.now (settings_of self.now.config.now) place title.now core.now) }
     {
         let writer = &self.writer;
         let form = writer.format;
@@ -83,9 +83,9 @@ struct Later<'d, 'i> {
 
 impl<'d, 'i> Print<Vec<Constraint>> for Later<'d, 'i> {
     ghost fits = { λ later core. (later.place < length later.document.now.writer.index.now.packages)
-        × All (IsTold later.document.now.writer.index.now later.document.now.telling later.document.now.similar.now) core.items };
+        × All (IsTold later.document.now.writer.index.now later.document.now.config.now later.document.now.similar.now) core.items };
 
-    ghost text = { λ later core. later_core later.document.now.writer.format later.document.now.writer.index.now (telling_view later.document.now.telling)
+    ghost text = { λ later core. later_core later.document.now.writer.format later.document.now.writer.index.now (settings_of later.document.now.config.now)
         later.place core.items };
 
     #[tactic(auto, unfolding(crate::specs::Document::later_core))]
@@ -111,9 +111,9 @@ impl<'i> Document<'i> {
         cores: &[Vec<Constraint>],
     ) -> Result<(), AllocError>
         requires place { place < length self.now.writer.index.now.packages }
-        requires cores { All (λ core. All (IsTold self.now.writer.index.now self.now.telling self.now.similar.now) core.items) cores.now }
+        requires cores { All (λ core. All (IsTold self.now.writer.index.now self.now.config.now self.now.similar.now) core.items) cores.now }
         ensures { OnOk result (out.new.items ≡ out.old.items
-            ++ later_cores self.now.writer.format self.now.writer.index.now (telling_view self.now.telling) place (map (λ core. core.items) cores.now)) }
+            ++ later_cores self.now.writer.format self.now.writer.index.now (settings_of self.now.config.now) place (map (λ core. core.items) cores.now)) }
     {
         let form = self.writer.format;
         let later = Later {
@@ -148,13 +148,13 @@ impl<'i> Document<'i> {
         cores: &[Vec<Constraint>],
     ) -> Result<(), AllocError>
         requires place { place < length self.now.writer.index.now.packages }
-        requires cores { All (λ core. All (IsTold self.now.writer.index.now self.now.telling self.now.similar.now) core.items) cores.now }
+        requires cores { All (λ core. All (IsTold self.now.writer.index.now self.now.config.now self.now.similar.now) core.items) cores.now }
         ensures { OnOk result (out.new.items ≡ out.old.items
-            ++ all_cores self.now.writer.format self.now.writer.index.now (telling_view self.now.telling) place (map (λ core. core.items) cores.now)) }
+            ++ all_cores self.now.writer.format self.now.writer.index.now (settings_of self.now.config.now) place (map (λ core. core.items) cores.now)) }
     {
         if let [core, later @ ..] = cores {
             self.push_core(out, place, self.first_title(), core.as_slice())?;
-            if self.telling.config.all_reasons {
+            if self.config.all_reasons {
                 self.push_later(out, place, later)?;
             } else {
                 self.push_further(out, later.len())?;

@@ -5,28 +5,26 @@ ghost use Rattle.deb_report.specs.FitsWalk.{FitsWalk};
 ghost use Rattle.deb_health.specs.Shown.{IsAskedOf, shown_view};
 ghost use Rattle.deb_health.specs.Verdicts.{cores_in};
 ghost use Rattle.deb_report.specs.CauseText.{causes_in};
-ghost use Rattle.deb_report.specs.Document.{block_in, explanation_in, head_in, report_end, text_in};
+ghost use Rattle.deb_report.specs.Document.{block_in, explanation_in, head_in, report_end, text_under};
+ghost use Rattle.run_settings.specs.Settings.{settings_of};
 ghost use Rattle.deb_report.specs.Sought.{FitsBlock, IsWalked};
-ghost use Rattle.deb_report.specs.Told.{IsContentOf, content_view, telling_view};
+ghost use Rattle.deb_report.specs.Told.{IsContentOf, content_view};
 
 use crate::causes::push_causes;
 use crate::content::Content;
 use crate::form::{Lead, Writer, push_list};
 use crate::shown::status_text;
-use crate::sought::similar_to_walks;
-use crate::telling::Telling;
 use deb_causes::Similar;
 use deb_health::{Shown, Told};
-use deb_index::Index;
 use deb_relation::{Print, push_all};
-use run_settings::Format;
-use std::alloc::{AllocError, Global};
+use run_settings::{Config, Format};
+use std::alloc::AllocError;
 
 /// What is told of an index.
 #[derive(Drop)]
 pub(crate) struct Document<'i> {
     pub(crate) writer: Writer<'i>,
-    pub(crate) telling: Telling<'i>,
+    pub(crate) config: &'i Config,
     /// The names that walks tell as similar.
     pub(crate) similar: &'i Similar,
 }
@@ -36,10 +34,10 @@ impl<'i> Document<'i> {
     #[tactic(auto, unfolding(crate::specs::Document::explanation_in))]
     fn push_explanation(&self, out: &mut Vec<u8>, shown: &Shown<'_>) -> Result<(), AllocError>
         requires asked { IsAskedOf self.now.writer.index.now (shown_view shown.now) }
-        requires walked { self.now.telling.config.now.why ≡ true
+        requires walked { self.now.config.now.why ≡ true
             → All (All (FitsWalk self.now.writer.index.now self.now.similar.now)) (cores_in (shown_view shown.now).1) }
         ensures { OnOk result (out.new.items ≡
-            out.old.items ++ explanation_in self.now.writer.format self.now.writer.index.now (telling_view self.now.telling) (shown_view shown.now)) }
+            out.old.items ++ explanation_in self.now.writer.format self.now.writer.index.now (settings_of self.now.config.now) (shown_view shown.now)) }
     {
         let writer = &self.writer;
         let form = writer.format;
@@ -56,9 +54,9 @@ impl<'i> Document<'i> {
 }
 
 impl<'i, 'v> Print<Shown<'v>> for Document<'i> {
-    ghost fits = { λ document shown. FitsBlock document.writer.index.now document.telling document.similar.now shown };
+    ghost fits = { λ document shown. FitsBlock document.writer.index.now document.config.now document.similar.now shown };
 
-    ghost text = { λ document shown. block_in document.writer.format document.writer.index.now (telling_view document.telling) (shown_view shown) };
+    ghost text = { λ document shown. block_in document.writer.format document.writer.index.now (settings_of document.config.now) (shown_view shown) };
 
     #[tactic(auto, unfolding(crate::specs::Document::block_in))]
     fn print(&self, out: &mut Vec<u8>, shown: &Shown<'v>) -> Result<(), AllocError> {
@@ -69,7 +67,7 @@ impl<'i, 'v> Print<Shown<'v>> for Document<'i> {
         writer.push_string(out, Lead::Within, "version", deb.version.text())?;
         writer.push_string(out, Lead::Within, "architecture", architecture)?;
         writer.push_string(out, Lead::Within, "status", status_text(shown.told))?;
-        if self.telling.config.explain {
+        if self.config.explain {
             self.push_explanation(out, shown)?;
         }
         writer.push_block_end(out)?;
@@ -109,18 +107,21 @@ impl<'i> Document<'i> {
         Ok(())
     }
 
-    /// The whole report.
-    fn text(&self, content: &Content<'_>) -> Result<Vec<u8>, AllocError>
+    /// The whole report, under the words that it is made under.
+    pub(crate) fn text(
+        &self,
+        options: &[&'static str],
+        content: &Content<'_>,
+    ) -> Result<Vec<u8>, AllocError>
         requires content { IsContentOf self.now.writer.index.now content.now }
-        requires walked { All (IsWalked self.now.writer.index.now self.now.telling self.now.similar.now) content.now.blocks.items }
+        requires walked { All (IsWalked self.now.writer.index.now self.now.config.now self.now.similar.now) content.now.blocks.items }
         ensures { IfOk result (λ text. text.items ≡
-            text_in self.now.writer.format self.now.writer.index.now (telling_view self.now.telling) (content_view content.now)) }
+            text_under (map (λ one. one.now) options.now) self.now.writer.format self.now.writer.index.now (settings_of self.now.config.now)
+            (content_view content.now)) }
     {
         let form = self.writer.format;
         let arch = self.writer.index.arch();
         let blocks = content.blocks.as_slice();
-        let options = self.telling.options(self.writer.alloc)?;
-        let options = options.as_slice();
         let mut out = Vec::new(self.writer.alloc);
         self.push_head(&mut out, options)?;
         self.writer
@@ -131,28 +132,4 @@ impl<'i> Document<'i> {
         self.push_end(&mut out, content)?;
         Ok(out)
     }
-}
-
-/// What a report tells, in the form that is asked for.
-pub(crate) fn text_in(
-    alloc: Global,
-    index: &Index,
-    content: &Content<'_>,
-    telling: Telling<'_>,
-) -> Result<Vec<u8>, AllocError>
-    requires { IsContentOf index.now content.now }
-    ensures { IfOk result (λ text. text.items ≡ text_in telling.entry.config.now.format index.now (telling_view telling.entry) (content_view content.now)) }
-{
-    let similar = similar_to_walks(alloc, index, telling, content.blocks.as_slice())?;
-    let writer = Writer {
-        alloc,
-        index,
-        format: telling.config.format,
-    };
-    let document = Document {
-        writer,
-        telling,
-        similar: &similar,
-    };
-    document.text(content)
 }

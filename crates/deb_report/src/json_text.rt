@@ -49,12 +49,8 @@ fn push_escaped(out: &mut Vec<u8>, text: &[u8]) -> Result<(), AllocError>
 fn needs_escapes(text: &[u8]) -> bool
     ensures { result ≡ list_any needs_escape text.now }
 {
-    for byte in text {
-        if *byte == b'"' || *byte == b'\\' || *byte < 32 {
-            return true;
-        }
-    }
-    false
+    text.iter()
+        .any(|byte| *byte == b'"' || *byte == b'\\' || *byte < 32)
 }
 
 /// Adds a text as a string. Hardly any has a byte that needs an escape, and a JSON report is strings: byte by byte it takes a quarter longer.

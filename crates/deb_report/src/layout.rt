@@ -10,14 +10,39 @@ ghost use Rattle.deb_report.specs.Written.{written_report, written_told};
 
 use crate::before::Before;
 use crate::content::content_of;
-use crate::document::text_in;
+use crate::document::Document;
+use crate::form::Writer;
+use crate::options::options_of;
+use crate::sought::similar_to_walks;
 use crate::summary::{Counts, Summary, summary_of};
-use crate::telling::Telling;
-use crate::told::told_by;
 use deb_health::{Told, Verdict};
 use deb_index::Index;
 use run_settings::Config;
 use std::alloc::{AllocError, Global};
+
+/// What a verdict tells.
+fn told_of(alloc: Global, verdict: &Verdict) -> Result<Told, AllocError>
+    ensures { IfOk result (λ told. told_view told ≡ verdict_view verdict.now) }
+{
+    match verdict {
+        Verdict::Ok(places) => Ok(Told::Set(Vec::from_slice(alloc, places.as_slice())?)),
+        Verdict::Broken(core) => {
+            let core = Vec::from_slice(alloc, core.as_slice())?;
+            Ok(Told::Broken(vec![in alloc; core]?))
+        }
+    }
+}
+
+/// What each verdict tells.
+fn told_by(alloc: Global, verdicts: &[Verdict]) -> Result<Vec<Told>, AllocError>
+    ensures { IfOk result (λ told. map told_view told.items ≡ map verdict_view verdicts.now) }
+{
+    let mut told = Vec::new(alloc);
+    for verdict in verdicts {
+        told.push(told_of(alloc, verdict)?)?;
+    }
+    Ok(told)
+}
 
 /// The text of the report on the asked places, and what is counted of them.
 fn text_of(
@@ -32,15 +57,24 @@ fn text_of(
     requires places { All (λ place. place < length index.now.packages) asked.now }
     requires within { All (SpeaksOf index.now) (map told_view told.now) }
     requires before { ForSome before (λ before. before.now.index.now ≡ index.now) }
-    ensures text { IfOk result (λ r. r.0.items ≡ written_told (settings_of config.now) index.now asked.now (map told_view told.now) (before_view before.entry)) }
+    ensures text { IfOk result (λ r.
+        r.0.items ≡ written_told (settings_of config.now) index.now asked.now (map told_view told.now) (before_view before.entry)) }
     ensures counts { IfOk result (λ r. r.1 ≡ counts_of index.now asked.now (map told_view told.now) (before_view before.entry)) }
 {
     let content = content_of(alloc, index, asked, told, before, config)?;
-    let telling = Telling {
-        config,
-        since: before.is_some(),
+    let options = options_of(alloc, config, before.is_some())?;
+    let similar = similar_to_walks(alloc, index, config, content.blocks.as_slice())?;
+    let writer = Writer {
+        alloc,
+        index,
+        format: config.format,
     };
-    let text = text_in(alloc, index, &content, telling)?;
+    let document = Document {
+        writer,
+        config,
+        similar: &similar,
+    };
+    let text = document.text(options.as_slice(), &content)?;
     Ok((text, content.counts))
 }
 
@@ -90,7 +124,8 @@ pub fn report_told(
     requires places { All (λ place. place < length index.now.packages) asked.now }
     requires within { All (SpeaksOf index.now) (map told_view told.now) }
     requires before { ForSome before (λ before. before.now.index.now ≡ index.now) }
-    ensures text { IfOk result (λ r. r.0.items ≡ written_told (settings_of config.now) index.now asked.now (map told_view told.now) (before_view before.entry)) }
+    ensures text { IfOk result (λ r.
+        r.0.items ≡ written_told (settings_of config.now) index.now asked.now (map told_view told.now) (before_view before.entry)) }
     ensures summary { IfOk result (λ r. r.1 ≡ summary_of index.now asked.now (map told_view told.now) (before_view before.entry)) }
 {
     let (text, counts) = text_of(alloc, index, asked, told, before, config)?;

@@ -2,9 +2,8 @@
 //!
 //! The modules, in reading order:
 //!
-//! - `layout`: the calls; `content`: what a report tells, with its causes by `deb_causes`. `telling`: what of packages is told; `options`: the words that a
-//!   report is made under.
-//! - `asked`: the places that are asked; `shown`: those that are shown, with what is told of them (`told`); `summary`: what a run counts.
+//! - `layout`: the calls; `content`: what a report tells, with its causes by `deb_causes`; `options`: the words that a report is made under.
+//! - `asked`: the places that are asked; `shown`: those that are shown, with what is told of them; `summary`: what a run counts.
 //! - `broken`: the broken packages of an earlier index; `before`: these, by which it is told of a package whether it is newly broken; `amends`: those
 //!   that are mended or gone; `marks`: marks on names.
 //! - `document`: a report in its form, with its `numbers`; `cores`: those of a package; `causes`: the blocks of causes; `sought`: which names that differ
@@ -12,7 +11,7 @@
 //! - `form`: how members, lists and items are written in each form; `parts`: what items are told by; `json_text`: the strings of JSON.
 //! - `walk`: the steps of a core as it is walked from its package, over a table of what the core says of each package (`own`); `hits`: the packages that
 //!   entries hit; `answers`: what answers a need.
-//! - `reasons`: what is told of packages and constraints; `links`: where a walk goes on from a constraint; `walk_lines` tells the steps of a core.
+//! - `reasons`: what is told of packages and constraints, and where a walk goes on from these; `walk_lines` tells the steps of a core.
 #![tactic(auto)]
 
 mod amends;
@@ -28,7 +27,6 @@ mod form;
 mod hits;
 mod json_text;
 mod layout;
-mod links;
 mod marks;
 mod numbers;
 mod options;
@@ -38,8 +36,6 @@ mod reasons;
 mod shown;
 mod sought;
 mod summary;
-mod telling;
-mod told;
 mod walk;
 mod walk_constraints;
 mod walk_lines;

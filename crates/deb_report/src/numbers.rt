@@ -12,18 +12,17 @@ use crate::document::Document;
 use crate::form::{Lead, push_list};
 use crate::json_text::push_quoted;
 use crate::parts::Part;
-use crate::summary::Number;
 use deb_relation::Print;
 use std::alloc::AllocError;
 
-impl<'i> Print<Number> for Document<'i> {
+impl<'i> Print<(&'static str, usize)> for Document<'i> {
     ghost fits = { λ _ _. Unit {0} };
 
     ghost text = { λ document number. counted_in document.writer.format (number_view number) };
 
-    fn print(&self, out: &mut Vec<u8>, number: &Number) -> Result<(), AllocError> {
+    fn print(&self, out: &mut Vec<u8>, number: &(&'static str, usize)) -> Result<(), AllocError> {
         self.writer
-            .push_number(out, Lead::Other, number.title, number.number)?;
+            .push_number(out, Lead::Other, number.0, number.1)?;
         Ok(())
     }
 }

@@ -29,18 +29,6 @@ impl<'c> Model for OwnTable<'c> {
     ghost invariant = { λ t. IsTableOf t.core.now t.lists };
 }
 
-/// Puts a constraint to a place.
-fn put(
-    lists: &mut HashMap<u32, Vec<Constraint>>,
-    place: u32,
-    constraint: Constraint,
-) -> Result<(), AllocError>
-    ensures { OnOk result ((q : ℕ) → said_at lists.new q ≡ said_at lists.old q ++ (if place == q then constraint ∷ [] else [])) }
-{
-    lists.entry(place)?.or_default().push(constraint)?;
-    Ok(())
-}
-
 /// Puts a constraint to the place of the package that asks for it, where one does.
 fn put_own(
     lists: &mut HashMap<u32, Vec<Constraint>>,
@@ -49,10 +37,10 @@ fn put_own(
     ensures { OnOk result ((q : ℕ) → said_at lists.new q ≡ said_at lists.old q ++ (if is_own q constraint then constraint ∷ [] else [])) }
 {
     match constraint {
-        Constraint::Essential(_) => (),
-        Constraint::Need(place, _) => put(lists, place, constraint)?,
-        Constraint::Apart(place, _) => put(lists, place, constraint)?,
-        Constraint::Only(_) => (),
+        Constraint::Need(place, _) | Constraint::Apart(place, _) => {
+            lists.entry(place)?.or_default().push(constraint)?;
+        }
+        Constraint::Essential(_) | Constraint::Only(_) => (),
     }
     Ok(())
 }

@@ -1,10 +1,10 @@
 //! What items are told by, in a line and as members of an object.
 
-ghost use Rattle.std.specs.Prelude.{◌≡◌, ◌++◌, OnOk, map};
+ghost use Rattle.std.specs.Prelude.{◌≡◌};
 ghost use Rattle.deb_relation.specs.AtomView.{atom_view};
 ghost use Rattle.deb_relation.specs.Relationship.{printed};
 ghost use Rattle.deb_index.specs.Packages.{package_view};
-ghost use Rattle.deb_report.specs.Forms.{OfProvides, part_json, part_line, quoted};
+ghost use Rattle.deb_report.specs.Forms.{part_json, part_line, quoted};
 ghost use Rattle.deb_report.specs.Reasons.{package_part};
 ghost use Rattle.deb_report.specs.Parts.{part_view};
 
@@ -51,21 +51,14 @@ impl<'i> Print<Part<'i>> for InLine {
             Part::Package(name, version) => push_texts(out, &[name, b" ", version])?,
             Part::Field(field) => push_texts(out, &[b" ", field, b": "])?,
             Part::Relation(relation) => push_group(out, relation)?,
-            Part::Provides(entries) => push_provides(out, entries.as_slice())?,
+            Part::Provides(entries) => {
+                out.extend_from_slice(b" (provides ")?;
+                push_joined(out, ", ", &Plainly, entries.as_slice())?;
+                out.extend_from_slice(b")")?;
+            }
         }
         Ok(())
     }
-}
-
-/// Adds what a package provides.
-#[tactic(auto, using(deb_relation::proofs::JoinLemmas::joined_map), unfolding(crate::specs::Forms::part_line))]
-fn push_provides(out: &mut Vec<u8>, entries: &[&Atom]) -> Result<(), AllocError>
-    ensures { OnOk result (out.new.items ≡ out.old.items ++ part_line (OfProvides (map (λ entry. atom_view entry.now) entries.now))) }
-{
-    out.extend_from_slice(b" (provides ")?;
-    push_joined(out, ", ", &Plainly, entries)?;
-    out.extend_from_slice(b")")?;
-    Ok(())
 }
 
 /// Parts as members of an object.
@@ -95,21 +88,12 @@ impl<'i> Print<Part<'i>> for InJson {
                 push_group(&mut text, relation)?;
                 push_member(out, "relation", text.as_slice())?;
             }
-            Part::Provides(entries) => self.push_provides(out, entries.as_slice())?,
+            Part::Provides(entries) => {
+                out.extend_from_slice(b"\"provides\":[")?;
+                push_joined(out, ",", self, entries.as_slice())?;
+                out.extend_from_slice(b"]")?;
+            }
         }
-        Ok(())
-    }
-}
-
-impl InJson {
-    /// Adds what a package provides.
-    #[tactic(auto, using(deb_relation::proofs::JoinLemmas::joined_map), unfolding(crate::specs::Forms::part_json))]
-    fn push_provides(&self, out: &mut Vec<u8>, entries: &[&Atom]) -> Result<(), AllocError>
-        ensures { OnOk result (out.new.items ≡ out.old.items ++ part_json (OfProvides (map (λ entry. atom_view entry.now) entries.now))) }
-    {
-        out.extend_from_slice(b"\"provides\":[")?;
-        push_joined(out, ",", self, entries)?;
-        out.extend_from_slice(b"]")?;
         Ok(())
     }
 }

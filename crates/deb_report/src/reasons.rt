@@ -3,15 +3,20 @@
 ghost use Rattle.std.specs.Prelude.{◌≡◌, ◌++◌, ◌<◌, All, OnOk, length};
 ghost use Rattle.deb_relation.specs.AtomView.{atom_view};
 ghost use Rattle.deb_relation.specs.Relationship.{printed};
+ghost use Rattle.deb_index.specs.declared.constraint.Constraint.{Constraint};
 ghost use Rattle.deb_index.specs.Constraints.{IsOfIndex};
 ghost use Rattle.deb_index.specs.Packages.{package_view};
 ghost use Rattle.deb_causes.specs.Near.{near_view};
 ghost use Rattle.deb_causes.specs.Similar.{IsSimilarOf, stems_in};
 ghost use Rattle.deb_causes.specs.Stems.{AreSought};
+ghost use Rattle.deb_report.specs.FitsWalk.{FitsWalk};
 ghost use Rattle.deb_report.specs.Forms.{name_in};
+ghost use Rattle.deb_report.specs.Links.{links_in};
 ghost use Rattle.deb_report.specs.Reasons.{entry_field, group_field, near_in, near_to_in, place_in, reason_front, reason_in};
 
-use crate::form::{Lead, Writer, push_some};
+use crate::answers::answers_to;
+use crate::form::{Lead, Writer, push_list, push_some};
+use crate::hits::hits_of;
 use crate::parts::{Part, package_part};
 use deb_causes::{NearMiss, Similar, is_missing, near_misses};
 use deb_index::{Constraint, Package, RelField};
@@ -177,6 +182,58 @@ impl<'i> Writer<'i> {
         let names = similar.names(self.alloc, self.index, constraints)?;
         push_some(self.format, out, "present", self, misses.as_slice())?;
         push_some(self.format, out, "similar", self, names.as_slice())?;
+        Ok(())
+    }
+
+    /// Adds the member with what a walk goes on to from a need.
+    #[tactic(auto, using(crate::proofs::FormLemmas::list_map), unfolding(crate::specs::Links::links_in))]
+    fn push_need_links(
+        &self,
+        out: &mut Vec<u8>,
+        similar: &Similar,
+        place: u32,
+        number: u32,
+    ) -> Result<(), AllocError>
+        requires { FitsWalk self.now.index.now similar.now (Constraint.Need place number) }
+        ensures { OnOk result (out.new.items ≡ out.old.items ++ links_in self.now.format self.now.index.now (Constraint.Need place number)) }
+    {
+        let need = Constraint::Need(place, number);
+        if is_missing(self.alloc, self.index, place, number)? {
+            let group = self.index.need(place, number);
+            push_list(self.format, out, Lead::Within, "alternatives", self, group)?;
+            self.push_near_to(out, similar, slice::from_ref(&need))?;
+        } else {
+            let answers = answers_to(self.alloc, self.index, need)?;
+            let answers = answers.as_slice();
+            push_list(self.format, out, Lead::Within, "met-by", self, answers)?;
+        }
+        Ok(())
+    }
+
+    /// Adds where a walk goes on from a constraint, as members of its item.
+    #[tactic(auto, unfolding(crate::specs::Links::links_in))]
+    pub(crate) fn push_links(
+        &self,
+        out: &mut Vec<u8>,
+        similar: &Similar,
+        constraint: Constraint,
+    ) -> Result<(), AllocError>
+        requires { FitsWalk self.now.index.now similar.now constraint }
+        ensures { OnOk result (out.new.items ≡ out.old.items ++ links_in self.now.format self.now.index.now constraint) }
+    {
+        match constraint {
+            Constraint::Essential(_) => (),
+            Constraint::Need(place, number) => self.push_need_links(out, similar, place, number)?,
+            Constraint::Apart(_, _) => {
+                let hits = hits_of(self.alloc, self.index, slice::from_ref(&constraint))?;
+                let hits = hits.as_slice();
+                push_list(self.format, out, Lead::Within, "hits", self, hits)?;
+            }
+            Constraint::Only(name) => {
+                let places = self.index.places_named(name);
+                push_list(self.format, out, Lead::Within, "versions", self, places)?;
+            }
+        }
         Ok(())
     }
 }

@@ -70,9 +70,5 @@ pub fn shown_of<'t>(
 pub(crate) fn places_of(alloc: Global, shown: &[Shown<'_>]) -> Result<Vec<u32>, AllocError>
     ensures { IfOk result (λ places. places.items ≡ map (λ one. one.0) (map shown_view shown.now)) }
 {
-    let mut places = Vec::new(alloc);
-    for one in shown {
-        places.push(one.place)?;
-    }
-    Ok(places)
+    shown.iter().map(|one| one.place).collect(alloc)
 }

@@ -7,10 +7,10 @@ ghost use Rattle.deb_report.specs.Similar.{FitsCause};
 ghost use Rattle.deb_report.specs.Sought.{IsWalked, constraints_in};
 ghost use Rattle.deb_health.specs.Shown.{IsAskedOf, shown_view};
 
-use crate::telling::Telling;
 use deb_causes::{Cause, Similar};
 use deb_health::Shown;
 use deb_index::{Constraint, Index};
+use run_settings::Config;
 use std::alloc::{AllocError, Global};
 
 /// The constraints of causes, one after the other.
@@ -66,13 +66,13 @@ fn constraints_told(alloc: Global, blocks: &[Shown<'_>]) -> Result<Vec<Constrain
 pub(crate) fn similar_to_walks(
     alloc: Global,
     index: &Index,
-    telling: Telling<'_>,
+    config: &Config,
     blocks: &[Shown<'_>],
 ) -> Result<Similar, AllocError>
     requires { All (λ one. IsAskedOf index.now (shown_view one)) blocks.now }
-    ensures { IfOk result (λ similar. All (IsWalked index.now telling.entry similar) blocks.now) }
+    ensures { IfOk result (λ similar. All (IsWalked index.now config.now similar) blocks.now) }
 {
-    if telling.config.explain && telling.config.why {
+    if config.explain && config.why {
         let constraints = constraints_told(alloc, blocks)?;
         let similar = Similar::find(alloc, index, constraints.as_slice())?;
         return Ok(similar);

@@ -62,22 +62,6 @@ pub fn summary_of(index: &Index, counts: Counts) -> Summary
     }
 }
 
-/// A number of a report, with its title.
-#[derive(Clone, Copy)]
-pub struct Number {
-    pub title: &'static str,
-    pub number: usize,
-}
-
-impl Number {
-    /// A number under a title.
-    fn new(title: &'static str, number: usize) -> Number
-        ensures { number_view result ≡ (title.now, number) }
-    {
-        Number { title, number }
-    }
-}
-
 /// The numbers of a report, each with its title: with a background its packages, and how many are newly broken, where that is asked.
 /// `AllocError` where there is no memory for it.
 #[tactic(auto, unfolding(crate::specs::Outcome::numbers_of))]
@@ -86,24 +70,21 @@ pub fn numbers_of(
     index: &Index,
     counts: Counts,
     background: bool,
-) -> Result<Vec<Number>, AllocError>
+) -> Result<Vec<(&'static str, usize)>, AllocError>
     ensures { IfOk result (λ numbers. map number_view numbers.items ≡ numbers_of background (summary_with index.now counts)) }
 {
     let mut numbers = Vec::new(alloc);
     numbers.extend_from_slice(&[
-        Number::new("stanzas", index.stanzas() as usize),
-        Number::new("skipped", index.skipped() as usize),
-        Number::new("duplicates", index.duplicates() as usize),
+        ("stanzas", index.stanzas() as usize),
+        ("skipped", index.skipped() as usize),
+        ("duplicates", index.duplicates() as usize),
     ])?;
     if background {
-        numbers.push(Number::new("background", background_count(index) as usize))?;
+        numbers.push(("background", background_count(index) as usize))?;
     }
-    numbers.extend_from_slice(&[
-        Number::new("asked", counts.asked),
-        Number::new("broken", counts.broken),
-    ])?;
+    numbers.extend_from_slice(&[("asked", counts.asked), ("broken", counts.broken)])?;
     if let Some(number) = counts.newly_broken {
-        numbers.push(Number::new("newly-broken", number))?;
+        numbers.push(("newly-broken", number))?;
     }
     Ok(numbers)
 }

@@ -6,7 +6,7 @@ ghost use Rattle.deb_index.specs.Packages.{apart_at};
 ghost use Rattle.deb_index.specs.declared.constraint.Constraint.{Constraint};
 ghost use Rattle.number_sets.specs.Sets.{members_of};
 ghost use Rattle.deb_report.specs.declared.walk.Step.{Step};
-ghost use Rattle.deb_report.specs.Walk.{are_told, begin_step, brought, comers, depth_of, essential_step, first_steps, hits_in, met_steps, only_step, own_steps, places_in};
+ghost use Rattle.deb_report.specs.Walk.{are_told, begin_step, brought, comers, depth_of, first_steps, hits_in, met_steps, named_step, own_steps, places_in};
 
 use crate::hits::push_hit;
 use crate::own::OwnTable;
@@ -40,8 +40,7 @@ pub(crate) fn brought<'a>(
     match constraint {
         Constraint::Essential(name) => Ok(index.places_named(name)),
         Constraint::Need(place, number) => index.answers(place, number, found),
-        Constraint::Apart(_, _) => Ok(&[]),
-        Constraint::Only(_) => Ok(&[]),
+        Constraint::Apart(_, _) | Constraint::Only(_) => Ok(&[]),
     }
 }
 
@@ -70,15 +69,11 @@ pub(crate) fn comers(
 pub(crate) fn are_told(told: &HashSet<u32>, places: &[u32]) -> bool
     ensures { result ≡ are_told (places_in told.now) places.now }
 {
-    for place in places {
-        if !told.contains(place) {
-            return false;
-        }
-    }
-    true
+    places.iter().all(|place| told.contains(place))
 }
 
 /// What the core says of the package at a place, as steps at a depth. `AllocError` where there is no memory for it.
+#[tactic(auto, unfolding(crate::specs::Walk::own_steps))]
 pub(crate) fn own_steps(
     alloc: Global,
     core: &OwnTable,
@@ -87,12 +82,8 @@ pub(crate) fn own_steps(
 ) -> Result<Vec<Step>, AllocError>
     ensures { IfOk result (λ steps. steps.items ≡ own_steps core.now depth place) }
 {
-    let said = core.said_of(place);
-    let mut steps = Vec::new(alloc);
-    for constraint in said {
-        steps.push(Step::Tell(depth, *constraint))?;
-    }
-    Ok(steps)
+    let said = core.said_of(place).iter();
+    said.map(|one| Step::Tell(depth, *one)).collect(alloc)
 }
 
 /// The depth of packages that are met by one constraint.
@@ -115,11 +106,10 @@ fn meet_each(
 ) -> Result<Vec<Step>, AllocError>
     ensures { IfOk result (λ steps. steps.items ≡ map (λ place. Step.Meet depth place constraint) places.now) }
 {
-    let mut steps = Vec::new(alloc);
-    for place in places {
-        steps.push(Step::Meet(depth, *place, constraint))?;
-    }
-    Ok(steps)
+    let places = places.iter();
+    places
+        .map(|place| Step::Meet(depth, *place, constraint))
+        .collect(alloc)
 }
 
 /// The packages that a constraint brings, where one of them isn't told yet.
@@ -156,28 +146,13 @@ pub(crate) fn put_before(stack: &mut Vec<Step>, steps: Vec<Step>) -> Result<(), 
     Ok(())
 }
 
-/// Adds what a constraint begins a walk with, where it is an essential name.
-fn push_essential(steps: &mut Vec<Step>, constraint: Constraint) -> Result<(), AllocError>
-    ensures { OnOk result (steps.new.items ≡ steps.old.items ++ essential_step constraint) }
+/// Adds what a constraint begins a walk with, where it is a name.
+fn push_named(steps: &mut Vec<Step>, constraint: Constraint) -> Result<(), AllocError>
+    ensures { OnOk result (steps.new.items ≡ steps.old.items ++ named_step constraint) }
 {
     match constraint {
-        Constraint::Essential(_) => steps.push(Step::Tell(0, constraint))?,
-        Constraint::Need(_, _) => (),
-        Constraint::Apart(_, _) => (),
-        Constraint::Only(_) => (),
-    }
-    Ok(())
-}
-
-/// Adds what a constraint begins a walk with, where it is a name that may stand once.
-fn push_only(steps: &mut Vec<Step>, constraint: Constraint) -> Result<(), AllocError>
-    ensures { OnOk result (steps.new.items ≡ steps.old.items ++ only_step constraint) }
-{
-    match constraint {
-        Constraint::Essential(_) => (),
-        Constraint::Need(_, _) => (),
-        Constraint::Apart(_, _) => (),
-        Constraint::Only(_) => steps.push(Step::Tell(0, constraint))?,
+        Constraint::Essential(_) | Constraint::Only(_) => steps.push(Step::Tell(0, constraint))?,
+        Constraint::Need(_, _) | Constraint::Apart(_, _) => (),
     }
     Ok(())
 }
@@ -187,10 +162,10 @@ fn push_begin(steps: &mut Vec<Step>, constraint: Constraint) -> Result<(), Alloc
     ensures { OnOk result (steps.new.items ≡ steps.old.items ++ begin_step constraint) }
 {
     match constraint {
-        Constraint::Essential(_) => (),
-        Constraint::Need(place, _) => steps.push(Step::Begin(place))?,
-        Constraint::Apart(place, _) => steps.push(Step::Begin(place))?,
-        Constraint::Only(_) => (),
+        Constraint::Need(place, _) | Constraint::Apart(place, _) => {
+            steps.push(Step::Begin(place))?;
+        }
+        Constraint::Essential(_) | Constraint::Only(_) => (),
     }
     Ok(())
 }
@@ -206,11 +181,8 @@ pub(crate) fn first_steps(
 {
     let mut steps = Vec::new(alloc);
     steps.push(Step::Begin(place))?;
-    for essential in core {
-        push_essential(&mut steps, *essential)?;
-    }
-    for only in core {
-        push_only(&mut steps, *only)?;
+    for named in core {
+        push_named(&mut steps, *named)?;
     }
     for constraint in core {
         push_begin(&mut steps, *constraint)?;
@@ -226,13 +198,8 @@ pub(crate) fn those_coming(
 ) -> Result<Vec<u32>, AllocError>
     ensures { IfOk result (λ those. those.items ≡ filter (places_in coming.now) places.now) }
 {
-    let mut those = Vec::new(alloc);
-    for place in places {
-        if coming.contains(place) {
-            those.push(*place)?;
-        }
-    }
-    Ok(those)
+    let places = places.iter().copied();
+    places.filter(|place| coming.contains(place)).collect(alloc)
 }
 
 /// The packages of the walk that an entry of the package at a place hits.

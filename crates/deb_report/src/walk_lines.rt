@@ -3,7 +3,6 @@
 ghost use Rattle.std.specs.Prelude.{◌≡◌, ◌<◌, ◌++◌, [], All, IfOk, OnOk, length, map, reverse};
 ghost use Rattle.deb_relation.specs.AtomView.{atom_view};
 ghost use Rattle.number_sets.specs.Sets.{members_of};
-ghost use Rattle.deb_report.specs.declared.walk.Step.{Step};
 ghost use Rattle.deb_report.specs.Walk.{IsStepOf, own_steps, places_in, step_limit, steps_behind, told_behind};
 ghost use Rattle.deb_report.specs.FitsWalk.{FitsWalk};
 ghost use Rattle.deb_report.specs.WalkLines.{lead, package_line, package_text, step_text, walk_lines, walk_text};
@@ -70,76 +69,8 @@ impl<'i> Walk<'i> {
         Ok(steps)
     }
 
-    /// Begins with a package, where it isn't told yet.
-    #[tactic(auto, unfolding(crate::specs::WalkLines::step_text, crate::specs::Walk::steps_behind))]
-    fn begin(
-        &self,
-        out: &mut Vec<u8>,
-        told: &mut HashSet<u32>,
-        place: u32,
-    ) -> Result<Vec<Step>, AllocError>
-        requires { place < length self.now.index.now.packages }
-        ensures text { OnOk result (out.new.items ≡
-            out.old.items ++ step_text self.now.index.now self.now.core.now (places_in self.now.coming.now) (places_in told.old) (Step.Begin place)) }
-        ensures told { OnOk result (places_in told.new ≡ told_behind (places_in told.old) (Step.Begin place)) }
-        ensures steps { IfOk result (λ steps. steps.items ≡ steps_behind self.now.index.now self.now.core.now (places_in told.old) (Step.Begin place)) }
-    {
-        if !told.insert(place)? {
-            return Ok(Vec::new(self.alloc));
-        }
-        self.enter(out, 0, place, &Vec::new(self.alloc))
-    }
-
-    /// Meets a package.
-    #[tactic(auto, unfolding(crate::specs::WalkLines::step_text, crate::specs::Walk::steps_behind))]
-    fn meet(
-        &self,
-        out: &mut Vec<u8>,
-        told: &mut HashSet<u32>,
-        depth: u32,
-        place: u32,
-        constraint: Constraint,
-    ) -> Result<Vec<Step>, AllocError>
-        requires place { place < length self.now.index.now.packages }
-        requires constraint { FitsWalk self.now.index.now self.now.similar.now constraint }
-        ensures text { OnOk result (out.new.items ≡
-            out.old.items ++ step_text self.now.index.now self.now.core.now (places_in self.now.coming.now) (places_in told.old)
-            (Step.Meet depth place constraint)) }
-        ensures told { OnOk result (places_in told.new ≡ told_behind (places_in told.old) (Step.Meet depth place constraint)) }
-        ensures steps { IfOk result (λ steps. steps.items ≡
-            steps_behind self.now.index.now self.now.core.now (places_in told.old) (Step.Meet depth place constraint)) }
-    {
-        let answer = answer_at(self.alloc, self.index, constraint, place)?;
-        let entries = &answer.provides;
-        if !told.insert(place)? {
-            push_package_line(out, self.index, depth, place, entries, true)?;
-            return Ok(Vec::new(self.alloc));
-        }
-        self.enter(out, depth, place, entries)
-    }
-
-    /// Tells a constraint.
-    #[tactic(auto, unfolding(crate::specs::WalkLines::step_text, crate::specs::Walk::steps_behind))]
-    fn tell(
-        &self,
-        out: &mut Vec<u8>,
-        told: &HashSet<u32>,
-        depth: u32,
-        constraint: Constraint,
-    ) -> Result<Vec<Step>, AllocError>
-        requires { FitsWalk self.now.index.now self.now.similar.now constraint }
-        ensures text { OnOk result (out.new.items ≡
-            out.old.items ++ step_text self.now.index.now self.now.core.now (places_in self.now.coming.now) (places_in told.now) (Step.Tell depth constraint)) }
-        ensures steps { IfOk result (λ steps. steps.items ≡
-            steps_behind self.now.index.now self.now.core.now (places_in told.now) (Step.Tell depth constraint)) }
-    {
-        push_lead(out, depth)?;
-        self.push_constraint(out, told, constraint)?;
-        out.extend_from_slice(b"\n")?;
-        met_steps(self.alloc, self.index, told, depth, constraint)
-    }
-
     /// Goes a step, and gives the steps that follow from it.
+    #[tactic(auto, unfolding(crate::specs::WalkLines::step_text, crate::specs::Walk::steps_behind))]
     fn go(
         &self,
         out: &mut Vec<u8>,
@@ -153,9 +84,26 @@ impl<'i> Walk<'i> {
         ensures steps { IfOk result (λ steps. steps.items ≡ steps_behind self.now.index.now self.now.core.now (places_in told.old) step) }
     {
         match step {
-            Step::Begin(place) => self.begin(out, told, place),
-            Step::Meet(depth, place, constraint) => self.meet(out, told, depth, place, constraint),
-            Step::Tell(depth, constraint) => self.tell(out, told, depth, constraint),
+            Step::Begin(place) => {
+                if !told.insert(place)? {
+                    return Ok(Vec::new(self.alloc));
+                }
+                self.enter(out, 0, place, &Vec::new(self.alloc))
+            }
+            Step::Meet(depth, place, constraint) => {
+                let answer = answer_at(self.alloc, self.index, constraint, place)?;
+                if !told.insert(place)? {
+                    push_package_line(out, self.index, depth, place, &answer.provides, true)?;
+                    return Ok(Vec::new(self.alloc));
+                }
+                self.enter(out, depth, place, &answer.provides)
+            }
+            Step::Tell(depth, constraint) => {
+                push_lead(out, depth)?;
+                self.push_constraint(out, told, constraint)?;
+                out.extend_from_slice(b"\n")?;
+                met_steps(self.alloc, self.index, told, depth, constraint)
+            }
         }
     }
 

@@ -1,200 +1,18 @@
 //! The report since an earlier index.
 
 use crate::asking::{Asked, Call, Case, REPORT, USUAL, Wanted, expect};
+use crate::since_texts::{
+    ALL_GONE, ALL_NEW, BLOCKS, DOCUMENT, EARLIER, HEAD, IN_BACKGROUND, LATER, NOTHING_NEW, NUMBERS,
+    ONE_BLOCK, ONE_CAUSE, OTHER_VERSIONS, PROVIDED, SHORT_BLOCKS, SINCE_DOCUMENT, STILL_GONE,
+    TWO_NAMES, VERSIONS, VERSIONS_REPORT,
+};
 use run_settings::{Format, Show};
 use std::test::Fail;
-
-/// Two broken packages and one that isn't.
-const EARLIER: &str = "a 1 {Depends: lib} / b 2 {Depends: lib} / c 1";
-
-/// The first is mended, the second is gone, the third is broken, and so is one more.
-const LATER: &str = "a 2 / c 1 amd64 {Depends: lib} / d 1 {Depends: c}";
-
-const HEAD: &str = "architecture: amd64
-report:
-";
-
-const BLOCKS: &str = " -
-  package: c
-  version: 1
-  architecture: amd64
-  status: broken
-  reasons:
-   - missing: c 1 Depends: lib
- -
-  package: d
-  version: 1
-  architecture: all
-  status: broken
-  reasons:
-   - missing: c 1 Depends: lib
-   - depends: d 1 Depends: c
-";
-
-const NUMBERS: &str = "stanzas: 3
-skipped: 0
-duplicates: 0
-asked: 3
-broken: 2
-newly-broken: 2
-mended:
- - a 1
-gone:
- - b 2
-";
-
-const ONE_CAUSE: &str = "causes: 1
- -
-  packages: 2
-  frees: 2
-  reasons:
-   - missing: lib
-  needed-by:
-   - c 1 Depends: lib
-  broken:
-   - c 1
-   - d 1
-";
-
-const SHORT_BLOCKS: &str = " -
-  package: c
-  version: 1
-  architecture: amd64
-  status: broken
- -
-  package: d
-  version: 1
-  architecture: all
-  status: broken
-";
-
-const DOCUMENT: &str = r#"{"format":2,"options":["since"],"architecture":"amd64","report":[
-{"package":"c","version":"1","architecture":"amd64","status":"broken"},
-{"package":"d","version":"1","architecture":"all","status":"broken"}
-],"stanzas":3,"skipped":0,"duplicates":0,"asked":3,"broken":2,"newly-broken":2,"mended":[{"package":"a","version":"1"}],"gone":[{"package":"b","version":"2"}]}
-"#;
-
-/// Of the first name one of two versions is broken, and then another one: no news. Of the second none is broken, and then one of two. The two of
-/// the third name are mended by one. The fourth is broken still, in a new version.
-const VERSIONS: &str =
-    "n 1 {Depends: lib} / n 2 / m 1 / k 2 {Depends: lib} / k 1 {Depends: lib} / s 1 {Depends: lib}";
-
-const OTHER_VERSIONS: &str =
-    "n 1 / n 3 {Depends: lib} / s 2 {Depends: lib (>= 2)} / m 1 / m 2 {Depends: lib} / k 3";
-
-const VERSIONS_REPORT: &str = "architecture: amd64
-report:
- -
-  package: m
-  version: 2
-  architecture: all
-  status: broken
-  reasons:
-   - missing: m 2 Depends: lib
-stanzas: 6
-skipped: 0
-duplicates: 0
-asked: 6
-broken: 3
-newly-broken: 1
-mended:
- - k 2
- - k 1
-gone:
-causes: 1
- -
-  packages: 1
-  frees: 1
-  reasons:
-   - missing: lib
-  needed-by:
-   - m 2 Depends: lib
-  broken:
-   - m 2
-";
 
 const CAUSES: Asked<'static> = Asked {
     causes: true,
     ..USUAL
 };
-
-const NOTHING_NEW: &str = "architecture: amd64
-report:
-stanzas: 3
-skipped: 0
-duplicates: 0
-asked: 3
-broken: 2
-newly-broken: 0
-mended:
-gone:
-causes: 0
-";
-
-const ALL_NEW: &str = "stanzas: 3
-skipped: 0
-duplicates: 0
-asked: 3
-broken: 2
-newly-broken: 2
-mended:
-gone:
-";
-
-const ALL_GONE: &str = "architecture: amd64
-report:
-stanzas: 0
-skipped: 0
-duplicates: 0
-asked: 0
-broken: 0
-newly-broken: 0
-mended:
-gone:
- - a 1
- - b 2
-";
-
-/// A name is provided alone, and one is in the background alone.
-const PROVIDED: &str = "p 1 {Provides: a}";
-
-const IN_BACKGROUND: &str = "b 2";
-
-const STILL_GONE: &str = "architecture: amd64
-report:
-stanzas: 2
-skipped: 0
-duplicates: 0
-background: 1
-asked: 1
-broken: 0
-newly-broken: 0
-mended:
-gone:
- - a 1
- - b 2
-";
-
-const TWO_NAMES: &str = "stanzas: 3
-skipped: 0
-duplicates: 0
-asked: 2
-broken: 1
-newly-broken: 1
-mended:
- - a 1
-gone:
-";
-
-const ONE_BLOCK: &str = " -
-  package: d
-  version: 1
-  architecture: all
-  status: broken
-  reasons:
-   - missing: c 1 Depends: lib
-   - depends: d 1 Depends: c
-";
 
 /// The report on the later text since the earlier one, with the causes of what is newly broken.
 pub const SINCE: Case = Case {
@@ -205,15 +23,6 @@ pub const SINCE: Case = Case {
     wanted: Wanted::Whole(&[HEAD, BLOCKS, NUMBERS, ONE_CAUSE]),
     ..REPORT
 };
-
-const SINCE_DOCUMENT: &str =
-    r#"{"format":2,"options":["explain","since","causes"],"architecture":"amd64","report":[
-{"package":"c","version":"1","architecture":"amd64","status":"broken","reasons":[{"kind":"missing","package":"c","version":"1","field":"Depends","relation":"lib"}]},
-{"package":"d","version":"1","architecture":"all","status":"broken","reasons":[{"kind":"missing","package":"c","version":"1","field":"Depends","relation":"lib"},{"kind":"depends","package":"d","version":"1","field":"Depends","relation":"c"}]}
-],"stanzas":3,"skipped":0,"duplicates":0,"asked":3,"broken":2,"newly-broken":2,"mended":[{"package":"a","version":"1"}],"gone":[{"package":"b","version":"2"}],"causes":[
-{"packages":2,"frees":2,"reasons":[{"kind":"missing","relation":"lib"}],"needed-by":[{"package":"c","version":"1","field":"Depends","relation":"lib"}],"hits":[],"versions":[],"present":[],"similar":[],"broken":[{"package":"c","version":"1"},{"package":"d","version":"1"}]}
-]}
-"#;
 
 pub const SINCE_IN_JSON: Case = Case {
     name: "since an earlier index, in JSON",

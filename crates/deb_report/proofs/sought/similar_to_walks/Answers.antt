@@ -10,8 +10,8 @@ find-requires c =
     let index = c.args.index.now in
     subst (All (IsOfIndex index)) (sym (c.as_slice.ensures.value ∙ c.in_ok-constraints.ensures)) (constraints-within index c.args.blocks.now c.requires)
 
-pub returns-then-telling-2 : goal.returns-then-telling-2
-returns-then-telling-2 c =
+pub returns-then-config-2 : goal.returns-then-config-2
+returns-then-config-2 c =
     let index = c.args.index.now in
     let similar = c.in_ok-similar.similar in
     let sought = subst (AreSought index (stems_in similar)) (c.as_slice.ensures.value ∙ c.in_ok-constraints.ensures) c.in_ok-similar.ensures.sought in

@@ -11,5 +11,5 @@ walked-why Json why walked = absurd (false≢true walked)
 
 pub push_walk-requires-clause-core : goal.push_walk-requires-clause-core
 push_walk-requires-clause-core c =
-    let why = walked-why c.args.self.now.writer.format c.args.self.now.telling.config.now.why (sym c.is_walked.ensures ∙ c.if-is_walked.true) in
+    let why = walked-why c.args.self.now.writer.format c.args.self.now.config.now.why (sym c.is_walked.ensures ∙ c.if-is_walked.true) in
     λ i one below. (c.requires.core i one below).1 why

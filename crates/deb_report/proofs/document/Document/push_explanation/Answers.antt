@@ -7,7 +7,7 @@ use Rattle.deb_report.proofs.document.Document.push_explanation.Goals as goal
 
 pub push_cores-requires-clause-cores : goal.push_cores-requires-clause-cores
 push_cores-requires-clause-cores c =
-    let told = IsTold c.args.self.now.writer.index.now c.args.self.now.telling c.args.self.now.similar.now in
+    let told = IsTold c.args.self.now.writer.index.now c.args.self.now.config.now c.args.self.now.similar.now in
     let within = rw c.in-Broken.is at c.requires.asked.1 in
     let walked = rw c.in-Broken.is at c.requires.walked in
     rw c.as_slice.ensures.value

@@ -5,8 +5,8 @@ use Rattle.deb_report.specs.Outcome.{number_view}
 use Rattle.deb_report.specs.Since.{amends_view}
 use Rattle.deb_report.proofs.FormLemmas.{list_map}
 use Rattle.deb_report.specs.declared.form.Lead.TheVariants.{Tall}
-use Rattle.deb_report.specs.Document.{amended_in, block_in, counted_in, text_in}
-use Rattle.deb_report.specs.Told.{telling_view}
+use Rattle.deb_report.specs.Document.{amended_in, block_in, counted_in, text_under}
+use Rattle.run_settings.specs.Settings.{settings_of}
 use Rattle.deb_report.proofs.document.Document.text.Goals as goal
 
 pub push_list-requires : goal.push_list-requires
@@ -15,7 +15,7 @@ push_list-requires c =
     (λ k d below. record { asked = c.requires.content.blocks k d below; walked = c.requires.walked k d below })
 
 pub returns : goal.returns
-unfolding text_in
+unfolding text_under
 returns c =
     let form = c.args.self.now.writer.format in
     let index = c.args.self.now.writer.index.now in
@@ -27,14 +27,12 @@ returns c =
       c.in_ok-push_list.ensures,
       c.in_ok-push_string.ensures,
       c.in_ok-push_head.ensures,
-      c.as_slice-options.ensures.value,
-      c.in_ok-options.ensures,
       c.new-out.ensures.items,
       c.as_slice-blocks.ensures.value,
       c.as_slice.ensures.value,
       c.as_slice-2.ensures.value,
       c.arch-arch.ensures,
-      ← list_map form Tall (codes "report") (block_in form index (telling_view c.args.self.now.telling)) shown_view content.blocks.items,
+      ← list_map form Tall (codes "report") (block_in form index (settings_of c.args.self.now.config.now)) shown_view content.blocks.items,
       ← lines_map (counted_in form) number_view content.numbers.items,
       ← lines_map (amended_in form) amends_view content.lists.items,
     )

@@ -6,7 +6,7 @@ use Rattle.deb_report.specs.Outcome.{status_of}
 use Rattle.deb_report.specs.Forms.{block_end, string_in}
 use Rattle.deb_report.specs.declared.form.Lead.TheVariants.{Block, Within}
 use Rattle.deb_report.specs.Document.{block_in, explanation_in}
-use Rattle.deb_report.specs.Told.{telling_view}
+use Rattle.run_settings.specs.Settings.{settings_of}
 use Rattle.deb_report.proofs.document.DocumentPrintShown.print.Goals as goal
 use Rattle.deb_report.proofs.document.DocumentPrintShown.print.Goals.{then-self+in_ok-push_explanation, else-self}
 
@@ -27,7 +27,7 @@ unfolding block_in
 returns c =
     let form = c.args.self.now.writer.format in
     let out = c.args.out.now.items in
-    let telling = telling_view c.args.self.now.telling in
+    let settings = settings_of c.args.self.now.config.now in
     let deb = package_view c.package-deb.result.now in
     let name = string_in form Block (codes "package") deb.name in
     let version = string_in form Within (codes "version") deb.version in
@@ -35,7 +35,7 @@ returns c =
     let status = string_in form Within (codes "status") (status_of (told_view c.args.shown.now.told.now)) in
     elim c.if-self.branch [
       | then-self+in_ok-push_explanation w ↦
-          let told = explanation_in form c.args.self.now.writer.index.now telling (shown_view c.args.shown.now) in
+          let told = explanation_in form c.args.self.now.writer.index.now settings (shown_view c.args.shown.now) in
           rw (
             c.in_ok-push_block_end.ensures,
             w.out-is,
@@ -51,7 +51,7 @@ returns c =
             ← c.package-deb.ensures,
           )
           (in-seven out name version architecture status told (block_end form)
-          ∙ ap (λ (text : List ℕ). out ++ (name ++ version ++ architecture ++ status ++ text ++ block_end form)) (explained telling.explain told w.if-self.true))
+          ∙ ap (λ (text : List ℕ). out ++ (name ++ version ++ architecture ++ status ++ text ++ block_end form)) (explained settings.explain told w.if-self.true))
       | else-self w ↦
           rw (
             c.in_ok-push_block_end.ensures,

@@ -1,7 +1,7 @@
-use Rattle.deb_report.proofs.document.text_in.Goals as goal
+use Rattle.deb_report.proofs.layout.text_of.Goals as goal
 
 pub similar_to_walks-requires : goal.similar_to_walks-requires
-similar_to_walks-requires c = rw c.as_slice.ensures.value c.requires.blocks
+similar_to_walks-requires c = rw c.as_slice.ensures.value c.in_ok-content.ensures.within.blocks
 
 pub text-requires-clause-walked : goal.text-requires-clause-walked
 text-requires-clause-walked c = rw c.as_slice.ensures.value at c.in_ok-similar.ensures

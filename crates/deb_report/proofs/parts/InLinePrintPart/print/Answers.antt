@@ -1,0 +1,19 @@
+use Rattle.std.proofs.Common.{append_assoc, codes}
+use Rattle.deb_relation.proofs.JoinLemmas.{joined_map}
+use Rattle.deb_relation.specs.AtomView.{atom_view}
+use Rattle.deb_relation.specs.Relationship.{printed}
+use Rattle.deb_report.specs.Forms.{part_line}
+use Rattle.deb_report.proofs.parts.InLinePrintPart.print.Goals as goal
+
+pub returns-in_ok-extend_from_slice-in-Provides-2 : goal.returns-in_ok-extend_from_slice-in-Provides-2
+unfolding part_line
+returns-in_ok-extend_from_slice-in-Provides-2 c =
+    rw (
+      c.in_ok-extend_from_slice-in-Provides-2.ensures.items,
+      c.in_ok-push_joined-in-Provides.ensures,
+      c.in_ok-extend_from_slice-in-Provides.ensures.items,
+      c.in-Provides.is,
+      ← c.as_slice.ensures.value,
+      joined_map printed (λ entry. atom_view entry.now) (codes ", ") c.as_slice.result.now,
+    )
+    (simp append_assoc)
