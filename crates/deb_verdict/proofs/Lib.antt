@@ -8,6 +8,7 @@ pub mod FirstSet
 pub mod GatherLemmas
 pub mod Inserted
 pub mod Listing
+pub mod NextLemmas
 pub mod OneVerdict
 pub mod Settled
 pub mod Whole

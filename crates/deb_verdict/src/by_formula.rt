@@ -1,7 +1,8 @@
 //! The formula of a package that no healthy set has: it is made once, and says of each part of the constraints whether a set with the package
 //! meets it.
 
-ghost use Rattle.std.specs.Prelude.{◌≡◌, ◌<◌, true, false, IfOk, OnOk, length, map};
+ghost use Rattle.std.specs.Prelude.{◌≡◌, ◌<◌, ◌≤◌, ◌-◌, true, false, IfOk, OnOk, get_or, length, map};
+ghost use Rattle.std.specs.List.Sorted.{IsStrictlyIncreasing};
 ghost use Rattle.std.specs.Option.{ForSome};
 ghost use Rattle.number_sets.specs.Sets.{members_of};
 ghost use Rattle.deb_health.specs.Health.{AdmitsNone};
@@ -63,13 +64,64 @@ fn describe(
     })
 }
 
+/// Whether the numbers of a list before a place are seen to be smaller than a number: where it rises, the last one of them tells.
+fn is_behind(numbers: &[u32], number: u32, place: usize) -> bool
+    ensures { result ≡ true → (place ≤ length numbers.now) × (0 < place → get_or numbers.now (place - 1) 0 < number) }
+{
+    let Some(last) = place.checked_sub(1) else {
+        return true;
+    };
+    match numbers.get(last) {
+        Some(before) => *before < number,
+        None => false,
+    }
+}
+
+/// Whether a rising list has a number. Where numbers are asked for in rising order, the answer stands at `at`, behind the last one's.
+fn is_next(numbers: &[u32], number: u32, at: &mut usize) -> bool
+    requires { IsStrictlyIncreasing numbers.now }
+    ensures { result ≡ members_of numbers.now number }
+{
+    let here = *at;
+    if is_behind(numbers, number, here) {
+        match numbers.get(here) {
+            None => return false,
+            Some(next) if *next > number => return false,
+            Some(next) if *next == number => {
+                *at = here + 1;
+                return true;
+            }
+            _ => {}
+        }
+    }
+    match numbers.binary_search(&number) {
+        Ok(place) => {
+            *at = place + 1;
+            true
+        }
+        Err(place) => {
+            *at = place;
+            false
+        }
+    }
+}
+
+/// Whether a part has the constraint at a position, where positions are asked for in rising order.
+fn has_next(part: &Part<'_>, position: u32, kept: &mut usize, out: &mut usize) -> bool
+    ensures { result ≡ positions_in part.now position }
+{
+    (position >= part.rest || is_next(part.kept, position, kept))
+        && !is_next(part.out, position, out)
+}
+
 /// Marks the positions that a part has.
 fn mark_kept(part: &Part<'_>, positions: &[u32], keep: &mut Vec<bool>) -> Result<(), AllocError>
     ensures { OnOk result (keep.new.items ≡ map (positions_in part.now) positions.now) }
 {
     keep.clear();
+    let (mut kept, mut out) = (0, 0);
     for position in positions {
-        keep.push(part.has(*position))?;
+        keep.push(has_next(part, *position, &mut kept, &mut out))?;
     }
     Ok(())
 }

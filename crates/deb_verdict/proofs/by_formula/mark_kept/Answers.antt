@@ -10,8 +10,8 @@ loop-position-preserved c =
     let positions : List ℕ = c.args.positions.now in
     let i : ℕ = c.loop-position.position-index in
     c.in_ok-push.ensures.items
-    ∙ (ap (λ (list : List Bool). list ++ c.has.result ∷ []) c.loop-position.invariant
-    ∙ (ap (λ (b : Bool). map has (take i positions) ++ b ∷ []) c.has.ensures
+    ∙ (ap (λ (list : List Bool). list ++ c.has_next.result ∷ []) c.loop-position.invariant
+    ∙ (ap (λ (b : Bool). map has (take i positions) ++ b ∷ []) c.has_next.ensures
     ∙ sym (ap (map has) (take_more positions i 0 c.loop-position-test.true) ∙ map-append has (take i positions) (get_or positions i 0 ∷ []))))
 
 pub returns : goal.returns
