@@ -11,8 +11,8 @@ use std::process::Abort;
 
 /// Numbers that look random, and are the same in each run.
 #[derive(Drop)]
-struct Numbers {
-    state: u32,
+pub(crate) struct Numbers {
+    pub(crate) state: u32,
 }
 
 impl Numbers {
@@ -24,7 +24,7 @@ impl Numbers {
         (self.state >> 16) % bound
     }
 
-    fn literal(&mut self, vars: u32) -> Lit
+    pub(crate) fn literal(&mut self, vars: u32) -> Lit
         requires { 0 < vars }
         ensures { result.var < vars }
     {

@@ -3,6 +3,7 @@
 
 ghost use Rattle.std.specs.Prelude.{◌≡◌, ◌<◌, All, IfOk};
 
+use crate::drawn::Numbers;
 use crate::literals::lit;
 use crate::scripts::is_written;
 use sat_solve::{Formula, Lit, Owner, Rotation, Workspace};
@@ -179,6 +180,62 @@ fn learn_twice(
     learnt
 }
 
+/// Adds a drawn clause of three literals.
+fn add_drawn(numbers: &mut Numbers, formula: &mut Formula) -> Result<(), AllocError>
+    requires vars { formula.old.vars ≡ 150 }
+    requires groups { formula.old.groups ≡ 1 }
+    ensures vars { IfOk result (λ _. formula.new.vars ≡ 150) }
+    ensures groups { IfOk result (λ _. formula.new.groups ≡ 1) }
+{
+    let clause = [
+        numbers.literal(150),
+        numbers.literal(150),
+        numbers.literal(150),
+    ];
+    formula.add(0, &clause)
+}
+
+/// Makes a formula that no set meets, as some 8,800 conflicts show. These teach about 108,000 literals, of which 69,676 are kept at once.
+fn fill_hard(formula: &mut Formula) -> Result<(), AllocError>
+    ensures vars { IfOk result (λ _. formula.new.vars ≡ 150) }
+    ensures groups { IfOk result (λ _. formula.new.groups ≡ 1) }
+{
+    formula.restart(150, 1);
+    let mut numbers = Numbers { state: 4 };
+    'clauses: for _ in 0..690 {
+        add_drawn(&mut numbers, formula)?;
+    }
+    Ok(())
+}
+
+/// Sees that no set has variable 0.
+fn expect_none(
+    rt: &(impl Abort + AllocGlobal),
+    formula: &Formula,
+    workspace: &mut Workspace,
+) -> Result<(), AllocError>
+    requires vars { 0 < formula.now.vars }
+    requires groups { formula.now.groups ≡ 1 }
+{
+    let found = formula.solve_in(rt.alloc(), workspace, &[true], 0)?;
+    assert!(rt; found.is_none());
+    Ok(())
+}
+
+/// A workspace that was refused memory before or after it dropped what it had learnt serves the next solve.
+fn drop_learnt(
+    rt: &(impl Abort + AllocGlobal),
+    formula: &mut Formula,
+    workspace: &mut Workspace,
+) -> Result<(), AllocError> {
+    fill_hard(formula)?;
+    let solved = expect_none(rt, formula, workspace);
+    if solved.is_err() {
+        expect_none(rt, formula, workspace)?;
+    }
+    solved
+}
+
 /// Sees that both groups are needed, which a set shows that breaks the first one alone.
 fn expect_needed(
     rt: &(impl Abort + AllocGlobal),
@@ -218,6 +275,7 @@ enum Call {
     SolveIn,
     SolveMarked,
     Learn,
+    DropLearnt,
     MarkNeeded,
 }
 
@@ -242,6 +300,7 @@ fn make(
         Call::SolveIn => solve_twice(rt, formula, workspace),
         Call::SolveMarked => mark_twice(rt, formula, workspace),
         Call::Learn => learn_twice(rt, formula, workspace),
+        Call::DropLearnt => drop_learnt(rt, formula, workspace),
         Call::MarkNeeded => rotate_twice(rt, formula, rotation),
         Call::New | Call::Solve => expect(rt, formula, "0 1"),
     }
@@ -291,6 +350,11 @@ fn of_solve_marked(rt: HostRuntime) -> Result<(), AllocError> {
 #[test]
 fn of_learn(rt: HostRuntime) -> Result<(), AllocError> {
     try_call(&rt, Call::Learn)
+}
+
+#[test]
+fn of_drop_learnt(rt: HostRuntime) -> Result<(), AllocError> {
+    try_call(&rt, Call::DropLearnt)
 }
 
 #[test]
