@@ -185,7 +185,7 @@ fn report_on<G: Gate + Sync, R: Threads + Sync>(
     index: &Index,
     before: Option<&Before<'_>>,
 ) -> Result<(Vec<u8>, Summary), RunFault>
-    requires { ForSome before (λ before. before.now.index.now ≡ index.now) }
+    requires before { ForSome before (λ before. before.now.index.now ≡ index.now) }
     ensures report { IfOk result (λ r. IsReportOn (before_view before.entry) (settings_of job.now.config.now) index.now r.0.items r.1) }
     ensures refused { IfErr result (FailsToReport (settings_of job.now.config.now) index.now) }
 {
