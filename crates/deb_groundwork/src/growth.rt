@@ -125,31 +125,41 @@ impl Witness {
         false
     }
 
-    /// Puts in an answer of a need that has `most` answers at most, where none is in and the part asks for one. `false` where none is seen to do.
-    fn take_answer(&mut self, ground: &Ground, place: u32, number: u32, most: usize) -> bool
+    /// Puts in an answer of a need that has from `least` to `most` answers, where none is in and the part asks for one. `false` where none is seen to do.
+    fn take_answer(
+        &mut self,
+        ground: &Ground,
+        place: u32,
+        number: u32,
+        least: usize,
+        most: usize,
+    ) -> bool
         requires place { place < length ground.now.part.index.now.packages }
         requires number { number < length (needs_at ground.now.part.index.now place) }
     {
-        let part = ground.part;
+        let part = &ground.part;
         let position = part.index.need_position(place, number);
+        if !ground.asks_all && position < part.rest && !part.has(position) {
+            return true;
+        }
         match part.index.answer_row(place, number) {
-            Some(row) if row.len() > most => true,
-            _ if position < part.rest && !part.has(position) => true,
             Some(row) => {
-                has_any(&self.on(ground.base), row)
-                    || !part.has(position)
+                row.len() < least
+                    || row.len() > most
+                    || has_any(&self.on(ground.base), row)
+                    || !(ground.asks_all || part.has(position))
                     || self.take_one(ground, row, Some(Cause { place, number }))
             }
-            None => { most == 1 || !part.has(position) || self.take_any(ground, place, number) }
+            None => most == 1 || !part.has(position) || self.take_any(ground, place, number),
         }
     }
 
-    /// Puts in an answer of each need of a place that the part asks for. `false` where one has none.
-    fn take_answers(&mut self, ground: &Ground, place: u32, most: usize) -> bool
+    /// Puts in an answer of each such need of a place that the part asks for. `false` where one has none.
+    fn take_answers(&mut self, ground: &Ground, place: u32, least: usize, most: usize) -> bool
         requires { place < length ground.now.part.index.now.packages }
     {
         for number in 0..ground.part.index.need_count(place) {
-            if !self.take_answer(ground, place, number, most) {
+            if !self.take_answer(ground, place, number, least, most) {
                 return false;
             }
         }
@@ -179,21 +189,25 @@ impl Witness {
     fn take_needs(&mut self, ground: &Ground) -> Option<u32> {
         let index = ground.part.index;
         // Only where all is asked for, what came first may be in the way of what has to come.
-        let mut forced = if ground.asks_all { 0 } else { usize::MAX };
+        let (mut forced, least) = if ground.asks_all {
+            (0, 2)
+        } else {
+            (usize::MAX, 0)
+        };
         let mut answered = 0;
         // Each place is gone through twice.
         for _ in 0..u64::from(index.len()) * 2 {
             let places = self.more.members.as_slice();
-            let (place, most) = if forced < places.len() {
+            let (place, least, most) = if forced < places.len() {
                 forced += 1;
-                (places[forced - 1], 1)
+                (places[forced - 1], 0, 1)
             } else if answered < places.len() {
                 answered += 1;
-                (places[answered - 1], usize::MAX)
+                (places[answered - 1], least, usize::MAX)
             } else {
                 return None;
             };
-            if place >= index.len() || !self.take_answers(ground, place, most) {
+            if place >= index.len() || !self.take_answers(ground, place, least, most) {
                 return Some(place);
             }
         }
