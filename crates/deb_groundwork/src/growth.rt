@@ -125,15 +125,8 @@ impl Witness {
         false
     }
 
-    /// Puts in an answer of a need that has from `least` to `most` answers, where none is in and the part asks for one. `false` where none is seen to do.
-    fn take_answer(
-        &mut self,
-        ground: &Ground,
-        place: u32,
-        number: u32,
-        least: usize,
-        most: usize,
-    ) -> bool
+    /// Puts in an answer of a need that has from `few.0` to `few.1` answers, where none is in and the part asks for one. `false` where none will do.
+    fn take_answer(&mut self, ground: &Ground, place: u32, number: u32, few: (usize, usize)) -> bool
         requires place { place < length ground.now.part.index.now.packages }
         requires number { number < length (needs_at ground.now.part.index.now place) }
     {
@@ -144,22 +137,22 @@ impl Witness {
         }
         match part.index.answer_row(place, number) {
             Some(row) => {
-                row.len() < least
-                    || row.len() > most
+                row.len() < few.0
+                    || row.len() > few.1
                     || has_any(&self.on(ground.base), row)
                     || !(ground.asks_all || part.has(position))
                     || self.take_one(ground, row, Some(Cause { place, number }))
             }
-            None => most == 1 || !part.has(position) || self.take_any(ground, place, number),
+            None => few.1 == 1 || !part.has(position) || self.take_any(ground, place, number),
         }
     }
 
     /// Puts in an answer of each such need of a place that the part asks for. `false` where one has none.
-    fn take_answers(&mut self, ground: &Ground, place: u32, least: usize, most: usize) -> bool
+    fn take_answers(&mut self, ground: &Ground, place: u32, few: (usize, usize)) -> bool
         requires { place < length ground.now.part.index.now.packages }
     {
         for number in 0..ground.part.index.need_count(place) {
-            if !self.take_answer(ground, place, number, least, most) {
+            if !self.take_answer(ground, place, number, few) {
                 return false;
             }
         }
@@ -189,25 +182,22 @@ impl Witness {
     fn take_needs(&mut self, ground: &Ground) -> Option<u32> {
         let index = ground.part.index;
         // Only where all is asked for, what came first may be in the way of what has to come.
-        let (mut forced, least) = if ground.asks_all {
-            (0, 2)
-        } else {
-            (usize::MAX, 0)
-        };
+        let mut forced = if ground.asks_all { 0 } else { usize::MAX };
         let mut answered = 0;
+        let least = if ground.asks_all { 2 } else { 0 };
         // Each place is gone through twice.
         for _ in 0..u64::from(index.len()) * 2 {
             let places = self.more.members.as_slice();
-            let (place, least, most) = if forced < places.len() {
+            let (place, few) = if forced < places.len() {
                 forced += 1;
-                (places[forced - 1], 0, 1)
+                (places[forced - 1], (0, 1))
             } else if answered < places.len() {
                 answered += 1;
-                (places[answered - 1], least, usize::MAX)
+                (places[answered - 1], (least, usize::MAX))
             } else {
                 return None;
             };
-            if place >= index.len() || !self.take_answers(ground, place, least, most) {
+            if place >= index.len() || !self.take_answers(ground, place, few) {
                 return Some(place);
             }
         }
