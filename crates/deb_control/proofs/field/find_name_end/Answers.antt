@@ -1,15 +1,10 @@
 use Rattle.std.proofs.Common.{◌≡◌, true, false, get_or, rules}
-use Rattle.deb_control.specs.Fields.{is_colon, is_name_byte, is_past_colon}
-use Rattle.deb_control.proofs.FieldLemmas.{in-name-more, in-name-none, in-name-past, name-end, parts-bad, parts-none}
+use Rattle.deb_control.specs.Fields.{is_colon, is_name_byte}
+use Rattle.deb_control.proofs.FieldLemmas.{in-name-more, name-end, parts-bad, parts-none}
 use Rattle.deb_control.proofs.field.find_name_end.Goals as goal
 
 pub bytes-init : goal.bytes-init
-bytes-init c = in-name-none c.args.line.now
-
-pub bytes-preserved-then-is_past_colon : goal.bytes-preserved-then-is_past_colon
-bytes-preserved-then-is_past_colon c =
-    let past : is_past_colon (get_or c.args.line.now c.bytes.i 0) ≡ true = search rules in
-    in-name-past c.args.line.now c.bytes.i c.bytes-test.true c.bytes.invariant past
+bytes-init c = c.letters_len-i.ensures.name
 
 pub returns-then-b-eq58-clause-end : goal.returns-then-b-eq58-clause-end
 returns-then-b-eq58-clause-end c =
