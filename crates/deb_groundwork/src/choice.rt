@@ -1,5 +1,8 @@
 //! Which answer of a need comes into a set that grows: one that nothing is seen to speak against, if there is one.
 
+ghost use Rattle.std.specs.Prelude.{◌<◌, length};
+ghost use Rattle.deb_index.specs.Packages.{needs_at};
+
 use crate::base_set::{BaseSet, OnBase};
 use crate::hopeless::is_unanswered;
 use crate::limits::FEW;
@@ -19,6 +22,16 @@ pub(crate) struct Ground<'p, 'b, 'l> {
     pub(crate) asks_all: bool,
     /// Whether answers go first that are the last of their names: so an index of one suite after another gives the later suite.
     pub(crate) last_first: bool,
+}
+
+impl Ground<'_, '_, '_> {
+    /// Whether the part asks for a need.
+    pub(crate) fn asks(&self, place: u32, number: u32) -> bool
+        requires place { place < length self.now.part.index.now.packages }
+        requires number { number < length (needs_at self.now.part.index.now place) }
+    {
+        self.asks_all || self.part.has(self.part.index.need_position(place, number))
+    }
 }
 
 /// Whether nothing is seen to speak against a package: it fits to what is in, and no need that the part asks for lacks an answer that may be had.

@@ -130,20 +130,24 @@ impl Witness {
         requires place { place < length ground.now.part.index.now.packages }
         requires number { number < length (needs_at ground.now.part.index.now place) }
     {
-        let part = &ground.part;
-        let position = part.index.need_position(place, number);
-        if !ground.asks_all && position < part.rest && !part.has(position) {
+        let index = ground.part.index;
+        if !ground.asks_all
+            && index.need_position(place, number) < ground.part.rest
+            && !ground.asks(place, number)
+        {
             return true;
         }
-        match part.index.answer_row(place, number) {
+        match index.answer_row(place, number) {
             Some(row) => {
                 row.len() < few.0
                     || row.len() > few.1
                     || has_any(&self.on(ground.base), row)
-                    || !(ground.asks_all || part.has(position))
+                    || !ground.asks(place, number)
                     || self.take_one(ground, row, Some(Cause { place, number }))
             }
-            None => few.1 == 1 || !part.has(position) || self.take_any(ground, place, number),
+            None => few.1 == 1
+                || !ground.asks(place, number)
+                || self.take_any(ground, place, number),
         }
     }
 

@@ -176,7 +176,8 @@ fn read_provides(alloc: Global, number: u64, stanza: &Stanza) -> Result<Vec<Atom
     }
 }
 
-// Whether a field has just this value.
+// Whether a field has just this value. Where the name is known beforehand, so is its slot.
+#[inline(always)]
 fn says(stanza: &Stanza, name: &str, value: &[u8]) -> bool
     ensures { result ≡ option_map_or (λ v. bytes_eq v value.now) (field_value stanza.now name.now) false }
 {
