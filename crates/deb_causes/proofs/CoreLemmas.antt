@@ -20,16 +20,14 @@ use Rattle.deb_index.proofs.MemberLemmas.{below-places_where, member-places_wher
 use Rattle.deb_index.proofs.PositionLemmas.{one_position}
 use Rattle.deb_index.proofs.TableLemmas.{any-turned, names-chain}
 use Rattle.deb_health.specs.Causes.{cause_in, is_final}
-use Rattle.number_sets.specs.Sets.{members_of}
-use Rattle.number_sets.specs.SparseSets.{Grows}
+use Rattle.number_sets.specs.Sets.{members_of, Grows}
 use Rattle.number_sets.proofs.ListMembers.{same_test}
 use Rattle.number_sets.proofs.RisingLists.{rising_once}
 use Rattle.number_sets.proofs.ListLemmas.{or_assoc, or_false}
 use Rattle.number_sets.proofs.PlaceLemmas.{places_from}
 use Rattle.deb_index.proofs.BelowLemmas.{rising-below}
-use Rattle.deb_causes.specs.Causes.{is_answer_to, is_need, is_version_in, is_version_of, needs_in, same_constraint, says, says_same, versions_in}
+use Rattle.deb_causes.specs.Causes.{is_answer_to, is_need, is_version_in, is_version_of, needs_in, same_constraint, says, says_same, versions_in, is_need_among, is_need_at, is_only}
 use Rattle.deb_causes.specs.Numbering.{with_text}
-use Rattle.deb_causes.specs.Positions.{is_need_among, is_need_at, is_only}
 use Rattle.deb_causes.proofs.GatheringLemmas.{itself}
 
 -- ---- the first of each that say the same

@@ -9,8 +9,7 @@ use Rattle.deb_index.specs.Constraints.{constraints_of}
 use Rattle.deb_index.specs.Packages.{IndexView}
 use Rattle.deb_health.specs.Causes.{cause_at, cause_in, causes_at, is_final, nothing, without}
 use Rattle.deb_health.proofs.CoreLemmas.{admits_more, mended, without_fewer}
-use Rattle.deb_causes.specs.Causes.{has_cause, is_broken_by, is_said}
-use Rattle.deb_causes.specs.Freed.{FreedAreAdmitted, said_at}
+use Rattle.deb_causes.specs.Causes.{has_cause, is_broken_by, is_said, FreedAreAdmitted, said_at}
 
 module _ (index : IndexView) (cause : List Constraint) where
   -- what a core has at a position

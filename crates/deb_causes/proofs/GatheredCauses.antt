@@ -14,7 +14,7 @@ use Rattle.deb_index.proofs.ConstraintLemmas.{constraints-within}
 use Rattle.deb_index.proofs.EnumerateLemmas.{filter-length}
 use Rattle.deb_index.proofs.TableLemmas.{IsApart, number-within}
 use Rattle.deb_health.specs.Causes.{cause_in, is_final}
-use Rattle.deb_health.specs.Verdicts.{ToldView}
+use Rattle.deb_health.specs.Verdicts.{ToldView, IsAskedOf}
 use Rattle.number_sets.proofs.ListLemmas.{all_seen, map-twice}
 use Rattle.deb_causes.specs.declared.gathered.Cause.{Cause}
 use Rattle.deb_causes.specs.declared.gathered.Part.{Part}
@@ -22,13 +22,9 @@ use Rattle.deb_causes.specs.declared.gathered.NumberedCore.{NumberedCore}
 use Rattle.deb_causes.specs.declared.gathered.NumberedPackage.{NumberedPackage}
 use Rattle.deb_causes.specs.declared.wrongs.Wrongs.{Wrongs}
 use Rattle.deb_causes.specs.Causes.{CauseView, IsCauseOf, by_count, by_first, causes_list, cause_view, cores_of, cores_with, found_causes, gathered, has_cause, has_count, is_broken_by, is_need, is_said, is_version_in, needs_in, same_cause, same_constraint, says, says_same, versions_in}
-use Rattle.deb_causes.specs.Gathered.{cause_from}
-use Rattle.deb_causes.specs.Gathering.{PartView, has_number, part_of, part_view}
-use Rattle.deb_causes.specs.Numbered.{core_view, package_view, unnumbered}
-use Rattle.deb_causes.specs.Numbering.{StandOnce}
-use Rattle.deb_causes.specs.Said.{IsKnown, IsNumbered, key_of}
-use Rattle.deb_health.specs.Shown.{IsAskedOf}
-use Rattle.deb_causes.specs.Wrongs.{AreNumbered, causes_of, said_of}
+use Rattle.deb_causes.specs.Gathering.{cause_from, PartView, has_number, part_of, part_view}
+use Rattle.deb_causes.specs.Numbering.{core_view, package_view, unnumbered, StandOnce}
+use Rattle.deb_causes.specs.Wrongs.{IsKnown, IsNumbered, key_of, AreNumbered, causes_of, said_of}
 use Rattle.deb_causes.proofs.FirstOnes.{Starts, all-each, all-get, first-kept, first-keyed, first-starts, range-all, range-seen}
 use Rattle.deb_causes.proofs.NumberingLemmas.{front-same}
 use Rattle.deb_causes.proofs.PartLemmas.{causes-unnumbered, cores-unnumbered, number-tells, part-gathered, part-some}

@@ -15,7 +15,7 @@ use Rattle.number_sets.proofs.RisingLists.{above_first, rising_tail}
 use Rattle.number_sets.proofs.ListLemmas.{or_false}
 use Rattle.number_sets.proofs.MembersLemmas.{members-more}
 use Rattle.deb_causes.specs.Gathering.{PartView, cores_with_number, has_number, part_of, share_of, with_cores, with_share}
-use Rattle.deb_causes.specs.Numbered.{core_view}
+use Rattle.deb_causes.specs.Numbering.{core_view}
 use Rattle.deb_causes.specs.declared.gathered.NumberedCore.{NumberedCore}
 
 -- ---- one of the numbers below a count

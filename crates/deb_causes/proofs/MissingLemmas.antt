@@ -7,7 +7,7 @@ use Rattle.deb_index.specs.Meets.{group_satisfiers, meets_need, need_satisfiers}
 use Rattle.deb_index.specs.Packages.{IndexView, places_where}
 use Rattle.deb_index.proofs.EssentialLemmas.{places-none}
 use Rattle.number_sets.proofs.PlaceLemmas.{one-is-some, places_from}
-use Rattle.deb_causes.specs.Missing.{is_missing}
+use Rattle.deb_causes.specs.Near.{is_missing}
 
 abbrev pub is_empty : List ℕ → Bool
 is_empty places = length places == 0

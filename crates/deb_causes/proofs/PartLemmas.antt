@@ -15,10 +15,9 @@ use Rattle.deb_index.proofs.TableLemmas.{IsApart}
 use Rattle.deb_health.specs.Causes.{cause_in}
 use Rattle.number_sets.proofs.ListLemmas.{map-twice}
 use Rattle.deb_causes.specs.Causes.{cores_with, found_causes, gathered, has_cause, is_broken_by, is_freed_by, needs_in, same_cause, says_same, versions_in}
-use Rattle.deb_causes.specs.Gathered.{cause_from}
-use Rattle.deb_causes.specs.Gathering.{has_number, is_alone, part_of, share_of}
-use Rattle.deb_causes.specs.Numbered.{unnumbered}
-use Rattle.deb_causes.specs.Said.{IsKnown, IsNumbered, key_of}
+use Rattle.deb_causes.specs.Gathering.{cause_from, has_number, is_alone, part_of, share_of}
+use Rattle.deb_causes.specs.Numbering.{unnumbered}
+use Rattle.deb_causes.specs.Wrongs.{IsKnown, IsNumbered, key_of}
 use Rattle.deb_causes.proofs.FirstOnes.{Starts, all-each, all-seen, any-seen, filter-seen}
 use Rattle.deb_causes.proofs.SaidLemmas.{number-test, same-key}
 

@@ -18,7 +18,7 @@ use Rattle.number_sets.proofs.ListMembers.{same_test}
 use Rattle.number_sets.proofs.RisingLists.{rising_once}
 use Rattle.deb_causes.specs.Causes.{is_said, same_cause, says}
 use Rattle.deb_causes.specs.Numbering.{StandOnce}
-use Rattle.deb_causes.specs.Said.{IsKnown, is_text_of, key_of, number_said}
+use Rattle.deb_causes.specs.Wrongs.{IsKnown, is_text_of, key_of, number_said}
 
 pub once-apart : (texts : List (List ℕ)) → StandOnce texts → IsApart texts
 once-apart texts once = subst IsApart (sym once.1) (first-apart once.0)

@@ -13,14 +13,11 @@ use Rattle.std.proofs.lemmas.List.Folds.{list_any-append}
 use Rattle.std.proofs.lemmas.Map.Made.{is_some-lookup}
 use Rattle.std.proofs.lemmas.Map.Views.{IfSome-lookup_from_All}
 use Rattle.deb_relation.specs.declared.atom.Atom.{Atom}
-use Rattle.deb_relation.specs.AtomView.{atom_view}
-use Rattle.deb_relation.specs.Relationship.{AtomText}
-use Rattle.deb_relation.specs.Usable.{is_usable}
+use Rattle.deb_relation.specs.Relationship.{atom_view, AtomText, is_usable}
 use Rattle.deb_index.specs.Packages.{first_of_each}
 use Rattle.deb_index.proofs.FirstLemmas.{any-map, first-push, name-itself, names-turned, same-name}
 use Rattle.deb_index.proofs.TableLemmas.{any-turned, names-chain}
-use Rattle.deb_causes.specs.Near.{first_with_stem, has_stem, is_stem, similar_limit, stem}
-use Rattle.deb_causes.specs.Stems.{first_told, has_text}
+use Rattle.deb_causes.specs.Near.{first_with_stem, has_stem, is_stem, similar_limit, stem, first_told, has_text}
 use Rattle.number_sets.proofs.AtomSteps.{map_more}
 use Rattle.number_sets.proofs.ListLemmas.{all_seen, filter_fails, filter_passes}
 

@@ -8,13 +8,11 @@ use Rattle.deb_index.specs.declared.constraint.Constraint.{Constraint}
 use Rattle.deb_index.specs.Constraints.{IsOfIndex}
 use Rattle.deb_index.specs.Packages.{IndexView}
 use Rattle.deb_health.specs.Causes.{cause_in}
-use Rattle.deb_health.specs.Verdicts.{ToldView, Installable, Found, Blocked}
+use Rattle.deb_health.specs.Verdicts.{ToldView, Installable, Found, Blocked, IsAskedOf}
 use Rattle.deb_causes.specs.declared.wrongs.Wrongs.{Wrongs}
 use Rattle.deb_causes.specs.Causes.{cores_of, says}
 use Rattle.deb_causes.specs.Numbering.{Grows}
-use Rattle.deb_causes.specs.Said.{IsNumbered, key_of}
-use Rattle.deb_health.specs.Shown.{IsAskedOf}
-use Rattle.deb_causes.specs.Wrongs.{AreNumbered, causes_of, said_of}
+use Rattle.deb_causes.specs.Wrongs.{IsNumbered, key_of, AreNumbered, causes_of, said_of}
 use Rattle.deb_causes.proofs.NumberingLemmas.{grows-more, grows-none}
 
 pub numbered-none : (index : IndexView) (wrongs : Wrongs) → AreNumbered index wrongs wrongs []

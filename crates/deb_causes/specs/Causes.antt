@@ -1,5 +1,5 @@
 -- The causes of broken packages: what is wrong, whoever needs it, and the packages that it breaks.
-use Rattle.std.specs.Prelude.{ℕ, ◌==◌, ◌<◌, Bool, true, false, ◌&&◌, All, List, [], ◌∷◌, ◌++◌, count_by, length, map, filter}
+use Rattle.std.specs.Prelude.{ℕ, ◌==◌, ◌<◌, Bool, true, false, ◌&&◌, All, List, [], ◌∷◌, ◌++◌, count_by, length, map, filter, ◌≡◌, slice_get}
 use Prim.Native.Nat.{zero, suc}
 use Rattle.std.specs.List.{flat_map, list_all, list_any}
 use Rattle.std.specs.Str.{bytes_eq}
@@ -7,10 +7,13 @@ use Rattle.deb_index.specs.declared.constraint.Constraint.{Constraint}
 use Rattle.deb_index.specs.declared.constraint.Constraint.TheVariants.{Essential, Need, Apart, Only}
 use Rattle.deb_index.specs.Constraints.{IsOfIndex, answers, below, constraints_of, has_name}
 use Rattle.deb_index.specs.Packages.{IndexView, first_of_each, need_at}
-use Rattle.deb_health.specs.Causes.{cause_in}
+use Rattle.deb_health.specs.Causes.{cause_in, AreCores, without}
 use Rattle.deb_health.specs.Verdicts.{ToldView, cores_in}
 use Rattle.deb_causes.specs.declared.gathered.Cause.{Cause}
-use Rattle.deb_relation.specs.Texts.{group_text}
+use Rattle.deb_relation.specs.Relationship.{group_text}
+use Rattle.std.specs.Option.{option_map_or}
+use Rattle.number_sets.specs.Sets.{NumberSet, all_of}
+use Rattle.deb_health.specs.Health.{Admits}
 
 -- ---- what is wrong
 
@@ -154,3 +157,27 @@ by_count (suc n) causes = filter (has_count (suc n)) causes ++ by_count n causes
 -- the causes of broken packages: those of more packages first, then by their first packages
 unfoldable pub causes_list : IndexView → List (ℕ × ToldView) → List CauseView
 causes_list index broken = by_count (length broken) (by_first index (map cores_of broken))
+
+-- the positions of the constraints that say what one of the cause says
+abbrev pub said_at : IndexView → List Constraint → NumberSet
+said_at index cause k = option_map_or (is_said index cause) (slice_get (constraints_of index) k) false
+
+-- with all that the cause says taken out of the list, some set with a package that it frees meets the rest
+abbrev pub FreedAreAdmitted : Type 0
+FreedAreAdmitted = (index : IndexView) (place : ℕ) (cores : List (List Constraint)) (cause : List Constraint) → AreCores index place cores
+    → is_freed_by index cause (place, cores) ≡ true → Admits index place (without (said_at index cause) all_of)
+
+-- the constraint is a need that is among these
+abbrev pub is_need_among : List Constraint → Constraint → Bool
+is_need_among constraints one = is_need one && list_any (same_constraint one) constraints
+
+-- at the position stands such a need
+abbrev pub is_need_at : IndexView → List Constraint → ℕ → Bool
+is_need_at index constraints k = option_map_or (is_need_among constraints) (slice_get (constraints_of index) k) false
+
+-- the constraint is that there may be one version of some name
+abbrev pub is_only : Constraint → Bool
+is_only (Essential name) = false
+is_only (Need place number) = false
+is_only (Apart place number) = false
+is_only (Only name) = true

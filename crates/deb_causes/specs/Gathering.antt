@@ -1,8 +1,11 @@
 -- What has the number of a cause.
-use Rattle.std.specs.Prelude.{ℕ, ◌==◌, Bool, true, List, [], ◌∷◌, ◌++◌, filter, map, if◌then◌else◌}
+use Rattle.std.specs.Prelude.{ℕ, ◌==◌, Bool, true, List, [], ◌∷◌, ◌++◌, filter, map, if◌then◌else◌, count_by, slice_index_or}
 use Rattle.std.specs.List.{flat_map, list_all, list_any}
 use Rattle.deb_index.specs.declared.constraint.Constraint.{Constraint}
 use Rattle.deb_causes.specs.declared.gathered.Part.{Part}
+use Rattle.deb_index.specs.Packages.{IndexView, first_of_each}
+use Rattle.deb_health.specs.Causes.{cause_in}
+use Rattle.deb_causes.specs.Causes.{CauseView, needs_in, says_same, versions_in}
 
 abbrev pub has_number : ℕ → ℕ × List Constraint → Bool
 has_number number core = core.0 == number
@@ -41,3 +44,12 @@ with_cores cores number part = record { cores = part.cores ++ cores_with_number 
 -- a part with one more package, where it has its number
 abbrev pub with_share : ℕ × Bool → Bool → PartView → PartView
 with_share share has part = record { cores = part.cores; shares = part.shares ++ (if has then share ∷ [] else []) }
+
+abbrev pub cause_from : IndexView → PartView → CauseView
+cause_from index part = record {
+  constraints = first_of_each (says_same index) (cause_in index (slice_index_or part.cores 0 []));
+  places = map (λ share. share.0) part.shares;
+  frees = count_by (λ share. share.1) part.shares;
+  needs = needs_in index part.cores;
+  versions = versions_in index part.cores;
+}

@@ -1,14 +1,5 @@
 pub mod Causes
-pub mod Freed
-pub mod Listing
 pub mod Numbering
-pub mod Said
 pub mod Wrongs
-pub mod Numbered
 pub mod Gathering
-pub mod Gathered
-pub mod Positions
 pub mod Near
-pub mod Stems
-pub mod Similar
-pub mod Missing

@@ -1,16 +1,17 @@
 -- What an index has near the needs that no package meets: packages of their names, and names that differ in numbers alone.
-use Rattle.std.specs.Prelude.{ℕ, ◌==◌, Bool, not, ◌&&◌, ◌||◌, List, [], ◌∷◌, map, filter, length, take, if◌then◌else◌}
+use Rattle.std.specs.Prelude.{ℕ, ◌==◌, Bool, not, ◌&&◌, ◌||◌, List, [], ◌∷◌, map, filter, length, take, if◌then◌else◌, ◌≡◌, true, All, IfSome}
 use Rattle.std.specs.Char.{is_ascii_digit}
-use Rattle.std.specs.List.{flat_map, join_by, list_any, slice_split}
+use Rattle.std.specs.List.{flat_map, join_by, list_any, slice_split, list_all}
 use Rattle.std.specs.Str.{bytes_eq}
-use Rattle.deb_relation.specs.AtomView.{atom_view}
-use Rattle.deb_relation.specs.Relationship.{AtomText}
-use Rattle.deb_relation.specs.Usable.{is_usable}
+use Rattle.deb_relation.specs.Relationship.{atom_view, AtomText, is_usable}
 use Rattle.deb_index.specs.declared.constraint.Constraint.{Constraint}
 use Rattle.deb_index.specs.declared.constraint.Constraint.TheVariants.{Essential, Need, Apart, Only}
-use Rattle.deb_index.specs.Meets.{is_providing}
+use Rattle.deb_index.specs.Meets.{is_providing, need_satisfiers}
 use Rattle.deb_index.specs.Packages.{IndexView, PackageView, first_of_each, is_named, need_at, package_at, package_view, places_where}
 use Rattle.deb_causes.specs.declared.near.NearMiss.{NearMiss}
+use Rattle.std.specs.HashMap.{get_by, keys}
+use Rattle.deb_causes.specs.declared.similar.Similar.{Similar}
+use Rattle.deb_causes.specs.declared.similar.Told.{Told}
 
 -- ---- near misses
 
@@ -103,3 +104,36 @@ similar_to index name = first_with_stem (flat_map (names_of index.arch) index.pa
 unfoldable pub similar_names : IndexView → List Constraint → List (List ℕ)
 similar_names index constraints = let atoms = flat_map (alternatives index) constraints in
     take similar_limit (first_of_each bytes_eq (filter (λ name. not (is_one_of atoms name)) (flat_map (λ atom. similar_to index atom.name) atoms)))
+
+-- the text is one of these
+abbrev pub has_text : List (List ℕ) → List ℕ → Bool
+has_text texts text = list_any (bytes_eq text) texts
+
+-- the stems of the alternatives of all needs among the constraints are among these
+abbrev pub AreSought : IndexView → List (List ℕ) → List Constraint → Type 0
+AreSought index stems constraints = All (λ atom. has_text stems (stem atom.name) ≡ true) (flat_map (alternatives index) constraints)
+
+-- the first of these names, each once, as many as are told
+abbrev pub first_told : List (List ℕ) → List (List ℕ)
+first_told names = take similar_limit (first_of_each bytes_eq names)
+
+abbrev pub stems_in : Similar → List (List ℕ)
+stems_in similar = map (λ key. key.items) (keys similar.lists)
+
+-- by each stem, the first of these names that have it
+abbrev pub IsFoundIn : List (List ℕ) → Similar → Type 0
+IsFoundIn seen similar = (one : List ℕ) → IfSome (get_by (λ key. bytes_eq one key.items) similar.lists) (λ names. map (λ name. name.items) names.items ≡ first_with_stem seen one)
+
+-- of all names of the index
+abbrev pub IsSimilarOf : IndexView → Similar → Type 0
+IsSimilarOf index similar = IsFoundIn (flat_map (names_of index.arch) index.packages) similar
+
+-- the first of some names that aren't those of some atoms, and the set of all these
+pub record IsTold (own : List AtomText) (seen : List (List ℕ)) (told : Told) : Type 0 where
+  pub names_are : map (λ name. name.now) told.names.items ≡ first_told (filter (λ name. not (is_one_of own name)) seen)
+  pub known_are : (name : List ℕ) → has_text (map (λ one. one.items) told.known.keys) name
+      ≡ (is_one_of own name || has_text (map (λ one. one.now) told.names.items) name)
+
+-- no package of the index meets any atom of the group
+unfoldable pub is_missing : IndexView → List AtomText → Bool
+is_missing index group = list_all (λ atom. length (need_satisfiers index atom) == 0) group

@@ -3,9 +3,8 @@
 ghost use Rattle.std.specs.Prelude.{◌≡◌, ◌<◌, ◌≤◌, ℕ, All, IfOk, OnOk, count_by, length, map};
 ghost use Rattle.deb_index.specs.Constraints.{IsOfIndex};
 ghost use Rattle.deb_causes.specs.Causes.{IsCauseOf, by_count, cause_view, causes_list};
-ghost use Rattle.deb_causes.specs.Gathered.{cause_from};
-ghost use Rattle.deb_causes.specs.Gathering.{part_view};
-ghost use Rattle.deb_health.specs.Shown.{IsAskedOf, shown_view};
+ghost use Rattle.deb_causes.specs.Gathering.{cause_from, part_view};
+ghost use Rattle.deb_health.specs.Verdicts.{IsAskedOf, shown_view};
 
 use crate::cores::{needs_in, versions_in, wrongs_in};
 use crate::gathered::{Cause, Part, number_packages, parts_of};

@@ -6,8 +6,7 @@ ghost use Rattle.deb_index.specs.Constraints.{IsOfIndex, constraints_of};
 ghost use Rattle.deb_index.specs.Packages.{first_of_each};
 ghost use Rattle.deb_health.specs.Causes.{cause_in};
 ghost use Rattle.number_sets.specs.Sets.{members_of};
-ghost use Rattle.deb_causes.specs.Causes.{is_answer_to, is_version_of, needs_in, says_same, versions_in};
-ghost use Rattle.deb_causes.specs.Positions.{is_need_at, is_only};
+ghost use Rattle.deb_causes.specs.Causes.{is_answer_to, is_version_of, needs_in, says_same, versions_in, is_need_at, is_only};
 
 use crate::numbering::Numbering;
 use crate::wrongs::{is_final, number_of};

@@ -8,9 +8,9 @@ ghost use Rattle.deb_index.specs.Constraints.{IsOfIndex, below};
 ghost use Rattle.number_sets.specs.Sets.{members_of};
 ghost use Rattle.deb_causes.specs.Gathering.{PartView, has_number, is_alone, part_of, part_view, with_cores, with_share};
 ghost use Rattle.deb_causes.specs.Causes.{cores_of};
-ghost use Rattle.deb_causes.specs.Numbered.{core_view, package_view, unnumbered};
+ghost use Rattle.deb_causes.specs.Numbering.{core_view, package_view, unnumbered};
 ghost use Rattle.deb_causes.specs.Wrongs.{AreNumbered};
-ghost use Rattle.deb_health.specs.Shown.{IsAskedOf, shown_view};
+ghost use Rattle.deb_health.specs.Verdicts.{IsAskedOf, shown_view};
 
 use crate::wrongs::Wrongs;
 use deb_health::Shown;

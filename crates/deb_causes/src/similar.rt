@@ -2,12 +2,10 @@
 
 ghost use Rattle.std.specs.Prelude.{◌≡◌, ◌++◌, ◌∷◌, [], true, ℕ, List, All, IfOk, OnOk, map};
 ghost use Rattle.std.specs.List.{flat_map};
-ghost use Rattle.deb_relation.specs.AtomView.{atom_view};
-ghost use Rattle.deb_relation.specs.Relationship.{AtomText};
+ghost use Rattle.deb_relation.specs.Relationship.{atom_view, AtomText};
 ghost use Rattle.deb_index.specs.Constraints.{IsOfIndex};
 ghost use Rattle.deb_index.specs.Packages.{package_view};
-ghost use Rattle.deb_causes.specs.Near.{first_with_stem, is_one_of, names_of, similar_names, stem};
-ghost use Rattle.deb_causes.specs.Stems.{first_told, has_text};
+ghost use Rattle.deb_causes.specs.Near.{first_with_stem, is_one_of, names_of, similar_names, stem, first_told, has_text};
 
 use crate::near::alternatives_of;
 use crate::stems::{insert_once, is_stem, put_stem, stems_of};
@@ -65,7 +63,7 @@ struct Told<'s> {
 }
 
 impl<'s> Told<'s> {
-    ghost use Rattle.deb_causes.specs.Similar.{IsTold};
+    ghost use Rattle.deb_causes.specs.Near.{IsTold};
 
     /// Adds a name, where there is room for it and it isn't known.
     fn push(&mut self, alloc: Global, name: &'s [u8]) -> Result<(), AllocError>
@@ -100,8 +98,7 @@ pub struct Similar {
 }
 
 impl Similar {
-    ghost use Rattle.deb_causes.specs.Similar.{IsFoundIn, IsSimilarOf, IsTold, stems_in};
-    ghost use Rattle.deb_causes.specs.Stems.{AreSought};
+    ghost use Rattle.deb_causes.specs.Near.{IsFoundIn, IsSimilarOf, IsTold, stems_in, AreSought};
 
     /// Adds a name, where it has one of the stems.
     fn add(&mut self, alloc: Global, name: &[u8], buffer: &mut Vec<u8>) -> Result<(), AllocError>

@@ -5,10 +5,9 @@ ghost use Rattle.std.specs.Char.{is_ascii_digit};
 ghost use Rattle.std.specs.HashMap.{keys, values};
 ghost use Rattle.std.specs.List.{list_any};
 ghost use Rattle.std.specs.Str.{bytes_eq};
-ghost use Rattle.deb_relation.specs.AtomView.{atom_view};
+ghost use Rattle.deb_relation.specs.Relationship.{atom_view};
 ghost use Rattle.deb_index.specs.Constraints.{IsOfIndex};
-ghost use Rattle.deb_causes.specs.Near.{is_numeric, is_stem, is_sum, stem, stem_of_word};
-ghost use Rattle.deb_causes.specs.Stems.{AreSought, has_text};
+ghost use Rattle.deb_causes.specs.Near.{is_numeric, is_stem, is_sum, stem, stem_of_word, AreSought, has_text};
 
 use crate::near::alternatives_of;
 use deb_index::{Constraint, Index};

@@ -6,9 +6,9 @@ ghost use Rattle.deb_index.specs.Packages.{need_at};
 ghost use Rattle.deb_index.specs.Tables.{number_in};
 ghost use Rattle.deb_health.specs.Causes.{cause_in, is_final};
 ghost use Rattle.deb_causes.specs.Causes.{says};
-ghost use Rattle.deb_causes.specs.Missing.{is_missing};
+ghost use Rattle.deb_causes.specs.Near.{is_missing};
 ghost use Rattle.deb_causes.specs.Numbering.{Grows, IsFront, texts_of, with_text};
-ghost use Rattle.deb_causes.specs.Said.{number_said};
+ghost use Rattle.deb_causes.specs.Wrongs.{number_said};
 
 use crate::numbering::Numbering;
 use deb_index::{Constraint, Index};

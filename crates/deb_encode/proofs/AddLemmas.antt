@@ -6,7 +6,7 @@ use Rattle.std.proofs.lemmas.List.Elements.{All-nil, All-append}
 use Rattle.std.proofs.lemmas.List.Folds.{list_any-append}
 use Rattle.number_sets.specs.Sets.{NumberSet, members_of}
 use Rattle.sat_solve.specs.Clauses.{Clauses, clause_holds}
-use Rattle.deb_encode.specs.Adding.{Adds}
+use Rattle.deb_encode.specs.Play.{Adds}
 use Rattle.number_sets.proofs.ListLemmas.{All-front, All-back}
 
 -- nothing is added, for what holds anyway

@@ -7,7 +7,7 @@ use Rattle.number_sets.specs.Sets.{NumberSet, members_of}
 use Rattle.sat_solve.specs.Clauses.{Clause, Clauses}
 use Rattle.deb_encode.specs.declared.encoder.Encoder.{Encoder}
 use Rattle.deb_encode.specs.declared.play.Play.{Play}
-use Rattle.deb_encode.specs.Adding.{Adds, AllHold}
+use Rattle.deb_encode.specs.Play.{Adds, AllHold}
 use Rattle.deb_encode.specs.Encoders.{AddsVars}
 use Rattle.number_sets.proofs.ListLemmas.{All-front, All-back}
 use Rattle.deb_encode.proofs.AddLemmas.{taken_either, taken_before, taken_last}

@@ -4,7 +4,7 @@ use Rattle.number_sets.specs.Sets.{NumberSet}
 use Rattle.sat_solve.specs.Clauses.{Clauses}
 use Rattle.deb_encode.specs.declared.encoder.Encoder.{Encoder}
 use Rattle.deb_encode.specs.declared.play.Play.{Play}
-use Rattle.deb_encode.specs.Adding.{Adds}
+use Rattle.deb_encode.specs.Play.{Adds}
 use Rattle.deb_encode.specs.Encoders.{IsSame, AddsVars}
 use Rattle.deb_encode.proofs.AddLemmas.{adds_none, adds_both, adds_as}
 

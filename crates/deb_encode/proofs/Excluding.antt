@@ -10,11 +10,10 @@ use Rattle.number_sets.specs.Sets.{NumberSet, members_of, positions_of}
 use Rattle.sat_solve.specs.Clauses.{Clause, Clauses, clause_holds, not_both, exclusions}
 use Rattle.sat_solve.proofs.FlatLemmas.{all_flat, flat_all}
 use Rattle.sat_solve.proofs.ExclusionLemmas.{exclusions_in, exclusions_have}
-use Rattle.deb_encode.specs.Adding.{Adds}
-use Rattle.deb_encode.specs.Play.{placed}
+use Rattle.deb_encode.specs.Play.{Adds, placed}
 use Rattle.deb_encode.specs.Encoders.{KeepsOut}
 use Rattle.deb_encode.specs.Exclusions.{AreNotIn, AreNumbersOf}
-use Rattle.deb_index.specs.Apart.{AreApart}
+use Rattle.deb_index.specs.Constraints.{AreApart}
 use Rattle.number_sets.proofs.ListMembers.{members_of_at, at_members_of}
 use Rattle.deb_encode.proofs.AddLemmas.{in_push, front_in, last_in, taken_either, taken_before, taken_last}
 use Rattle.number_sets.proofs.PositionsOf.{position_in, group_at, one_group}

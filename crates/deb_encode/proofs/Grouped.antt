@@ -9,9 +9,8 @@ use Rattle.number_sets.specs.Sets.{NumberSet}
 use Rattle.number_sets.proofs.ListLemmas.{All-front, All-back}
 use Rattle.sat_solve.specs.Clauses.{Clause, Clauses, clause_holds}
 use Rattle.deb_encode.specs.declared.play.Play.{Play}
-use Rattle.deb_encode.specs.Adding.{GroupHolds}
+use Rattle.deb_encode.specs.Play.{GroupHolds, AddsPlaces, TellsPlaces}
 use Rattle.deb_encode.specs.Encoders.{set_of}
-use Rattle.deb_encode.specs.Play.{AddsPlaces, TellsPlaces}
 
 -- the first constraints, as many as the count, have their clauses
 pub record EncodedTo (play : Play) (constraints : List Constraint) (count : ℕ) (formula : Clauses) : Type 0 where

@@ -5,12 +5,10 @@ use Rattle.std.proofs.lemmas.Bool.{false≢true, and_parts, and_from}
 use Rattle.std.proofs.lemmas.Option.{slice_get-get_or}
 use Rattle.deb_index.specs.declared.constraint.Constraint.TheVariants.{Only}
 use Rattle.deb_index.specs.Packages.{IndexView, no_package, package_at, is_named, names, name_at, places_of}
-use Rattle.deb_index.specs.Constraints.{Holds, has_name}
-use Rattle.number_sets.specs.Sets.{NumberSet, members_of}
+use Rattle.deb_index.specs.Constraints.{Holds, has_name, IsAlone, HasOneOf, HasOneVersion}
+use Rattle.number_sets.specs.Sets.{NumberSet, members_of, with_number}
 use Rattle.deb_encode.specs.Play.{placed}
 use Rattle.deb_encode.specs.Exclusions.{AreNamesOf, is_of_name}
-use Rattle.deb_index.specs.Apart.{IsAlone, HasOneOf, HasOneVersion}
-use Rattle.number_sets.specs.SparseSets.{with_number}
 use Rattle.number_sets.proofs.ListMembers.{members_of_at, take_whole, below_members}
 use Rattle.deb_encode.proofs.AddLemmas.{taken_either, taken_before, taken_last}
 use Rattle.deb_index.proofs.IndexFacts.{once_says_only, named_is_place}

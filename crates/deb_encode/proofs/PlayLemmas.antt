@@ -9,7 +9,7 @@ use Rattle.sat_solve.specs.declared.clause.Lit.{Lit}
 use Rattle.sat_solve.specs.Clauses.{clause_holds, literal_holds}
 use Rattle.number_sets.specs.Sets.{NumberSet, members_of, positions_of}
 use Rattle.deb_encode.specs.Play.{placed}
-use Rattle.deb_encode.specs.Standings.{Widens}
+use Rattle.deb_encode.specs.Exclusions.{Widens}
 use Rattle.number_sets.proofs.ListMembers.{at_members_of}
 use Rattle.number_sets.proofs.PositionsOf.{group_at, same_position}
 

@@ -8,9 +8,8 @@ use Rattle.deb_index.specs.Meets.{meets_at}
 use Rattle.number_sets.specs.Sets.{NumberSet, members_of}
 use Rattle.deb_encode.specs.declared.rivals.Entry.{Entry}
 use Rattle.deb_encode.specs.Play.{placed}
-use Rattle.deb_encode.specs.Exclusions.{IsWide, EntryHolds, AddsWide, entry_at, IsRun}
-use Rattle.deb_index.specs.Apart.{IsAlone, AreApart}
-use Rattle.deb_encode.specs.Standings.{is_narrow, MeetsEntries, MeetsNarrow}
+use Rattle.deb_encode.specs.Exclusions.{IsWide, EntryHolds, AddsWide, entry_at, IsRun, is_narrow, MeetsEntries, MeetsNarrow}
+use Rattle.deb_index.specs.Constraints.{IsAlone, AreApart}
 use Rattle.deb_encode.proofs.AddLemmas.{taken_either, in_push, front_in, last_in}
 use Rattle.deb_encode.proofs.Told.{in_play_placed}
 

@@ -9,7 +9,7 @@ use Rattle.sat_solve.specs.Clauses.{clause_holds}
 use Rattle.deb_encode.specs.declared.encoder.Encoder.{Encoder}
 use Rattle.deb_encode.specs.declared.play.Play.{Play}
 use Rattle.deb_encode.specs.Encoders.{IsSame, AddsVars}
-use Rattle.deb_encode.specs.Standings.{Widens}
+use Rattle.deb_encode.specs.Exclusions.{Widens}
 use Rattle.deb_encode.proofs.EncoderLemmas.{tells_here, tells_as, tells_from}
 use Rattle.number_sets.proofs.ListMembers.{take_whole}
 

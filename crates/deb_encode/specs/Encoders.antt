@@ -5,9 +5,8 @@ use Rattle.sat_solve.specs.declared.clause.Lit.{Lit}
 use Rattle.number_sets.specs.Sets.{NumberSet, members_of}
 use Rattle.deb_encode.specs.declared.encoder.Encoder.{Encoder}
 use Rattle.deb_encode.specs.declared.play.Play.{Play}
-use Rattle.deb_encode.specs.Adding.{Adds}
-use Rattle.deb_encode.specs.Play.{placed}
-use Rattle.deb_encode.specs.Standings.{Widens}
+use Rattle.deb_encode.specs.Play.{Adds, placed}
+use Rattle.deb_encode.specs.Exclusions.{Widens}
 
 -- the places in play
 abbrev pub all_places : Play → List ℕ

@@ -1,13 +1,41 @@
--- What is gathered of places that may not stand together: names of which one package at most is in, and the variables of places.
-use Rattle.std.specs.Prelude.{◌≡◌, ◌⊎◌, ℕ, ◌<◌, ◌≤◌, true, false, List, All, Contains, length, slice_index, slice_index_or}
-use Rattle.std.specs.Str.{bytes_eq}
-use Rattle.deb_index.specs.declared.constraint.Constraint.TheVariants.{Apart}
-use Rattle.deb_index.specs.Packages.{IndexView, package_at, names, name_at, aparts_at, apart_at}
-use Rattle.deb_index.specs.Constraints.{Holds}
+-- Clauses in the making, what a set says of the entries of a place, and what is gathered of places that may not stand together.
+use Rattle.std.specs.Prelude.{◌≡◌, ℕ, ◌<◌, Bool, true, ◌||◌, ◌&&◌, nat_le, List, All, length, ◌⊎◌, ◌≤◌, false, Contains, slice_index, slice_index_or}
+use Rattle.deb_index.specs.declared.constraint.Constraint.TheVariants.{Essential, Apart}
+use Rattle.deb_index.specs.Packages.{IndexView, essential_names, aparts_at, apart_at, package_at, names, name_at}
+use Rattle.deb_index.specs.Meets.{satisfiers}
+use Rattle.deb_index.specs.Rows.{candidate_count, row_limit}
+use Rattle.deb_index.specs.Constraints.{Holds, IsAlone}
+use Rattle.sat_solve.specs.declared.clause.Lit.{Lit}
 use Rattle.number_sets.specs.Sets.{NumberSet, members_of}
+use Rattle.sat_solve.specs.Clauses.{clause_holds}
+use Rattle.std.specs.Str.{bytes_eq}
 use Rattle.deb_encode.specs.declared.rivals.Entry.{Entry}
-use Rattle.deb_index.specs.Apart.{IsAlone}
-use Rattle.deb_encode.specs.Standings.{is_narrow}
+
+-- a clause was made to hold where a test passes, too: it does so by its literals, or it holds anyway
+pub record Widens (test : NumberSet → Bool) (count : ℕ) (before after : List Lit) (anyway : Bool) : Type 0 where
+  pub in_range : All (λ literal. literal.var < count) before → All (λ literal. literal.var < count) after
+  pub says : (vars : NumberSet) → (anyway || clause_holds vars after) ≡ (clause_holds vars before || test vars)
+
+-- how many packages a narrow entry hits at most
+abbrev pub narrow_limit : ℕ
+narrow_limit = 64
+
+-- an entry of the package at a place has a row, and hits few packages
+abbrev pub is_narrow : IndexView → ℕ → ℕ → Bool
+is_narrow index place j =
+    nat_le (candidate_count index (apart_at index place j)) row_limit && nat_le (length (satisfiers index (apart_at index place j))) narrow_limit
+
+-- some package of each essential name is in the set
+abbrev pub MeetsEssentials : IndexView → NumberSet → Type 0
+MeetsEssentials index set = (number : ℕ) → members_of (essential_names index) number ≡ true → Holds index set (Essential number)
+
+-- each entry of the package at a place holds
+abbrev pub MeetsEntries : IndexView → NumberSet → ℕ → Type 0
+MeetsEntries index set place = (j : ℕ) → j < length (aparts_at index place) → Holds index set (Apart place j)
+
+-- each that hits few packages does
+abbrev pub MeetsNarrow : IndexView → NumberSet → ℕ → Type 0
+MeetsNarrow index set place = (j : ℕ) → j < length (aparts_at index place) → is_narrow index place j ≡ true → Holds index set (Apart place j)
 
 -- a list has just the numbers of a set
 abbrev pub Lists : NumberSet → List ℕ → Type 0

@@ -1,7 +1,7 @@
 //! What an entry of Conflicts or Breaks hits, as clauses over the places in play.
 
 ghost use Rattle.std.specs.Prelude.{◌≡◌, ◌<◌, ◌&&◌, true, OnOk, length};
-ghost use Rattle.deb_relation.specs.AtomView.{atom_view};
+ghost use Rattle.deb_relation.specs.Relationship.{atom_view};
 ghost use Rattle.deb_index.specs.Packages.{aparts_at};
 ghost use Rattle.deb_index.specs.Meets.{meets_at};
 ghost use Rattle.deb_index.specs.Constraints.{Holds};

@@ -4,7 +4,7 @@ ghost use Rattle.std.specs.Prelude.{◌≡◌, true, OnOk, IfSome, IfNone, map};
 ghost use Rattle.number_sets.specs.Sets.{members_of};
 ghost use Rattle.deb_encode.specs.Encoders.{Tells};
 ghost use Rattle.deb_encode.specs.Exclusions.{AreNotIn, AreNumbersOf};
-ghost use Rattle.deb_index.specs.Apart.{AreApart};
+ghost use Rattle.deb_index.specs.Constraints.{AreApart};
 
 use crate::encoder::Encoder;
 use crate::play::Play;

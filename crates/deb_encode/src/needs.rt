@@ -5,7 +5,7 @@ ghost use Rattle.deb_index.specs.Packages.{names, needs_at};
 ghost use Rattle.deb_index.specs.Constraints.{Holds};
 ghost use Rattle.sat_solve.specs.Clauses.{clause_holds};
 ghost use Rattle.deb_encode.specs.Encoders.{AddsVars, Tells, WidensBySome};
-ghost use Rattle.deb_encode.specs.Standings.{MeetsEssentials};
+ghost use Rattle.deb_encode.specs.Exclusions.{MeetsEssentials};
 
 use crate::encoder::Encoder;
 use crate::play::Play;

@@ -3,7 +3,7 @@
 ghost use Rattle.std.specs.Prelude.{◌≡◌, ◌<◌, ◌^◌, true, All, IfOk, length, slice_index};
 ghost use Rattle.std.specs.List.Sorted.{IsStrictlyIncreasing};
 ghost use Rattle.number_sets.specs.Sets.{MarksOnly};
-ghost use Rattle.deb_index.specs.Apart.{IsAlone};
+ghost use Rattle.deb_index.specs.Constraints.{IsAlone};
 
 use deb_index::Index;
 use number_sets::SparseSet;

@@ -2,11 +2,10 @@
 //! places that keep out what meets it.
 
 ghost use Rattle.std.specs.Prelude.{◌≡◌, ℕ, ◌<◌, ◌≤◌, ◌==◌, not, true, None, All, IfOk, OnOk, length};
-ghost use Rattle.deb_relation.specs.AtomView.{atom_view};
+ghost use Rattle.deb_relation.specs.Relationship.{atom_view};
 ghost use Rattle.deb_index.specs.Packages.{apart_at, aparts_at};
 ghost use Rattle.deb_encode.specs.Encoders.{Tells, in_play};
-ghost use Rattle.deb_encode.specs.Exclusions.{IsWide, EntryHolds, AddsWide, IsRun};
-ghost use Rattle.deb_encode.specs.Standings.{is_narrow, MeetsEntries, MeetsNarrow};
+ghost use Rattle.deb_encode.specs.Exclusions.{IsWide, EntryHolds, AddsWide, IsRun, is_narrow, MeetsEntries, MeetsNarrow};
 
 use crate::conflicts::list_meeting;
 use crate::encoder::{Encoder, Gathered};

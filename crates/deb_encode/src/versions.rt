@@ -2,10 +2,9 @@
 
 ghost use Rattle.std.specs.Prelude.{◌≡◌, ℕ, ◌<◌, ◌&&◌, true, OnOk, length};
 ghost use Rattle.deb_index.specs.Packages.{names};
-ghost use Rattle.deb_index.specs.Constraints.{Holds};
+ghost use Rattle.deb_index.specs.Constraints.{Holds, HasOneVersion};
 ghost use Rattle.deb_encode.specs.Encoders.{Tells, in_play};
 ghost use Rattle.deb_encode.specs.Exclusions.{Lists, AreNamesOf, is_of_name};
-ghost use Rattle.deb_index.specs.Apart.{HasOneVersion};
 
 use crate::encoder::{Encoder, Gathered};
 use crate::exclusion::Exclusion;

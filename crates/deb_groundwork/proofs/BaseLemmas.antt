@@ -12,8 +12,7 @@ use Rattle.deb_index.specs.Meets.{group_satisfiers, meets, satisfiers}
 use Rattle.deb_index.specs.Constraints.{Holds, has_name, hits}
 use Rattle.deb_index.proofs.FirstLemmas.{name-itself}
 use Rattle.deb_index.proofs.MemberLemmas.{below-places_where}
-use Rattle.number_sets.specs.Sets.{NumberSet, members_of, IsWithin}
-use Rattle.number_sets.specs.SparseSets.{Grows}
+use Rattle.number_sets.specs.Sets.{NumberSet, members_of, IsWithin, Grows}
 use Rattle.number_sets.proofs.ListMembers.{below_members, member_any, members_of_at}
 use Rattle.number_sets.proofs.Placing.{grows_keeps}
 use Rattle.deb_health.specs.Causes.{either}

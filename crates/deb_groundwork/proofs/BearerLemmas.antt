@@ -3,8 +3,7 @@ use Rattle.std.proofs.Common.{◌≡◌, ℕ, ◌<◌, true, List, length, map, 
 use Rattle.std.specs.List.{list_any}
 use Rattle.std.proofs.lemmas.List.Folds.{list_any_at}
 use Rattle.deb_relation.specs.declared.atom.Atom.{Atom}
-use Rattle.deb_relation.specs.AtomView.{atom_view}
-use Rattle.deb_relation.specs.Relationship.{AtomText}
+use Rattle.deb_relation.specs.Relationship.{atom_view, AtomText}
 use Rattle.deb_index.specs.Packages.{IndexView, need_at}
 use Rattle.deb_index.specs.Meets.{group_satisfiers, meets_need, meets_need_at, need_satisfiers}
 use Rattle.deb_index.proofs.FirstLemmas.{any-map}

@@ -11,12 +11,11 @@ use Rattle.deb_index.specs.Meets.{group_satisfiers}
 use Rattle.deb_index.specs.Constraints.{constraints_of, has_name, hits}
 use Rattle.deb_index.proofs.FirstLemmas.{name-itself}
 use Rattle.deb_index.proofs.PositionLemmas.{essential_position}
-use Rattle.number_sets.specs.Sets.{NumberSet, members_of, IsWithin}
+use Rattle.number_sets.specs.Sets.{NumberSet, members_of, IsWithin, with_number}
 use Rattle.number_sets.proofs.ListMembers.{member_any}
 use Rattle.number_sets.proofs.MembersLemmas.{members_of_push}
-use Rattle.deb_groundwork.specs.Deriving.{Gives}
+use Rattle.deb_groundwork.specs.Parts.{Gives}
 use Rattle.deb_health.specs.Health.{AdmitsNone, MeetsAt}
-use Rattle.number_sets.specs.SparseSets.{with_number}
 use Rattle.core_extract.specs.Reduction.{IsRefutation}
 use Rattle.deb_index.proofs.IndexFacts.{member_named}
 use Rattle.deb_groundwork.proofs.Forcing.{member_answers}

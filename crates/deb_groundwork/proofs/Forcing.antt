@@ -9,8 +9,7 @@ use Rattle.deb_index.specs.Packages.{IndexView, PackageView, needs_at, need_at}
 use Rattle.deb_index.specs.Meets.{meets_need, group_satisfiers}
 use Rattle.deb_index.specs.Constraints.{Holds, constraints_of, has_name, answers}
 use Rattle.deb_index.proofs.MemberLemmas.{member-places_where}
-use Rattle.number_sets.specs.Sets.{NumberSet, members_of, IsWithin}
-use Rattle.number_sets.specs.SparseSets.{with_number}
+use Rattle.number_sets.specs.Sets.{NumberSet, members_of, IsWithin, with_number}
 use Rattle.deb_health.specs.Health.{IsHealthy}
 use Rattle.deb_index.specs.Links.{first_position}
 use Rattle.deb_index.proofs.PositionLemmas.{essential_position, need-place}

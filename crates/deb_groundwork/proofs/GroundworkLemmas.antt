@@ -6,11 +6,9 @@ use Rattle.std.proofs.lemmas.List.{get_or_append_left, get_or_push, length_push}
 use Rattle.std.proofs.lemmas.Option.{slice_get_within, get_or_from_slice_get, slice_get-get_or}
 use Rattle.deb_index.specs.Packages.{IndexView, package_at, places_of, aparts_at, need_at, apart_at}
 use Rattle.deb_index.specs.Meets.{satisfiers, group_satisfiers}
-use Rattle.deb_index.specs.Constraints.{answers, hits}
-use Rattle.number_sets.specs.Sets.{NumberSet, members_of, MarksOnly, IsWithin}
+use Rattle.deb_index.specs.Constraints.{answers, hits, IsAlone}
+use Rattle.number_sets.specs.Sets.{NumberSet, members_of, MarksOnly, IsWithin, AreNumbers, Grows, with_number}
 use Rattle.deb_groundwork.specs.Groundwork.{KeepsForced}
-use Rattle.deb_index.specs.Apart.{IsAlone}
-use Rattle.number_sets.specs.SparseSets.{AreNumbers, Grows, with_number}
 use Rattle.deb_health.specs.Health.{IsHealthy, IsInstallation}
 use Rattle.deb_groundwork.proofs.Forcing.{member_answers}
 use Rattle.deb_index.proofs.IndexFacts.{member_satisfiers}

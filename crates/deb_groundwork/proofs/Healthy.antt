@@ -10,12 +10,11 @@ use Rattle.std.proofs.lemmas.Option.{slice_get-get_or}
 use Rattle.deb_index.specs.declared.constraint.Constraint.{Constraint}
 use Rattle.deb_index.specs.declared.constraint.Constraint.TheVariants.{Essential, Need, Apart, Only}
 use Rattle.deb_index.specs.Packages.{IndexView, PackageView, first_of_each, no_package, package_at, is_named, names, name_at, places_of, essential_names, needs_at, aparts_at}
-use Rattle.deb_index.specs.Constraints.{Holds, IsOfIndex, constraints_of, has_name}
+use Rattle.deb_index.specs.Constraints.{Holds, IsOfIndex, constraints_of, has_name, HasOneOf, HasOneVersion}
 use Rattle.deb_index.proofs.FirstLemmas.{same-name, name-itself, names-turned, any-filter}
 use Rattle.number_sets.specs.Sets.{NumberSet, members_of}
 use Rattle.deb_health.specs.Health.{IsHealthy}
 use Rattle.deb_groundwork.specs.Parts.{HasNoEarlier}
-use Rattle.deb_index.specs.Apart.{HasOneOf, HasOneVersion}
 use Rattle.number_sets.proofs.ListMembers.{members_of_at, contains_member}
 use Rattle.deb_index.proofs.ConstraintLemmas.{constraints-within}
 use Rattle.deb_index.proofs.PositionLemmas.{apart-place, essential_position, need-place, only-place}

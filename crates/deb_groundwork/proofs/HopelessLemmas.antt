@@ -5,12 +5,10 @@ use Rattle.deb_index.specs.declared.constraint.Constraint.TheVariants.{Essential
 use Rattle.deb_index.specs.Packages.{IndexView, needs_at, need_at}
 use Rattle.deb_index.specs.Meets.{group_satisfiers}
 use Rattle.deb_index.specs.Constraints.{Holds, constraints_of, answers}
-use Rattle.number_sets.specs.Sets.{NumberSet, members_of, IsWithin}
-use Rattle.number_sets.specs.SparseSets.{with_number}
+use Rattle.number_sets.specs.Sets.{NumberSet, members_of, IsWithin, with_number}
 use Rattle.deb_health.specs.Health.{IsHopeless}
-use Rattle.deb_groundwork.specs.Hopeless.{AreHopeless}
+use Rattle.deb_groundwork.specs.Groundwork.{AreHopeless, IsEssentialRow}
 use Rattle.deb_index.proofs.PositionLemmas.{essential_position}
-use Rattle.deb_groundwork.specs.Groundwork.{IsEssentialRow}
 use Rattle.deb_groundwork.proofs.Forcing.{member_answers, need_stands}
 use Rattle.deb_index.proofs.IndexFacts.{All-at, member_named}
 use Rattle.number_sets.proofs.ListMembers.{all_member}

@@ -2,6 +2,4 @@
 pub mod BaseSets
 pub mod Parts
 -- ---- the inside
-pub mod Deriving
 pub mod Groundwork
-pub mod Hopeless

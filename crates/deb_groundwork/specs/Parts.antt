@@ -1,14 +1,15 @@
--- Parts of the constraints of an index: what a set meets of one, and what refutes it.
+-- Parts of the constraints of an index: what a set meets of one, what a constraint gives, and what refutes it.
 use Rattle.std.specs.Prelude.{◌≡◌, ℕ, ◌<◌, true, List, Some, length, slice_get}
 use Rattle.deb_index.specs.declared.constraint.Constraint.{Constraint}
 use Rattle.deb_index.specs.declared.constraint.Constraint.TheVariants.{Need, Apart, Only}
 use Rattle.deb_index.specs.Packages.{IndexView, package_at, places_of, names, name_at, needs_at, aparts_at}
 use Rattle.deb_index.specs.Constraints.{Holds, constraints_of}
-use Rattle.number_sets.specs.Sets.{NumberSet, members_of}
+use Rattle.number_sets.specs.Sets.{NumberSet, members_of, IsWithin}
 use Rattle.core_extract.specs.Reduction.{left, IsRefutation}
 use Rattle.deb_health.specs.Causes.{without}
 use Rattle.deb_health.specs.Health.{AdmitsNone}
 use Rattle.deb_groundwork.specs.declared.part.Part.{Part}
+use Rattle.std.specs.List.{list_any}
 
 -- where the set has a place, it has no earlier place of the same name
 abbrev pub HasNoEarlier : IndexView → NumberSet → ℕ → Type 0
@@ -41,3 +42,9 @@ pub record MeetsAskedOf (part : Part) (set : NumberSet) (place : ℕ) : Type 0 w
   pub needs : (j : ℕ) → j < length (needs_at part.index.now place) → MeetsAsked part set (Need place j)
   pub aparts : (j : ℕ) → j < length (aparts_at part.index.now place) → MeetsAsked part set (Apart place j)
   pub once : StandsOnce part set place
+
+-- each set that has what is in and meets the constraint at a position has one of the row
+pub record Gives (index : IndexView) (forced : NumberSet) (position : ℕ) (row : List ℕ) : Type 0 where
+  pub constraint : Constraint
+  pub stands : slice_get (constraints_of index) position ≡ Some constraint
+  pub gives : (set : NumberSet) → IsWithin forced set → Holds index set constraint → list_any set row ≡ true

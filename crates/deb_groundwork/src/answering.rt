@@ -3,7 +3,7 @@
 
 ghost use Rattle.std.specs.Prelude.{◌≡◌, ℕ, ◌<◌, true, length};
 ghost use Rattle.std.specs.List.{list_any};
-ghost use Rattle.deb_relation.specs.AtomView.{atom_view};
+ghost use Rattle.deb_relation.specs.Relationship.{atom_view};
 ghost use Rattle.deb_index.specs.Packages.{needs_at, need_at};
 ghost use Rattle.deb_index.specs.Meets.{group_satisfiers, need_satisfiers};
 ghost use Rattle.number_sets.specs.Sets.{members_of};

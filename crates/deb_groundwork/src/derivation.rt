@@ -4,8 +4,7 @@ ghost use Rattle.std.specs.Prelude.{◌≡◌, ◌≢◌, ℕ, ◌<◌, true, If
 ghost use Rattle.number_sets.specs.Sets.{NumberSet, members_of};
 ghost use Rattle.deb_index.specs.Packages.{needs_at, aparts_at};
 ghost use Rattle.deb_health.specs.Health.{AdmitsNone};
-ghost use Rattle.deb_groundwork.specs.Parts.{IsRefutedBy};
-ghost use Rattle.deb_groundwork.specs.Deriving.{Gives};
+ghost use Rattle.deb_groundwork.specs.Parts.{IsRefutedBy, Gives};
 
 use crate::part::Part;
 use crate::rows::{essential_count, essential_row};

@@ -1,8 +1,7 @@
 //! Places that are in every healthy set.
 
 ghost use Rattle.std.specs.Prelude.{◌≡◌, ◌⊎◌, ℕ, ◌<◌, ◌∷◌, [], true, OnOk, length};
-ghost use Rattle.number_sets.specs.Sets.{members_of};
-ghost use Rattle.number_sets.specs.SparseSets.{AreNumbers, with_number};
+ghost use Rattle.number_sets.specs.Sets.{members_of, AreNumbers, with_number};
 ghost use Rattle.deb_groundwork.specs.Groundwork.{KeepsForced};
 
 use crate::rows::{essential_count, essential_row};

@@ -4,14 +4,11 @@ ghost use Rattle.std.specs.Prelude.{◌≡◌, ℕ, ◌<◌, ◌==◌, true, All
 ghost use Rattle.std.specs.List.{list_all};
 ghost use Rattle.std.proofs.Props.{props};
 ghost use Rattle.deb_index.specs.Packages.{aparts_at};
-ghost use Rattle.deb_index.specs.Constraints.{hits};
-ghost use Rattle.number_sets.specs.Sets.{NumberSet, members_of, MarksOnly, IsWithin};
-ghost use Rattle.number_sets.specs.SparseSets.{AreNumbers};
+ghost use Rattle.deb_index.specs.Constraints.{hits, IsAlone};
+ghost use Rattle.number_sets.specs.Sets.{NumberSet, members_of, MarksOnly, IsWithin, AreNumbers};
 ghost use Rattle.deb_groundwork.specs.BaseSets.{IsBase};
-ghost use Rattle.deb_groundwork.specs.Groundwork.{HasAnswers};
-ghost use Rattle.deb_index.specs.Apart.{IsAlone};
+ghost use Rattle.deb_groundwork.specs.Groundwork.{HasAnswers, AreHopeless};
 ghost use Rattle.deb_health.specs.Health.{IsHealthy, IsHopeless, IsInstallation};
-ghost use Rattle.deb_groundwork.specs.Hopeless.{AreHopeless};
 
 use crate::answering::are_answered;
 use crate::base_set::BaseSet;

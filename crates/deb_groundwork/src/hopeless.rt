@@ -5,7 +5,7 @@ ghost use Rattle.deb_index.specs.Packages.{needs_at};
 ghost use Rattle.deb_index.specs.Constraints.{answers};
 ghost use Rattle.number_sets.specs.Sets.{members_of, IsWithin};
 ghost use Rattle.deb_health.specs.Health.{IsHopeless};
-ghost use Rattle.deb_groundwork.specs.Hopeless.{AreHopeless};
+ghost use Rattle.deb_groundwork.specs.Groundwork.{AreHopeless};
 
 use crate::limits::PASSES;
 use crate::rows::{essential_count, essential_row, has_all};

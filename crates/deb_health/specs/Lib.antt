@@ -1,4 +1,3 @@
 pub mod Health
 pub mod Causes
 pub mod Verdicts
-pub mod Shown

@@ -1,4 +1,4 @@
--- What the verdict of a package is, and what is told of a package.
+-- What the verdict of a package is, and what is told of a package that was asked.
 use Rattle.std.specs.Prelude.{◌≡◌, ℕ, ◌<◌, false, true, All, List, [], ◌∷◌, length, Some, map, slice_get}
 use Rattle.std.specs.List.Sorted.{IsStrictlyIncreasing}
 use Rattle.deb_index.specs.declared.constraint.Constraint.{Constraint}
@@ -14,6 +14,7 @@ use Rattle.deb_health.specs.declared.told.Told.TheVariants as told_is
 use Rattle.deb_health.specs.declared.told.Wanted.{Wanted}
 use Rattle.deb_health.specs.Causes.{AreCores}
 use Rattle.deb_health.specs.Health.{IsInstallable, IsInstallation, IsHopeless, AdmitsNone}
+use Rattle.deb_health.specs.declared.shown.Shown.{Shown}
 
 -- the places, rising, of the first healthy set that contains p
 abbrev pub IsFirstInstallation : IndexView → ℕ → List ℕ → Type 0
@@ -75,3 +76,10 @@ IsVerdict index p told = IsTold whole_verdict index p told
 abbrev pub verdict_view : Verdict → ToldView
 verdict_view (verdict_is.Ok places) = Found places.items
 verdict_view (verdict_is.Broken constraints) = Blocked (constraints.items ∷ [])
+
+abbrev pub shown_view : Shown → ℕ × ToldView
+shown_view shown = (shown.place, told_view shown.told.now)
+
+-- both speak of what the index has
+abbrev pub IsAskedOf : IndexView → ℕ × ToldView → Type 0
+IsAskedOf index asked = (asked.0 < length index.packages) × SpeaksOf index asked.1

@@ -4,10 +4,9 @@ use Rattle.std.specs.Prelude.{codes, map, nat_eq}
 use Rattle.deb_control.specs.Lines.{lines, content_lines}
 use Rattle.deb_control.specs.Fields.{is_field_name, field_parts, has_bad_line, value_of, fields_of, has_repeat, field_value}
 use Rattle.deb_control.specs.Stanzas.{runs, stanzas_of, good_fields, read_stanza}
-use Rattle.deb_relation.specs.Runs.{after_run, run}
+use Rattle.deb_relation.specs.Bytes.{after_run, run}
 use Rattle.deb_relation.specs.Relationship.{AtomText, atom_of, bound_at, each, inside_at}
-use Rattle.deb_relation.specs.Split.{continued_cmp, in_front, part_cmp, split}
-use Rattle.deb_relation.specs.VersionOrder.{rest_cmp, version_cmp}
+use Rattle.deb_relation.specs.VersionOrder.{continued_cmp, in_front, part_cmp, split, rest_cmp, version_cmp}
 use Rattle.deb_relation.specs.VersionText.{colon_in, compared_epoch, compared_revision, compared_upstream, fault_of, hyphen_in, last_position, rest_fault}
 use Rattle.deb_relation.specs.declared.bound.Op.{Op}
 use Rattle.deb_relation.specs.declared.bound.Op.TheVariants.{Ge, Eq}

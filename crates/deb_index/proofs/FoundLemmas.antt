@@ -6,12 +6,11 @@ use Rattle.std.specs.Option.{option_map_or}
 use Rattle.std.proofs.lemmas.List.{map-append, take_all, take_more}
 use Rattle.std.proofs.lemmas.List.Folds.{list_any-append}
 use Rattle.deb_relation.specs.declared.atom.Atom.{Atom}
-use Rattle.deb_relation.specs.AtomView.{atom_view}
-use Rattle.deb_relation.specs.Relationship.{AtomText}
+use Rattle.deb_relation.specs.Relationship.{atom_view, AtomText}
 use Rattle.deb_index.specs.declared.meets.Role.TheVariants.{Alternative}
 use Rattle.deb_index.specs.Packages.{IndexView, PackageView, is_in, places_where}
 use Rattle.deb_index.specs.Meets.{group_satisfiers, meets_need}
-use Rattle.deb_index.specs.Roles.{meets_as_at}
+use Rattle.deb_index.specs.Rows.{meets_as_at}
 use Rattle.deb_index.proofs.HoldsLemmas.{group-at}
 use Rattle.deb_index.proofs.MemberLemmas.{member-places_where, rising-places_where}
 use Rattle.deb_index.proofs.OnceLemmas.{rising-once}

@@ -10,12 +10,11 @@ use Rattle.deb_index.specs.declared.constraint.Constraint.{Constraint}
 use Rattle.deb_index.specs.declared.constraint.Constraint.TheVariants.{Essential, Need, Apart, Only}
 use Rattle.deb_index.specs.Packages.{IndexView, PackageView, names, name_at, is_named, places_of, essential_names, needs_at, aparts_at, need_at, is_essential}
 use Rattle.deb_index.specs.Meets.{meets, meets_at, meets_need, satisfiers}
-use Rattle.deb_index.specs.Constraints.{constraints_at, constraints_of, below, has_name, answers, Holds}
+use Rattle.deb_index.specs.Constraints.{constraints_at, constraints_of, below, has_name, answers, Holds, HasOneOf}
 use Rattle.deb_index.proofs.HoldsLemmas.{group-at}
 use Rattle.deb_index.proofs.MemberLemmas.{member-places_where, below-places_where}
 use Rattle.number_sets.specs.Sets.{NumberSet, members_of}
 use Rattle.number_sets.proofs.ListMembers.{member_any}
-use Rattle.deb_index.specs.Apart.{HasOneOf}
 use Rattle.std.specs.List.Sorted.{IsStrictlyIncreasing}
 use Rattle.number_sets.proofs.SparseSetLemmas.{position_at_most}
 

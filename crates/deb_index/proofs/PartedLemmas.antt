@@ -4,7 +4,7 @@ use Rattle.std.specs.List.{AllByRecursion}
 use Rattle.std.proofs.lemmas.Grind.{flat_map-append}
 use Rattle.deb_control.specs.Stanzas.{stanzas_of}
 use Rattle.deb_index.specs.declared.parts.Part.{Part}
-use Rattle.deb_index.specs.Parts.{ArePartsOf, IsForeseen, part_stanzas}
+use Rattle.deb_index.specs.Built.{ArePartsOf, IsForeseen, part_stanzas}
 
 all-both : {A : Type 0} (P : A → Type 0) (xs ys : List A) → AllByRecursion P xs → AllByRecursion P ys → AllByRecursion P (xs ++ ys)
 all-both P [] ys h k = k

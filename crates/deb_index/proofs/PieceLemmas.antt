@@ -8,7 +8,7 @@ use Rattle.deb_control.proofs.SizeLemmas.{stanza-sizes}
 use Rattle.deb_index.specs.declared.error.BothError.TheVariants.{Back}
 use Rattle.deb_index.specs.declared.error.IndexError.{IndexError}
 use Rattle.deb_index.specs.Packages.{IndexView, first_of_each}
-use Rattle.deb_index.specs.Pieces.{FrontView, IsFrontOf, IsWithin}
+use Rattle.deb_index.specs.Built.{FrontView, IsFrontOf, IsWithin}
 use Rattle.deb_index.specs.Reading.{◌>>=◌, byte_limit, collected, continued, index_of, index_of_both, read_behind, readings, with_foreground}
 use Rattle.deb_index.proofs.BothLemmas.{both-back, both-ok}
 use Rattle.deb_index.proofs.CollectLemmas.{collected-on, collected-stanzas, failed-of, taken-of}

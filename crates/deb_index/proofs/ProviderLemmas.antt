@@ -5,13 +5,12 @@ use Rattle.std.specs.Option.{option_map_or}
 use Rattle.std.proofs.lemmas.Bool.{eq-eqb, ne_eqb}
 use Rattle.std.proofs.lemmas.List.{take_more}
 use Rattle.std.proofs.lemmas.List.Folds.{list_any-append}
-use Rattle.deb_relation.specs.Relationship.{AtomText}
-use Rattle.deb_relation.specs.Usable.{is_usable}
+use Rattle.deb_relation.specs.Relationship.{AtomText, is_usable}
 use Rattle.deb_index.specs.declared.meets.Role.{Role}
 use Rattle.deb_index.specs.declared.meets.Role.TheVariants.{Alternative, Entry}
 use Rattle.deb_index.specs.Packages.{IndexView, PackageView, is_in, is_named, places_of, places_where}
 use Rattle.deb_index.specs.Meets.{allows, entry_meets, is_providing, meets, meets_bound, meets_need, provided_at, provided_version}
-use Rattle.deb_index.specs.Roles.{meets_as, meets_as_at, provides_as, provides_as_at, usable_as}
+use Rattle.deb_index.specs.Rows.{meets_as, meets_as_at, provides_as, provides_as_at, usable_as}
 use Rattle.deb_index.proofs.FoundLemmas.{or-none}
 use Rattle.deb_index.proofs.MemberLemmas.{from_fail, from_pass, member-places_where, places_from}
 

@@ -6,7 +6,7 @@ use Rattle.deb_control.specs.Stanzas.{Unread, size_of, stanzas_of}
 use Rattle.deb_control.proofs.SizeLemmas.{stanza-sizes}
 use Rattle.deb_index.specs.Packages.{IndexView, PackageView, first_of_each}
 use Rattle.deb_index.specs.Reading.{Steps, byte_limit, collected, same_package, stanza_limit, with_reading}
-use Rattle.deb_index.specs.Parts.{HasRoomFor}
+use Rattle.deb_index.specs.Built.{HasRoomFor}
 use Rattle.deb_index.specs.Tables.{HasRoom, asked_count}
 use Rattle.deb_index.proofs.SizeLemmas.{stanza-few, stanza-fits}
 

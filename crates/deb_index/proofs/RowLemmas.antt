@@ -6,7 +6,7 @@ use Rattle.std.proofs.lemmas.Bool.{false≢true, lt-leb}
 use Rattle.std.proofs.lemmas.List.{map-append, take-map, take_more}
 use Rattle.std.proofs.lemmas.List.Sums.{sum_by_push}
 use Rattle.deb_relation.specs.declared.atom.Atom.{Atom}
-use Rattle.deb_relation.specs.AtomView.{atom_view}
+use Rattle.deb_relation.specs.Relationship.{atom_view}
 use Rattle.deb_index.specs.Packages.{IndexView}
 use Rattle.deb_index.specs.Rows.{candidate_count, group_candidates, row_limit}
 use Rattle.deb_index.proofs.PartLemmas.{sum-take}

@@ -6,7 +6,7 @@ use Rattle.deb_control.specs.Stanzas.{Unread, size_of}
 use Rattle.deb_index.specs.declared.error.IndexError.{IndexError}
 use Rattle.deb_index.specs.declared.parts.Part.{Part}
 use Rattle.deb_index.specs.Packages.{IndexView, PackageView}
-use Rattle.deb_index.specs.Parts.{HasRoomFor, HaveRoom, part_stanzas}
+use Rattle.deb_index.specs.Built.{HasRoomFor, HaveRoom, part_stanzas}
 use Rattle.deb_index.specs.Reading.{◌>>=◌, Steps, continued, readings, stanza_limit, stanza_reading, with_reading}
 use Rattle.deb_index.specs.Tables.{asked_count}
 use Rattle.deb_index.proofs.RoomLemmas.{IsRoomy, arch-kept, counts-more, read-few, read-room, stays-roomy, step-asks}

@@ -1,11 +1,12 @@
--- The constraints of an index, in their order, and when a set of places meets one.
+-- The constraints of an index, in their order, and when a set of places meets one; places of which at most one is in a set.
 use Rattle.std.specs.Prelude.{◌≡◌, ℕ, ◌<◌, Bool, true, false, not, ◌&&◌, ◌||◌, ◌==◌, nat_le, List, ◌++◌, length, map, count_by, slice_get}
 use Rattle.std.specs.List.{list_any, flat_map, range_with_len}
 use Rattle.std.specs.Option.{option_map_or}
 use Rattle.deb_index.specs.declared.constraint.Constraint.{Constraint}
 use Rattle.deb_index.specs.declared.constraint.Constraint.TheVariants.{Essential, Need, Apart, Only}
-use Rattle.deb_index.specs.Packages.{IndexView, names, name_at, is_named, places_of, essential_names, needs_at, aparts_at, need_at, apart_at}
+use Rattle.deb_index.specs.Packages.{IndexView, names, name_at, is_named, places_of, essential_names, needs_at, aparts_at, need_at, apart_at, package_at}
 use Rattle.deb_index.specs.Meets.{meets_at, meets_need_at, satisfiers, group_satisfiers}
+use Rattle.number_sets.specs.Sets.{members_of, NumberSet}
 
 -- the numbers below a limit, rising
 abbrev pub below : ℕ → List ℕ
@@ -54,3 +55,20 @@ is_holding index set (Essential n) = list_any set (places_of index (name_at inde
 is_holding index set (Need p j) = not (set p) || list_any set (group_satisfiers index (need_at index p j))
 is_holding index set (Apart p j) = not (set p) || not (list_any (λ q. set q && not (q == p)) (satisfiers index (apart_at index p j)))
 is_holding index set (Only n) = nat_le (count_by set (places_of index (name_at index n))) 1
+
+-- none of the owners is in the set together with another one of these places
+abbrev pub AreApart : List ℕ → List ℕ → NumberSet → Type 0
+AreApart owners places set = (q r : ℕ) → members_of owners q ≡ true → members_of places r ≡ true → set q ≡ true → set r ≡ true → q ≡ r
+
+-- at most one of these places is in the set
+abbrev pub HasOneOf : List ℕ → NumberSet → Type 0
+HasOneOf places = AreApart places places
+
+-- at most one package of the name of the package at a place is in the set
+abbrev pub HasOneVersion : IndexView → NumberSet → ℕ → Type 0
+HasOneVersion index set place = HasOneOf (places_of index (package_at index place).name) set
+
+-- no entry of the place hits another one, and no other one has its name
+pub record IsAlone (index : IndexView) (place : ℕ) : Type 0 where
+  pub hits_none : (j : ℕ) → j < length (aparts_at index place) → (q : ℕ) → hits index place j q ≡ true → q ≡ place
+  pub only : (q : ℕ) → members_of (places_of index (package_at index place).name) q ≡ true → q ≡ place

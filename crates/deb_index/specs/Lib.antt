@@ -3,12 +3,6 @@ pub mod Reading
 pub mod Meets
 pub mod Constraints
 pub mod Tables
-pub mod Names
-pub mod Roles
 pub mod Rows
 pub mod Links
 pub mod Built
-pub mod Memo
-pub mod Parts
-pub mod Pieces
-pub mod Apart

@@ -4,9 +4,8 @@ use Rattle.std.specs.List.{list_any, enumerate_from, flat_map}
 use Rattle.std.specs.Option.{option_map, option_map_or}
 use Rattle.std.specs.Str.{bytes_eq}
 use Rattle.deb_relation.specs.declared.bound.Op.{Op}
-use Rattle.deb_relation.specs.Bounds.{bound_holds}
-use Rattle.deb_relation.specs.Relationship.{AtomText}
-use Rattle.deb_relation.specs.Usable.{is_any, is_usable}
+use Rattle.deb_relation.specs.VersionOrder.{bound_holds}
+use Rattle.deb_relation.specs.Relationship.{AtomText, is_any, is_usable}
 use Rattle.deb_index.specs.Packages.{PackageView, IndexView, places_where}
 
 -- whether a version, if there is one, meets a bound, if there is one

@@ -1,6 +1,5 @@
 -- What the stanzas of a text, or of a text and a background behind it, read as: the index that they make, or the first fault.
-use Rattle.std.specs.Prelude.{◌≡◌, ◌≢◌, ℕ, ◌+◌, ◌-◌, Bool, true, false, ◌&&◌, ◌||◌, nat_lt, List, []}
-use Rattle.std.specs.Prelude.{◌∷◌, ◌++◌, length, map, filter_map, Option, Some, None, Result, Ok, Err, if◌then◌else◌, codes, unwrap_or}
+use Rattle.std.specs.Prelude.{◌≡◌, ◌≢◌, ℕ, ◌+◌, ◌-◌, Bool, true, false, ◌&&◌, ◌||◌, nat_lt, List, [], ◌∷◌, ◌++◌, length, map, filter_map, Option, Some, None, Result, Ok, Err, if◌then◌else◌, codes, unwrap_or}
 use Rattle.std.specs.List.{list_all, list_any, fold}
 use Rattle.std.specs.Option.{option_map_or, is_none}
 use Rattle.std.specs.Str.{bytes_eq}
@@ -12,12 +11,10 @@ use Rattle.deb_relation.specs.declared.atom.RelationError.{RelationError}
 use Rattle.deb_relation.specs.declared.atom.RelationError.TheVariants as relation
 use Rattle.deb_relation.specs.declared.bound.Op.{Op}
 use Rattle.deb_relation.specs.declared.bound.Op.TheVariants.{Lt, Le, Eq, Ge, Gt}
-use Rattle.deb_relation.specs.AtomView.{atom_view}
-use Rattle.deb_relation.specs.Relationship.{AtomText, atoms_of, groups_of, is_name}
+use Rattle.deb_relation.specs.Relationship.{atom_view, AtomText, atoms_of, groups_of, is_name}
 use Rattle.deb_relation.specs.VersionText.{fault_of}
 use Rattle.deb_index.specs.declared.error.IndexError.{IndexError}
-use Rattle.deb_index.specs.declared.error.IndexError.TheVariants.{BadLine, RepeatedField, MissingField, BadName}
-use Rattle.deb_index.specs.declared.error.IndexError.TheVariants.{BadVersion, BadRelation, TooManyStanzas, Memory}
+use Rattle.deb_index.specs.declared.error.IndexError.TheVariants.{BadLine, RepeatedField, MissingField, BadName, BadVersion, BadRelation, TooManyStanzas, Memory}
 use Rattle.deb_index.specs.declared.error.BothError.{BothError}
 use Rattle.deb_index.specs.declared.error.BothError.TheVariants.{Fore, Back}
 use Rattle.deb_index.specs.declared.error.RelField.{RelField}

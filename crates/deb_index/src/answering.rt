@@ -1,7 +1,7 @@
 //! Which packages meet what the packages of an index ask for.
 ghost use Rattle.std.specs.Prelude.{◌≡◌, ◌<◌, IfOk, IfSome, length, nat_le};
 ghost use Rattle.std.specs.Option.{is_some};
-ghost use Rattle.deb_relation.specs.AtomView.{atom_view};
+ghost use Rattle.deb_relation.specs.Relationship.{atom_view};
 ghost use Rattle.deb_index.specs.Packages.{apart_at, aparts_at, need_at, needs_at};
 ghost use Rattle.deb_index.specs.Meets.{group_satisfiers, meets_at, meets_need_at, satisfiers};
 ghost use Rattle.deb_index.specs.Rows.{candidate_count, group_candidates, row_limit};

@@ -3,8 +3,7 @@ ghost use Rattle.std.specs.Prelude.{◌≡◌, ◌≢◌, ◌≤◌, ◌+◌, �
 ghost use Rattle.std.specs.List.{list_any};
 ghost use Rattle.deb_control.specs.Stanzas.{stanzas_of};
 ghost use Rattle.deb_index.specs.Packages.{essential_names};
-ghost use Rattle.deb_index.specs.Built.{is_marked};
-ghost use Rattle.deb_index.specs.Parts.{ArePartsOf};
+ghost use Rattle.deb_index.specs.Built.{is_marked, ArePartsOf};
 ghost use Rattle.deb_index.specs.Reading.{byte_limit, collected, read_behind, stanza_limit, with_foreground};
 ghost use Rattle.deb_index.specs.Tables.{asked_count};
 

@@ -1,12 +1,10 @@
 //! An index while stanzas are taken in.
-ghost use Rattle.std.specs.Prelude.{◌≡◌, ◌≢◌, ◌<◌, ◌≤◌, ◌+◌, ◌*◌, ◌++◌, ◌∷◌, [], false, Ok, Err, IfOk, IfErr, OnOk, Some};
-ghost use Rattle.std.specs.Prelude.{cond, length, map, position, sum_by};
+ghost use Rattle.std.specs.Prelude.{◌≡◌, ◌≢◌, ◌<◌, ◌≤◌, ◌+◌, ◌*◌, ◌++◌, ◌∷◌, [], false, Ok, Err, IfOk, IfErr, OnOk, Some, cond, length, map, position, sum_by};
 ghost use Rattle.std.specs.List.{fold, list_any};
 ghost use Rattle.std.specs.Str.{bytes_eq};
 ghost use Rattle.deb_control.specs.Stanzas.{stanzas_of};
 ghost use Rattle.deb_index.specs.Packages.{names, package_view};
-ghost use Rattle.deb_index.specs.Built.{HasKeysOf, key_view, package_key, same_key};
-ghost use Rattle.deb_index.specs.Parts.{ArePartsOf, HasRoomFor, HaveRoom, IsForeseen, part_stanzas};
+ghost use Rattle.deb_index.specs.Built.{HasKeysOf, key_view, package_key, same_key, ArePartsOf, HasRoomFor, HaveRoom, IsForeseen, part_stanzas};
 ghost use Rattle.deb_index.specs.Reading.{byte_limit, read_behind, reading_view, same_package, stanza_limit, with_reading};
 ghost use Rattle.deb_index.specs.Tables.{HasRoom, asked_count};
 

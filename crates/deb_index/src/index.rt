@@ -1,7 +1,7 @@
 //! The index of a text, or of a text and a background: its packages and their names.
 ghost use Rattle.std.specs.Prelude.{◌≡◌, ◌<◌, ◌≤◌, length, map, position, sum_by};
 ghost use Rattle.std.specs.Str.{bytes_eq};
-ghost use Rattle.deb_relation.specs.AtomView.{atom_view};
+ghost use Rattle.deb_relation.specs.Relationship.{atom_view};
 ghost use Rattle.deb_index.specs.Packages.{package_view, names, places_of, essential_names, needs_at, aparts_at, need_at, apart_at, package_at, name_at};
 ghost use Rattle.deb_index.specs.Reading.{stanza_limit};
 ghost use Rattle.deb_index.specs.Meets.{provided_at};

@@ -1,7 +1,7 @@
 //! What a package asks for, and which atoms it meets.
 ghost use Rattle.std.specs.Prelude.{◌≡◌, ◌<◌, ◌≤◌, length, map, slice_index_or, [], Some};
 ghost use Rattle.std.specs.List.{list_any};
-ghost use Rattle.deb_relation.specs.AtomView.{atom_view};
+ghost use Rattle.deb_relation.specs.Relationship.{atom_view};
 ghost use Rattle.deb_index.specs.Packages.{package_view, needs, aparts, no_atom};
 ghost use Rattle.deb_index.specs.Meets.{meets, meets_need, meets_bound, meets_itself, entry_meets};
 ghost use Rattle.deb_index.specs.Meets as spec;

@@ -1,7 +1,7 @@
 //! Which row an atom got, remembered: most atoms come many times.
 ghost use Rattle.std.specs.Prelude.{◌≡◌, ◌<◌, ℕ, List, Option, IfOk, IfSome, IsTrue, vec_len};
 ghost use Rattle.std.specs.Option.{option_map};
-ghost use Rattle.deb_relation.specs.AtomView.{atom_view};
+ghost use Rattle.deb_relation.specs.Relationship.{atom_view};
 ghost use Rattle.deb_index.specs.Packages.{IndexView};
 
 use crate::limits::{LEAST_SLOTS, MOST_SLOTS};
@@ -73,7 +73,7 @@ fn mark_of(digest: usize) -> u16 {
 
 impl<'t> Memo<'t> {
     ghost use Rattle.deb_index.specs.declared.meets.Role.{Role};
-    ghost use Rattle.deb_index.specs.Memo.{AreMet, HasRow};
+    ghost use Rattle.deb_index.specs.Rows.{AreMet, HasRow};
 
     /// Nothing is remembered yet; so many packages are to ask.
     pub(crate) fn new(alloc: Global, packages: u32) -> Result<Memo<'t>, AllocError>

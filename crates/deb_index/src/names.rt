@@ -1,7 +1,7 @@
 //! The names that packages have or provide, each with where it is found.
 ghost use Rattle.std.specs.Prelude.{◌≡◌, ◌<◌, ◌≤◌, ◌^◌, ◌∷◌, ◌++◌, ℕ, List, [], length, map, None, Some, IfOk, IfSome, OnOk, slice_index_or, vec_len};
 ghost use Rattle.std.specs.List.{AllByRecursion};
-ghost use Rattle.deb_relation.specs.AtomView.{atom_view};
+ghost use Rattle.deb_relation.specs.Relationship.{atom_view};
 ghost use Rattle.deb_index.specs.Packages.{PackageView, is_named, package_view, places_where};
 ghost use Rattle.deb_index.specs.Reading.{stanza_limit};
 ghost use Rattle.deb_index.specs.Tables.{IsSmall, items_of, number_in};
@@ -39,7 +39,7 @@ pub(crate) struct Names {
 }
 
 impl Names {
-    ghost use Rattle.deb_index.specs.Names.{IsNaming, name_texts, provided_entries, provided_places};
+    ghost use Rattle.deb_index.specs.Tables.{IsNaming, name_texts, provided_entries, provided_places};
 
     pub(crate) fn new(alloc: Global) -> Names
         ensures { IsNaming [] [] result }

@@ -4,10 +4,9 @@ ghost use Rattle.std.specs.List.{list_all};
 ghost use Rattle.std.specs.Option.{option_map_or};
 ghost use Rattle.std.specs.Str.{bytes_eq};
 ghost use Rattle.deb_control.specs.Fields.{field_value};
-ghost use Rattle.deb_relation.specs.AtomView.{atom_view};
+ghost use Rattle.deb_relation.specs.Relationship.{atom_view};
 ghost use Rattle.deb_index.specs.Packages.{package_view};
-ghost use Rattle.deb_index.specs.Reading.{Gives, head_of, head_view, groups_in, atoms_in, is_for, is_provided, readings, relation_text, good_version};
-ghost use Rattle.deb_index.specs.Reading.{HeadView, provides_in, package_of, package_with, reading_of, reading_view, stanza_limit, Steps};
+ghost use Rattle.deb_index.specs.Reading.{Gives, head_of, head_view, groups_in, atoms_in, is_for, is_provided, readings, relation_text, good_version, HeadView, provides_in, package_of, package_with, reading_of, reading_view, stanza_limit, Steps};
 ghost use Rattle.deb_index.specs.Reading as spec;
 
 use crate::error::{IndexError, RelField};

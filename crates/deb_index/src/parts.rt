@@ -2,7 +2,7 @@
 ghost use Rattle.std.specs.Prelude.{◌≡◌, ◌++◌, ℕ, List, Ok, IfOk, map};
 ghost use Rattle.std.specs.Thread.{IsSync};
 ghost use Rattle.deb_control.specs.Stanzas.{stanzas_of};
-ghost use Rattle.deb_index.specs.Parts.{ArePartsOf, IsForeseen};
+ghost use Rattle.deb_index.specs.Built.{ArePartsOf, IsForeseen};
 ghost use Rattle.deb_index.specs.Reading.{reading_view, readings};
 
 use crate::error::IndexError;

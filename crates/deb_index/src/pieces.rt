@@ -1,6 +1,6 @@
 //! An index whose text comes in pieces, so that no more than one of them need be held.
 ghost use Rattle.std.specs.Prelude.{◌≡◌, ◌+◌, ◌≤◌, [], IfOk, IfErr, length};
-ghost use Rattle.deb_index.specs.Pieces.{Accepts, FailsBehind, Finishes, IsFrontOf, Refuses};
+ghost use Rattle.deb_index.specs.Built.{Accepts, FailsBehind, Finishes, IsFrontOf, Refuses};
 ghost use Rattle.deb_index.specs.Reading.{IsBare, byte_limit};
 
 use crate::builder::Builder;
@@ -19,7 +19,7 @@ pub struct PartialIndex {
 }
 
 impl Model for PartialIndex {
-    ghost use Rattle.deb_index.specs.Pieces.{FrontView, IsWithin, front_of};
+    ghost use Rattle.deb_index.specs.Built.{FrontView, IsWithin, front_of};
 
     ghost Value = { FrontView };
 

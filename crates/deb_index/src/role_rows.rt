@@ -1,6 +1,6 @@
 //! The rows of one role while they are made: an atom is looked up once for all who ask for it, while it is remembered.
 ghost use Rattle.std.specs.Prelude.{◌≡◌, ◌<◌, ◌≤◌, ◌+◌, ◌++◌, ◌∷◌, [], IfOk, OnErr, OnOk, length, map};
-ghost use Rattle.deb_relation.specs.AtomView.{atom_view};
+ghost use Rattle.deb_relation.specs.Relationship.{atom_view};
 ghost use Rattle.deb_index.specs.Packages.{aparts, needs, package_view};
 ghost use Rattle.deb_index.specs.Tables.{asked_count, asked_limit};
 
@@ -25,7 +25,7 @@ pub(crate) struct RoleRows<'t> {
 }
 
 impl<'t> Model for RoleRows<'t> {
-    ghost use Rattle.deb_index.specs.Memo.{AreMet, MadeRows};
+    ghost use Rattle.deb_index.specs.Rows.{AreMet, MadeRows};
 
     ghost Value = { MadeRows };
 
@@ -36,8 +36,7 @@ impl<'t> Model for RoleRows<'t> {
 
 impl<'t> RoleRows<'t> {
     ghost use Rattle.deb_index.specs.declared.meets.Role.TheVariants.{Alternative, Entry};
-    ghost use Rattle.deb_index.specs.Roles.{row_as};
-    ghost use Rattle.deb_index.specs.Rows.{answer_row, hit_row};
+    ghost use Rattle.deb_index.specs.Rows.{row_as, answer_row, hit_row};
 
     /// No rows yet; so many packages are to ask.
     pub(crate) fn new(

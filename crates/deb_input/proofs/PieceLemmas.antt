@@ -11,7 +11,7 @@ use Rattle.deb_index.specs.Reading.{byte_limit, index_of}
 use Rattle.run_settings.specs.Settings.{Settings}
 use Rattle.deb_input.specs.declared.fault.RunFault.{RunFault}
 use Rattle.deb_input.specs.declared.fault.RunFault.TheVariants.{Read, TooLong, BackgroundRead, BackgroundTooLong, EarlierRead, EarlierTooLong, NamesRead, NamesTooLong, BadNameLine, Index, Background, Earlier, UnknownAsked, Slipped, Memory, Write}
-use Rattle.deb_index.specs.Pieces.{Accepts, FrontView, IsFrontOf, Refuses}
+use Rattle.deb_index.specs.Built.{Accepts, FrontView, IsFrontOf, Refuses}
 use Rattle.deb_input.specs.Pieces.{FailsToFinish, IsClosedFront, ReadsAll, ReadsFront, ReadsText, RefusesPiece, TakesLast, TakesPiece}
 use Rattle.deb_input.specs.Inputs.{FailsAtRead, FailsToRead}
 use Rattle.deb_input.proofs.DeviceLemmas.{consumes_more, consumes_nothing}

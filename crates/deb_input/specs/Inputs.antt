@@ -1,5 +1,5 @@
--- What is known of an input, and why it gives no index.
-use Rattle.std.specs.Prelude.{◌≡◌, ◌≢◌, ℕ, ◌+◌, ◌<◌, ◌≤◌, Bool, false, true, List, Option, Err, IfSome, length}
+-- What is known of an input, why it gives no index, and what a strict run takes for a fault.
+use Rattle.std.specs.Prelude.{◌≡◌, ◌≢◌, ℕ, ◌+◌, ◌<◌, ◌≤◌, Bool, false, true, List, Option, Err, IfSome, length, ◌==◌, Some, None, if◌then◌else◌}
 use Rattle.std.specs.Io.KnownBytes.{Consumes}
 use Rattle.deb_index.specs.Reading.{byte_limit, index_of_both}
 use Rattle.deb_index.specs.declared.error.BothError.TheVariants.{Back, Fore}
@@ -7,6 +7,9 @@ use Rattle.deb_index.specs.declared.error.IndexError.TheVariants as index_error
 use Rattle.run_settings.specs.Settings.{Settings}
 use Rattle.deb_input.specs.declared.fault.RunFault.{RunFault}
 use Rattle.deb_input.specs.declared.fault.RunFault.TheVariants.{Read, TooLong, Index, Background, Memory}
+use Rattle.deb_index.specs.Packages.{IndexView}
+use Rattle.deb_input.specs.declared.strict.Slip.{Slip}
+use Rattle.deb_input.specs.declared.strict.Slip.TheVariants.{NoStanza, OtherArchitectures, NothingAsked}
 
 -- what is known of a reader: the bytes that were left in it at the call, where it tells them, and whether a read of it has failed
 pub record Input : Type 0 where
@@ -62,3 +65,14 @@ abbrev pub is_unread : RunFault → Bool
 is_unread Read = true
 is_unread TooLong = true
 is_unread _ = false
+
+-- of all stanzas, of those that were skipped as of other architectures, and of the packages that are asked: the first of these that holds
+unfoldable pub slip_in : ℕ → ℕ → ℕ → Option Slip
+slip_in stanzas skipped asked =
+    if stanzas == 0 then Some NoStanza
+    else if skipped == stanzas then Some OtherArchitectures
+    else if asked == 0 then Some NothingAsked else None
+
+-- the fault of a run that asks these places of an index, where it is strict
+unfoldable pub slip_of : Settings → IndexView → List ℕ → Option Slip
+slip_of settings index asked = if settings.strict then slip_in index.stanzas index.skipped (length asked) else None

@@ -1,6 +1,5 @@
 pub use Rattle.run_settings.specs.Settings
 pub mod Faults
-pub mod Strict
 pub mod Inputs
 pub mod Pieces
 pub mod Names

@@ -7,7 +7,7 @@ use Rattle.deb_index.specs.Packages.{IndexView}
 use Rattle.deb_index.specs.Reading.{byte_limit, index_of, index_of_both}
 use Rattle.run_settings.specs.Settings.{Settings}
 use Rattle.deb_control.specs.Stanzas.{IsClosed}
-use Rattle.deb_index.specs.Pieces.{FrontView, IsFrontOf}
+use Rattle.deb_index.specs.Built.{FrontView, IsFrontOf}
 use Rattle.deb_input.specs.declared.fault.RunFault.{RunFault}
 use Rattle.deb_input.specs.Inputs.{FailsToAccept}
 

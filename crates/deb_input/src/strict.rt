@@ -2,7 +2,7 @@
 
 ghost use Rattle.std.specs.Prelude.{◌≡◌, ◌<◌, ◌^◌, length};
 ghost use Rattle.run_settings.specs.Settings.{settings_of};
-ghost use Rattle.deb_input.specs.Strict.{slip_in, slip_of};
+ghost use Rattle.deb_input.specs.Inputs.{slip_in, slip_of};
 
 use deb_index::Index;
 use run_settings::Config;

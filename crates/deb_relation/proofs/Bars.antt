@@ -7,7 +7,7 @@ use Rattle.std.proofs.lemmas.List.Folds.{list_any_at, list_any_none}
 use Rattle.std.specs.List.{list_any, onto_first, slice_split}
 use Rattle.std.specs.Option.{is_some}
 use Rattle.memchr.specs.Find.{IsFirstByte, is_byte}
-use Rattle.deb_relation.specs.Parts.{has_byte}
+use Rattle.deb_relation.specs.Bytes.{has_byte}
 
 -- whether one of some parts has a byte
 abbrev pub any_has : ℕ → List (List ℕ) → Bool

@@ -5,10 +5,9 @@ use Rattle.std.specs.Char.{is_ascii_alphanumeric}
 use Rattle.std.specs.List.{list_all}
 use Rattle.deb_relation.specs.declared.bound.Op.{Op}
 use Rattle.deb_relation.specs.declared.bound.Op.TheVariants.{Lt, Le, Eq, Ge, Gt}
-use Rattle.deb_relation.specs.Bytes.{close_parenthesis, colon, open_parenthesis}
+use Rattle.deb_relation.specs.Bytes.{close_parenthesis, colon, open_parenthesis, begins}
 use Rattle.deb_relation.specs.Form.{AtomText, IsAtom, IsBound, IsBoundText, IsSign, is_name, is_name_byte, is_qualifier, is_qualifier_byte, is_white, qualifier_text}
 use Rattle.deb_relation.specs.Relationship.{atom_of, bound_at, inside_at, is_version_byte, name_at, op_at, qualifier_at, version_at}
-use Rattle.deb_relation.specs.Runs.{begins}
 use Rattle.deb_relation.specs.VersionText.{fault_of, is_upstream_byte}
 use Rattle.deb_relation.proofs.ByteKinds.{alphanumeric-not_white, is_sign_byte, not_sign-parts, upstream-is_version, upstream-not_sign, upstream-not_white, white-not_colon, white-not_name, white-not_qualifier, white-not_sign, white-not_version}
 use Rattle.deb_relation.proofs.RunJoins.{after_run-append, begins-after, begins-append, begins-other, list_all-begins, list_all-behind, list_all-wider, run-append}

@@ -10,10 +10,9 @@ use Rattle.deb_relation.specs.declared.atom.RelationError.TheVariants.{Trailing}
 use Rattle.deb_relation.specs.declared.bound.Op.{Op}
 use Rattle.deb_relation.specs.declared.bound.Op.TheVariants.{Lt, Le, Eq, Ge, Gt}
 use Rattle.deb_relation.specs.declared.version.VersionError.{VersionError}
-use Rattle.deb_relation.specs.Bytes.{close_parenthesis, colon, equals, greater, less, open_parenthesis}
+use Rattle.deb_relation.specs.Bytes.{close_parenthesis, colon, equals, greater, less, open_parenthesis, after_run, begins, run}
 use Rattle.deb_relation.specs.Form.{AtomText, IsAtom, IsBound, IsSign, IsWhite, is_name, is_name_byte, is_qualifier, is_qualifier_byte, is_white, qualifier_text}
 use Rattle.deb_relation.specs.Relationship.{◌>>=◌, atom_of, bound_at, close_at, double_or, inside_at, is_blank, is_version_byte, name_at, op_at, qualifier_at, skip, version_at}
-use Rattle.deb_relation.specs.Runs.{after_run, begins, run}
 use Rattle.deb_relation.specs.VersionText.{fault_of}
 use Rattle.deb_relation.proofs.Gather.{bind-ok}
 use Rattle.deb_relation.proofs.ByteKinds.{alphanumeric-is_name}

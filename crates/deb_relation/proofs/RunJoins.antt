@@ -2,7 +2,7 @@
 use Rattle.std.proofs.Common.{not, ◌≡◌, ℕ, List, [], ◌∷◌, ◌++◌, Bool, true, false, refl, ap, inl, inr}
 use Rattle.std.proofs.lemmas.Bool.{and_from, and_parts, cases_Bool}
 use Rattle.std.specs.List.{list_all, list_any, slice_split}
-use Rattle.deb_relation.specs.Runs.{after_run, begins, run}
+use Rattle.deb_relation.specs.Bytes.{after_run, begins, run}
 
 pub not-true : (b : Bool) → not b ≡ true → b ≡ false
 not-true true h = cc

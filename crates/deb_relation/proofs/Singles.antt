@@ -2,8 +2,7 @@
 use Rattle.std.proofs.Common.{◌≡◌, ◌==◌, ℕ, List, [], ◌∷◌, Bool, true, false, Result, Ok, Err, map, refl, ap, ◌∙◌, inl, inr}
 use Rattle.std.specs.Prelude.{◌||◌}
 use Rattle.std.proofs.lemmas.Bool.{cases_Bool}
-use Rattle.deb_relation.specs.Bytes.{bar, comma}
-use Rattle.deb_relation.specs.Parts.{has_byte}
+use Rattle.deb_relation.specs.Bytes.{bar, comma, has_byte}
 use Rattle.deb_relation.specs.declared.atom.RelationError.{RelationError}
 use Rattle.deb_relation.specs.declared.atom.RelationError.TheVariants.{Name, Bound, Alternative, Trailing, Memory}
 use Rattle.deb_relation.specs.Relationship.{AtomText, Fails, ◌>>=◌, atoms_of, each, elements_of, filled, group_in, groups_of, is_blank, single_of}

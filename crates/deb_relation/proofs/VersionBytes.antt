@@ -8,8 +8,7 @@ use Rattle.std.specs.Char.{is_ascii_digit}
 use Rattle.std.specs.List.{list_all}
 use Rattle.deb_relation.specs.declared.version.VersionError.{VersionError}
 use Rattle.deb_relation.specs.declared.version.VersionError.TheVariants.{Epoch, Upstream, Revision, Character}
-use Rattle.deb_relation.specs.Bytes.{colon, hyphen}
-use Rattle.deb_relation.specs.Runs.{begins}
+use Rattle.deb_relation.specs.Bytes.{colon, hyphen, begins}
 use Rattle.deb_relation.specs.VersionText.{colon_in, fault_of, hyphen_in, is_epoch, is_revision_byte, is_upstream_byte, last_position, later_or, rest_fault}
 use Rattle.deb_relation.proofs.ByteKinds.{colon-is_upstream, digit-is_upstream, hyphen-is_upstream, revision-is_upstream}
 use Rattle.deb_relation.proofs.RunJoins.{list_all-wider, not-true}

@@ -1,8 +1,7 @@
 //! The text of a group of alternatives.
 
 ghost use Rattle.std.specs.Prelude.{◌≡◌, ◌++◌, OnOk, map};
-ghost use Rattle.deb_relation.specs.AtomView.{atom_view};
-ghost use Rattle.deb_relation.specs.Texts.{group_text};
+ghost use Rattle.deb_relation.specs.Relationship.{atom_view, group_text};
 
 use crate::atom::Atom;
 use crate::print::{Plainly, push_joined};

@@ -1,10 +1,8 @@
 //! The groups of a field, whose atoms lie in one piece of memory.
 
 ghost use Rattle.std.specs.Prelude.{◌≡◌, ◌+◌, ◌<◌, ◌≤◌, ◌∷◌, [], IfOk, false, length, map, slice_index_or};
-ghost use Rattle.deb_relation.specs.AtomView.{atom_view};
-ghost use Rattle.deb_relation.specs.Bytes.{bar};
-ghost use Rattle.deb_relation.specs.Parts.{has_byte};
-ghost use Rattle.deb_relation.specs.Relationship.{Gives, groups_of};
+ghost use Rattle.deb_relation.specs.Relationship.{atom_view, Gives, groups_of};
+ghost use Rattle.deb_relation.specs.Bytes.{bar, has_byte};
 
 use crate::atom::{Atom, RelationError};
 use crate::piece::{self, has_bar};
@@ -23,9 +21,8 @@ pub struct Groups {
 
 impl Model for Groups {
     ghost use Rattle.std.specs.Prelude.{List, length, map};
-    ghost use Rattle.deb_relation.specs.AtomView.{atom_view};
+    ghost use Rattle.deb_relation.specs.Relationship.{atom_view, AtomText};
     ghost use Rattle.deb_relation.specs.Groups.{MayBeEnds, lists_in};
-    ghost use Rattle.deb_relation.specs.Relationship.{AtomText};
 
     ghost Value = { List (List AtomText) };
 

@@ -2,9 +2,7 @@
 
 ghost use Rattle.std.specs.Prelude.{◌≡◌, ◌++◌, ℕ, List, All, OnOk};
 ghost use Rattle.std.specs.List.{flat_map, join_by};
-ghost use Rattle.deb_relation.specs.AtomView.{atom_view};
-ghost use Rattle.deb_relation.specs.Relationship.{printed};
-ghost use Rattle.deb_relation.specs.Texts.{told_if};
+ghost use Rattle.deb_relation.specs.Relationship.{atom_view, printed, told_if};
 
 use crate::atom::Atom;
 use std::alloc::AllocError;

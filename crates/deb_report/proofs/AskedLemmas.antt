@@ -2,7 +2,7 @@
 use Rattle.std.proofs.Common.{◌≡◌, ◌+◌, ◌∙◌, true, List, ℕ, Option, Some, None, Ok, Err, ap, arith, nat_le, slice_get, sym}
 use Rattle.std.specs.Option.{option_map_or}
 use Rattle.deb_index.specs.Packages.{IndexView, is_named, places_of}
-use Rattle.deb_report.specs.Asked.{asked_places, foreground_packages, is_empty, is_unknown, listed_places, unknown_in, unless_unknown}
+use Rattle.deb_report.specs.Outcome.{asked_places, foreground_packages, is_empty, is_unknown, listed_places, unknown_in, unless_unknown}
 use Rattle.deb_index.proofs.MemberLemmas.{where_from}
 use Rattle.number_sets.proofs.PlaceLemmas.{none_below, none_in_front, places_from}
 

@@ -13,7 +13,7 @@ use Rattle.deb_index.specs.Meets.{meets, satisfiers}
 use Rattle.deb_index.specs.Packages.{IndexView, PackageView, apart_at, is_in}
 use Rattle.deb_index.proofs.BelowLemmas.{in-filter, rising-below}
 use Rattle.deb_index.proofs.MemberLemmas.{member-places_where}
-use Rattle.deb_report.specs.Hits.{hits_of, is_hit_by}
+use Rattle.deb_report.specs.Answers.{hits_of, is_hit_by}
 
 -- what an entry hits
 pub hit-added : (index : IndexView) (place number q : ℕ) (old new : List ℕ) → new ≡ old ++ filter (λ hit. not (hit == place)) (satisfiers index (apart_at index place number))

@@ -6,8 +6,7 @@ use Rattle.std.specs.List.{zip}
 use Rattle.deb_index.proofs.EnumerateLemmas.{filter-length}
 use Rattle.deb_index.specs.Packages.{IndexView}
 use Rattle.deb_health.specs.declared.shown.Shown.{Shown}
-use Rattle.deb_health.specs.Shown.{shown_view}
-use Rattle.deb_health.specs.Verdicts.{ToldView}
+use Rattle.deb_health.specs.Verdicts.{shown_view, ToldView}
 use Rattle.run_settings.specs.declared.config.Show.TheVariants.{Failures}
 use Rattle.run_settings.specs.Settings.{Settings}
 use Rattle.deb_causes.specs.Causes.{CauseView}

@@ -3,10 +3,9 @@ use Rattle.std.proofs.Common.{◌≡◌, ◌<◌, ℕ, Bool, List, [], ◌∷◌
 use Rattle.std.proofs.lemmas.List.Elements.{All-cons, All-filter, All-head, All-map, All-nil, All-same, All-tail, All-weaker}
 use Rattle.std.specs.List.{zip}
 use Rattle.deb_index.specs.Packages.{IndexView}
-use Rattle.deb_health.specs.Verdicts.{SpeaksOf, ToldView}
+use Rattle.deb_health.specs.Verdicts.{SpeaksOf, ToldView, IsAskedOf, shown_view}
 use Rattle.run_settings.specs.declared.config.Show.{Show}
 use Rattle.deb_health.specs.declared.shown.Shown.{Shown}
-use Rattle.deb_health.specs.Shown.{IsAskedOf, shown_view}
 use Rattle.deb_report.specs.Outcome.{is_shown, shown_of}
 use Rattle.number_sets.proofs.ListLemmas.{all_seen}
 

@@ -8,17 +8,13 @@ use Rattle.deb_index.specs.declared.constraint.Constraint.{Constraint}
 use Rattle.deb_index.specs.Constraints.{IsOfIndex}
 use Rattle.deb_index.specs.Packages.{IndexView}
 use Rattle.deb_health.specs.declared.shown.Shown.{Shown}
-use Rattle.deb_health.specs.Shown.{IsAskedOf, shown_view}
-use Rattle.deb_health.specs.Verdicts.{ToldView, Installable, Found, Blocked, cores_in}
+use Rattle.deb_health.specs.Verdicts.{IsAskedOf, shown_view, ToldView, Installable, Found, Blocked, cores_in}
 use Rattle.deb_causes.specs.declared.similar.Similar.{Similar}
-use Rattle.deb_causes.specs.Near.{alternatives, stem}
-use Rattle.deb_causes.specs.Similar.{IsSimilarOf, stems_in}
-use Rattle.deb_causes.specs.Stems.{AreSought, has_text}
+use Rattle.deb_causes.specs.Near.{alternatives, stem, IsSimilarOf, stems_in, AreSought, has_text}
 use Rattle.deb_causes.proofs.FirstOnes.{all-each}
 use Rattle.deb_causes.proofs.SimilarLemmas.{all-grow}
 use Rattle.deb_report.proofs.WalkLemmas.{flat_all}
-use Rattle.deb_report.specs.FitsWalk.{FitsWalk}
-use Rattle.deb_report.specs.Sought.{constraints_in}
+use Rattle.deb_report.specs.Sought.{FitsWalk, constraints_in}
 
 -- those of one element more
 pub gathered_more : {A B : Type 0} (f : A → List B) (xs : List A) (i : ℕ) (d : A) (start old new : List B) → i < length xs

@@ -3,7 +3,7 @@ use Rattle.std.proofs.Common.{◌≡◌, ◌==◌, ◌∙◌, ℕ, OnOk, Result,
 use Rattle.std.proofs.lemmas.List.{length-map}
 use Rattle.std.proofs.lemmas.Result.{on_ok_weaker}
 use Rattle.deb_relation.proofs.JoinLemmas.{joined_map}
-use Rattle.deb_relation.specs.Texts.{told_if}
+use Rattle.deb_relation.specs.Relationship.{told_if}
 
 -- what holds where a last call succeeds
 pub last_call : {T E P Q : Type 0} (r : Result T E) → OnOk r P → (P → Q) → OnOk r Q

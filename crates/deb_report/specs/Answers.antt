@@ -1,12 +1,13 @@
--- By what a package answers a need.
-use Rattle.std.specs.Prelude.{ℕ, Bool, ◌&&◌, List, [], ◌∷◌, Option, None, Some, if◌then◌else◌}
+-- By what a package answers a need, and the packages that entries of Conflicts and Breaks hit.
+use Rattle.std.specs.Prelude.{ℕ, Bool, ◌&&◌, List, [], ◌∷◌, Option, None, Some, if◌then◌else◌, ◌==◌, false, not, length, filter}
 use Rattle.std.specs.List.{find, list_any}
-use Rattle.deb_relation.specs.Relationship.{AtomText}
-use Rattle.deb_relation.specs.Usable.{is_usable}
+use Rattle.deb_relation.specs.Relationship.{AtomText, is_usable}
 use Rattle.deb_index.specs.Meets.{allows, entry_meets, meets_itself}
 use Rattle.deb_index.specs.declared.constraint.Constraint.{Constraint}
 use Rattle.deb_index.specs.Packages.{IndexView, PackageView, package_at}
 use Rattle.deb_causes.specs.Near.{NearMissView, alternatives}
+use Rattle.deb_index.specs.declared.constraint.Constraint.TheVariants.{Essential, Need, Apart, Only}
+use Rattle.deb_index.specs.Constraints.{below, hits}
 
 -- the package may stand for the alternative, whatever it meets it by: the alternative is usable, and with the qualifier `any` the package has the mark
 abbrev pub may_answer : List ℕ → PackageView → AtomText → Bool
@@ -39,3 +40,14 @@ met_by index constraint place = entry_told index.arch (alternatives index constr
 -- the package with what is told of how it meets the need
 abbrev pub answer_at : IndexView → Constraint → ℕ → NearMissView
 answer_at index constraint place = record { deb = package_at index place; provides = met_by index constraint place }
+
+-- the constraint is an entry that hits the package
+abbrev pub is_hit_by : IndexView → ℕ → Constraint → Bool
+is_hit_by index place (Essential name) = false
+is_hit_by index place (Need needing number) = false
+is_hit_by index place (Apart apart number) = hits index apart number place && not (place == apart)
+is_hit_by index place (Only name) = false
+
+-- the places of the packages that the entries among the constraints hit, rising
+unfoldable pub hits_of : IndexView → List Constraint → List ℕ
+hits_of index constraints = filter (λ place. list_any (is_hit_by index place) constraints) (below (length index.packages))

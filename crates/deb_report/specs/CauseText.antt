@@ -4,7 +4,7 @@ use Rattle.deb_index.specs.declared.constraint.Constraint.{Constraint}
 use Rattle.deb_index.specs.declared.constraint.Constraint.TheVariants.{Need}
 use Rattle.deb_index.specs.Packages.{IndexView, need_at, package_at}
 use Rattle.deb_report.specs.Forms.{PartView, OfKind, OfRelation, block_end, elements_in, item_in, list_in, number_in, some_in, title_in}
-use Rattle.deb_report.specs.Hits.{hits_of}
+use Rattle.deb_report.specs.Answers.{hits_of}
 use Rattle.deb_report.specs.Reasons.{asked_parts, group_field, near_to_in, place_in, reason_parts}
 use Rattle.deb_report.specs.declared.form.Lead.TheVariants.{Block, Tall, Within}
 use Rattle.deb_causes.specs.Causes.{CauseView}

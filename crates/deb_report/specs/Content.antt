@@ -1,11 +1,15 @@
--- What a report tells, whatever its form.
-use Rattle.std.specs.Prelude.{ℕ, Bool, List, [], Option, None, Some, if◌then◌else◌}
+-- What a report tells, whatever its form, and without where it lies in memory.
+use Rattle.std.specs.Prelude.{ℕ, Bool, List, [], Option, None, Some, if◌then◌else◌, All, IfSome, map}
 use Rattle.deb_index.specs.Packages.{IndexView}
-use Rattle.deb_health.specs.Verdicts.{ToldView}
-use Rattle.deb_causes.specs.Causes.{CauseView, causes_list}
-use Rattle.deb_report.specs.Outcome.{broken_ones, numbers_of, shown_of}
+use Rattle.deb_health.specs.Verdicts.{ToldView, IsAskedOf, shown_view}
+use Rattle.deb_causes.specs.Causes.{CauseView, causes_list, IsCauseOf, cause_view}
+use Rattle.deb_report.specs.Outcome.{broken_ones, numbers_of, shown_of, number_view}
 use Rattle.run_settings.specs.Settings.{Settings}
-use Rattle.deb_report.specs.Since.{BrokenView, amends_of, news_of, summary_of}
+use Rattle.deb_report.specs.Since.{BrokenView, amends_of, news_of, summary_of, amends_view, broken_view}
+use Rattle.std.specs.Borrow.{Bor}
+use Rattle.std.specs.Option.{option_map}
+use Rattle.deb_report.specs.declared.content.Content.{Content}
+use Rattle.deb_report.specs.declared.before.Before.{Before}
 
 -- the asked places that have a block, with what is told of them; numbers and lists of broken packages of an earlier index, each under its title;
 -- the causes, where they are asked for
@@ -34,3 +38,20 @@ content_of settings index asked told (Some before) = record {
   lists = amends_of index asked (broken_ones asked told) before;
   causes = causes_if settings.causes index (news_of index asked told before);
 }
+
+abbrev pub content_view : Content → ContentView
+content_view content = record {
+  blocks = map shown_view content.blocks.items;
+  numbers = map number_view content.numbers.items;
+  lists = map amends_view content.lists.items;
+  causes = option_map (λ causes. map cause_view causes.items) content.causes;
+}
+
+-- the packages that were broken in an earlier index
+abbrev pub before_view : Option (Bor Before) → Option (List BrokenView)
+before_view before = option_map (λ before. map broken_view before.now.packages.now) before
+
+-- blocks and causes speak of what the index has
+pub record IsContentOf (index : IndexView) (content : Content) : Type 0 where
+  pub blocks : All (λ one. IsAskedOf index (shown_view one)) content.blocks.items
+  pub causes : IfSome content.causes (λ causes. All (λ cause. IsCauseOf index (cause_view cause)) causes.items)

@@ -1,5 +1,5 @@
 -- The report in its form: lines, or one JSON document (RFC 8259).
-use Rattle.std.specs.Prelude.{ℕ, Bool, false, ◌==◌, List, [], ◌∷◌, ◌++◌, codes, if◌then◌else◌, length}
+use Rattle.std.specs.Prelude.{ℕ, Bool, false, ◌==◌, List, [], ◌∷◌, ◌++◌, codes, if◌then◌else◌, length, Option, None, is_some}
 use Rattle.std.specs.List.{flat_map}
 use Rattle.deb_index.specs.declared.constraint.Constraint.{Constraint}
 use Rattle.deb_index.specs.Packages.{IndexView, package_at}
@@ -7,13 +7,12 @@ use Rattle.deb_health.specs.Verdicts.{ToldView, Installable, Found, Blocked}
 use Rattle.deb_report.specs.Outcome.{status_of}
 use Rattle.deb_report.specs.Since.{BrokenView}
 use Rattle.deb_report.specs.Forms.{OfPackage, block_end, elements_in, item_end, item_in, list_in, number_in, quoted, string_in, title_in}
-use Rattle.deb_report.specs.Links.{links_in}
+use Rattle.deb_report.specs.WalkLines.{links_in, walk_lines}
 use Rattle.deb_report.specs.Reasons.{place_in, reason_front}
-use Rattle.deb_report.specs.WalkLines.{walk_lines}
 use Rattle.deb_report.specs.declared.form.Lead.TheVariants.{Block, Other, Tall, Within}
 use Rattle.deb_report.specs.CauseText.{causes_in}
-use Rattle.deb_report.specs.Content.{ContentView}
-use Rattle.run_settings.specs.Settings.{Settings}
+use Rattle.deb_report.specs.Content.{ContentView, content_of}
+use Rattle.run_settings.specs.Settings.{Settings, options_of}
 use Rattle.run_settings.specs.declared.config.Format.{Format}
 use Rattle.run_settings.specs.declared.config.Format.TheVariants.{Json, Text}
 
@@ -105,3 +104,12 @@ text_under options form index settings content = head_in form options
     ++ flat_map (amended_in form) content.lists
     ++ causes_in form index content.causes
     ++ report_end form
+
+-- what is written of the asked places, since these packages were broken, where an earlier index is read
+abbrev pub written_told : Settings → IndexView → List ℕ → List ToldView → Option (List BrokenView) → List ℕ
+written_told settings index asked told before =
+    text_under (options_of settings (is_some before)) settings.format index settings (content_of settings index asked told before)
+
+-- of the verdicts alone
+abbrev pub written_report : Settings → IndexView → List ℕ → List ToldView → List ℕ
+written_report settings index asked verdicts = written_told settings index asked verdicts None

@@ -1,13 +1,14 @@
 -- How a report is written in each of its forms: in lines, or in JSON (RFC 8259).
-use Rattle.std.specs.Prelude.{ℕ, Bool, false, ◌==◌, ◌||◌, ◌/◌, ◌%◌, nat_lt, List, [], ◌∷◌, ◌++◌, codes, decimal, if◌then◌else◌, length}
+use Rattle.std.specs.Prelude.{ℕ, Bool, false, ◌==◌, ◌||◌, ◌/◌, ◌%◌, nat_lt, List, [], ◌∷◌, ◌++◌, codes, decimal, if◌then◌else◌, length, map}
 use Rattle.std.specs.Char.{digit_char}
 use Rattle.std.specs.List.{flat_map, join_by}
-use Rattle.deb_relation.specs.Relationship.{AtomText, printed}
-use Rattle.deb_relation.specs.Texts.{group_text}
+use Rattle.deb_relation.specs.Relationship.{AtomText, printed, group_text, atom_view}
 use Rattle.run_settings.specs.declared.config.Format.{Format}
 use Rattle.run_settings.specs.declared.config.Format.TheVariants.{Json, Text}
 use Rattle.deb_report.specs.declared.form.Lead.{Lead}
 use Rattle.deb_report.specs.declared.form.Lead.TheVariants.{Block, Tall, Within}
+use Rattle.deb_report.specs.declared.parts.Part.{Part}
+use Rattle.deb_report.specs.declared.parts.Part.TheVariants.{Field, Kind, Name, Package, Provides, Relation}
 
 -- ---- strings of JSON
 
@@ -127,3 +128,11 @@ item_in form lead parts = item_front form lead parts ++ item_end form
 unfoldable pub name_in : Format → List ℕ → List ℕ
 name_in Text name = codes "   - " ++ name ++ codes "\n"
 name_in Json name = quoted name
+
+abbrev pub part_view : Part → PartView
+part_view (Kind kind) = OfKind kind.now
+part_view (Name name) = OfName name.now
+part_view (Package name version) = OfPackage name.now version.now
+part_view (Field field) = OfField field.now
+part_view (Relation relation) = OfRelation (map atom_view relation.now)
+part_view (Provides entries) = OfProvides (map (λ entry. atom_view entry.now) entries.now.items)

@@ -4,8 +4,7 @@ use Rattle.deb_relation.specs.Relationship.{AtomText}
 use Rattle.deb_index.specs.declared.constraint.Constraint.{Constraint}
 use Rattle.deb_index.specs.declared.constraint.Constraint.TheVariants.{Essential, Need, Apart, Only}
 use Rattle.deb_index.specs.Packages.{IndexView, PackageView, package_at, name_at, need_at, apart_at}
-use Rattle.deb_causes.specs.Missing.{is_missing}
-use Rattle.deb_causes.specs.Near.{NearMissView, near_misses, similar_names}
+use Rattle.deb_causes.specs.Near.{is_missing, NearMissView, near_misses, similar_names}
 use Rattle.deb_report.specs.Forms.{PartView, OfField, OfKind, OfName, OfPackage, OfProvides, OfRelation, item_front, item_in, name_in, some_in}
 use Rattle.deb_report.specs.declared.form.Lead.TheVariants.{Within}
 use Rattle.run_settings.specs.declared.config.Format.{Format}

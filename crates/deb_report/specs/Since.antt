@@ -9,8 +9,7 @@ use Rattle.deb_report.specs.declared.amends.Amends.{Amends}
 use Rattle.deb_report.specs.declared.broken.BrokenPackage.{BrokenPackage}
 use Rattle.deb_report.specs.declared.summary.Counts.{Counts}
 use Rattle.deb_report.specs.declared.summary.Summary.{Summary}
-use Rattle.deb_report.specs.Asked.{is_unknown}
-use Rattle.deb_report.specs.Outcome.{broken_ones, summary_with}
+use Rattle.deb_report.specs.Outcome.{is_unknown, broken_ones, summary_with}
 
 -- a broken package of an earlier index
 pub record BrokenView : Type 0 where

@@ -1,15 +1,22 @@
--- The cores that are walked, and what is looked for to tell them.
-use Rattle.std.specs.Prelude.{◌≡◌, ℕ, true, All, List}
-use Rattle.std.specs.List.{flat_map}
+-- The cores that are walked, and what is looked for to tell them: the similar names of an index that walks and causes tell.
+use Rattle.std.specs.Prelude.{[], ◌∷◌, ◌≡◌, ℕ, true, All, List}
 use Rattle.deb_index.specs.declared.constraint.Constraint.{Constraint}
 use Rattle.deb_index.specs.Constraints.{IsOfIndex}
 use Rattle.deb_index.specs.Packages.{IndexView}
-use Rattle.deb_health.specs.Verdicts.{ToldView, cores_in}
 use Rattle.deb_causes.specs.declared.similar.Similar.{Similar}
+use Rattle.deb_causes.specs.Near.{IsSimilarOf, stems_in, AreSought}
+use Rattle.std.specs.List.{flat_map}
+use Rattle.deb_health.specs.Verdicts.{ToldView, cores_in, IsAskedOf, shown_view}
 use Rattle.deb_health.specs.declared.shown.Shown.{Shown}
 use Rattle.run_settings.specs.declared.config.Config.{Config}
-use Rattle.deb_report.specs.FitsWalk.{FitsWalk}
-use Rattle.deb_health.specs.Shown.{IsAskedOf, shown_view}
+use Rattle.deb_causes.specs.declared.gathered.Cause.{Cause}
+use Rattle.deb_causes.specs.Causes.{IsCauseOf, cause_view}
+
+-- a constraint of the index, whose stems were looked for in it
+pub record FitsWalk (index : IndexView) (similar : Similar) (constraint : Constraint) : Type 0 where
+  pub of_index : IsOfIndex index constraint
+  pub found : IsSimilarOf index similar
+  pub sought : AreSought index (stems_in similar) (constraint ∷ [])
 
 -- the constraints of the cores that are told of an asked place
 abbrev pub constraints_in : ℕ × ToldView → List Constraint
@@ -28,3 +35,9 @@ IsWalked index config similar shown =
 pub record FitsBlock (index : IndexView) (config : Config) (similar : Similar) (shown : Shown) : Type 0 where
   pub asked : IsAskedOf index (shown_view shown)
   pub walked : IsWalked index config similar shown
+
+-- a cause of the index, whose stems were looked for in it
+pub record FitsCause (index : IndexView) (similar : Similar) (cause : Cause) : Type 0 where
+  pub of_index : IsCauseOf index (cause_view cause)
+  pub found : IsSimilarOf index similar
+  pub sought : AreSought index (stems_in similar) cause.constraints.items

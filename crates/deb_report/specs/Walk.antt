@@ -1,5 +1,6 @@
--- A core as it is walked from the package: depth first, what each package of it asks for, and under a need the packages that answer it.
-use Rattle.std.specs.Prelude.{ℕ, ◌==◌, ◌+◌, ◌<◌, nat_eq, nat_lt, Bool, true, false, not, ◌&&◌, List, [], ◌∷◌, ◌++◌, filter, if◌then◌else◌, length, map}
+-- A core as it is walked from the package: depth first, what each package of it asks for, and under a need the packages that answer it; and what it
+-- says of each of its packages, in a table.
+use Rattle.std.specs.Prelude.{ℕ, ◌==◌, ◌+◌, ◌<◌, nat_eq, nat_lt, Bool, true, false, not, ◌&&◌, List, [], ◌∷◌, ◌++◌, filter, if◌then◌else◌, length, map, ◌≡◌}
 use Prim.Native.Nat.{zero, suc}
 use Rattle.std.specs.HashSet.{HashSet, contains}
 use Rattle.std.specs.List.{flat_map, list_all}
@@ -11,6 +12,9 @@ use Rattle.deb_index.specs.Meets.{group_satisfiers, satisfiers}
 use Rattle.deb_index.specs.Packages.{IndexView, name_at, need_at, places_of}
 use Rattle.deb_report.specs.declared.walk.Step.{Step}
 use Rattle.deb_report.specs.declared.walk.Step.TheVariants.{Begin, Meet, Tell}
+use Rattle.std.specs.HashMap.{HashMap, get}
+use Rattle.std.specs.Option.{option_map, unwrap_or}
+use Rattle.std.specs.Global.{Vec}
 
 -- ---- packages of a walk
 
@@ -122,3 +126,12 @@ abbrev pub IsStepOf : IndexView → (Constraint → Type 0) → Step → Type 0
 IsStepOf index P (Begin place) = place < length index.packages
 IsStepOf index P (Meet depth place constraint) = (place < length index.packages) × P constraint
 IsStepOf index P (Tell depth constraint) = P constraint
+
+module _ {S : Type 0} where
+  -- the list that a table has at a place
+  abbrev pub said_at : HashMap ℕ (Vec Constraint) S → ℕ → List Constraint
+  said_at table place = unwrap_or (option_map (λ list. list.items) (get nat_eq table place)) []
+
+  -- a table has at each place what the core says of the package there
+  abbrev pub IsTableOf : List Constraint → HashMap ℕ (Vec Constraint) S → Type 0
+  IsTableOf core table = (place : ℕ) → said_at table place ≡ filter (is_own place) core

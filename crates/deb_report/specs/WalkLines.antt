@@ -1,21 +1,21 @@
--- A core as it is walked from the package, in lines.
-use Rattle.std.specs.Prelude.{ℕ, ◌==◌, Bool, true, false, not, ◌||◌, List, [], ◌∷◌, ◌++◌, codes, if◌then◌else◌, length}
+-- A core as it is walked from the package, in lines; and where a walk goes on from a constraint, as members of its item.
+use Rattle.std.specs.Prelude.{ℕ, ◌==◌, Bool, true, false, not, ◌||◌, List, [], ◌∷◌, ◌++◌, codes, if◌then◌else◌, length, map}
 use Prim.Native.Nat.{zero, suc}
 use Rattle.std.specs.List.{flat_map, join_by}
 use Rattle.number_sets.specs.Sets.{NumberSet, members_of}
-use Rattle.deb_relation.specs.Relationship.{AtomText}
+use Rattle.deb_relation.specs.Relationship.{AtomText, told_if, printed}
 use Rattle.deb_index.specs.declared.constraint.Constraint.{Constraint}
 use Rattle.deb_index.specs.declared.constraint.Constraint.TheVariants.{Essential, Need, Apart, Only}
-use Rattle.deb_index.specs.Packages.{IndexView, PackageView, apart_at, name_at, need_at, package_at}
-use Rattle.deb_causes.specs.Near.{NearMissView, near_misses, similar_names}
+use Rattle.deb_index.specs.Packages.{IndexView, PackageView, apart_at, name_at, need_at, package_at, places_of}
+use Rattle.deb_causes.specs.Near.{NearMissView, near_misses, similar_names, is_missing}
 use Rattle.deb_report.specs.declared.walk.Step.{Step}
 use Rattle.deb_report.specs.declared.walk.Step.TheVariants.{Begin, Meet, Tell}
-use Rattle.deb_report.specs.Answers.{met_by}
+use Rattle.deb_report.specs.Answers.{met_by, answer_at, hits_of}
 use Rattle.deb_report.specs.Walk.{are_told, brought, comers, first_steps, hits_in, own_steps, step_limit, versions_coming, walk}
-use Rattle.deb_report.specs.Forms.{part_line}
-use Rattle.deb_report.specs.Reasons.{asked_parts, entry_field, group_field, near_parts, package_part}
-use Rattle.deb_relation.specs.Texts.{told_if}
-use Rattle.deb_causes.specs.Missing.{is_missing}
+use Rattle.deb_report.specs.Forms.{part_line, list_in, name_in}
+use Rattle.deb_report.specs.Reasons.{asked_parts, entry_field, group_field, near_parts, package_part, near_in, near_to_in, place_in}
+use Rattle.deb_report.specs.declared.form.Lead.TheVariants.{Within}
+use Rattle.run_settings.specs.declared.config.Format.{Format}
 
 -- ---- what a step tells
 
@@ -90,3 +90,18 @@ walk_text count index core coming told steps = flat_map (λ gone. step_text inde
 unfoldable pub walk_lines : IndexView → ℕ → List Constraint → List ℕ
 walk_lines index place core =
     walk_text step_limit index core (members_of (comers index core place)) (members_of []) (first_steps core place)
+
+-- the packages that answer a constraint, with the entry that they answer it by
+unfoldable pub answers_to : IndexView → Constraint → List NearMissView
+answers_to index constraint = map (answer_at index constraint) (brought index constraint)
+
+-- to the packages that answer a need, or to its alternatives and what is near to them, where nothing answers it; to the packages that an entry hits; to the
+-- versions of a name
+unfoldable pub links_in : Format → IndexView → Constraint → List ℕ
+links_in form index (Essential name) = []
+links_in form index (Need place number) = let group = need_at index place number in
+    if is_missing index group then list_in form Within (codes "alternatives") (λ atom. name_in form (printed atom)) group
+    ++ near_to_in form index (Need place number ∷ [])
+    else list_in form Within (codes "met-by") (near_in form) (answers_to index (Need place number))
+links_in form index (Apart place number) = list_in form Within (codes "hits") (place_in form index) (hits_of index (Apart place number ∷ []))
+links_in form index (Only name) = list_in form Within (codes "versions") (place_in form index) (places_of index (name_at index name))

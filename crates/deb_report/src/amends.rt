@@ -3,7 +3,7 @@
 ghost use Rattle.std.specs.Prelude.{◌≡◌, ◌<◌, ◌&&◌, All, IfOk, filter, length, map, not};
 ghost use Rattle.deb_index.specs.Packages.{names};
 ghost use Rattle.deb_report.specs.Since.{AreMarks, amends_of, amends_view, broken_view, has_named, is_gone, is_mended, mark_of};
-ghost use Rattle.deb_health.specs.Shown.{IsAskedOf, shown_view};
+ghost use Rattle.deb_health.specs.Verdicts.{IsAskedOf, shown_view};
 
 use crate::asked::is_unknown;
 use crate::broken::BrokenPackage;

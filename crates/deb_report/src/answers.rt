@@ -3,13 +3,13 @@
 ghost use Rattle.std.specs.Prelude.{◌≡◌, ◌<◌, All, IfOk, OnOk, length, map};
 ghost use Rattle.std.specs.List.{list_any};
 ghost use Rattle.std.specs.Option.{option_map};
-ghost use Rattle.deb_relation.specs.AtomView.{atom_view};
+ghost use Rattle.deb_relation.specs.Relationship.{atom_view};
 ghost use Rattle.deb_index.specs.Constraints.{IsOfIndex};
 ghost use Rattle.deb_index.specs.Packages.{package_view};
 ghost use Rattle.deb_causes.specs.Near.{alternatives, near_view};
 ghost use Rattle.deb_report.specs.Walk.{brought};
 ghost use Rattle.deb_report.specs.Answers.{answer_at, answers_by, answers_itself, entry_told, first_entry, may_answer};
-ghost use Rattle.deb_report.specs.Links.{answers_to};
+ghost use Rattle.deb_report.specs.WalkLines.{answers_to};
 
 use crate::walk::brought;
 use deb_causes::NearMiss;

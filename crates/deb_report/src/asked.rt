@@ -5,7 +5,7 @@ ghost use Rattle.std.specs.List.{list_any};
 ghost use Rattle.deb_index.specs.Constraints.{below};
 ghost use Rattle.deb_index.specs.Packages.{package_at, places_where};
 ghost use Rattle.deb_report.specs.declared.asked.AskedFault.TheVariants.{Memory};
-ghost use Rattle.deb_report.specs.Asked.{FailsToAsk, asked_places, foreground_packages, is_listed, is_unknown, listed_places, unknown_in};
+ghost use Rattle.deb_report.specs.Outcome.{FailsToAsk, asked_places, foreground_packages, is_listed, is_unknown, listed_places, unknown_in};
 ghost use Rattle.run_settings.specs.Settings.{settings_of};
 
 use deb_index::Index;

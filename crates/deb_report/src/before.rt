@@ -21,7 +21,7 @@ pub struct Before<'b> {
 
 impl<'b> Before<'b> {
     ghost use Rattle.std.specs.Prelude.{◌≡◌, ◌<◌, All, IfOk, filter, length, map};
-    ghost use Rattle.deb_health.specs.Shown.{IsAskedOf, shown_view};
+    ghost use Rattle.deb_health.specs.Verdicts.{IsAskedOf, shown_view};
     ghost use Rattle.deb_report.specs.Since.{broken_view, is_new, is_news};
 
     /// These packages, as `broken_packages` gives them, for an index. `AllocError` where there is no memory for it.

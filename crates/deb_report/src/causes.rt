@@ -2,10 +2,10 @@
 
 ghost use Rattle.std.specs.Prelude.{◌≡◌, ◌++◌, ◌<◌, All, OnOk, Some, length, map};
 ghost use Rattle.deb_index.specs.Constraints.{IsOfIndex};
-ghost use Rattle.deb_report.specs.Hits.{hits_of};
+ghost use Rattle.deb_report.specs.Answers.{hits_of};
 ghost use Rattle.deb_causes.specs.Causes.{IsCauseOf, cause_view};
 ghost use Rattle.deb_report.specs.CauseText.{cause_in, causes_in, count_in, told_in};
-ghost use Rattle.deb_report.specs.Similar.{FitsCause};
+ghost use Rattle.deb_report.specs.Sought.{FitsCause};
 
 use crate::form::{Lead, Writer, push_elements, push_list, push_some, push_title};
 use crate::hits::hits_of;

@@ -2,12 +2,10 @@
 
 ghost use Rattle.std.specs.Prelude.{◌≡◌, ◌<◌, All, IfOk, IfSome, length, map};
 ghost use Rattle.std.specs.Option.{ForSome, option_map};
-ghost use Rattle.deb_health.specs.Shown.{IsAskedOf, shown_view};
-ghost use Rattle.deb_health.specs.Verdicts.{SpeaksOf, told_view};
+ghost use Rattle.deb_health.specs.Verdicts.{IsAskedOf, shown_view, SpeaksOf, told_view};
 ghost use Rattle.deb_causes.specs.Causes.{IsCauseOf, cause_view};
 ghost use Rattle.deb_report.specs.Since.{counts_of};
-ghost use Rattle.deb_report.specs.Content.{causes_if, content_of};
-ghost use Rattle.deb_report.specs.Told.{IsContentOf, before_view, content_view};
+ghost use Rattle.deb_report.specs.Content.{causes_if, content_of, IsContentOf, before_view, content_view};
 ghost use Rattle.run_settings.specs.Settings.{settings_of};
 
 use crate::amends::{Amends, amends_of};

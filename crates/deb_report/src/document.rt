@@ -1,14 +1,12 @@
 //! The report in its form: lines, or one JSON document (RFC 8259).
 
 ghost use Rattle.std.specs.Prelude.{◌≡◌, ◌++◌, All, IfOk, OnOk, map, true};
-ghost use Rattle.deb_report.specs.FitsWalk.{FitsWalk};
-ghost use Rattle.deb_health.specs.Shown.{IsAskedOf, shown_view};
-ghost use Rattle.deb_health.specs.Verdicts.{cores_in};
+ghost use Rattle.deb_report.specs.Sought.{FitsWalk, FitsBlock, IsWalked};
+ghost use Rattle.deb_health.specs.Verdicts.{IsAskedOf, shown_view, cores_in};
 ghost use Rattle.deb_report.specs.CauseText.{causes_in};
 ghost use Rattle.deb_report.specs.Document.{block_in, explanation_in, head_in, report_end, text_under};
 ghost use Rattle.run_settings.specs.Settings.{settings_of};
-ghost use Rattle.deb_report.specs.Sought.{FitsBlock, IsWalked};
-ghost use Rattle.deb_report.specs.Told.{IsContentOf, content_view};
+ghost use Rattle.deb_report.specs.Content.{IsContentOf, content_view};
 
 use crate::causes::push_causes;
 use crate::content::Content;

@@ -1,9 +1,7 @@
 //! How members, lists and items of a report are written in each form.
 
 ghost use Rattle.std.specs.Prelude.{◌≡◌, ◌++◌, All, OnOk, map};
-ghost use Rattle.deb_report.specs.Forms.{block_end, elements_in, end_of, lead_of, list_in, number_in, some_in, string_in, title_in};
-ghost use Rattle.deb_report.specs.Forms.{item_end, item_front, item_in, name_in};
-ghost use Rattle.deb_report.specs.Parts.{part_view};
+ghost use Rattle.deb_report.specs.Forms.{block_end, elements_in, end_of, lead_of, list_in, number_in, some_in, string_in, title_in, item_end, item_front, item_in, name_in, part_view};
 
 use crate::json_text::push_quoted;
 use crate::parts::{InJson, InLine, Part};

@@ -4,7 +4,7 @@ ghost use Rattle.std.specs.Prelude.{◌≡◌, ◌==◌, ◌<◌, ◌||◌, ◌+
 ghost use Rattle.deb_index.specs.Constraints.{IsOfIndex};
 ghost use Rattle.deb_index.specs.Meets.{satisfiers};
 ghost use Rattle.deb_index.specs.Packages.{apart_at, is_in};
-ghost use Rattle.deb_report.specs.Hits.{hits_of, is_hit_by};
+ghost use Rattle.deb_report.specs.Answers.{hits_of, is_hit_by};
 
 use deb_index::{Constraint, Index};
 use number_sets::sort_once;

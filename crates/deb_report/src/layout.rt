@@ -5,8 +5,8 @@ ghost use Rattle.std.specs.Option.{ForSome};
 ghost use Rattle.deb_health.specs.Verdicts.{SpeaksOf, told_view, verdict_view};
 ghost use Rattle.run_settings.specs.Settings.{settings_of};
 ghost use Rattle.deb_report.specs.Since.{counts_of, summary_of};
-ghost use Rattle.deb_report.specs.Told.{before_view};
-ghost use Rattle.deb_report.specs.Written.{written_report, written_told};
+ghost use Rattle.deb_report.specs.Content.{before_view};
+ghost use Rattle.deb_report.specs.Document.{written_report, written_told};
 
 use crate::before::Before;
 use crate::content::content_of;

@@ -1,8 +1,7 @@
 //! What a core says of each of its packages.
 
 ghost use Rattle.std.specs.Prelude.{◌≡◌, ◌==◌, ◌++◌, ◌∷◌, ℕ, [], IfOk, OnOk, filter, if◌then◌else◌};
-ghost use Rattle.deb_report.specs.Own.{said_at};
-ghost use Rattle.deb_report.specs.Walk.{is_own};
+ghost use Rattle.deb_report.specs.Walk.{said_at, is_own};
 
 use deb_index::Constraint;
 use std::alloc::{AllocError, Global};
@@ -20,7 +19,7 @@ pub(crate) struct OwnTable<'c> {
 impl<'c> Model for OwnTable<'c> {
     ghost use Rattle.std.specs.Prelude.{List};
     ghost use Rattle.deb_index.specs.declared.constraint.Constraint.{Constraint};
-    ghost use Rattle.deb_report.specs.Own.{IsTableOf};
+    ghost use Rattle.deb_report.specs.Walk.{IsTableOf};
 
     ghost Value = { List Constraint };
 

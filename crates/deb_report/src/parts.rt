@@ -1,12 +1,10 @@
 //! What items are told by, in a line and as members of an object.
 
 ghost use Rattle.std.specs.Prelude.{◌≡◌};
-ghost use Rattle.deb_relation.specs.AtomView.{atom_view};
-ghost use Rattle.deb_relation.specs.Relationship.{printed};
+ghost use Rattle.deb_relation.specs.Relationship.{atom_view, printed};
 ghost use Rattle.deb_index.specs.Packages.{package_view};
-ghost use Rattle.deb_report.specs.Forms.{part_json, part_line, quoted};
+ghost use Rattle.deb_report.specs.Forms.{part_json, part_line, quoted, part_view};
 ghost use Rattle.deb_report.specs.Reasons.{package_part};
-ghost use Rattle.deb_report.specs.Parts.{part_view};
 
 use crate::json_text::{push_member, push_quoted};
 use deb_index::Package;

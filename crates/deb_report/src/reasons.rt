@@ -1,17 +1,14 @@
 //! What is told of packages and constraints, whatever its form.
 
 ghost use Rattle.std.specs.Prelude.{◌≡◌, ◌++◌, ◌<◌, All, OnOk, length};
-ghost use Rattle.deb_relation.specs.AtomView.{atom_view};
-ghost use Rattle.deb_relation.specs.Relationship.{printed};
+ghost use Rattle.deb_relation.specs.Relationship.{atom_view, printed};
 ghost use Rattle.deb_index.specs.declared.constraint.Constraint.{Constraint};
 ghost use Rattle.deb_index.specs.Constraints.{IsOfIndex};
 ghost use Rattle.deb_index.specs.Packages.{package_view};
-ghost use Rattle.deb_causes.specs.Near.{near_view};
-ghost use Rattle.deb_causes.specs.Similar.{IsSimilarOf, stems_in};
-ghost use Rattle.deb_causes.specs.Stems.{AreSought};
-ghost use Rattle.deb_report.specs.FitsWalk.{FitsWalk};
+ghost use Rattle.deb_causes.specs.Near.{near_view, IsSimilarOf, stems_in, AreSought};
+ghost use Rattle.deb_report.specs.Sought.{FitsWalk};
 ghost use Rattle.deb_report.specs.Forms.{name_in};
-ghost use Rattle.deb_report.specs.Links.{links_in};
+ghost use Rattle.deb_report.specs.WalkLines.{links_in};
 ghost use Rattle.deb_report.specs.Reasons.{entry_field, group_field, near_in, near_to_in, place_in, reason_front, reason_in};
 
 use crate::answers::answers_to;

@@ -1,9 +1,8 @@
 //! The asked places that are shown, with what is told of them.
 
 ghost use Rattle.std.specs.Prelude.{◌≡◌, IfOk, length, map};
-ghost use Rattle.deb_health.specs.Verdicts.{told_view};
+ghost use Rattle.deb_health.specs.Verdicts.{told_view, shown_view};
 ghost use Rattle.deb_report.specs.Outcome.{is_broken, is_shown, shown_of, status_of};
-ghost use Rattle.deb_health.specs.Shown.{shown_view};
 
 use deb_health::{Shown, Told};
 use run_settings::Show;

@@ -3,9 +3,8 @@
 ghost use Rattle.std.specs.Prelude.{◌≡◌, ◌++◌, All, IfOk, OnOk, map};
 ghost use Rattle.std.specs.List.{flat_map};
 ghost use Rattle.deb_causes.specs.Causes.{IsCauseOf, cause_view};
-ghost use Rattle.deb_report.specs.Similar.{FitsCause};
-ghost use Rattle.deb_report.specs.Sought.{IsWalked, constraints_in};
-ghost use Rattle.deb_health.specs.Shown.{IsAskedOf, shown_view};
+ghost use Rattle.deb_report.specs.Sought.{FitsCause, IsWalked, constraints_in};
+ghost use Rattle.deb_health.specs.Verdicts.{IsAskedOf, shown_view};
 
 use deb_causes::{Cause, Similar};
 use deb_health::Shown;

@@ -1,12 +1,12 @@
 //! What a walk tells of a constraint, in lines.
 
 ghost use Rattle.std.specs.Prelude.{◌≡◌, ◌<◌, ◌++◌, ◌∷◌, [], OnOk, length, map};
-ghost use Rattle.deb_relation.specs.AtomView.{atom_view};
+ghost use Rattle.deb_relation.specs.Relationship.{atom_view};
 ghost use Rattle.deb_index.specs.Constraints.{IsOfIndex};
 ghost use Rattle.deb_index.specs.Packages.{package_view};
 ghost use Rattle.deb_causes.specs.Near.{near_misses, near_view, similar_names};
 ghost use Rattle.deb_report.specs.Walk.{are_told, brought, places_in};
-ghost use Rattle.deb_report.specs.FitsWalk.{FitsWalk};
+ghost use Rattle.deb_report.specs.Sought.{FitsWalk};
 ghost use Rattle.deb_report.specs.WalkLines.{above_text, asked_text, constraint_text, missing_text, near_text, seen_text};
 
 use crate::own::OwnTable;

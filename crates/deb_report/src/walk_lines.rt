@@ -1,10 +1,10 @@
 //! A core as it is walked from the package, in lines.
 
 ghost use Rattle.std.specs.Prelude.{◌≡◌, ◌<◌, ◌++◌, [], All, IfOk, OnOk, length, map, reverse};
-ghost use Rattle.deb_relation.specs.AtomView.{atom_view};
+ghost use Rattle.deb_relation.specs.Relationship.{atom_view};
 ghost use Rattle.number_sets.specs.Sets.{members_of};
 ghost use Rattle.deb_report.specs.Walk.{IsStepOf, own_steps, places_in, step_limit, steps_behind, told_behind};
-ghost use Rattle.deb_report.specs.FitsWalk.{FitsWalk};
+ghost use Rattle.deb_report.specs.Sought.{FitsWalk};
 ghost use Rattle.deb_report.specs.WalkLines.{lead, package_line, package_text, step_text, walk_lines, walk_text};
 
 use crate::answers::answer_at;

@@ -9,8 +9,7 @@ use Rattle.deb_index.specs.Constraints.{Holds, constraints_of, answers}
 use Rattle.number_sets.specs.Sets.{NumberSet, IsFirst, all_of, IsWithin}
 use Rattle.number_sets.proofs.SetLemmas.{first_within}
 use Rattle.deb_health.specs.Health.{IsHealthy, IsInstallation, MeetsAt, Admits, AdmitsNone}
-use Rattle.deb_verdict.specs.Gathering.{HasNames}
-use Rattle.deb_verdict.specs.Closure.{cut, IsClosed, is_kept, is_kept_there, kept}
+use Rattle.deb_verdict.specs.Closure.{HasNames, cut, IsClosed, is_kept, is_kept_there, kept}
 use Rattle.deb_index.proofs.IndexFacts.{All-at, IsRight, all_right, some_named}
 use Rattle.deb_health.proofs.HealthLemmas.{healthy_from_meets}
 

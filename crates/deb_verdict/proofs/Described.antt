@@ -4,22 +4,20 @@ use Rattle.std.proofs.lemmas.Bool.{or_left}
 use Rattle.std.proofs.lemmas.List.Elements.{All-weaker, All-contains}
 use Rattle.deb_index.specs.declared.constraint.Constraint.TheVariants.{Need}
 use Rattle.deb_index.specs.Packages.{IndexView}
-use Rattle.deb_index.specs.Constraints.{Holds, IsOfIndex}
+use Rattle.deb_index.specs.Constraints.{Holds, IsOfIndex, HasOneVersion}
 use Rattle.number_sets.specs.Sets.{NumberSet, members_of, positions_of}
 use Rattle.sat_solve.specs.Clauses.{Clauses}
-use Rattle.deb_encode.specs.Adding.{Adds}
+use Rattle.deb_encode.specs.Play.{Adds, placed}
 use Rattle.deb_verdict.specs.declared.gather.UnmetNeed.{UnmetNeed}
-use Rattle.deb_encode.specs.Play.{placed}
-use Rattle.deb_verdict.specs.Encoding.{AreUnmet, IsDescription}
+use Rattle.deb_verdict.specs.Formulas.{AreUnmet, IsDescription}
 use Rattle.deb_health.specs.Health.{IsHealthy}
 use Rattle.deb_encode.specs.declared.encoder.Encoder.{Encoder}
 use Rattle.deb_encode.specs.declared.play.Play.{Play}
 use Rattle.deb_encode.specs.Encoders.{AddsVars, Tells, in_play}
-use Rattle.deb_encode.specs.Standings.{MeetsEntries, MeetsEssentials}
-use Rattle.deb_index.specs.Apart.{HasOneVersion}
+use Rattle.deb_encode.specs.Exclusions.{MeetsEntries, MeetsEssentials}
 use Rattle.deb_groundwork.proofs.Healthy.{MeetsNeeds, MeetsPlace, healthy_parts, healthy_from_parts}
 use Rattle.deb_verdict.specs.declared.gather.Candidates.{Candidates}
-use Rattle.deb_verdict.specs.Gathering.{IsGathered}
+use Rattle.deb_verdict.specs.Closure.{IsGathered}
 use Rattle.deb_encode.proofs.Told.{in_play_either, in_play_placed, in_play_within}
 use Rattle.deb_encode.proofs.Each.{added_vars, added_groups, added_in_group, added_says}
 use Rattle.deb_encode.proofs.EncoderLemmas.{tells_as, tells_both, adds_first}

@@ -9,8 +9,7 @@ use Rattle.number_sets.specs.Sets.{NumberSet, members_of, IsFirst, IsWithin, all
 use Rattle.sat_solve.specs.Clauses.{Clause, IsTrueSet}
 use Rattle.deb_health.specs.Health.{IsHealthy, IsInstallation}
 use Rattle.deb_verdict.specs.Closure.{cut}
-use Rattle.deb_encode.specs.Play.{places_in_play, placed}
-use Rattle.deb_encode.specs.Adding.{AllHold}
+use Rattle.deb_encode.specs.Play.{places_in_play, placed, AllHold}
 use Rattle.deb_health.specs.Verdicts.{IsFirstInstallation}
 use Rattle.number_sets.proofs.ListMembers.{members_of_at, at_members_of, same_test, below_members}
 use Rattle.deb_verdict.proofs.Cutting.{IsEnough, cut_installation}

@@ -10,16 +10,14 @@ use Rattle.deb_index.specs.declared.constraint.Constraint.TheVariants.{Need}
 use Rattle.deb_index.specs.Packages.{IndexView, name_at, places_of, essential_names, needs_at, need_at}
 use Rattle.deb_index.specs.Meets.{meets_need_at, group_satisfiers}
 use Rattle.deb_index.specs.Constraints.{has_name, answers, IsOfIndex}
-use Rattle.number_sets.specs.Sets.{NumberSet, members_of, IsWithin, MarksOnly}
-use Rattle.number_sets.specs.SparseSets.{AreNumbers, Grows}
+use Rattle.number_sets.specs.Sets.{NumberSet, members_of, IsWithin, MarksOnly, AreNumbers, Grows}
 use Rattle.number_sets.proofs.ListMembers.{members_of_at, at_members_of, any_member, member_any, below_members}
 use Rattle.number_sets.proofs.Placing.{grows_none, grows_both, grows_keeps}
 use Rattle.deb_encode.specs.Play.{places_in_play}
 use Rattle.deb_index.proofs.IndexFacts.{member_named}
 use Rattle.deb_verdict.specs.declared.gather.UnmetNeed.{UnmetNeed}
 use Rattle.deb_verdict.specs.declared.gather.Candidates.{Candidates}
-use Rattle.deb_verdict.specs.Closure.{IsClosed}
-use Rattle.deb_verdict.specs.Gathering.{HasNames, IsTold, Gathers, IsGathered}
+use Rattle.deb_verdict.specs.Closure.{IsClosed, HasNames, IsTold, Gathers, IsGathered}
 use Rattle.deb_groundwork.specs.Groundwork.{HasAnswers}
 use Rattle.deb_verdict.proofs.Cutting.{IsEnough}
 use Rattle.deb_groundwork.proofs.Forcing.{member_answers}

@@ -15,7 +15,7 @@ use Rattle.deb_health.specs.Causes.{without}
 use Rattle.deb_health.specs.Health.{AdmitsNone, admits_none_upward}
 use Rattle.sat_solve.specs.Clauses.{Clause, IsTrueSet}
 use Rattle.sat_solve.specs.Rotation.{IsTrueBut}
-use Rattle.deb_verdict.specs.Known.{AreNeeded}
+use Rattle.deb_verdict.specs.Formulas.{AreNeeded}
 use Rattle.deb_verdict.proofs.Settled.{kept_has}
 
 -- without those that are taken out, fewer are left of fewer

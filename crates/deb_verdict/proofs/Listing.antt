@@ -12,7 +12,7 @@ use Rattle.deb_index.proofs.PositionLemmas.{one_position, essential_position}
 use Rattle.number_sets.specs.Sets.{members_of, IsWithin}
 use Rattle.number_sets.proofs.MembersLemmas.{members_of_push}
 use Rattle.deb_verdict.specs.Closure.{kept, is_kept, is_kept_there}
-use Rattle.deb_verdict.specs.Listing.{Lists}
+use Rattle.deb_verdict.specs.Formulas.{Lists}
 use Rattle.deb_groundwork.proofs.Healthy.{name_is}
 use Rattle.deb_index.proofs.IndexFacts.{All-at, IsRight, all_right, member_named}
 use Rattle.core_extract.proofs.Kept.{pushed_has}

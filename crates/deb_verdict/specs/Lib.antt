@@ -1,8 +1,4 @@
 -- what public contracts cite, with the definitions of deb_health
 pub mod Closure
 -- ---- the inside: what contracts of single functions cite
-pub mod Encoding
 pub mod Formulas
-pub mod Gathering
-pub mod Listing
-pub mod Known

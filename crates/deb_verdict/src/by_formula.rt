@@ -7,8 +7,7 @@ ghost use Rattle.std.specs.Option.{ForSome};
 ghost use Rattle.number_sets.specs.Sets.{members_of};
 ghost use Rattle.deb_health.specs.Health.{AdmitsNone};
 ghost use Rattle.deb_groundwork.specs.Parts.{positions_in, IsRefutedBy};
-ghost use Rattle.deb_verdict.specs.Formulas.{IsChosen, Tells};
-ghost use Rattle.deb_verdict.specs.Known.{AreKnown, AreNeeded};
+ghost use Rattle.deb_verdict.specs.Formulas.{IsChosen, Tells, AreKnown, AreNeeded};
 
 use crate::core_formula::CoreFormula;
 use crate::first_set::count_of;

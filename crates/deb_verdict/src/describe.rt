@@ -3,7 +3,7 @@
 ghost use Rattle.std.specs.Prelude.{◌≡◌, [], All, OnOk, length};
 ghost use Rattle.deb_index.specs.Constraints.{Holds, IsOfIndex};
 ghost use Rattle.deb_encode.specs.Encoders.{Tells};
-ghost use Rattle.deb_verdict.specs.Encoding.{AreUnmet, IsDescription};
+ghost use Rattle.deb_verdict.specs.Formulas.{AreUnmet, IsDescription};
 
 use crate::gather::UnmetNeed;
 use deb_encode::{Encoder, Gathered, Play};

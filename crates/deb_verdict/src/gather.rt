@@ -4,8 +4,7 @@ ghost use Rattle.std.specs.Prelude.{◌≡◌, ◌⊎◌, ℕ, ◌<◌, ◌==◌
 ghost use Rattle.std.specs.List.{list_any};
 ghost use Rattle.deb_index.specs.Packages.{needs_at};
 ghost use Rattle.deb_groundwork.specs.Groundwork.{HasAnswers};
-ghost use Rattle.number_sets.specs.Sets.{NumberSet, members_of, IsWithin, MarksOnly};
-ghost use Rattle.number_sets.specs.SparseSets.{AreNumbers, Grows};
+ghost use Rattle.number_sets.specs.Sets.{NumberSet, members_of, IsWithin, MarksOnly, AreNumbers, Grows};
 
 use deb_groundwork::has_any;
 use deb_index::Index;
@@ -52,8 +51,7 @@ pub(crate) struct Candidates {
 }
 
 impl Candidates {
-    ghost use Rattle.deb_verdict.specs.Closure.{IsClosed};
-    ghost use Rattle.deb_verdict.specs.Gathering.{Gathers, HasNames, IsGathered, Reaches};
+    ghost use Rattle.deb_verdict.specs.Closure.{IsClosed, Gathers, HasNames, IsGathered, Reaches};
 
     /// No candidates, and no room yet.
     pub(crate) fn new(alloc: Global) -> Candidates {

@@ -5,7 +5,7 @@ ghost use Rattle.std.specs.List.Sorted.{IsStrictlyIncreasing};
 ghost use Rattle.deb_index.specs.Constraints.{constraints_of};
 ghost use Rattle.number_sets.specs.Sets.{members_of, IsWithin};
 ghost use Rattle.deb_verdict.specs.Closure.{kept};
-ghost use Rattle.deb_verdict.specs.Listing.{Lists};
+ghost use Rattle.deb_verdict.specs.Formulas.{Lists};
 
 use deb_index::{Constraint, Index};
 use number_sets::sort_once;

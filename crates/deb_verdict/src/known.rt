@@ -7,7 +7,7 @@ ghost use Rattle.core_extract.specs.Reduction.{left};
 ghost use Rattle.deb_index.specs.Packages.{IndexView};
 ghost use Rattle.deb_health.specs.Causes.{without};
 ghost use Rattle.deb_health.specs.Health.{AdmitsNone};
-ghost use Rattle.deb_verdict.specs.Known.{AreKnown, AreNeeded};
+ghost use Rattle.deb_verdict.specs.Formulas.{AreKnown, AreNeeded};
 
 use deb_groundwork::is_among;
 use number_sets::sort_once;

@@ -7,8 +7,7 @@ ghost use Rattle.number_sets.specs.Sets.{all_of, members_of};
 ghost use Rattle.deb_health.specs.Causes.{without};
 ghost use Rattle.deb_health.specs.Health.{AdmitsNone};
 ghost use Rattle.deb_groundwork.specs.Parts.{positions_in, IsRefutedBy};
-ghost use Rattle.deb_verdict.specs.Formulas.{Tells};
-ghost use Rattle.deb_verdict.specs.Known.{AreKnown};
+ghost use Rattle.deb_verdict.specs.Formulas.{Tells, AreKnown};
 
 use crate::by_formula::{learn, refute_by_formula, tells_more};
 use crate::core_formula::CoreFormula;

@@ -6,11 +6,10 @@ use Rattle.deb_health.specs.Verdicts.{IsTold, ToldView}
 use Rattle.work_draw.specs.Checks.{AnswersEach}
 use Rattle.deb_report.specs.declared.summary.Summary.{Summary}
 use Rattle.run_settings.specs.Settings.{Settings}
-use Rattle.deb_report.specs.Written.{written_told}
-use Rattle.deb_report.specs.Asked.{listed_places}
+use Rattle.deb_report.specs.Document.{written_told}
+use Rattle.deb_report.specs.Outcome.{listed_places}
 use Rattle.deb_report.specs.Since.{BrokenView, broken_of, summary_of}
-use Rattle.debcheck.specs.Run.{HasIndex, IsBefore, IsReport, IsReportOn, WereBroken}
-use Rattle.debcheck.specs.Telling.{statuses, wanted_at, wanted_by}
+use Rattle.debcheck.specs.Run.{HasIndex, IsBefore, IsReport, IsReportOn, WereBroken, statuses, wanted_at, wanted_by}
 
 abbrev OneTold : Type 0
 OneTold = (wanted : Wanted) (index : IndexView) (p : ℕ) (a b : ToldView) → IsTold wanted index p a → IsTold wanted index p b → a ≡ b

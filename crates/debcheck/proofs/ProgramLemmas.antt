@@ -11,9 +11,8 @@ use Rattle.command_line.specs.declared.fault.LineFault.{LineFault}
 use Rattle.command_line.specs.declared.fault.LineFault.TheVariants.{Refused, Help, Memory}
 use Rattle.devices.specs.Devices.{AppendsPart, IsHeld, IsUnopened, unknown}
 use Rattle.deb_input.specs.Faults.{told_line}
-use Rattle.debcheck.specs.Statuses.{status_of}
+use Rattle.debcheck.specs.Statuses.{status_of, KeepsOther, TellsFront, TellsLine, mark_of}
 use Rattle.command_line.specs.Line.{Accepts, RefusesLine, line_status_of}
-use Rattle.debcheck.specs.LineFaults.{KeepsOther, TellsFront, TellsLine, mark_of}
 use Rattle.deb_input.specs.Names.{FailsToName, ReadsNames}
 use Rattle.debcheck.specs.Program.{Asks, Ends, EndsSomehow, FailsToTake, IsEarlier, IsNamed, IsUnbegun, MayFail, Named, Refuses, Runs, RunsBehind, RunsNamed, RunsTo, TakesNames, TellsFault, TellsOutcome, TellsUnless, Text, is_silent}
 use Rattle.deb_input.specs.Inputs.{Input, input}

@@ -5,11 +5,10 @@ use Rattle.deb_index.specs.Packages.{IndexView}
 use Rattle.deb_input.specs.declared.fault.RunFault.{RunFault}
 use Rattle.deb_input.specs.declared.fault.RunFault.TheVariants.{Read, TooLong, BackgroundRead, BackgroundTooLong, EarlierRead, EarlierTooLong, NamesRead, NamesTooLong, BadNameLine, Index, Background, Earlier, UnknownAsked, Slipped, Memory, Write}
 use Rattle.deb_report.specs.declared.summary.Summary.{Summary}
-use Rattle.deb_report.specs.Asked.{asked_places}
+use Rattle.deb_report.specs.Outcome.{asked_places}
 use Rattle.run_settings.specs.Settings.{Settings}
-use Rattle.deb_input.specs.Inputs.{Input, input}
+use Rattle.deb_input.specs.Inputs.{Input, input, slip_of}
 use Rattle.debcheck.specs.Run.{Fails, FailsAlone, FailsToIndex, HasAsked, HasIndex, IsReport, behind, earlier_fault}
-use Rattle.deb_input.specs.Strict.{slip_of}
 use Rattle.deb_input.proofs.IndexLemmas.{fore-of-both}
 
 -- what is read behind the index is the background, where that is told: one that isn't asked for has no bytes

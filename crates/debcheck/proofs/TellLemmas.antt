@@ -11,13 +11,12 @@ use Rattle.deb_health.specs.Verdicts.{Installable, IsTold, SpeaksOf, ToldView, t
 use Rattle.deb_report.specs.declared.before.Before.{Before}
 use Rattle.deb_report.specs.declared.summary.Summary.{Summary}
 use Rattle.deb_report.specs.Since.{BrokenView, summary_of}
-use Rattle.deb_report.specs.Told.{before_view}
-use Rattle.deb_report.specs.Written.{written_told}
+use Rattle.deb_report.specs.Content.{before_view}
+use Rattle.deb_report.specs.Document.{written_told}
 use Rattle.run_settings.specs.Settings.{Settings}
 use Rattle.work_draw.specs.Checks.{AnswersEach}
 use Rattle.work_draw.proofs.Answered.{AnswersEach-All, AnswersEach-length, AnswersEach-map}
-use Rattle.debcheck.specs.Run.{IsAsked, IsReportOn}
-use Rattle.debcheck.specs.Telling.{IsFoundAt, IsToldAt, wanted_at, wanted_by}
+use Rattle.debcheck.specs.Run.{IsAsked, IsReportOn, IsFoundAt, IsToldAt, wanted_at, wanted_by}
 
 -- a mark that is read is one of the list
 pub mark_read : (marks : List Bool) (place : ℕ) → slice_index_or marks place false ≡ true → slice_get marks place ≡ Some true

@@ -1,10 +1,10 @@
 //! The places that are asked in a run.
 
 ghost use Rattle.std.specs.Prelude.{◌≡◌, ◌<◌, ◌^◌, All, IfOk, IfErr, None, Ok, length};
-ghost use Rattle.deb_report.specs.Asked.{asked_places};
+ghost use Rattle.deb_report.specs.Outcome.{asked_places};
 ghost use Rattle.run_settings.specs.Settings.{settings_of};
 ghost use Rattle.debcheck.specs.Run.{FailsToReport};
-ghost use Rattle.deb_input.specs.Strict.{slip_of};
+ghost use Rattle.deb_input.specs.Inputs.{slip_of};
 
 use deb_index::Index;
 use deb_input::{RunFault, slip_of};

@@ -4,7 +4,7 @@ ghost use Rattle.std.specs.Prelude.{◌≡◌, Bool, IfOk, OnOk, OnErr, true};
 ghost use Rattle.std.specs.Io.KnownBytes.{Appends};
 ghost use Rattle.devices.specs.Devices.{AppendsPart};
 ghost use Rattle.deb_input.specs.Faults.{told_line};
-ghost use Rattle.debcheck.specs.LineFaults.{KeepsOther, TellsFront, TellsLine, mark_of};
+ghost use Rattle.debcheck.specs.Statuses.{KeepsOther, TellsFront, TellsLine, mark_of};
 ghost use Rattle.debcheck.specs.Program.{Refuses, TellsOutcome, is_silent};
 ghost use Rattle.debcheck.specs.Run.{written};
 

@@ -4,12 +4,11 @@
 ghost use Rattle.std.specs.Prelude.{◌≡◌, ◌^◌, ◌<◌, ℕ, [], All, IfErr, IfOk, false, length, map, slice_index_or, true};
 ghost use Rattle.std.specs.Option.{ForSome, option_map};
 ghost use Rattle.deb_health.specs.Health.{IsInstallable};
-ghost use Rattle.deb_report.specs.Told.{before_view};
+ghost use Rattle.deb_report.specs.Content.{before_view};
 ghost use Rattle.run_settings.specs.Settings.{settings_of};
 ghost use Rattle.deb_report.specs.Since.{broken_view};
 ghost use Rattle.work_draw.specs.Checks.{AnswersEach};
-ghost use Rattle.debcheck.specs.Run.{FailsToReport, IsReportOn, WereBroken};
-ghost use Rattle.debcheck.specs.Telling.{IsToldAt, wanted_by};
+ghost use Rattle.debcheck.specs.Run.{FailsToReport, IsReportOn, WereBroken, IsToldAt, wanted_by};
 
 use crate::asked::asked_places;
 use crate::job::Job;
@@ -37,8 +36,8 @@ struct Teller<'t> {
 
 impl Teller<'_> {
     ghost use Rattle.std.specs.Prelude.{◌≡◌, ◌<◌, length, slice_index_or};
-    ghost use Rattle.deb_report.specs.Told.{before_view};
-    ghost use Rattle.debcheck.specs.Telling.{wanted_at};
+    ghost use Rattle.deb_report.specs.Content.{before_view};
+    ghost use Rattle.debcheck.specs.Run.{wanted_at};
 
     /// Whether the package at a place is known to be installable.
     fn is_marked(&self, place: u32) -> bool
@@ -68,8 +67,8 @@ impl Teller<'_> {
 
 impl Finder for Teller<'_> {
     ghost use Rattle.std.specs.Prelude.{length};
-    ghost use Rattle.deb_report.specs.Told.{before_view};
-    ghost use Rattle.debcheck.specs.Telling.{IsFoundAt};
+    ghost use Rattle.deb_report.specs.Content.{before_view};
+    ghost use Rattle.debcheck.specs.Run.{IsFoundAt};
 
     type Found = Told;
 

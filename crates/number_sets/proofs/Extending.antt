@@ -2,10 +2,9 @@
 use Rattle.std.proofs.Common.{◌≡◌, ◌⊎◌, ℕ, ◌+◌, ◌<◌, ◌≤◌, true, ◌||◌, false, eqb, List, [], ◌∷◌, ◌++◌, length, get_or, take, All, sym, subst, ◌∙◌, ap, inl, inr, arith}
 use Rattle.std.proofs.lemmas.Bool.{false≢true, or_cases, eqb-true}
 use Rattle.std.proofs.lemmas.List.{take_more}
-use Rattle.number_sets.specs.Sets.{members_of}
+use Rattle.number_sets.specs.Sets.{members_of, with_number, Grows}
 use Rattle.number_sets.proofs.MembersLemmas.{members_of_push}
 use Rattle.number_sets.proofs.ListMembers.{at_members_of, take_whole}
-use Rattle.number_sets.specs.SparseSets.{with_number, Grows}
 use Rattle.number_sets.proofs.Placing.{grows_both, grows_with, grows_keeps, with_number_has, with_number_only}
 
 pub grows_row : (row before between after : List ℕ) (i q : ℕ) → i < length row → get_or row i 0 ≡ q → after ≡ with_number between q

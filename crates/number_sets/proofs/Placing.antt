@@ -8,10 +8,9 @@ use Rattle.std.proofs.lemmas.List.Elements.{All-nil, All-cons, All-append}
 use Rattle.std.proofs.lemmas.List.Folds.{list_any-append}
 use Rattle.std.proofs.lemmas.Map.Keys.{IsDistinct-push}
 use Rattle.std.proofs.lemmas.Map.Steps.{length-le_from_distinct_below}
-use Rattle.number_sets.specs.Sets.{members_of}
+use Rattle.number_sets.specs.Sets.{members_of, with_number, AreNumbers, Grows}
 use Rattle.number_sets.proofs.MembersLemmas.{members_of_push}
 use Rattle.number_sets.proofs.ListMembers.{members_of_at}
-use Rattle.number_sets.specs.SparseSets.{with_number, AreNumbers, Grows}
 
 -- ---- one place more
 

@@ -12,8 +12,7 @@ use Rattle.std.proofs.lemmas.List.Sorted.{All-permutation, IsNonDecreasingBy-fro
 use Rattle.std.proofs.lemmas.Map.Keys.{IsDistinct-from_apart, IsDistinct-push, IsDistinct-IsPermutation, IsStrictlyIncreasing-from_distinct, sorted_from_strictly_increasing, below_from_sorted}
 use Rattle.std.proofs.lemmas.Map.Made.{length-le_from_is_member}
 use Rattle.std.proofs.lemmas.Option.{same_Some, slice_get_within, slice_get-get_or, get_or_from_slice_get}
-use Rattle.number_sets.specs.Sets.{members_of}
-use Rattle.number_sets.specs.SparseSets.{IsNumbered}
+use Rattle.number_sets.specs.Sets.{members_of, IsNumbered}
 
 -- a place of the list has a number, at which the list has the place
 pub numbered_found : (places numbers : List ℕ) (q : ℕ) → IsNumbered places numbers → members_of places q ≡ true

@@ -1,3 +1,2 @@
 pub mod Sets
-pub mod SparseSets
 pub mod Rows

@@ -1,6 +1,6 @@
--- Sets of numbers and their order.
-use Rattle.std.specs.Prelude.{◌≡◌, ℕ, ◌<◌, ◌==◌, ◌&&◌, ltb, Bool, true, false, List, Some, length, slice_get, slice_index}
-use Rattle.std.specs.List.{list_any, range_with_len}
+-- Sets of numbers and their order, and places in the order in which they came to a set.
+use Rattle.std.specs.Prelude.{◌≡◌, ℕ, ◌<◌, ◌==◌, ◌&&◌, ltb, Bool, true, false, List, Some, length, slice_get, slice_index, ◌≤◌, ◌^◌, [], ◌∷◌, ◌++◌, if◌then◌else◌, All}
+use Rattle.std.specs.List.{list_any, range_with_len, IsDistinct}
 
 -- a set of numbers, as the test of its members
 abbrev pub NumberSet : Type 0
@@ -45,3 +45,23 @@ MarksOnly Property marks = (number : ℕ) → slice_get marks number ≡ Some tr
 -- the numbers that a list has at the indexes of a set
 abbrev pub positions_of : List ℕ → NumberSet → NumberSet
 positions_of numbers indexes number = list_any (λ index. indexes index && (slice_index numbers index == number)) (range_with_len 0 (length numbers))
+
+-- the list with the place as its last, if it was not there
+abbrev pub with_number : List ℕ → ℕ → List ℕ
+with_number places place = if members_of places place then places else (places ++ place ∷ [])
+
+-- the number at each place of the list is its position there
+pub record IsNumbered (places numbers : List ℕ) : Type 0 where
+  pub at : (k : ℕ) → k < length places → slice_get numbers (slice_index places k) ≡ Some k
+  pub few : length numbers ≤ 2 ^ 32
+
+-- places among that many, each once
+pub record AreNumbers (count : ℕ) (places : List ℕ) : Type 0 where
+  pub within : All (λ place. place < count) places
+  pub once : IsDistinct ◌==◌ places
+
+-- places came behind those that were there
+pub record Grows (count : ℕ) (before after : List ℕ) : Type 0 where
+  pub more : List ℕ
+  pub appended : after ≡ before ++ more
+  pub places : AreNumbers count before → AreNumbers count after

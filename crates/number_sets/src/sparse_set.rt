@@ -2,8 +2,7 @@
 
 ghost use Rattle.std.specs.Prelude.{◌≡◌, ◌⊎◌, ℕ, ◌<◌, ◌≤◌, ◌^◌, List, [], true, false, All, length, slice_get, take, Some, IfSome, IfNone, OnOk};
 ghost use Rattle.std.specs.List.Sorted.{IsStrictlyIncreasing};
-ghost use Rattle.number_sets.specs.Sets.{members_of};
-ghost use Rattle.number_sets.specs.SparseSets.{Grows, with_number, IsNumbered};
+ghost use Rattle.number_sets.specs.Sets.{members_of, Grows, with_number, IsNumbered};
 
 use std::alloc::{AllocError, Global};
 use std::marker::Model;
@@ -25,7 +24,7 @@ impl Model for SparseSet {
 
     ghost view = { λ s. s.numbers.items };
 
-    ghost use Rattle.number_sets.specs.SparseSets.{IsNumbered};
+    ghost use Rattle.number_sets.specs.Sets.{IsNumbered};
 
     ghost invariant = { λ s. IsNumbered s.numbers.items s.positions.items };
 }

@@ -8,8 +8,7 @@ use Rattle.std.specs.List.{list_any}
 use Rattle.std.proofs.lemmas.List.Folds.{list_any_more, list_any-append}
 use Rattle.number_sets.specs.Sets.{NumberSet}
 use Rattle.sat_solve.specs.Clauses.{clause_holds, literal_holds}
-use Rattle.sat_solve.specs.Trail.{value_in, is_decided, AllFresh, IsSound, IsLinked}
-use Rattle.sat_solve.specs.ClauseStatus.{Agrees, ComesDownTo}
+use Rattle.sat_solve.specs.Trail.{value_in, is_decided, AllFresh, IsSound, IsLinked, Agrees, ComesDownTo}
 use Rattle.sat_solve.specs.Reasons.{AgreesOn, FailsOn, RestsOn, AreReasoned, SeesAll, is_seen}
 use Rattle.sat_solve.specs.Jumps.{denied, IsAt, AreDenied, IsCut, IsJump, IsTaken}
 use Rattle.sat_solve.specs.declared.clause.Lit.{Lit}

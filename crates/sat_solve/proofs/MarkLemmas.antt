@@ -5,9 +5,7 @@ use Rattle.std.proofs.lemmas.List.{get_or_past}
 use Rattle.std.proofs.lemmas.Option.{slice_get-get_or, slice_get_within, get_or_from_slice_get}
 use Rattle.number_sets.specs.Sets.{NumberSet}
 use Rattle.std.specs.declared.alloc.Global.{Global}
-use Rattle.sat_solve.specs.Answers.{IsAnswer}
-use Rattle.sat_solve.specs.Clauses.{Clause, AreWithin}
-use Rattle.sat_solve.specs.Spans.{no_span}
+use Rattle.sat_solve.specs.Clauses.{IsAnswer, Clause, AreWithin, no_span}
 use Rattle.sat_solve.specs.Reasons.{IsProblem, IsSolution, IsMarkedSolution, IsAnswerTo, IsUsed, IsLearnt, Backs}
 use Rattle.sat_solve.specs.declared.clause.Lit.{Lit}
 use Rattle.sat_solve.specs.declared.trail.Reason.TheVariants.{Clause as OfClause}

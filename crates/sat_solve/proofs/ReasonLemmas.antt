@@ -4,8 +4,7 @@ use Rattle.std.proofs.lemmas.Bool.{cases_Bool, eq-eqb, or_left, or_right, falseâ
 use Rattle.std.proofs.lemmas.List.{take-take, drop-take}
 use Rattle.number_sets.specs.Sets.{NumberSet}
 use Rattle.sat_solve.specs.Clauses.{clause_holds, literal_holds}
-use Rattle.sat_solve.specs.Trail.{value_in}
-use Rattle.sat_solve.specs.ClauseStatus.{Agrees, ComesDownTo}
+use Rattle.sat_solve.specs.Trail.{value_in, Agrees, ComesDownTo}
 use Rattle.sat_solve.specs.Reasons.{variables_of, named_by, AgreesOn, RestsOn, FailsOn, AreReasoned, AreParts, IsPart, end_before}
 use Rattle.sat_solve.specs.declared.clause.Lit.{Lit}
 use Rattle.sat_solve.specs.declared.trail.Step.{Step}

@@ -9,8 +9,7 @@ use Rattle.std.proofs.lemmas.List.Elements.{All-nil, All-cons, All-from_get_or}
 use Rattle.std.proofs.lemmas.Option.{slice_get-get_or, slice_get_read, slice_get_within, get_or_from_slice_get}
 use Rattle.number_sets.specs.Sets.{NumberSet, members_of}
 use Rattle.number_sets.proofs.MembersLemmas.{pushed_has, pushed_keeps}
-use Rattle.sat_solve.specs.Clauses.{clause_holds}
-use Rattle.sat_solve.specs.Spans.{clauses_by, clauses_at, clauses_of, MeetsSpan, no_span}
+use Rattle.sat_solve.specs.Clauses.{clause_holds, clauses_by, clauses_at, clauses_of, MeetsSpan, no_span}
 use Rattle.sat_solve.specs.Reasons.{IsProblem, IsSolution, variables_of}
 use Rattle.sat_solve.specs.Rotation.{turned, AreNeeded, MeetsBut, BreaksAlone, IsTrueBut, owns, speaks, HasAt, ListsOn, IsListed}
 use Rattle.sat_solve.specs.declared.clause.Lit.{Lit}

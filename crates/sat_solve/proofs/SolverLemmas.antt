@@ -7,10 +7,8 @@ use Rattle.std.proofs.lemmas.List.Elements.{All-contains}
 use Rattle.std.specs.declared.alloc.Global.{Global}
 use Rattle.std.proofs.lemmas.Bool.Decides.{eqb_tells}
 use Rattle.number_sets.specs.Sets.{NumberSet, IsFirst, members_of}
-use Rattle.sat_solve.specs.Clauses.{clause_holds, not_both}
-use Rattle.sat_solve.specs.Spans.{clauses_of, no_span}
-use Rattle.sat_solve.specs.ClauseStatus.{ComesDownTo}
-use Rattle.sat_solve.specs.Trail.{value_in, set_of, is_decided, Follows, IsSound, IsLinked, rank, power_of_three, steps_of, IsTrail}
+use Rattle.sat_solve.specs.Clauses.{clause_holds, not_both, clauses_of, no_span}
+use Rattle.sat_solve.specs.Trail.{ComesDownTo, value_in, set_of, is_decided, Follows, IsSound, IsLinked, rank, power_of_three, steps_of, IsTrail}
 use Rattle.sat_solve.specs.Reasons.{IsProblem, IsSolution, IsLearnt, Implied, Backs, named_by, RestsOn, AreReasoned, AreParts, FailsOn, IsReasonFor}
 use Rattle.sat_solve.specs.SolverState.{IsSolver, Gives, GoesOn, height}
 use Rattle.sat_solve.specs.Jumps.{AreDenied}

@@ -4,8 +4,7 @@ use mathlib.Core.Path.{fun_ext}
 use Rattle.std.proofs.lemmas.Bool.{false≢true, cases_lt, false_from_ne_true}
 use Rattle.number_sets.specs.Sets.{NumberSet}
 use Rattle.sat_solve.specs.Clauses.{clause_holds}
-use Rattle.sat_solve.specs.Trail.{value_in, set_of, is_decision, IsSound, IsLinked}
-use Rattle.sat_solve.specs.ClauseStatus.{Agrees, ComesDownTo}
+use Rattle.sat_solve.specs.Trail.{value_in, set_of, is_decision, IsSound, IsLinked, Agrees, ComesDownTo}
 use Rattle.sat_solve.specs.declared.clause.Lit.{Lit}
 use Rattle.sat_solve.specs.declared.trail.Step.{Step}
 use Rattle.sat_solve.specs.declared.trail.Reason.{Reason}

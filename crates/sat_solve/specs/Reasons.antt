@@ -1,12 +1,9 @@
 -- Why variables have their values: what steps and conflicts rest on.
-use Rattle.std.specs.Prelude.{◌≡◌, ℕ, ◌<◌, ◌≤◌, ◌==◌, Bool, true, false, Vec, Option, Some, is_some}
-use Rattle.std.specs.Prelude.{List, [], ◌∷◌, All, Contains, length, take, slice_range, slice_index_or}
+use Rattle.std.specs.Prelude.{◌≡◌, ℕ, ◌<◌, ◌≤◌, ◌==◌, Bool, true, false, Vec, Option, Some, is_some, List, [], ◌∷◌, All, Contains, length, take, slice_range, slice_index_or}
 use Rattle.std.specs.List.{list_any}
 use Rattle.std.specs.declared.alloc.Global.{Global}
 use Rattle.number_sets.specs.Sets.{NumberSet}
-use Rattle.sat_solve.specs.Clauses.{IsTrueSet, AreWithin, clause_holds, not_both}
-use Rattle.sat_solve.specs.Answers.{IsAnswer}
-use Rattle.sat_solve.specs.Spans.{clause_at, clauses_of, no_span, AreClauses}
+use Rattle.sat_solve.specs.Clauses.{IsTrueSet, AreWithin, clause_holds, not_both, IsAnswer, clause_at, clauses_of, no_span, AreClauses}
 use Rattle.sat_solve.specs.Trail.{value_in, is_decision, is_decided}
 use Rattle.sat_solve.specs.declared.clause.Lit.{Lit}
 use Rattle.sat_solve.specs.declared.trail.Step.{Step}

@@ -3,8 +3,7 @@ use Rattle.std.specs.Prelude.{◌≡◌, ◌≢◌, ℕ, ◌+◌, ◌<◌, ◌==
 use Rattle.std.specs.List.{list_all}
 use Rattle.std.specs.declared.alloc.Global.{Global}
 use Rattle.number_sets.specs.Sets.{NumberSet, members_of}
-use Rattle.sat_solve.specs.Clauses.{Clause, clause_holds}
-use Rattle.sat_solve.specs.Spans.{MeetsSpan, clauses_of, no_span}
+use Rattle.sat_solve.specs.Clauses.{Clause, clause_holds, MeetsSpan, clauses_of, no_span}
 use Rattle.sat_solve.specs.Reasons.{variables_of}
 use Rattle.sat_solve.specs.declared.clause.Lit.{Lit}
 use Rattle.sat_solve.specs.declared.clause.Span.{Span}

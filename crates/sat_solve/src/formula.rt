@@ -1,10 +1,8 @@
 //! A formula: clauses in groups, and the calls that solve it.
 
 ghost use Rattle.std.specs.Prelude.{◌≡◌, ◌<◌, length, All, IfOk, OnErr, OnOk, [], ◌∷◌, ◌++◌, map};
-ghost use Rattle.sat_solve.specs.Answers.{IsAnswer};
-ghost use Rattle.sat_solve.specs.Clauses.{excluding};
+ghost use Rattle.sat_solve.specs.Clauses.{IsAnswer, excluding, out_of, span_of};
 ghost use Rattle.sat_solve.specs.Rotation.{AreNeeded};
-ghost use Rattle.sat_solve.specs.Spans.{out_of, span_of};
 
 use crate::clause::{Lit, Owner, Problem, Span};
 use crate::rotation::Rotation;
@@ -27,7 +25,7 @@ impl Model for Formula {
 
     ghost Value = { Clauses };
 
-    ghost use Rattle.sat_solve.specs.Spans.{clauses_of, AreClauses};
+    ghost use Rattle.sat_solve.specs.Clauses.{clauses_of, AreClauses};
 
     ghost view = { λ f. record { vars = f.vars; groups = f.groups; clauses = clauses_of f.literals.items f.spans.items } };
 

@@ -3,8 +3,7 @@
 ghost use Rattle.std.specs.Prelude.{◌≡◌, ℕ, true, false, Some, None, ◌<◌, All, [], ◌∷◌, length, slice_index_or, IfOk, IfSome, IfNone};
 ghost use Rattle.std.specs.List.Sorted.{IsStrictlyIncreasing};
 ghost use Rattle.number_sets.specs.Sets.{members_of};
-ghost use Rattle.sat_solve.specs.ClauseStatus.{ComesDownTo};
-ghost use Rattle.sat_solve.specs.Trail.{value_in, set_of, is_decision, steps_of, IsTrail};
+ghost use Rattle.sat_solve.specs.Trail.{ComesDownTo, value_in, set_of, is_decision, steps_of, IsTrail};
 ghost use Rattle.sat_solve.specs.Reasons.{end_before};
 ghost use Rattle.sat_solve.specs.Jumps.{denied};
 

@@ -3,8 +3,7 @@
 ghost use Rattle.std.specs.Prelude.{◌≡◌, ℕ, ◌≤◌, ◌==◌, ◌||◌, true, false, not, length, IfNone};
 ghost use Rattle.std.specs.List.{list_all};
 ghost use Rattle.number_sets.specs.Sets.{members_of};
-ghost use Rattle.sat_solve.specs.Clauses.{clause_holds};
-ghost use Rattle.sat_solve.specs.Spans.{MeetsSpan};
+ghost use Rattle.sat_solve.specs.Clauses.{clause_holds, MeetsSpan};
 ghost use Rattle.sat_solve.specs.Reasons.{IsProblem};
 ghost use Rattle.sat_solve.specs.Rotation.{IsClearPart, MeetsBut, turned};
 

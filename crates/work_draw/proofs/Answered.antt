@@ -6,8 +6,7 @@ use Rattle.std.proofs.lemmas.Grind.{common_steps, div_ceil_times}
 use Rattle.std.proofs.lemmas.List.{length-drop, take_min, take_more}
 use Rattle.std.proofs.lemmas.List.Elements.{All-cons, All-nil}
 use Rattle.work_draw.specs.declared.pieces.Piece.{Piece}
-use Rattle.work_draw.specs.Checks.{AnswersEach, chunk_of}
-use Rattle.work_draw.specs.Pieces.{numbers_of}
+use Rattle.work_draw.specs.Checks.{AnswersEach, chunk_of, numbers_of}
 
 module _ {A B : Type 0} (R : A → B → Type 0) where
   pub AnswersEach-append : (xs xs' : List A) (ys ys' : List B) → AnswersEach R xs ys → AnswersEach R xs' ys' → AnswersEach R (xs ++ xs') (ys ++ ys')

@@ -3,7 +3,7 @@ use Rattle.std.proofs.Common.{◌≡◌, ℕ, List, [], ◌∷◌, ◌++◌, sym
 use Rattle.std.proofs.lemmas.List.{append_assoc, map-append}
 use Rattle.work_draw.specs.Board.{DrawerView}
 use Rattle.work_draw.specs.declared.pieces.Piece.{Piece}
-use Rattle.work_draw.specs.Pieces.{numbers_of, Gains, GainsButLast}
+use Rattle.work_draw.specs.Checks.{numbers_of, Gains, GainsButLast}
 
 pub without_piece : {T : Type 0} (before after later : List ℕ) (pieces : List (Piece T)) (n : ℕ) → Gains before pieces after → later ≡ after ++ n ∷ [] → GainsButLast before pieces later
 without_piece before after later pieces n gained drawn = (n ∷ [], omega arith, drawn ∙ ap (λ xs. xs ++ n ∷ []) gained)

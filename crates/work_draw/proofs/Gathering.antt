@@ -6,7 +6,7 @@ use Rattle.work_draw.specs.declared.pieces.Drawn.{Drawn}
 use Rattle.work_draw.specs.declared.pieces.Piece.{Piece}
 use Rattle.work_draw.specs.Board.{BoardView, DrawerView, both_drawers, new_drawer}
 use Rattle.work_draw.specs.Drawing.{times, HoldsEachOnce}
-use Rattle.work_draw.specs.Pieces.{numbers_of, Find, Gains, GainsInAll, IsLeftBy, IsReady, after_crew}
+use Rattle.work_draw.specs.Checks.{numbers_of, Find, Gains, GainsInAll, IsLeftBy, IsReady, after_crew}
 use Rattle.work_draw.proofs.Counts.{times-append}
 
 -- what a first drawer gained is all that it holds

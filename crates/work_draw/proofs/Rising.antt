@@ -9,7 +9,7 @@ use native.Mathlib.Decide.{dec_le}
 use mathlib.Core.Logic.{dite}
 use Rattle.work_draw.specs.declared.pieces.Piece.{Piece}
 use Rattle.work_draw.specs.Drawing.{times, HoldsEachOnce}
-use Rattle.work_draw.specs.Pieces.{numbers_of}
+use Rattle.work_draw.specs.Checks.{numbers_of}
 use Rattle.work_draw.proofs.Counts.{counts_itself, once_inside, none_from}
 
 times-cons : (n x : ℕ) (xs : List ℕ) → times n (x ∷ xs) ≡ cond {A = ℕ} (x == n) 1 0 + times n xs

@@ -1,7 +1,7 @@
 //! What is made of the numbers that are drawn, and the pieces of all workers in the order of their numbers.
 ghost use Rattle.std.specs.Prelude.{◌≡◌, IfOk, false, flat_map};
 ghost use Rattle.work_draw.specs.Drawing.{HoldsEachOnce};
-ghost use Rattle.work_draw.specs.Pieces.{numbers_of, InOrderOfNumber};
+ghost use Rattle.work_draw.specs.Checks.{numbers_of, InOrderOfNumber};
 
 use crate::board::Drawer;
 use deb_verdict::Verdict;

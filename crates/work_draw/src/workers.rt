@@ -2,8 +2,7 @@
 ghost use Rattle.std.specs.Prelude.{◌≡◌, ◌+◌, ◌<◌, ◌≤◌, ◌++◌, [], true, false, All, IfOk, OnOk, length};
 ghost use Rattle.std.specs.Thread.{IsSync};
 ghost use Rattle.work_draw.specs.Board.{both_drawers};
-ghost use Rattle.work_draw.specs.Checks.{chunk_count};
-ghost use Rattle.work_draw.specs.Pieces.{AreFound, Find, Gains, GainsButLast, GainsInAll, IsLeftBy, IsReady, after_crew};
+ghost use Rattle.work_draw.specs.Checks.{chunk_count, AreFound, Find, Gains, GainsButLast, GainsInAll, IsLeftBy, IsReady, after_crew};
 
 use crate::board::{Board, Drawer};
 use crate::chunks::{Chunks, Finder};

@@ -3,14 +3,12 @@ use Rattle.std.specs.List.{flat_map}
 use Rattle.std.proofs.lemmas.List.Elements.{All-same, All-map}
 use Rattle.number_sets.proofs.ListLemmas.{all_seen}
 use Rattle.deb_index.specs.Constraints.{IsOfIndex, below}
-use Rattle.deb_health.specs.Shown.{IsAskedOf, shown_view}
-use Rattle.deb_health.specs.Verdicts.{ToldView}
+use Rattle.deb_health.specs.Verdicts.{IsAskedOf, shown_view, ToldView}
 use Rattle.deb_causes.specs.declared.gathered.NumberedCore.{NumberedCore}
 use Rattle.deb_causes.specs.declared.gathered.NumberedPackage.{NumberedPackage}
 use Rattle.deb_causes.specs.Causes.{IsCauseOf, by_first, cause_view, causes_list, cores_of}
-use Rattle.deb_causes.specs.Gathered.{cause_from}
-use Rattle.deb_causes.specs.Gathering.{part_of, part_view}
-use Rattle.deb_causes.specs.Numbered.{package_view}
+use Rattle.deb_causes.specs.Gathering.{cause_from, part_of, part_view}
+use Rattle.deb_causes.specs.Numbering.{package_view}
 use Rattle.deb_causes.specs.Wrongs.{causes_of}
 use Rattle.deb_causes.proofs.GatheredCauses.{causes-within, cores-own, few-places-of, listed, numbers-below, numbers-within, parts-causes, parts-some, parts-within, some-cores, told-within}
 use Rattle.deb_causes.proofs.causes.causes_of.Goals as goal

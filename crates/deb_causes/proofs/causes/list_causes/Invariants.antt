@@ -1,7 +1,6 @@
 use Rattle.std.proofs.Common.{◌≡◌, map, take}
 use Rattle.deb_causes.specs.Causes.{cause_view}
-use Rattle.deb_causes.specs.Gathered.{cause_from}
-use Rattle.deb_causes.specs.Gathering.{part_view}
+use Rattle.deb_causes.specs.Gathering.{cause_from, part_view}
 use Rattle.deb_causes.proofs.causes.list_causes.Given as goal
 
 abbrev pub invariant-loop-part : goal.invariant-loop-part

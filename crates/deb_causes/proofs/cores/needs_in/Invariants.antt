@@ -2,7 +2,7 @@ use Rattle.std.proofs.Common.{◌≡◌, ℕ, map, take}
 use Rattle.std.specs.List.{flat_map}
 use Rattle.number_sets.specs.Sets.{members_of}
 use Rattle.deb_health.specs.Causes.{cause_in}
-use Rattle.deb_causes.specs.Positions.{is_need_at}
+use Rattle.deb_causes.specs.Causes.{is_need_at}
 use Rattle.deb_causes.proofs.cores.needs_in.Given as goal
 
 abbrev pub invariant-loop-core : goal.invariant-loop-core

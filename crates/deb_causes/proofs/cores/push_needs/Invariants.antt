@@ -1,7 +1,7 @@
 use Rattle.std.proofs.Common.{◌≡◌, ◌||◌, ℕ, take}
 use Rattle.number_sets.specs.Sets.{members_of}
 use Rattle.deb_health.specs.Causes.{cause_in}
-use Rattle.deb_causes.specs.Positions.{is_need_at}
+use Rattle.deb_causes.specs.Causes.{is_need_at}
 use Rattle.deb_causes.proofs.cores.push_needs.Given as goal
 
 abbrev pub invariant-loop-constraint : goal.invariant-loop-constraint

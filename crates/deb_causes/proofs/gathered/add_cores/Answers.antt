@@ -5,7 +5,7 @@ use Rattle.number_sets.proofs.AtomSteps.{map_more}
 use Rattle.deb_causes.specs.declared.gathered.NumberedCore.{NumberedCore}
 use Rattle.deb_causes.specs.declared.gathered.Part.{Part}
 use Rattle.deb_causes.specs.Gathering.{part_view, with_cores}
-use Rattle.deb_causes.specs.Numbered.{core_view}
+use Rattle.deb_causes.specs.Numbering.{core_view}
 use Rattle.deb_causes.proofs.GatheringLemmas.{put-at, with-none, with-other, with-own}
 use Rattle.deb_causes.proofs.gathered.add_cores.Goals as goal
 

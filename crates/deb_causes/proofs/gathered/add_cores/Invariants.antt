@@ -1,7 +1,7 @@
 use Rattle.std.proofs.Common.{◌≡◌, ℕ, length, map, take}
 use Rattle.deb_index.specs.Constraints.{below}
 use Rattle.deb_causes.specs.Gathering.{PartView, part_view, with_cores}
-use Rattle.deb_causes.specs.Numbered.{core_view}
+use Rattle.deb_causes.specs.Numbering.{core_view}
 use Rattle.deb_causes.proofs.gathered.add_cores.Given as goal
 
 abbrev pub invariant-loop-one : goal.invariant-loop-one

@@ -5,7 +5,7 @@ use Rattle.number_sets.specs.Sets.{members_of}
 use Rattle.number_sets.proofs.ListMembers.{below_members}
 use Rattle.deb_causes.specs.declared.gathered.NumberedCore.{NumberedCore}
 use Rattle.deb_causes.specs.Gathering.{has_number, is_alone, part_of, with_cores, with_share}
-use Rattle.deb_causes.specs.Numbered.{core_view, package_view}
+use Rattle.deb_causes.specs.Numbering.{core_view, package_view}
 use Rattle.deb_causes.proofs.GatheringLemmas.{number-below, part-more}
 use Rattle.deb_causes.proofs.gathered.add_package.Goals as goal
 

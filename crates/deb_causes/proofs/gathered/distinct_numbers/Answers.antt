@@ -5,7 +5,7 @@ use Rattle.deb_index.proofs.FirstLemmas.{any-map}
 use Rattle.number_sets.specs.Sets.{members_of}
 use Rattle.std.specs.List.{list_any}
 use Rattle.deb_causes.specs.Gathering.{has_number}
-use Rattle.deb_causes.specs.Numbered.{core_view}
+use Rattle.deb_causes.specs.Numbering.{core_view}
 use Rattle.deb_causes.proofs.gathered.distinct_numbers.Goals as goal
 
 pub returns-clause-same : goal.returns-clause-same

@@ -1,5 +1,5 @@
 use Rattle.std.proofs.Common.{◌≡◌, map, take}
-use Rattle.deb_causes.specs.Numbered.{core_view}
+use Rattle.deb_causes.specs.Numbering.{core_view}
 use Rattle.deb_causes.proofs.gathered.distinct_numbers.Given as goal
 
 abbrev pub invariant-loop-one : goal.invariant-loop-one

@@ -1,7 +1,7 @@
 use Rattle.std.proofs.Common.{rules, ◌≡◌, ◌<◌, ◌==◌, [], arith, false, get_or, length, sym}
 use Rattle.deb_causes.specs.declared.gathered.NumberedCore.{NumberedCore}
 use Rattle.deb_causes.specs.Gathering.{has_number}
-use Rattle.deb_causes.specs.Numbered.{core_view}
+use Rattle.deb_causes.specs.Numbering.{core_view}
 use Rattle.deb_causes.proofs.GatheringLemmas.{all-stops}
 use Rattle.deb_causes.proofs.gathered.have_number.Goals as goal
 

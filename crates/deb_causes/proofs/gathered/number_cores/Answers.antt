@@ -3,7 +3,7 @@ use Rattle.std.proofs.lemmas.List.{map-append}
 use Rattle.deb_index.specs.declared.constraint.Constraint.{Constraint}
 use Rattle.number_sets.proofs.AtomSteps.{pushed}
 use Rattle.deb_causes.specs.declared.gathered.NumberedCore.{NumberedCore}
-use Rattle.deb_causes.specs.Numbered.{core_view}
+use Rattle.deb_causes.specs.Numbering.{core_view}
 use Rattle.deb_causes.specs.Wrongs.{AreNumbered}
 use Rattle.deb_causes.proofs.WrongsLemmas.{numbered-more, numbered-none}
 use Rattle.deb_causes.proofs.gathered.number_cores.Goals as goal

@@ -1,5 +1,5 @@
 use Rattle.std.proofs.Common.{◌≡◌, map, take}
-use Rattle.deb_causes.specs.Numbered.{core_view}
+use Rattle.deb_causes.specs.Numbering.{core_view}
 use Rattle.deb_causes.specs.Wrongs.{AreNumbered}
 use Rattle.deb_causes.proofs.gathered.number_cores.Given as goal
 

@@ -10,8 +10,8 @@ use Rattle.number_sets.proofs.ListLemmas.{all_item, all_seen, map-twice}
 use Rattle.deb_causes.specs.declared.gathered.NumberedPackage.{NumberedPackage}
 use Rattle.deb_health.specs.declared.shown.Shown.{Shown}
 use Rattle.deb_causes.specs.Causes.{cores_of}
-use Rattle.deb_causes.specs.Numbered.{core_view, package_view, unnumbered}
-use Rattle.deb_health.specs.Shown.{IsAskedOf, shown_view}
+use Rattle.deb_causes.specs.Numbering.{core_view, package_view, unnumbered}
+use Rattle.deb_health.specs.Verdicts.{IsAskedOf, shown_view}
 use Rattle.deb_causes.specs.Wrongs.{AreNumbered}
 use Rattle.deb_causes.proofs.WrongsLemmas.{cores-within, numbered-more, numbered-none}
 use Rattle.deb_causes.proofs.gathered.number_packages.Goals as goal

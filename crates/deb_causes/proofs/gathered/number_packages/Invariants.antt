@@ -1,8 +1,8 @@
 use Rattle.std.proofs.Common.{◌≡◌, map, take}
 use Rattle.std.specs.List.{flat_map}
 use Rattle.deb_causes.specs.Causes.{cores_of}
-use Rattle.deb_causes.specs.Numbered.{package_view, unnumbered}
-use Rattle.deb_health.specs.Shown.{shown_view}
+use Rattle.deb_causes.specs.Numbering.{package_view, unnumbered}
+use Rattle.deb_health.specs.Verdicts.{shown_view}
 use Rattle.deb_causes.specs.Wrongs.{AreNumbered}
 use Rattle.deb_causes.proofs.gathered.number_packages.Given as goal
 

@@ -6,7 +6,7 @@ use Rattle.number_sets.proofs.ListLemmas.{all_item}
 use Rattle.deb_causes.specs.declared.gathered.NumberedCore.{NumberedCore}
 use Rattle.deb_causes.specs.declared.gathered.NumberedPackage.{NumberedPackage}
 use Rattle.deb_causes.specs.Gathering.{part_of, part_view}
-use Rattle.deb_causes.specs.Numbered.{package_view}
+use Rattle.deb_causes.specs.Numbering.{package_view}
 use Rattle.deb_causes.proofs.GatheringLemmas.{length-range}
 use Rattle.deb_causes.proofs.gathered.parts_of.Goals as goal
 

@@ -1,7 +1,7 @@
 use Rattle.std.proofs.Common.{◌≡◌, map, take}
 use Rattle.deb_index.specs.Constraints.{below}
 use Rattle.deb_causes.specs.Gathering.{part_of, part_view}
-use Rattle.deb_causes.specs.Numbered.{package_view}
+use Rattle.deb_causes.specs.Numbering.{package_view}
 use Rattle.deb_causes.proofs.gathered.parts_of.Given as goal
 
 abbrev pub invariant-loop-one : goal.invariant-loop-one

@@ -1,6 +1,6 @@
 use Rattle.std.proofs.Common.{rules, ◌≡◌, ◌<◌, arith, length, sym, true}
 use Rattle.std.specs.Str.{bytes_eq}
-use Rattle.deb_relation.specs.AtomView.{atom_view}
+use Rattle.deb_relation.specs.Relationship.{atom_view}
 use Rattle.number_sets.proofs.ListLemmas.{any_here}
 use Rattle.deb_causes.proofs.near.is_one_of.Goals as goal
 

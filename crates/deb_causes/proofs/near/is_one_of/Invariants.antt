@@ -1,5 +1,5 @@
 use Rattle.std.proofs.Common.{◌≡◌, false, map, take}
-use Rattle.deb_relation.specs.AtomView.{atom_view}
+use Rattle.deb_relation.specs.Relationship.{atom_view}
 use Rattle.deb_causes.specs.Near.{is_one_of}
 use Rattle.deb_causes.proofs.near.is_one_of.Given as goal
 

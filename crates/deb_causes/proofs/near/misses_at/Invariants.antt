@@ -1,5 +1,5 @@
 use Rattle.std.proofs.Common.{◌≡◌, map, take}
-use Rattle.deb_relation.specs.AtomView.{atom_view}
+use Rattle.deb_relation.specs.Relationship.{atom_view}
 use Rattle.deb_causes.specs.Near.{near_miss_at, near_view}
 use Rattle.deb_causes.proofs.near.misses_at.Given as goal
 

@@ -4,7 +4,7 @@ use Rattle.std.proofs.lemmas.Iterator.Consumers.{YieldsList-from_filter, map_fro
 use Rattle.std.proofs.lemmas.Result.{IfOk-weaker}
 use Rattle.number_sets.proofs.ListLemmas.{map-twice}
 use Rattle.deb_relation.specs.declared.atom.Atom.{Atom}
-use Rattle.deb_relation.specs.AtomView.{atom_view}
+use Rattle.deb_relation.specs.Relationship.{atom_view}
 use Rattle.deb_causes.specs.Near.{provides_one}
 use Rattle.deb_causes.proofs.FirstOnes.{filter-seen}
 use Rattle.deb_causes.proofs.near.provided_of.Goals as goal

@@ -1,5 +1,5 @@
 use Rattle.std.proofs.Common.{◌≡◌, ◌++◌, map, take}
-use Rattle.deb_relation.specs.AtomView.{atom_view}
+use Rattle.deb_relation.specs.Relationship.{atom_view}
 use Rattle.deb_causes.proofs.near.push_alternatives.Given as goal
 
 abbrev pub invariant-loop-atom : goal.invariant-loop-atom

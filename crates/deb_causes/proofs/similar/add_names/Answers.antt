@@ -1,9 +1,8 @@
 use Rattle.std.proofs.Common.{◌<◌, ◌||◌, ◌∙◌, Bor, ap, arith, length, map, sym, take}
 use Rattle.std.specs.Str.{bytes_eq}
 use Rattle.deb_relation.specs.declared.atom.Atom.{Atom}
-use Rattle.deb_relation.specs.AtomView.{atom_view}
-use Rattle.deb_causes.specs.Near.{is_one_of}
-use Rattle.deb_causes.specs.Stems.{has_text}
+use Rattle.deb_relation.specs.Relationship.{atom_view}
+use Rattle.deb_causes.specs.Near.{is_one_of, has_text}
 use Rattle.number_sets.proofs.ListLemmas.{any_more}
 use Rattle.deb_causes.proofs.SimilarLemmas.{or-turned}
 use Rattle.deb_causes.proofs.similar.add_names.Goals as goal

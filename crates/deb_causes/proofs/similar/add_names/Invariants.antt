@@ -1,7 +1,6 @@
 use Rattle.std.proofs.Common.{◌≡◌, ℕ, List, map, take}
-use Rattle.deb_relation.specs.AtomView.{atom_view}
-use Rattle.deb_causes.specs.Near.{is_one_of}
-use Rattle.deb_causes.specs.Stems.{has_text}
+use Rattle.deb_relation.specs.Relationship.{atom_view}
+use Rattle.deb_causes.specs.Near.{is_one_of, has_text}
 use Rattle.deb_causes.proofs.similar.add_names.Given as goal
 
 abbrev pub invariant-loop-atom : goal.invariant-loop-atom

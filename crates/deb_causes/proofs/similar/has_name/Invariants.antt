@@ -1,5 +1,5 @@
 use Rattle.std.proofs.Common.{◌≡◌, false, map, take}
-use Rattle.deb_causes.specs.Stems.{has_text}
+use Rattle.deb_causes.specs.Near.{has_text}
 use Rattle.deb_causes.proofs.similar.has_name.Given as goal
 
 abbrev pub invariant-loop-one : goal.invariant-loop-one

@@ -1,7 +1,6 @@
 use Rattle.std.proofs.Common.{◌≡◌, ◌≤◌, ◌<◌, ◌++◌, ◌∷◌, [], ◌∙◌, ap, arith, false, length, map, sym, true}
 use Rattle.std.proofs.lemmas.List.{length-map, map-append}
-use Rattle.deb_causes.specs.Near.{similar_limit}
-use Rattle.deb_causes.specs.Stems.{has_text}
+use Rattle.deb_causes.specs.Near.{similar_limit, has_text}
 use Rattle.deb_causes.proofs.SimilarLemmas.{told-full, told-known, told-new}
 use Rattle.deb_causes.proofs.similar.push_first.Goals as goal
 

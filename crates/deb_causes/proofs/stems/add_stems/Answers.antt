@@ -2,10 +2,8 @@ use Rattle.std.proofs.Common.{◌≡◌, ◌<◌, ◌∙◌, All, Bor, ap, arith
 use Rattle.std.proofs.lemmas.List.{take_all}
 use Rattle.std.specs.HashMap.{keys}
 use Rattle.deb_relation.specs.declared.atom.Atom.{Atom}
-use Rattle.deb_relation.specs.AtomView.{atom_view}
-use Rattle.deb_relation.specs.Relationship.{AtomText}
-use Rattle.deb_causes.specs.Near.{stem}
-use Rattle.deb_causes.specs.Stems.{has_text}
+use Rattle.deb_relation.specs.Relationship.{atom_view, AtomText}
+use Rattle.deb_causes.specs.Near.{stem, has_text}
 use Rattle.deb_causes.proofs.SimilarLemmas.{more-has, more-keep, sought-more}
 use Rattle.deb_causes.proofs.stems.add_stems.Goals as goal
 

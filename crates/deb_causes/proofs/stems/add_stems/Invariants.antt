@@ -1,8 +1,7 @@
 use Rattle.std.proofs.Common.{◌≡◌, [], true, All, map, take}
 use Rattle.std.specs.HashMap.{keys, values}
-use Rattle.deb_relation.specs.AtomView.{atom_view}
-use Rattle.deb_causes.specs.Near.{stem}
-use Rattle.deb_causes.specs.Stems.{has_text}
+use Rattle.deb_relation.specs.Relationship.{atom_view}
+use Rattle.deb_causes.specs.Near.{stem, has_text}
 use Rattle.deb_causes.proofs.stems.add_stems.Given as goal
 
 abbrev pub invariant-loop-atom : goal.invariant-loop-atom

@@ -3,7 +3,7 @@ use Rattle.std.proofs.lemmas.List.Sorted.{list_any-IsPermutation}
 use Rattle.std.specs.HashSet.{PutsKey, contains_by}
 use Rattle.std.specs.Str.{bytes_eq}
 use Rattle.deb_index.proofs.FirstLemmas.{any-map}
-use Rattle.deb_causes.specs.Stems.{has_text}
+use Rattle.deb_causes.specs.Near.{has_text}
 use Rattle.deb_causes.proofs.SimilarLemmas.{known-again}
 use Rattle.deb_causes.proofs.stems.insert_once.Goals as goal
 

@@ -6,7 +6,7 @@ use Rattle.deb_health.specs.Causes.{cause_in, is_final}
 use Rattle.number_sets.proofs.ListLemmas.{filter_fails, filter_passes}
 use Rattle.deb_causes.specs.Causes.{says}
 use Rattle.deb_causes.specs.Numbering.{Grows, texts_of}
-use Rattle.deb_causes.specs.Said.{number_said}
+use Rattle.deb_causes.specs.Wrongs.{number_said}
 use Rattle.deb_causes.proofs.NumberingLemmas.{grows-more, grows-one, number-kept}
 use Rattle.deb_causes.proofs.wrongs.numbers_said.Goals as goal
 use Rattle.deb_causes.proofs.wrongs.numbers_said.Goals.{then-branch+in_ok-number+in_ok-push, else-branch}

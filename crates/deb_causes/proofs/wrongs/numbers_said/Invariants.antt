@@ -2,7 +2,7 @@ use Rattle.std.proofs.Common.{◌≡◌, List, ℕ, Some, map, take}
 use Rattle.deb_health.specs.Causes.{cause_in}
 use Rattle.deb_causes.specs.Causes.{says}
 use Rattle.deb_causes.specs.Numbering.{Grows, IsFront, texts_of}
-use Rattle.deb_causes.specs.Said.{number_said}
+use Rattle.deb_causes.specs.Wrongs.{number_said}
 use Rattle.deb_causes.proofs.wrongs.numbers_said.Given as goal
 
 abbrev pub invariant-loop-constraint : goal.invariant-loop-constraint

@@ -1,5 +1,5 @@
 use Rattle.std.proofs.Common.{sym, ◌∙◌, ap}
-use Rattle.deb_relation.specs.AtomView.{atom_view}
+use Rattle.deb_relation.specs.Relationship.{atom_view}
 use Rattle.deb_index.specs.Meets.{meets_at}
 use Rattle.number_sets.specs.Sets.{members_of}
 use Rattle.deb_encode.specs.Encoders.{all_places}

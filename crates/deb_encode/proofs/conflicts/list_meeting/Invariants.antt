@@ -1,4 +1,4 @@
-use Rattle.deb_relation.specs.AtomView.{atom_view}
+use Rattle.deb_relation.specs.Relationship.{atom_view}
 use Rattle.deb_index.specs.Meets.{meets_at}
 use Rattle.deb_encode.specs.Encoders.{all_places}
 use Rattle.deb_encode.proofs.Filtered.{ListsPassing}

@@ -1,7 +1,7 @@
 use Rattle.std.proofs.Common.{length, take, false}
 use Rattle.std.specs.List.{list_any}
 use Rattle.deb_encode.specs.Play.{placed}
-use Rattle.deb_encode.specs.Standings.{Widens}
+use Rattle.deb_encode.specs.Exclusions.{Widens}
 use Rattle.deb_encode.proofs.needs.or_some.Given as goal
 
 abbrev pub invariant-loop-place : goal.invariant-loop-place

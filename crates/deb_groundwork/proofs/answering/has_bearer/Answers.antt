@@ -1,5 +1,5 @@
 use Rattle.std.proofs.Common.{◌∙◌, sym}
-use Rattle.deb_relation.specs.AtomView.{atom_view}
+use Rattle.deb_relation.specs.Relationship.{atom_view}
 use Rattle.deb_groundwork.proofs.BearerLemmas.{met_by_one}
 use Rattle.deb_groundwork.proofs.answering.has_bearer.Goals as goal
 

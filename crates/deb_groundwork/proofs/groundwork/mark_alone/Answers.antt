@@ -1,4 +1,4 @@
-use Rattle.deb_index.specs.Apart.{IsAlone}
+use Rattle.deb_index.specs.Constraints.{IsAlone}
 use Rattle.deb_groundwork.proofs.GroundworkLemmas.{one_mark_more}
 use Rattle.deb_groundwork.proofs.groundwork.mark_alone.Goals as goal
 

@@ -1,4 +1,4 @@
-use Rattle.deb_index.specs.Apart.{IsAlone}
+use Rattle.deb_index.specs.Constraints.{IsAlone}
 use Rattle.deb_groundwork.proofs.GroundworkLemmas.{MarksFirst}
 use Rattle.deb_groundwork.proofs.groundwork.mark_alone.Given as goal
 

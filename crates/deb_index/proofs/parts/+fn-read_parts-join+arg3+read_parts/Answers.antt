@@ -1,6 +1,6 @@
 use Rattle.std.proofs.Common.{List, sym, subst}
 use Rattle.deb_index.specs.declared.parts.Part.{Part}
-use Rattle.deb_index.specs.Parts.{ArePartsOf}
+use Rattle.deb_index.specs.Built.{ArePartsOf}
 use Rattle.deb_index.proofs.PartedLemmas.{two-parted}
 use Rattle.deb_index.proofs.parts.+fn-read_parts-join+arg3+read_parts.Goals as goal
 

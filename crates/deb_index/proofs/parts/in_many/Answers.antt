@@ -1,5 +1,5 @@
 use Rattle.std.proofs.Common.{ℕ, List, Result, Ok, Err, IfOk}
-use Rattle.deb_index.specs.Parts.{ArePartsOf}
+use Rattle.deb_index.specs.Built.{ArePartsOf}
 use Rattle.deb_index.proofs.parts.in_many.Goals as goal
 
 -- what holds for each architecture holds for this one

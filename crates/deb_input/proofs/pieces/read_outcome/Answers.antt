@@ -2,7 +2,7 @@ use Rattle.std.proofs.Common.{◌∙◌, ◌+◌, ◌-◌, ◌≤◌, ℕ, List,
 use Rattle.std.proofs.lemmas.Result.{IfOk-weaker, err_from_is_err_and}
 use Rattle.deb_index.specs.Reading.{byte_limit}
 use Rattle.run_settings.specs.Settings.{settings_of}
-use Rattle.deb_index.specs.Pieces.{IsFrontOf}
+use Rattle.deb_index.specs.Built.{IsFrontOf}
 use Rattle.deb_input.specs.Pieces.{RefusesPiece, TakesLast, TakesPiece}
 use Rattle.deb_input.proofs.PieceLemmas.{fails-rest, fault-behind, reads-last, reads-none, reads-on, reads-taken}
 use Rattle.deb_input.proofs.pieces.read_outcome.Goals as goal

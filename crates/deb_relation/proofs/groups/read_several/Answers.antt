@@ -2,11 +2,9 @@ use Rattle.std.proofs.Common.{◌≡◌, ◌++◌, ◌∷◌, ◌∙◌, [], Ok,
 use Rattle.std.proofs.lemmas.List.{length-append, length-map}
 use Rattle.std.proofs.lemmas.Result.{err_from_is_err_and}
 use Rattle.std.specs.Option.{option_copied}
-use Rattle.deb_relation.specs.AtomView.{atom_view}
-use Rattle.deb_relation.specs.Bytes.{comma}
+use Rattle.deb_relation.specs.Relationship.{atom_view, group_in, groups_of, is_blank}
+use Rattle.deb_relation.specs.Bytes.{comma, parts_of}
 use Rattle.deb_relation.specs.Groups.{lists_from}
-use Rattle.deb_relation.specs.Parts.{parts_of}
-use Rattle.deb_relation.specs.Relationship.{group_in, groups_of, is_blank}
 use Rattle.deb_relation.proofs.Ends.{ends-more, list-put, lists-ended}
 use Rattle.deb_relation.proofs.Gather.{each-ends, filled-blank, filled-fails, filled-more, front-fails, front-ok}
 use Rattle.deb_relation.proofs.groups.read_several.Goals as goal

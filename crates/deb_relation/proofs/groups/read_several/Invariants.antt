@@ -1,10 +1,8 @@
 use Rattle.std.proofs.Common.{◌≡◌, ◌+◌, length, map}
 use Rattle.std.specs.Option.{option_copied, option_map_or}
-use Rattle.deb_relation.specs.Bytes.{comma}
-use Rattle.deb_relation.specs.AtomView.{atom_view}
+use Rattle.deb_relation.specs.Bytes.{comma, parts_of}
+use Rattle.deb_relation.specs.Relationship.{atom_view, each, filled, group_in, groups_of, with_front}
 use Rattle.deb_relation.specs.Groups.{AreEnds, lists_from}
-use Rattle.deb_relation.specs.Parts.{parts_of}
-use Rattle.deb_relation.specs.Relationship.{each, filled, group_in, groups_of, with_front}
 use Rattle.deb_relation.proofs.groups.read_several.Given as goal
 
 abbrev pub invariant-elements : goal.invariant-elements

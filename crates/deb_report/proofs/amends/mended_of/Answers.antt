@@ -1,8 +1,7 @@
 use Rattle.std.proofs.Common.{◌≡◌, ◌<◌, ◌∙◌, Bor, ℕ, List, ap, arith, false, length, map, sym, true}
-use Rattle.deb_health.specs.Verdicts.{ToldView}
+use Rattle.deb_health.specs.Verdicts.{ToldView, shown_view}
 use Rattle.deb_report.specs.declared.broken.BrokenPackage.{BrokenPackage}
 use Rattle.deb_report.specs.Since.{AreMarks, broken_view, has_named, is_mended}
-use Rattle.deb_health.specs.Shown.{shown_view}
 use Rattle.number_sets.proofs.AtomSteps.{kept, left_out}
 use Rattle.deb_report.proofs.MarkLemmas.{mended-tells}
 use Rattle.deb_report.proofs.ShownLemmas.{places-within}

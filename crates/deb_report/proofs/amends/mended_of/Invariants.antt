@@ -1,6 +1,6 @@
 use Rattle.std.proofs.Common.{◌≡◌, filter, map, take}
 use Rattle.deb_report.specs.Since.{broken_view, is_mended}
-use Rattle.deb_health.specs.Shown.{shown_view}
+use Rattle.deb_health.specs.Verdicts.{shown_view}
 use Rattle.deb_report.proofs.amends.mended_of.Given as goal
 
 abbrev pub invariant-loop-deb : goal.invariant-loop-deb

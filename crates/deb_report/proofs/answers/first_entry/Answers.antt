@@ -1,7 +1,6 @@
 use Rattle.std.proofs.Common.{◌≡◌, ◌<◌, ◌∙◌, Bool, ap, arith, false, get_or, length, map, sym, true}
 use Rattle.std.specs.List.{list_any}
-use Rattle.deb_relation.specs.AtomView.{atom_view}
-use Rattle.deb_relation.specs.Relationship.{AtomText}
+use Rattle.deb_relation.specs.Relationship.{atom_view, AtomText}
 use Rattle.deb_index.specs.Packages.{package_view}
 use Rattle.number_sets.proofs.ListLemmas.{find_here, find_past}
 use Rattle.deb_report.specs.Answers.{answers_by}

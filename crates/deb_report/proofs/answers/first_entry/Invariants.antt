@@ -1,6 +1,6 @@
 use Rattle.std.proofs.Common.{◌≡◌, None, find, map, take}
 use Rattle.std.specs.List.{list_any}
-use Rattle.deb_relation.specs.AtomView.{atom_view}
+use Rattle.deb_relation.specs.Relationship.{atom_view}
 use Rattle.deb_index.specs.Packages.{package_view}
 use Rattle.deb_report.specs.Answers.{answers_by}
 use Rattle.deb_report.proofs.answers.first_entry.Given as goal

@@ -1,5 +1,5 @@
 use Rattle.std.proofs.Common.{◌≡◌, ◌<◌, ◌∙◌, arith, length, sym, true}
-use Rattle.deb_relation.specs.AtomView.{atom_view}
+use Rattle.deb_relation.specs.Relationship.{atom_view}
 use Rattle.deb_index.specs.Packages.{package_view}
 use Rattle.number_sets.proofs.ListLemmas.{any_here}
 use Rattle.deb_report.specs.Answers.{answers_by}

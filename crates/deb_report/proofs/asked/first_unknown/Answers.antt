@@ -1,5 +1,5 @@
 use Rattle.std.proofs.Common.{◌≡◌, ◌<◌, arith, false, length, rules, true}
-use Rattle.deb_report.specs.Asked.{is_unknown}
+use Rattle.deb_report.specs.Outcome.{is_unknown}
 use Rattle.number_sets.proofs.ListLemmas.{find_here, find_past}
 use Rattle.deb_report.proofs.asked.first_unknown.Goals as goal
 

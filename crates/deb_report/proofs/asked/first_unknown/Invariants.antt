@@ -1,5 +1,5 @@
 use Rattle.std.proofs.Common.{◌≡◌, None, find, map, take}
-use Rattle.deb_report.specs.Asked.{is_unknown}
+use Rattle.deb_report.specs.Outcome.{is_unknown}
 use Rattle.deb_report.proofs.asked.first_unknown.Given as goal
 
 abbrev pub invariant-loop-name : goal.invariant-loop-name

@@ -2,7 +2,7 @@ use Rattle.std.proofs.Common.{◌≡◌, ◌+◌, ◌<◌, ◌≤◌, ◌∙◌,
 use Rattle.std.proofs.lemmas.List.{get_or-replicate, get_or-take, length-take-le}
 use Rattle.std.proofs.lemmas.List.Elements.{All-same}
 use Rattle.deb_index.specs.Packages.{no_package, package_at, places_where}
-use Rattle.deb_report.specs.Asked.{foreground_packages, is_listed}
+use Rattle.deb_report.specs.Outcome.{foreground_packages, is_listed}
 use Rattle.number_sets.proofs.ListLemmas.{front_of}
 use Rattle.deb_index.proofs.MemberLemmas.{where_from}
 use Rattle.number_sets.proofs.PlaceLemmas.{places-few, places-marked, places-within, places_from}

@@ -3,7 +3,7 @@ use Rattle.std.proofs.lemmas.Option.{slice_get-get_or}
 use Rattle.std.specs.Option.{option_map_or}
 use Rattle.deb_index.proofs.MemberLemmas.{member-places_where}
 use Rattle.deb_index.specs.Packages.{PackageView, is_named, no_package, package_at}
-use Rattle.deb_report.specs.Asked.{is_listed}
+use Rattle.deb_report.specs.Outcome.{is_listed}
 use Rattle.number_sets.proofs.ListLemmas.{any_more, or_assoc}
 use Rattle.number_sets.proofs.PlaceLemmas.{is_among}
 use Rattle.deb_report.proofs.asked.mark_names.Goals as goal

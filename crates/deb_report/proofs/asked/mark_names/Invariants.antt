@@ -1,6 +1,6 @@
 use Rattle.std.proofs.Common.{◌≡◌, ◌<◌, ◌||◌, ℕ, false, get_or, length, map, take}
 use Rattle.deb_index.specs.Packages.{package_at}
-use Rattle.deb_report.specs.Asked.{is_listed}
+use Rattle.deb_report.specs.Outcome.{is_listed}
 use Rattle.deb_report.proofs.asked.mark_names.Given as goal
 
 abbrev pub invariant-loop-name : goal.invariant-loop-name

@@ -1,10 +1,9 @@
 use Rattle.std.proofs.Common.{◌≡◌, ◌<◌, ◌∙◌, ℕ, arith, ap, length, map, sym, take}
 use Rattle.std.proofs.lemmas.List.{take_all}
-use Rattle.deb_health.specs.Verdicts.{ToldView, told_view}
+use Rattle.deb_health.specs.Verdicts.{ToldView, told_view, shown_view}
 use Rattle.run_settings.specs.declared.config.Show.TheVariants.{Failures}
 use Rattle.deb_health.specs.declared.shown.Shown.{Shown}
 use Rattle.deb_report.specs.Since.{broken_at, broken_of}
-use Rattle.deb_health.specs.Shown.{shown_view}
 use Rattle.number_sets.proofs.ListLemmas.{all_item, map-twice}
 use Rattle.deb_report.proofs.ShownLemmas.{shown-placed}
 use Rattle.deb_report.proofs.broken.broken_packages.Goals as goal

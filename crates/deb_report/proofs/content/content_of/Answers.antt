@@ -1,8 +1,7 @@
 use Rattle.std.proofs.Common.{◌≡◌, ◌∙◌, ℕ, List, Some, ap, length, map, rules}
 use Rattle.std.specs.Option.{option_map}
 use Rattle.deb_health.specs.declared.shown.Shown.{Shown}
-use Rattle.deb_health.specs.Shown.{shown_view}
-use Rattle.deb_health.specs.Verdicts.{told_view}
+use Rattle.deb_health.specs.Verdicts.{shown_view, told_view}
 use Rattle.run_settings.specs.declared.config.Show.TheVariants.{Failures}
 use Rattle.run_settings.specs.Settings.{settings_of}
 use Rattle.deb_causes.specs.Causes.{cause_view}

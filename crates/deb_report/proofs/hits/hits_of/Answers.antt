@@ -4,7 +4,7 @@ use Rattle.std.proofs.lemmas.List.Elements.{All-same}
 use Rattle.std.proofs.lemmas.List.Folds.{list_any_more}
 use Rattle.std.specs.List.{list_any}
 use Rattle.deb_index.specs.declared.constraint.Constraint.TheVariants.{Essential}
-use Rattle.deb_report.specs.Hits.{hits_of, is_hit_by}
+use Rattle.deb_report.specs.Answers.{hits_of, is_hit_by}
 use Rattle.deb_report.proofs.HitLemmas.{hits-are, hits-within}
 use Rattle.deb_report.proofs.hits.hits_of.Goals as goal
 

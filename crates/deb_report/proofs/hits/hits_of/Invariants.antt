@@ -1,7 +1,7 @@
 use Rattle.std.proofs.Common.{◌≡◌, ℕ, take}
 use Rattle.std.specs.List.{list_any}
 use Rattle.deb_index.specs.Packages.{is_in}
-use Rattle.deb_report.specs.Hits.{is_hit_by}
+use Rattle.deb_report.specs.Answers.{is_hit_by}
 use Rattle.deb_report.proofs.hits.hits_of.Given as goal
 
 abbrev pub invariant-loop-constraint : goal.invariant-loop-constraint

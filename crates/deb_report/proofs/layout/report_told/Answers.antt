@@ -1,6 +1,6 @@
 use Rattle.std.proofs.Common.{map}
 use Rattle.deb_health.specs.Verdicts.{told_view}
-use Rattle.deb_report.specs.Told.{before_view}
+use Rattle.deb_report.specs.Content.{before_view}
 use Rattle.deb_report.proofs.ReportLemmas.{few-counts}
 use Rattle.deb_report.proofs.layout.report_told.Goals as goal
 

@@ -1,7 +1,6 @@
 use Rattle.std.proofs.Common.{rules, ℕ}
 use Rattle.number_sets.proofs.ListLemmas.{map-twice}
-use Rattle.deb_health.specs.Shown.{shown_view}
-use Rattle.deb_health.specs.Verdicts.{ToldView}
+use Rattle.deb_health.specs.Verdicts.{shown_view, ToldView}
 use Rattle.deb_report.proofs.shown.places_of.Goals as goal
 
 pub returns : goal.returns

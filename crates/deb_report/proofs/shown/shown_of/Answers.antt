@@ -1,9 +1,8 @@
 use Rattle.std.proofs.Common.{◌≡◌, ◌<◌, ◌++◌, ◌∷◌, [], ◌∙◌, ℕ, ap, arith, false, get_or, length, map, sym, take, true}
 use Rattle.std.specs.List.{zip}
 use Rattle.std.proofs.lemmas.List.{map-append}
-use Rattle.deb_health.specs.Verdicts.{ToldView, told_view}
+use Rattle.deb_health.specs.Verdicts.{ToldView, told_view, shown_view}
 use Rattle.deb_report.specs.Outcome.{is_shown}
-use Rattle.deb_health.specs.Shown.{shown_view}
 use Rattle.number_sets.proofs.ListLemmas.{filter_fails, filter_passes, zip_more}
 use Rattle.deb_report.proofs.shown.shown_of.Goals as goal
 use Rattle.deb_report.proofs.shown.shown_of.Goals.{then-is_shown+in_ok-push, else-is_shown}

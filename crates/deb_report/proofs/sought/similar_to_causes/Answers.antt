@@ -1,7 +1,6 @@
 use Rattle.std.proofs.Common.{◌∙◌, All, subst, sym}
 use Rattle.deb_index.specs.Constraints.{IsOfIndex}
-use Rattle.deb_causes.specs.Similar.{stems_in}
-use Rattle.deb_causes.specs.Stems.{AreSought}
+use Rattle.deb_causes.specs.Near.{stems_in, AreSought}
 use Rattle.deb_report.proofs.WalkLemmas.{flat_all}
 use Rattle.deb_causes.specs.declared.gathered.Cause.{Cause}
 use Rattle.deb_causes.specs.Causes.{IsCauseOf, cause_view}

@@ -3,7 +3,7 @@ use Rattle.deb_index.specs.declared.constraint.Constraint.{Constraint}
 use Rattle.deb_index.specs.Constraints.{IsOfIndex}
 use Rattle.deb_report.specs.Walk.{IsStepOf, first_steps}
 use Rattle.deb_report.proofs.WalkLemmas.{first-within}
-use Rattle.deb_report.specs.FitsWalk.{FitsWalk}
+use Rattle.deb_report.specs.Sought.{FitsWalk}
 use Rattle.deb_report.proofs.WalkTextLemmas.{told_whole}
 use Rattle.deb_report.proofs.walk_lines.push_walk.Goals as goal
 

@@ -2,7 +2,7 @@ use Rattle.std.proofs.Common.{ℕ, List, sym, subst}
 use Rattle.number_sets.specs.Sets.{members_of}
 use Rattle.core_extract.specs.Reduction.{left}
 use Rattle.deb_health.specs.Causes.{without}
-use Rattle.deb_verdict.specs.Known.{AreNeeded}
+use Rattle.deb_verdict.specs.Formulas.{AreNeeded}
 use Rattle.deb_verdict.proofs.by_formula.learn.Goals as goal
 
 pub returns : goal.returns

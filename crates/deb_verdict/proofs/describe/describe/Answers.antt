@@ -1,7 +1,7 @@
 use Rattle.std.proofs.Common.{◌∙◌, sym, subst, rules}
 use Rattle.std.proofs.lemmas.Result.{on_ok_weaker}
 use Rattle.deb_encode.specs.declared.play.Play.{Play}
-use Rattle.deb_verdict.specs.Encoding.{AreUnmet}
+use Rattle.deb_verdict.specs.Formulas.{AreUnmet}
 use Rattle.deb_verdict.proofs.Described.{described}
 use Rattle.deb_verdict.proofs.describe.describe.Goals as goal
 

@@ -8,7 +8,7 @@ use Rattle.deb_verdict.proofs.FirstSet.{first_answer, no_answer, vars_below}
 use Rattle.deb_verdict.proofs.GatherLemmas.{enough, marks_more}
 use Rattle.deb_groundwork.specs.Groundwork.{HasAnswers}
 use Rattle.deb_verdict.specs.declared.gather.UnmetNeed.{UnmetNeed}
-use Rattle.deb_verdict.specs.Encoding.{AreUnmet, IsDescription}
+use Rattle.deb_verdict.specs.Formulas.{AreUnmet, IsDescription}
 use Rattle.deb_verdict.proofs.Described.{carry, unmet_of}
 use Rattle.deb_verdict.proofs.first_set.first_set.Goals as goal
 

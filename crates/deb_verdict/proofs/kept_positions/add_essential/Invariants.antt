@@ -1,4 +1,4 @@
-use Rattle.deb_verdict.specs.Listing.{Lists}
+use Rattle.deb_verdict.specs.Formulas.{Lists}
 use Rattle.deb_verdict.proofs.Listing.{IsBelow, essential_at}
 use Rattle.deb_verdict.proofs.kept_positions.add_essential.Given as goal
 

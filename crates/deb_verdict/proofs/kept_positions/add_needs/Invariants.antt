@@ -1,5 +1,5 @@
 use Rattle.deb_index.specs.declared.constraint.Constraint.TheVariants.{Need}
-use Rattle.deb_verdict.specs.Listing.{Lists}
+use Rattle.deb_verdict.specs.Formulas.{Lists}
 use Rattle.deb_verdict.proofs.Listing.{IsBelow}
 use Rattle.deb_verdict.proofs.kept_positions.add_needs.Given as goal
 

@@ -2,11 +2,10 @@ use Rattle.std.proofs.Common.{◌≡◌, ◌∙◌, ◌<◌, ℕ, List, [], All,
 use Rattle.deb_index.specs.Constraints.{constraints_of}
 use Rattle.deb_index.proofs.ConstraintLemmas.{constraints-few}
 use Rattle.number_sets.specs.Sets.{members_of}
-use Rattle.deb_verdict.specs.Listing.{Lists}
-use Rattle.deb_verdict.proofs.Listing.{IsAnEssential}
+use Rattle.deb_verdict.specs.Formulas.{Lists}
+use Rattle.deb_verdict.proofs.Listing.{IsAnEssential, IsAskedIn, lists_first, lists_place, lists_only, listed_all, listed_below}
 use Rattle.number_sets.proofs.ListMembers.{take_whole, below_members}
 use Rattle.deb_index.proofs.IndexFacts.{rising_length}
-use Rattle.deb_verdict.proofs.Listing.{IsAskedIn, lists_first, lists_place, lists_only, listed_all, listed_below}
 use Rattle.deb_verdict.proofs.kept_positions.list_positions.Goals as goal
 
 pub loop-place-init : goal.loop-place-init

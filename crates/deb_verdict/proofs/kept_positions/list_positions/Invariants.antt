@@ -1,5 +1,5 @@
 use Rattle.std.proofs.Common.{[], take}
-use Rattle.deb_verdict.specs.Listing.{Lists}
+use Rattle.deb_verdict.specs.Formulas.{Lists}
 use Rattle.deb_verdict.proofs.Listing.{IsAskedIn}
 use Rattle.deb_verdict.proofs.kept_positions.list_positions.Given as goal
 

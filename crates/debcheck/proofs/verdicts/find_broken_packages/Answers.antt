@@ -5,7 +5,7 @@ use Rattle.deb_health.specs.declared.told.Told.{Told}
 use Rattle.deb_report.specs.declared.broken.BrokenPackage.{BrokenPackage}
 use Rattle.deb_report.specs.Since.{broken_of}
 use Rattle.work_draw.specs.Checks.{AnswersEach}
-use Rattle.debcheck.specs.Telling.{IsToldAt, statuses}
+use Rattle.debcheck.specs.Run.{IsToldAt, statuses}
 use Rattle.debcheck.proofs.TellLemmas.{told-each, told-length}
 use Rattle.debcheck.proofs.verdicts.find_broken_packages.Goals as goal
 

@@ -3,9 +3,9 @@ use Rattle.deb_health.specs.Verdicts.{told_view}
 use Rattle.deb_health.specs.declared.told.Told.{Told}
 use Rattle.deb_report.specs.Since.{summary_of}
 use Rattle.run_settings.specs.Settings.{settings_of}
-use Rattle.deb_report.specs.Told.{before_view}
-use Rattle.deb_report.specs.Written.{written_told}
-use Rattle.deb_input.specs.Strict.{slip_of}
+use Rattle.deb_report.specs.Content.{before_view}
+use Rattle.deb_report.specs.Document.{written_told}
+use Rattle.deb_input.specs.Inputs.{slip_of}
 use Rattle.debcheck.specs.Run.{IsAsked}
 use Rattle.debcheck.proofs.TellLemmas.{reported, told-length, told-within}
 use Rattle.debcheck.proofs.verdicts.report_on.Goals as goal

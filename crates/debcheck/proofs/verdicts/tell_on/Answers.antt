@@ -1,10 +1,10 @@
 use Rattle.std.proofs.Common.{◌≡◌, ◌∙◌, Bool, List, false, map-id, subst, true}
 use Rattle.std.proofs.lemmas.Result.{IfOk-weaker}
 use Rattle.std.specs.Prelude.{slice_index_or}
-use Rattle.deb_report.specs.Told.{before_view}
+use Rattle.deb_report.specs.Content.{before_view}
 use Rattle.work_draw.specs.Checks.{AnswersEach}
 use Rattle.work_draw.proofs.Answered.{AnswersEach-map}
-use Rattle.debcheck.specs.Telling.{IsFoundAt, IsToldAt}
+use Rattle.debcheck.specs.Run.{IsFoundAt, IsToldAt}
 use Rattle.debcheck.proofs.TellLemmas.{found-told}
 use Rattle.debcheck.proofs.verdicts.tell_on.Goals as goal
 

@@ -1,5 +1,5 @@
 use Rattle.std.proofs.Common.{◌≡◌, [], ◌∷◌, ◌++◌, length, take, ◌∙◌, ap, arith}
-use Rattle.sat_solve.specs.Spans.{out_of}
+use Rattle.sat_solve.specs.Clauses.{out_of}
 use Rattle.sat_solve.proofs.Appended.{appended_start, appended_more, appended_whole, appended_undone}
 use Rattle.sat_solve.proofs.formula.push_list.Goals as goal
 

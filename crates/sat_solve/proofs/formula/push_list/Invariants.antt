@@ -1,5 +1,5 @@
 use Rattle.std.proofs.Common.{◌≡◌, ◌++◌, map, take}
-use Rattle.sat_solve.specs.Spans.{out_of}
+use Rattle.sat_solve.specs.Clauses.{out_of}
 use Rattle.sat_solve.proofs.formula.push_list.Given as goal
 
 abbrev pub invariant-loop-var : goal.invariant-loop-var

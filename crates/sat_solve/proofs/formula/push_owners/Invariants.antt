@@ -1,5 +1,5 @@
 use Rattle.std.proofs.Common.{◌≡◌, ◌++◌, map, take}
-use Rattle.sat_solve.specs.Spans.{span_of}
+use Rattle.sat_solve.specs.Clauses.{span_of}
 use Rattle.sat_solve.proofs.formula.push_owners.Given as goal
 
 abbrev pub invariant-loop-owner : goal.invariant-loop-owner

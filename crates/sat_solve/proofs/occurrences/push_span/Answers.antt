@@ -1,6 +1,6 @@
 use Rattle.std.proofs.Common.{ℕ, Vec, Global, List, get_or, refl, sym, subst}
 use Rattle.sat_solve.specs.Rotation.{HasAt, ListsOn}
-use Rattle.sat_solve.specs.Spans.{no_span}
+use Rattle.sat_solve.specs.Clauses.{no_span}
 use Rattle.sat_solve.specs.declared.clause.Span.{Span}
 use Rattle.sat_solve.proofs.RotationLemmas.{on_further, listed_span, owner_key, none_owns}
 use Rattle.sat_solve.proofs.occurrences.push_span.Goals as goal

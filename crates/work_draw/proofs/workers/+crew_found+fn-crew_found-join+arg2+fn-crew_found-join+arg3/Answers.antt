@@ -1,6 +1,6 @@
 use Rattle.std.proofs.Common.{◌-◌, ◌/◌, ◌∙◌, ℕ, ap, arith, rules, subst, sym}
 use Rattle.work_draw.specs.Board.{DrawerView}
-use Rattle.work_draw.specs.Pieces.{IsLeftBy}
+use Rattle.work_draw.specs.Checks.{IsLeftBy}
 use Rattle.work_draw.proofs.Gathering.{left_by_both, left_by_one, mine_ready, theirs_ready}
 use Rattle.work_draw.proofs.workers.+crew_found+fn-crew_found-join+arg2+fn-crew_found-join+arg3.Goals as goal
 

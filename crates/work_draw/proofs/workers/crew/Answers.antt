@@ -4,7 +4,7 @@ use Rattle.deb_index.specs.Packages.{IndexView}
 use Rattle.work_draw.specs.Board.{DrawerView}
 use Rattle.deb_health.specs.declared.answer.Verdict.{Verdict}
 use Rattle.work_draw.specs.declared.pieces.Piece.{Piece}
-use Rattle.work_draw.specs.Pieces.{AreFound, GainsInAll, after_crew}
+use Rattle.work_draw.specs.Checks.{AreFound, GainsInAll, after_crew}
 use Rattle.work_draw.proofs.workers.crew.Goals as goal
 
 pub invariant_of-chunks : goal.invariant_of-chunks

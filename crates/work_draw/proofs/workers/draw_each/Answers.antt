@@ -3,7 +3,7 @@ use Rattle.std.proofs.lemmas.List.{append-nil}
 use Rattle.std.proofs.lemmas.List.Elements.{All-push}
 use Rattle.work_draw.specs.Board.{DrawerView}
 use Rattle.work_draw.specs.declared.pieces.Piece.{Piece}
-use Rattle.work_draw.specs.Pieces.{Find, numbers_of}
+use Rattle.work_draw.specs.Checks.{Find, numbers_of}
 use Rattle.work_draw.proofs.Bounds.{falls_by_push}
 use Rattle.work_draw.proofs.GainLemmas.{without_piece, with_piece, same_but_numbers}
 use Rattle.work_draw.proofs.workers.draw_each.Goals as goal

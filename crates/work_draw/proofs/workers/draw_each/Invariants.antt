@@ -1,5 +1,5 @@
 use Rattle.std.proofs.Common.{◌≡◌, ◌-◌}
-use Rattle.work_draw.specs.Pieces.{Find, Gains}
+use Rattle.work_draw.specs.Checks.{Find, Gains}
 use Rattle.work_draw.proofs.Bounds.{bound_of}
 use Rattle.work_draw.proofs.workers.draw_each.Given as goal
 

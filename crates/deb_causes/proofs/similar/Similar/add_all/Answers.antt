@@ -2,8 +2,7 @@ use Rattle.std.proofs.Common.{◌≡◌, ◌+◌, ◌<◌, ◌++◌, ◌∙◌, 
 use Rattle.std.proofs.lemmas.List.{map-id, take_all}
 use Rattle.std.specs.List.{flat_map}
 use Rattle.deb_index.specs.Packages.{PackageView, no_package, package_view}
-use Rattle.deb_causes.specs.Near.{names_of}
-use Rattle.deb_causes.specs.Similar.{IsFoundIn}
+use Rattle.deb_causes.specs.Near.{names_of, IsFoundIn}
 use Rattle.deb_causes.proofs.SimilarLemmas.{names-more}
 use Rattle.deb_causes.proofs.similar.Similar.add_all.Goals as goal
 

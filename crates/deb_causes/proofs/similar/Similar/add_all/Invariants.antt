@@ -1,7 +1,6 @@
 use Rattle.std.proofs.Common.{◌≡◌, take}
 use Rattle.std.specs.List.{flat_map}
-use Rattle.deb_causes.specs.Near.{names_of}
-use Rattle.deb_causes.specs.Similar.{IsFoundIn, stems_in}
+use Rattle.deb_causes.specs.Near.{names_of, IsFoundIn, stems_in}
 use Rattle.deb_causes.proofs.similar.Similar.add_all.Given as goal
 
 abbrev pub invariant-loop-place : goal.invariant-loop-place

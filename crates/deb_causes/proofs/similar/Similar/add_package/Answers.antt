@@ -1,10 +1,9 @@
 use Rattle.std.proofs.Common.{◌≡◌, ◌<◌, ◌+◌, ◌++◌, ◌∷◌, [], ◌∙◌, append_assoc, ap, arith, false, length, subst, sym, take, true}
 use Rattle.std.proofs.lemmas.List.{take_all}
-use Rattle.deb_relation.specs.AtomView.{atom_view}
-use Rattle.deb_relation.specs.Usable.{is_usable}
+use Rattle.deb_relation.specs.Relationship.{atom_view, is_usable}
 use Rattle.deb_index.specs.Packages.{package_view}
 use Rattle.deb_causes.specs.declared.similar.Similar.{Similar}
-use Rattle.deb_causes.specs.Similar.{IsFoundIn, stems_in}
+use Rattle.deb_causes.specs.Near.{IsFoundIn, stems_in}
 use Rattle.deb_causes.proofs.SimilarLemmas.{provided, provided-more, provided-same}
 use Rattle.deb_causes.proofs.similar.Similar.add_package.Goals as goal
 use Rattle.deb_causes.proofs.similar.Similar.add_package.Goals.{then-usable+in_ok-add-2, else-usable}

@@ -1,7 +1,6 @@
 use Rattle.std.proofs.Common.{◌≡◌, ℕ, List, ◌++◌, filter, map, take}
-use Rattle.deb_relation.specs.AtomView.{atom_view}
-use Rattle.deb_relation.specs.Usable.{is_usable}
-use Rattle.deb_causes.specs.Similar.{IsFoundIn, stems_in}
+use Rattle.deb_relation.specs.Relationship.{atom_view, is_usable}
+use Rattle.deb_causes.specs.Near.{IsFoundIn, stems_in}
 use Rattle.deb_causes.proofs.similar.Similar.add_package.Given as goal
 
 abbrev pub invariant-loop-entry : goal.invariant-loop-entry

@@ -1,8 +1,7 @@
 use Rattle.std.proofs.Common.{rules, subst, sym}
 use Rattle.std.proofs.lemmas.List.{nil_from_length}
 use Rattle.std.specs.List.{flat_map}
-use Rattle.deb_causes.specs.Near.{names_of}
-use Rattle.deb_causes.specs.Stems.{AreSought}
+use Rattle.deb_causes.specs.Near.{names_of, AreSought}
 use Rattle.deb_causes.proofs.SimilarLemmas.{none-listed, none-sought}
 use Rattle.deb_causes.proofs.similar.Similar.find.Goals as goal
 

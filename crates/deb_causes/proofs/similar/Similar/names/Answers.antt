@@ -1,11 +1,8 @@
 use Rattle.std.proofs.Common.{◌≡◌, ◌∙◌, ℕ, All, Bor, List, ap, filter, map, not, subst, sym, true}
 use Rattle.std.specs.List.{flat_map}
 use Rattle.deb_relation.specs.declared.atom.Atom.{Atom}
-use Rattle.deb_relation.specs.AtomView.{atom_view}
-use Rattle.deb_relation.specs.Relationship.{AtomText}
-use Rattle.deb_causes.specs.Near.{is_one_of, names_of, similar_names, similar_to, stem}
-use Rattle.deb_causes.specs.Similar.{stems_in}
-use Rattle.deb_causes.specs.Stems.{first_told, has_text}
+use Rattle.deb_relation.specs.Relationship.{atom_view, AtomText}
+use Rattle.deb_causes.specs.Near.{is_one_of, names_of, similar_names, similar_to, stem, stems_in, first_told, has_text}
 use Rattle.deb_causes.proofs.similar.Similar.names.Goals as goal
 
 abbrev view : Bor Atom → AtomText

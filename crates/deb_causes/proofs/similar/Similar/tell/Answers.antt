@@ -2,12 +2,9 @@ use Rattle.std.proofs.Common.{◌≡◌, ◌<◌, ◌||◌, ◌++◌, ◌∙◌,
 use Rattle.std.proofs.lemmas.List.{take_all}
 use Rattle.std.specs.List.{flat_map}
 use Rattle.deb_relation.specs.declared.atom.Atom.{Atom}
-use Rattle.deb_relation.specs.AtomView.{atom_view}
-use Rattle.deb_relation.specs.Relationship.{AtomText}
+use Rattle.deb_relation.specs.Relationship.{atom_view, AtomText}
 use Rattle.deb_index.specs.Packages.{first_of_each}
-use Rattle.deb_causes.specs.Near.{first_with_stem, is_one_of, stem}
-use Rattle.deb_causes.specs.Similar.{IsTold, stems_in}
-use Rattle.deb_causes.specs.Stems.{has_text}
+use Rattle.deb_causes.specs.Near.{first_with_stem, is_one_of, stem, IsTold, stems_in, has_text}
 use Rattle.number_sets.proofs.ListLemmas.{all_at}
 use Rattle.deb_causes.proofs.SimilarLemmas.{names-more, or-none}
 use Rattle.deb_causes.proofs.similar.Similar.tell.Goals as goal

@@ -1,8 +1,7 @@
 use Rattle.std.proofs.Common.{ℕ, List, map, take}
 use Rattle.std.specs.List.{flat_map}
-use Rattle.deb_relation.specs.AtomView.{atom_view}
-use Rattle.deb_causes.specs.Near.{first_with_stem, stem}
-use Rattle.deb_causes.specs.Similar.{IsFoundIn, IsTold}
+use Rattle.deb_relation.specs.Relationship.{atom_view}
+use Rattle.deb_causes.specs.Near.{first_with_stem, stem, IsFoundIn, IsTold}
 use Rattle.deb_causes.proofs.similar.Similar.tell.Given as goal
 
 abbrev pub invariant-loop-atom : goal.invariant-loop-atom

@@ -1,5 +1,5 @@
 use Rattle.std.proofs.Common.{◌<◌, ◌++◌, ◌∷◌, [], ◌∙◌, ℕ, List, Vec, Global, ap, append_assoc, length, map, subst, sym, take}
-use Rattle.deb_causes.specs.Similar.{IsTold}
+use Rattle.deb_causes.specs.Near.{IsTold}
 use Rattle.number_sets.proofs.AtomSteps.{map_more}
 use Rattle.deb_causes.proofs.similar.Told.push_all.Goals as goal
 

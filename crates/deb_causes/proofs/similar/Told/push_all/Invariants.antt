@@ -1,6 +1,6 @@
 use Rattle.std.proofs.Common.{ℕ, List, ◌++◌, map, take}
 use Rattle.deb_relation.specs.Relationship.{AtomText}
-use Rattle.deb_causes.specs.Similar.{IsTold}
+use Rattle.deb_causes.specs.Near.{IsTold}
 use Rattle.deb_causes.proofs.similar.Told.push_all.Given as goal
 
 abbrev pub invariant-loop-name : goal.invariant-loop-name

@@ -5,7 +5,7 @@ use Rattle.deb_index.specs.Tables.{number_in}
 use Rattle.deb_health.specs.Causes.{cause_in}
 use Rattle.deb_causes.specs.Causes.{says}
 use Rattle.deb_causes.specs.Numbering.{Grows, IsFront, StandOnce, texts_of, with_text}
-use Rattle.deb_causes.specs.Said.{IsNumbered, key_of}
+use Rattle.deb_causes.specs.Wrongs.{IsNumbered, key_of}
 use Rattle.deb_causes.proofs.NumberingLemmas.{grows-one, number-kept}
 use Rattle.deb_causes.proofs.SaidLemmas.{known-all, numbers-key}
 use Rattle.deb_causes.proofs.wrongs.Wrongs.number.Goals as goal

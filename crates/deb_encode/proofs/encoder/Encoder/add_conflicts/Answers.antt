@@ -1,6 +1,6 @@
 use Rattle.std.proofs.Common.{ℕ, ◌≤◌, List, All, length, eqb, sym, subst}
 use Rattle.std.proofs.lemmas.Result.{on_ok_weaker}
-use Rattle.deb_index.specs.Apart.{IsAlone}
+use Rattle.deb_index.specs.Constraints.{IsAlone}
 use Rattle.number_sets.specs.Sets.{members_of}
 use Rattle.number_sets.proofs.ListMembers.{take_whole}
 use Rattle.deb_encode.specs.declared.play.Play.{Play}

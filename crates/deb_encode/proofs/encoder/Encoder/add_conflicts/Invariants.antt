@@ -1,8 +1,7 @@
 use Rattle.std.proofs.Common.{◌≡◌, ℕ, true, take}
 use Rattle.number_sets.specs.Sets.{members_of}
 use Rattle.deb_encode.specs.Encoders.{Tells, all_places}
-use Rattle.deb_encode.specs.Exclusions.{AddsWide}
-use Rattle.deb_encode.specs.Standings.{MeetsNarrow}
+use Rattle.deb_encode.specs.Exclusions.{AddsWide, MeetsNarrow}
 use Rattle.deb_encode.proofs.encoder.Encoder.add_conflicts.Given as goal
 
 abbrev pub invariant-loop-number : goal.invariant-loop-number

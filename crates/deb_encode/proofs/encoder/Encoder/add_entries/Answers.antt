@@ -1,7 +1,7 @@
 use Rattle.std.proofs.Common.{sym, ◌∙◌, ap, arith}
 use Rattle.std.proofs.lemmas.Bool.{both_ways, not-true, not-false}
 use Rattle.deb_encode.specs.declared.play.Play.{Play}
-use Rattle.deb_encode.specs.Standings.{is_narrow}
+use Rattle.deb_encode.specs.Exclusions.{is_narrow}
 use Rattle.deb_encode.proofs.EncoderLemmas.{tells_none, tells_as}
 use Rattle.deb_encode.proofs.Each.{below_none, below_next}
 use Rattle.deb_encode.proofs.WideEntries.{lists_none, lists_more, lists_passed, lists_whole}

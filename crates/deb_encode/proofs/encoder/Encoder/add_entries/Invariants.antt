@@ -2,7 +2,7 @@ use Rattle.std.proofs.Common.{◌≡◌, ℕ, ◌<◌, true}
 use Rattle.deb_index.specs.declared.constraint.Constraint.TheVariants.{Apart}
 use Rattle.deb_index.specs.Constraints.{Holds}
 use Rattle.deb_encode.specs.Encoders.{Tells}
-use Rattle.deb_encode.specs.Standings.{is_narrow}
+use Rattle.deb_encode.specs.Exclusions.{is_narrow}
 use Rattle.deb_encode.proofs.WideEntries.{ListsWide}
 use Rattle.deb_encode.proofs.encoder.Encoder.add_entries.Given as goal
 

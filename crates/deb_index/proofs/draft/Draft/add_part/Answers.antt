@@ -1,8 +1,7 @@
 use Rattle.std.proofs.Common.{◌≤◌, ◌+◌, ◌-◌, ◌∙◌, Ok, ap, sym, map, length, arith}
 use Rattle.std.proofs.lemmas.List.{length-map}
 use Rattle.deb_index.specs.Packages.{IndexView}
-use Rattle.deb_index.specs.Built.{draft_view}
-use Rattle.deb_index.specs.Parts.{part_stanzas}
+use Rattle.deb_index.specs.Built.{draft_view, part_stanzas}
 use Rattle.deb_index.specs.Reading.{continued, reading_view, stanza_limit}
 use Rattle.deb_index.proofs.ForeseenLemmas.{foreseen}
 use Rattle.deb_index.proofs.TakenLemmas.{have-room, length-read}

@@ -1,8 +1,7 @@
 use Rattle.std.proofs.Common.{◌≡◌, map}
 use Rattle.std.specs.List.{fold}
 use Rattle.std.specs.Vec.Iter.{into_iter_items}
-use Rattle.deb_index.specs.Built.{IsBuilt, draft_view}
-use Rattle.deb_index.specs.Parts.{HaveRoom}
+use Rattle.deb_index.specs.Built.{IsBuilt, draft_view, HaveRoom}
 use Rattle.deb_index.specs.Reading.{reading_view, with_reading}
 use Rattle.deb_index.proofs.draft.Draft.add_readings.Given as goal
 

@@ -6,8 +6,7 @@ use Rattle.std.proofs.lemmas.Result.{err_from_is_err_and}
 use Rattle.deb_control.specs.Stanzas.{stanzas_of}
 use Rattle.deb_index.specs.declared.parts.Part.{Part}
 use Rattle.deb_index.specs.Packages.{IndexView}
-use Rattle.deb_index.specs.Built.{draft_view}
-use Rattle.deb_index.specs.Parts.{HasRoomFor, IsForeseen, part_stanzas}
+use Rattle.deb_index.specs.Built.{draft_view, HasRoomFor, IsForeseen, part_stanzas}
 use Rattle.deb_index.specs.Reading.{byte_limit, continued, read_behind, readings}
 use Rattle.deb_index.proofs.PartedLemmas.{short-parts}
 use Rattle.deb_index.proofs.RoomLemmas.{text-room}

@@ -1,5 +1,5 @@
 use Rattle.std.proofs.Common.{◌∙◌, false, ap}
-use Rattle.deb_relation.specs.AtomView.{atom_view}
+use Rattle.deb_relation.specs.Relationship.{atom_view}
 use Rattle.deb_index.specs.Meets.{meets_need}
 use Rattle.deb_index.specs.Packages.{IndexView, PackageView, no_package}
 use Rattle.deb_index.proofs.SeenLemmas.{seen-there}

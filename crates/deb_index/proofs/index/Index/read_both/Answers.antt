@@ -2,7 +2,7 @@ use Rattle.std.proofs.Common.{◌≡◌, ◌≢◌, ◌∙◌, ◌≤◌, ◌+�
 use Rattle.deb_control.specs.Stanzas.{stanzas_of}
 use Rattle.deb_index.specs.declared.error.IndexError.TheVariants.{Memory}
 use Rattle.deb_index.specs.Packages.{IndexView}
-use Rattle.deb_index.specs.Parts.{ArePartsOf}
+use Rattle.deb_index.specs.Built.{ArePartsOf}
 use Rattle.deb_index.specs.Reading.{byte_limit, collected, continued, read_behind, readings}
 use Rattle.deb_index.specs.Tables.{asked_count}
 use Rattle.deb_index.proofs.BothLemmas.{both-back, both-fore, both-ok}

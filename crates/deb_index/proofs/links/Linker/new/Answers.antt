@@ -1,5 +1,5 @@
 use Rattle.std.proofs.Common.{ap}
-use Rattle.deb_index.specs.Memo.{MadeRows}
+use Rattle.deb_index.specs.Rows.{MadeRows}
 use Rattle.deb_index.proofs.LinkLemmas.{linked-none}
 use Rattle.deb_index.proofs.links.Linker.new.Goals as goal
 

@@ -1,4 +1,4 @@
-use Rattle.deb_relation.specs.AtomView.{atom_view}
+use Rattle.deb_relation.specs.Relationship.{atom_view}
 use Rattle.deb_index.specs.Packages.{is_in}
 use Rattle.deb_index.proofs.ProviderLemmas.{all-asked}
 use Rattle.deb_index.proofs.LinkLemmas.{on-ok}

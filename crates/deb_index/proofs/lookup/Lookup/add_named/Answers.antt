@@ -1,8 +1,8 @@
 use Rattle.std.proofs.Common.{◌<◌, ◌≤◌, ◌∙◌, ◌&&◌, ◌||◌, Bool, List, ℕ, ap, eqb, get_or, length, refl, sym, arith}
 use Rattle.std.proofs.lemmas.List.{take_all}
-use Rattle.deb_relation.specs.AtomView.{atom_view}
+use Rattle.deb_relation.specs.Relationship.{atom_view}
 use Rattle.deb_index.specs.Packages.{is_in}
-use Rattle.deb_index.specs.Roles.{meets_as_at}
+use Rattle.deb_index.specs.Rows.{meets_as_at}
 use Rattle.deb_index.proofs.FoundLemmas.{asked-itself, asked-more, or-none}
 use Rattle.deb_index.proofs.lookup.Lookup.add_named.Goals as goal
 

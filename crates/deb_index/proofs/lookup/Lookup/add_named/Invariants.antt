@@ -1,7 +1,7 @@
 use Rattle.std.proofs.Common.{◌≡◌, ◌&&◌, ◌||◌, ℕ, take}
-use Rattle.deb_relation.specs.AtomView.{atom_view}
+use Rattle.deb_relation.specs.Relationship.{atom_view}
 use Rattle.deb_index.specs.Packages.{is_in}
-use Rattle.deb_index.specs.Roles.{meets_as_at}
+use Rattle.deb_index.specs.Rows.{meets_as_at}
 use Rattle.deb_index.proofs.lookup.Lookup.add_named.Given as goal
 
 abbrev pub invariant-loop-place : goal.invariant-loop-place

@@ -1,7 +1,7 @@
 use Rattle.std.proofs.Common.{◌<◌, ◌≤◌, ◌∙◌, ◌&&◌, ◌||◌, List, ℕ, ap, eqb, get_or, length, refl, sym, arith}
 use Rattle.std.specs.List.{list_any}
 use Rattle.std.proofs.lemmas.List.{take_all}
-use Rattle.deb_relation.specs.AtomView.{atom_view}
+use Rattle.deb_relation.specs.Relationship.{atom_view}
 use Rattle.deb_index.specs.Packages.{is_in}
 use Rattle.deb_index.proofs.FoundLemmas.{or-none}
 use Rattle.deb_index.proofs.ProviderLemmas.{entries-more, is_entry_of}

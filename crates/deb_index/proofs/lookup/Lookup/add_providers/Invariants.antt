@@ -1,6 +1,6 @@
 use Rattle.std.proofs.Common.{◌≡◌, ◌||◌, ℕ, take}
 use Rattle.std.specs.List.{list_any}
-use Rattle.deb_relation.specs.AtomView.{atom_view}
+use Rattle.deb_relation.specs.Relationship.{atom_view}
 use Rattle.deb_index.specs.Packages.{is_in}
 use Rattle.deb_index.proofs.ProviderLemmas.{is_entry_of}
 use Rattle.deb_index.proofs.lookup.Lookup.add_providers.Given as goal

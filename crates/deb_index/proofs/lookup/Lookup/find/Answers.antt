@@ -1,7 +1,7 @@
 use Rattle.std.proofs.Common.{◌||◌, ◌∙◌, ap}
-use Rattle.deb_relation.specs.AtomView.{atom_view}
+use Rattle.deb_relation.specs.Relationship.{atom_view}
 use Rattle.deb_index.specs.Packages.{is_in}
-use Rattle.deb_index.specs.Roles.{meets_as, meets_as_at}
+use Rattle.deb_index.specs.Rows.{meets_as, meets_as_at}
 use Rattle.deb_index.proofs.FoundLemmas.{in-order}
 use Rattle.deb_index.proofs.lookup.Lookup.find.Goals as goal
 

@@ -1,9 +1,9 @@
 use Rattle.std.proofs.Common.{◌≡◌, ◌≤◌, ◌∙◌, false, ap, length, map, sym, subst}
 use Rattle.std.proofs.lemmas.List.{length-map}
-use Rattle.deb_relation.specs.AtomView.{atom_view}
+use Rattle.deb_relation.specs.Relationship.{atom_view}
 use Rattle.deb_index.specs.declared.meets.Role.{Role}
 use Rattle.deb_index.specs.Packages.{IndexView, PackageView, package_view}
-use Rattle.deb_index.specs.Roles.{meets_as, meets_as_at}
+use Rattle.deb_index.specs.Rows.{meets_as, meets_as_at}
 use Rattle.deb_index.proofs.SeenLemmas.{seen-at, seen-none}
 use Rattle.deb_index.proofs.lookup.Lookup.meets_as.Goals as goal
 

@@ -1,14 +1,13 @@
 use Rattle.std.proofs.Common.{◌≡◌, ◌<◌, ◌≤◌, ◌&&◌, ◌∙◌, ℕ, List, Bool, true, false, ap, length, map, get_or, sym, subst}
 use Rattle.std.proofs.lemmas.List.{length-map}
-use Rattle.deb_relation.specs.AtomView.{atom_view}
-use Rattle.deb_relation.specs.Relationship.{AtomText}
+use Rattle.deb_relation.specs.Relationship.{atom_view, AtomText}
 use Rattle.deb_relation.specs.declared.atom.Atom.{Atom}
 use Rattle.deb_index.specs.declared.meets.Role.{Role}
 use Rattle.deb_index.specs.declared.package.Package.{Package}
 use Rattle.deb_index.specs.Packages.{IndexView, PackageView, package_view}
 use Rattle.deb_index.specs.Built.{looked_up}
 use Rattle.deb_index.specs.Meets.{meets_bound, provided_version}
-use Rattle.deb_index.specs.Roles.{provides_as, provides_as_at, usable_as}
+use Rattle.deb_index.specs.Rows.{provides_as, provides_as_at, usable_as}
 use Rattle.deb_index.proofs.SeenLemmas.{seen-at, seen-none}
 use Rattle.deb_index.proofs.lookup.Lookup.provides_as.Goals as goal
 

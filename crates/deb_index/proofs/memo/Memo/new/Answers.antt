@@ -1,6 +1,6 @@
 use Rattle.std.proofs.Common.{◌∷◌, [], None, ap, length, length-append, arith}
 use Rattle.std.proofs.lemmas.List.Elements.{All-push, All-same}
-use Rattle.deb_index.specs.Memo.{IsMet}
+use Rattle.deb_index.specs.Rows.{IsMet}
 use Rattle.deb_index.proofs.memo.Memo.new.Goals as goal
 
 pub loop-preserved : goal.loop-preserved

@@ -1,6 +1,6 @@
 use Rattle.std.proofs.Common.{◌≡◌, ℕ, List, Option, length, All}
 use Rattle.deb_index.specs.declared.meets.Role.{Role}
-use Rattle.deb_index.specs.Memo.{IsMet}
+use Rattle.deb_index.specs.Rows.{IsMet}
 use Rattle.deb_index.specs.Packages.{IndexView}
 use Rattle.deb_index.proofs.memo.Memo.new.Given as goal
 

@@ -3,8 +3,7 @@ use Rattle.std.proofs.lemmas.Result.{err_from_is_err_and}
 use Rattle.deb_control.specs.Stanzas.{stanzas_of}
 use Rattle.deb_index.specs.declared.error.IndexError.TheVariants.{Memory}
 use Rattle.deb_index.specs.Packages.{IndexView}
-use Rattle.deb_index.specs.Parts.{ArePartsOf}
-use Rattle.deb_index.specs.Pieces.{FailsBehind, Finishes, FrontView, front_of}
+use Rattle.deb_index.specs.Built.{ArePartsOf, FailsBehind, Finishes, FrontView, front_of}
 use Rattle.deb_index.specs.Reading.{byte_limit, continued, read_behind, readings, stanza_limit}
 use Rattle.deb_index.specs.Tables.{asked_count}
 use Rattle.deb_index.proofs.PieceLemmas.{behind-all, front-back, front-index}

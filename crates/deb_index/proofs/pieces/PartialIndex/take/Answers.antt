@@ -2,8 +2,7 @@ use Rattle.std.proofs.Common.{◌≡◌, ◌≢◌, ◌+◌, ◌-◌, ℕ, List,
 use Rattle.std.proofs.lemmas.Result.{err_from_is_err_and}
 use Rattle.deb_control.specs.Stanzas.{stanzas_of}
 use Rattle.deb_index.specs.declared.error.IndexError.TheVariants.{Memory}
-use Rattle.deb_index.specs.Parts.{ArePartsOf}
-use Rattle.deb_index.specs.Pieces.{Accepts, FrontView, Refuses, front_of}
+use Rattle.deb_index.specs.Built.{ArePartsOf, Accepts, FrontView, Refuses, front_of}
 use Rattle.deb_index.specs.Reading.{read_behind}
 use Rattle.deb_index.proofs.PieceLemmas.{front-fault, front-more, stays-within}
 use Rattle.deb_index.proofs.TakenLemmas.{Taken, taken}

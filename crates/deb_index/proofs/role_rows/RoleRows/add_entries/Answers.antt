@@ -1,8 +1,7 @@
 use Rattle.std.proofs.Common.{◌≡◌, ◌<◌, ◌++◌, ◌∷◌, ◌∙◌, [], length, arith}
 use Rattle.deb_index.specs.declared.meets.Role.TheVariants.{Entry}
 use Rattle.deb_index.specs.Packages.{aparts, no_atom, package_view}
-use Rattle.deb_index.specs.Roles.{row_as}
-use Rattle.deb_index.specs.Rows.{hit_row}
+use Rattle.deb_index.specs.Rows.{row_as, hit_row}
 use Rattle.deb_index.proofs.LinkLemmas.{rows-more}
 use Rattle.deb_index.proofs.role_rows.RoleRows.add_entries.Goals as goal
 

@@ -1,6 +1,6 @@
 use Rattle.std.proofs.Common.{rules, ◌≡◌, ◌<◌, ◌-◌, ◌+◌, ◌∷◌, ◌∙◌, get_or, ap, drop, length, map, sym, take, arith}
 use Rattle.std.proofs.lemmas.Bool.{eqb-false, eqb-true}
-use Rattle.deb_relation.specs.AtomView.{atom_view}
+use Rattle.deb_relation.specs.Relationship.{atom_view}
 use Rattle.deb_relation.proofs.Ends.{list-seen, list-within, number-within, single-seen}
 use Rattle.deb_relation.proofs.groups.Groups.get.Goals as goal
 

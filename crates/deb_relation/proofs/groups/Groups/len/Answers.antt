@@ -1,6 +1,6 @@
 use Rattle.std.proofs.Common.{◌<◌, ap, arith, length, map, sym}
 use Rattle.std.proofs.lemmas.Bool.{eqb-false}
-use Rattle.deb_relation.specs.AtomView.{atom_view}
+use Rattle.deb_relation.specs.Relationship.{atom_view}
 use Rattle.deb_relation.proofs.Ends.{length-several}
 use Rattle.deb_relation.proofs.groups.Groups.len.Goals as goal
 

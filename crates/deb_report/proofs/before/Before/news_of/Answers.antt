@@ -1,7 +1,7 @@
 use Rattle.std.proofs.Common.{◌≡◌, ◌<◌, ◌∙◌, ap, arith, false, length, map, sym, true}
 use Rattle.deb_health.specs.declared.shown.Shown.{Shown}
 use Rattle.deb_report.specs.Since.{broken_view, is_news}
-use Rattle.deb_health.specs.Shown.{IsAskedOf, shown_view}
+use Rattle.deb_health.specs.Verdicts.{IsAskedOf, shown_view}
 use Rattle.number_sets.proofs.AtomSteps.{kept, left_out}
 use Rattle.number_sets.proofs.ListLemmas.{all_item}
 use Rattle.deb_report.proofs.before.Before.news_of.Goals as goal

@@ -1,6 +1,6 @@
 use Rattle.std.proofs.Common.{◌≡◌, filter, map, take}
 use Rattle.deb_report.specs.Since.{broken_view, is_news}
-use Rattle.deb_health.specs.Shown.{shown_view}
+use Rattle.deb_health.specs.Verdicts.{shown_view}
 use Rattle.deb_report.proofs.before.Before.news_of.Given as goal
 
 abbrev pub invariant-loop-one : goal.invariant-loop-one

@@ -1,6 +1,6 @@
 use Rattle.std.proofs.Common.{◌∙◌, ◌∷◌, [], List, ℕ, ap, codes, false, length, refl, true}
 use Rattle.deb_report.specs.Forms.{block_end, list_in, number_in, some_in}
-use Rattle.deb_report.specs.Hits.{hits_of}
+use Rattle.deb_report.specs.Answers.{hits_of}
 use Rattle.deb_report.specs.Reasons.{near_to_in, place_in}
 use Rattle.deb_report.specs.declared.form.Lead.TheVariants.{Block, Within}
 use Rattle.deb_report.specs.CauseText.{cause_in, told_in}

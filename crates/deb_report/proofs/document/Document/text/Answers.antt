@@ -1,6 +1,6 @@
 use Rattle.std.proofs.Common.{codes, refl}
 use Rattle.deb_relation.proofs.JoinLemmas.{lines_map}
-use Rattle.deb_health.specs.Shown.{shown_view}
+use Rattle.deb_health.specs.Verdicts.{shown_view}
 use Rattle.deb_report.specs.Outcome.{number_view}
 use Rattle.deb_report.specs.Since.{amends_view}
 use Rattle.deb_report.proofs.FormLemmas.{list_map}

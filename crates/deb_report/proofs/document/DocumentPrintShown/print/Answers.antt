@@ -1,7 +1,6 @@
 use Rattle.std.proofs.Common.{◌≡◌, ◌∙◌, ◌++◌, Bool, true, List, ℕ, [], ap, append_assoc, codes, if◌then◌else◌, refl}
 use Rattle.deb_index.specs.Packages.{package_view}
-use Rattle.deb_health.specs.Shown.{shown_view}
-use Rattle.deb_health.specs.Verdicts.{told_view}
+use Rattle.deb_health.specs.Verdicts.{shown_view, told_view}
 use Rattle.deb_report.specs.Outcome.{status_of}
 use Rattle.deb_report.specs.Forms.{block_end, string_in}
 use Rattle.deb_report.specs.declared.form.Lead.TheVariants.{Block, Within}

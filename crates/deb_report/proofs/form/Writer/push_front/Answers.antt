@@ -1,7 +1,6 @@
 use Rattle.std.proofs.Common.{append_assoc, codes}
 use Rattle.deb_relation.proofs.JoinLemmas.{joined_map, lines_map}
-use Rattle.deb_report.specs.Forms.{item_front, part_json, part_line}
-use Rattle.deb_report.specs.Parts.{part_view}
+use Rattle.deb_report.specs.Forms.{item_front, part_json, part_line, part_view}
 use Rattle.deb_report.proofs.form.Writer.push_front.Goals as goal
 
 pub returns-in_ok-push_all-in-Text : goal.returns-in_ok-push_all-in-Text

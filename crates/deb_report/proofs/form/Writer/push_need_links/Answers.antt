@@ -1,11 +1,10 @@
 use Rattle.std.proofs.Common.{◌∙◌, ◌∷◌, [], ap, append_assoc, codes, refl, sym}
-use Rattle.deb_relation.specs.AtomView.{atom_view}
-use Rattle.deb_relation.specs.Relationship.{AtomText, printed}
+use Rattle.deb_relation.specs.Relationship.{atom_view, AtomText, printed}
 use Rattle.deb_index.specs.declared.constraint.Constraint.TheVariants.{Need}
 use Rattle.deb_index.specs.Packages.{need_at}
 use Rattle.deb_report.specs.declared.form.Lead.TheVariants.{Within}
 use Rattle.deb_report.specs.Forms.{list_in, name_in}
-use Rattle.deb_report.specs.Links.{links_in}
+use Rattle.deb_report.specs.WalkLines.{links_in}
 use Rattle.deb_report.specs.Reasons.{near_to_in}
 use Rattle.deb_report.proofs.FormLemmas.{list_map}
 use Rattle.deb_report.proofs.JoinLemmas.{added}

@@ -1,5 +1,5 @@
 use Rattle.std.proofs.Common.{take}
-use Rattle.deb_report.specs.Own.{IsTableOf}
+use Rattle.deb_report.specs.Walk.{IsTableOf}
 use Rattle.deb_report.proofs.own.OwnTable.new.Given as goal
 
 abbrev pub invariant-loop-constraint : goal.invariant-loop-constraint

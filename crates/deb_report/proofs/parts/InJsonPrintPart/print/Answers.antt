@@ -1,7 +1,6 @@
 use Rattle.std.proofs.Common.{append_assoc, codes}
 use Rattle.deb_relation.proofs.JoinLemmas.{joined_map}
-use Rattle.deb_relation.specs.AtomView.{atom_view}
-use Rattle.deb_relation.specs.Relationship.{printed}
+use Rattle.deb_relation.specs.Relationship.{atom_view, printed}
 use Rattle.deb_report.specs.Forms.{part_json, quoted}
 use Rattle.deb_report.proofs.parts.InJsonPrintPart.print.Goals as goal
 

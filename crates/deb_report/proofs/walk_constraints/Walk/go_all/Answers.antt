@@ -1,7 +1,7 @@
 use Rattle.std.proofs.Common.{◌≡◌, ◌++◌, None, arith, length, reverse, rules}
 use Rattle.deb_report.specs.Walk.{places_in, step_limit}
 use Rattle.deb_report.proofs.WalkLemmas.{left-within, next-within}
-use Rattle.deb_report.specs.FitsWalk.{FitsWalk}
+use Rattle.deb_report.specs.Sought.{FitsWalk}
 use Rattle.deb_report.specs.WalkLines.{walk_text}
 use Rattle.deb_report.proofs.WalkTextLemmas.{ended, gone, run_out}
 use Rattle.deb_report.proofs.walk_constraints.Walk.go_all.Goals as goal

@@ -1,6 +1,6 @@
 use Rattle.std.proofs.Common.{◌≡◌, ◌++◌, ◌-◌, All, reverse}
 use Rattle.deb_report.specs.Walk.{IsStepOf, places_in, step_limit}
-use Rattle.deb_report.specs.FitsWalk.{FitsWalk}
+use Rattle.deb_report.specs.Sought.{FitsWalk}
 use Rattle.deb_report.specs.WalkLines.{walk_text}
 use Rattle.deb_report.proofs.walk_constraints.Walk.go_all.Given as goal
 

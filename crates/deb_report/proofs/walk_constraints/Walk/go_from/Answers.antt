@@ -1,7 +1,7 @@
 use Rattle.std.proofs.Common.{◌≡◌, ◌∙◌, ◌++◌, append-nil, ap, reverse}
 use Rattle.std.proofs.lemmas.List.Elements.{All-same}
 use Rattle.deb_report.specs.Walk.{IsStepOf}
-use Rattle.deb_report.specs.FitsWalk.{FitsWalk}
+use Rattle.deb_report.specs.Sought.{FitsWalk}
 use Rattle.deb_report.proofs.walk_constraints.Walk.go_from.Goals as goal
 
 pub go_all-requires-clause-steps : goal.go_all-requires-clause-steps

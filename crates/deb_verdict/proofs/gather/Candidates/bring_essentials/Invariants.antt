@@ -1,7 +1,6 @@
 use Rattle.std.proofs.Common.{◌≡◌, ◌<◌, ℕ, length, get_or, []}
-use Rattle.number_sets.specs.Sets.{members_of}
-use Rattle.number_sets.specs.SparseSets.{Grows}
-use Rattle.deb_verdict.specs.Gathering.{Reaches}
+use Rattle.number_sets.specs.Sets.{members_of, Grows}
+use Rattle.deb_verdict.specs.Closure.{Reaches}
 use Rattle.deb_verdict.proofs.GatherLemmas.{IsNamed}
 use Rattle.deb_verdict.proofs.gather.Candidates.bring_essentials.Given as goal
 

@@ -1,7 +1,6 @@
 use Rattle.std.proofs.Common.{◌≡◌, ◌∙◌, ap, List, ℕ, length, [], refl, sym, inl, inr}
 use Rattle.std.proofs.lemmas.Bool.{false≢true}
-use Rattle.number_sets.specs.Sets.{members_of, IsWithin}
-use Rattle.number_sets.specs.SparseSets.{with_number}
+use Rattle.number_sets.specs.Sets.{members_of, IsWithin, with_number}
 use Rattle.number_sets.proofs.Placing.{numbers_first, with_number_only}
 use Rattle.deb_verdict.specs.declared.gather.Candidates.{Candidates}
 use Rattle.deb_verdict.proofs.GatherLemmas.{gathered}

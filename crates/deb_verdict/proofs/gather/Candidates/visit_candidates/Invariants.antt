@@ -1,6 +1,6 @@
 use Rattle.std.proofs.Common.{◌-◌, ◌≤◌, length, []}
 use Rattle.number_sets.specs.Sets.{members_of}
-use Rattle.deb_verdict.specs.Gathering.{Gathers, Reaches}
+use Rattle.deb_verdict.specs.Closure.{Gathers, Reaches}
 use Rattle.deb_verdict.proofs.GatherLemmas.{IsAmong}
 use Rattle.deb_verdict.proofs.gather.Candidates.visit_candidates.Given as goal
 

@@ -1,6 +1,6 @@
 use Rattle.std.proofs.Common.{◌≡◌, ℕ, List, true, refl, subst, sym, ◌∙◌, ap}
 use Rattle.number_sets.specs.Sets.{members_of}
-use Rattle.deb_verdict.specs.Gathering.{Gathers}
+use Rattle.deb_verdict.specs.Closure.{Gathers}
 use Rattle.deb_verdict.proofs.GatherLemmas.{gathers_nothing, gathers_next, gathers_list, next_is_in}
 use Rattle.deb_verdict.proofs.gather.Candidates.visit_forced.Goals as goal
 

@@ -1,5 +1,5 @@
 use Rattle.number_sets.specs.Sets.{members_of}
-use Rattle.deb_verdict.specs.Gathering.{Gathers, Reaches}
+use Rattle.deb_verdict.specs.Closure.{Gathers, Reaches}
 use Rattle.deb_verdict.proofs.GatherLemmas.{IsAmong}
 use Rattle.deb_verdict.proofs.gather.Candidates.visit_forced.Given as goal
 

@@ -2,7 +2,7 @@ use Rattle.std.proofs.Common.{◌≡◌, ℕ, true, List, ◌++◌, Vec, Global,
 use Rattle.number_sets.specs.Sets.{NumberSet, members_of}
 use Rattle.core_extract.specs.Reduction.{left}
 use Rattle.deb_health.specs.Causes.{without}
-use Rattle.deb_verdict.specs.Known.{AreNeeded}
+use Rattle.deb_verdict.specs.Formulas.{AreNeeded}
 use Rattle.deb_verdict.proofs.KnownLemmas.{fewer_needed, left_within, both_needed, none_needed}
 use Rattle.deb_verdict.proofs.known.Known.take.Goals as goal
 use Rattle.deb_verdict.proofs.known.Known.take.Goals.{then-from-self+then-goes_on, else-from-self}

@@ -1,6 +1,5 @@
 use Rattle.std.proofs.Common.{◌≡◌, ◌⊎◌, ℕ, ◌<◌, true, All, take}
-use Rattle.number_sets.specs.Sets.{members_of}
-use Rattle.number_sets.specs.SparseSets.{Grows}
+use Rattle.number_sets.specs.Sets.{members_of, Grows}
 use Rattle.number_sets.proofs.sparse_set.SparseSet.extend.Given as goal
 
 abbrev pub invariant-loop-number : goal.invariant-loop-number

@@ -1,6 +1,5 @@
 use Rattle.std.proofs.Common.{◌≡◌, ℕ, List, ◌++◌, ◌∷◌, [], None, length, ◌∙◌, ap, arith, rules}
-use Rattle.sat_solve.specs.Clauses.{Clause, Clauses}
-use Rattle.sat_solve.specs.Spans.{clauses_of}
+use Rattle.sat_solve.specs.Clauses.{Clause, Clauses, clauses_of}
 use Rattle.sat_solve.specs.declared.clause.Span.{Span}
 use Rattle.sat_solve.proofs.SpanLemmas.{clauses_of_kept, clauses_of_more}
 use Rattle.sat_solve.proofs.formula.Formula.add.Goals as goal

@@ -1,6 +1,5 @@
 use Rattle.std.proofs.Common.{◌≡◌, List, ◌<◌, All, ◌++◌, map, flat_map, length, ◌∙◌, ap, sym, subst, arith, rules}
-use Rattle.sat_solve.specs.Clauses.{Clause, Clauses, exclusions}
-use Rattle.sat_solve.specs.Spans.{clauses_of, out_of, span_of}
+use Rattle.sat_solve.specs.Clauses.{Clause, Clauses, exclusions, clauses_of, out_of, span_of}
 use Rattle.sat_solve.proofs.SpanLemmas.{clauses_of_kept, clauses_of_owners, list_are, owners_are}
 use Rattle.sat_solve.proofs.formula.Formula.exclude.Goals as goal
 

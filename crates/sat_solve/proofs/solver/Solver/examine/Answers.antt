@@ -2,7 +2,7 @@ use Rattle.std.proofs.Common.{◌<◌, ◌-◌, drop, get_or, sym, subst}
 use Rattle.std.proofs.lemmas.List.Elements.{All-take, All-drop}
 use Rattle.sat_solve.specs.declared.clause.Lit.{Lit}
 use Rattle.sat_solve.specs.declared.clause.Span.{Span}
-use Rattle.sat_solve.specs.Spans.{no_span}
+use Rattle.sat_solve.specs.Clauses.{no_span}
 use Rattle.sat_solve.specs.Reasons.{IsReasonFor}
 use Rattle.sat_solve.proofs.SolverLemmas.{clause_gives, with_arena, grown_solver, learnt_gives, learnt_at, goes_on_forced, goes_on_conflict}
 use Rattle.sat_solve.proofs.solver.Solver.examine.Goals as goal

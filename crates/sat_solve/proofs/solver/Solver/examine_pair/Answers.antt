@@ -1,6 +1,6 @@
 use Rattle.std.proofs.Common.{length, get_or, sym}
 use Rattle.std.proofs.lemmas.Bool.{ne_eqb}
-use Rattle.sat_solve.specs.Spans.{no_span, out_of}
+use Rattle.sat_solve.specs.Clauses.{no_span, out_of}
 use Rattle.sat_solve.proofs.SpanLemmas.{pair_listed}
 use Rattle.sat_solve.proofs.SolverLemmas.{pair_gives}
 use Rattle.sat_solve.proofs.solver.Solver.examine_pair.Goals as goal

@@ -1,6 +1,5 @@
 use Rattle.std.proofs.Common.{take}
-use Rattle.sat_solve.specs.ClauseStatus.{ComesDownTo}
-use Rattle.sat_solve.specs.Trail.{steps_of}
+use Rattle.sat_solve.specs.Trail.{ComesDownTo, steps_of}
 use Rattle.sat_solve.proofs.trail.Trail.remainder.Given as goal
 
 abbrev pub invariant-loop-literal : goal.invariant-loop-literal
