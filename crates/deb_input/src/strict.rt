@@ -19,7 +19,7 @@ pub enum Slip {
 }
 
 /// The first of what `Slip` lists that holds of a run over so many stanzas, of which so many are of other architectures, that asks so many packages.
-#[tactic(auto, unfolding(crate::specs::Strict::slip_in))]
+#[tactic(auto, unfolding(crate::specs::Inputs::slip_in))]
 pub fn slip_in(stanzas: u32, skipped: u32, asked: u32) -> Option<Slip>
     ensures { result ≡ slip_in stanzas skipped asked }
 {
@@ -43,7 +43,7 @@ fn is_strict(config: &Config) -> bool
 }
 
 /// The fault of a strict run that asks these places of the index, where it has one: the first of what `Slip` lists.
-#[tactic(auto, unfolding(crate::specs::Strict::slip_of))]
+#[tactic(auto, unfolding(crate::specs::Inputs::slip_of))]
 pub fn slip_of(config: &Config, index: &Index, asked: &[u32]) -> Option<Slip>
     requires few { length asked.now < 2 ^ 32 }
     ensures { result ≡ slip_of (settings_of config.now) index.now asked.now }

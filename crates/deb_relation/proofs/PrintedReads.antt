@@ -11,8 +11,8 @@ use Rattle.deb_relation.specs.declared.atom.RelationError.TheVariants.{Alternati
 use Rattle.deb_relation.specs.declared.bound.Op.{Op}
 use Rattle.deb_relation.specs.declared.bound.Op.TheVariants.{Lt, Le, Eq, Ge, Gt}
 use Rattle.deb_relation.specs.Bytes.{bar, comma, space, begins}
-use Rattle.deb_relation.specs.Form.{AtomText, IsAtom, IsBound, IsSign, is_name, is_name_byte, is_qualifier, is_qualifier_byte, is_white, qualifier_text, ReadsAgain}
-use Rattle.deb_relation.specs.Relationship.{◌>>=◌, atom_of, atoms_of, bound_text, each, filled_elements, group_in, groups_of, is_blank, op_text, pieces_of, printed, single_of}
+use Rattle.deb_relation.specs.Form.{AtomText, IsAtom, IsBound, IsSign, is_name, is_name_byte, is_qualifier, is_qualifier_byte, is_white, qualifier_text}
+use Rattle.deb_relation.specs.Relationship.{ReadsAgain, ◌>>=◌, atom_of, atoms_of, bound_text, each, filled_elements, group_in, groups_of, is_blank, op_text, pieces_of, printed, single_of}
 use Rattle.deb_relation.specs.VersionText.{fault_of, is_upstream_byte}
 use Rattle.deb_relation.proofs.ByteKinds.{alphanumeric-not_white, inner-not_bar, inner-not_comma, is_inner_byte, name-is_inner, qualifier-is_inner, upstream-is_inner}
 use Rattle.deb_relation.proofs.FormReads.{atom-again}

@@ -1,13 +1,12 @@
 -- The form of relationships (Policy 7.1). An atom is written
 --     ws name [":" qualifier] ws ["(" ws op ws version ws ")" ws]
-use Rattle.std.specs.Prelude.{◌≡◌, ℕ, ◌==◌, Bool, true, false, not, ◌&&◌, ◌||◌, List, [], ◌∷◌, ◌++◌, Option, Some, None, IfSome, codes, ◌⊎◌, Ok}
+use Rattle.std.specs.Prelude.{◌≡◌, ℕ, ◌==◌, Bool, true, false, not, ◌&&◌, ◌||◌, List, [], ◌∷◌, ◌++◌, Option, Some, None, IfSome, codes, ◌⊎◌}
 use Rattle.std.specs.Char.{is_ascii_alphanumeric}
 use Rattle.std.specs.List.{AllZip, filter, list_all, list_any, slice_split}
 use Rattle.deb_relation.specs.declared.bound.Op.{Op}
 use Rattle.deb_relation.specs.declared.bound.Op.TheVariants.{Lt, Le, Eq, Ge, Gt}
 use Rattle.deb_relation.specs.Bytes.{bar, close_parenthesis, colon, comma, full_stop, hyphen, line_feed, open_parenthesis, plus, space, tab, underscore, begins}
 use Rattle.deb_relation.specs.VersionText.{fault_of}
-use Rattle.deb_relation.specs.Relationship.{atoms_of, groups_of, printed}
 
 -- An atom without where it lies in memory: a package's name, a qualifier of its architecture, and an operator with a version's text.
 pub record AtomText : Type 0 where
@@ -115,7 +114,3 @@ IsSingle element atom = (list_any (λ b. b == bar) element ≡ false) × IsAtom 
 -- a value is a list of atoms if each element that counts is one
 abbrev pub AreAtoms : List ℕ → List AtomText → Type 0
 AreAtoms text atoms = AllZip IsSingle (filled_elements text) atoms
-
--- its printed form is a relationship of this atom alone, whether it is read as groups of alternatives or as a list
-abbrev pub ReadsAgain : AtomText → Type 0
-ReadsAgain atom = (groups_of (printed atom) ≡ Ok ((atom ∷ []) ∷ [])) × (atoms_of (printed atom) ≡ Ok (atom ∷ []))

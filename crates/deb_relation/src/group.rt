@@ -8,7 +8,7 @@ use crate::print::{Plainly, push_joined};
 use std::alloc::AllocError;
 
 /// Adds the atoms of a group, with a bar between two (Debian Policy 7.1). `AllocError` where there is no memory; then some of it may be added.
-#[tactic(auto, using(crate::proofs::JoinLemmas::joined_map), unfolding(crate::specs::Texts::group_text))]
+#[tactic(auto, using(crate::proofs::JoinLemmas::joined_map), unfolding(crate::specs::Relationship::group_text))]
 pub fn push_group(out: &mut Vec<u8>, group: &[Atom]) -> Result<(), AllocError>
     ensures { OnOk result (out.new.items ≡ out.old.items ++ group_text (map atom_view group.now)) }
 {

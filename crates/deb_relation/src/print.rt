@@ -53,7 +53,7 @@ pub fn push_all<T, P: Print<T>>(
 }
 
 /// Adds the texts of elements with commas between, behind what leads to them, where there are some. `AllocError` where there is no memory; then some of it may be added.
-#[tactic(auto, unfolding(crate::specs::Texts::told_if))]
+#[tactic(auto, unfolding(crate::specs::Relationship::told_if))]
 pub fn push_some<T, P: Print<T>>(
     out: &mut Vec<u8>,
     lead: &str,

@@ -133,7 +133,7 @@ pub(crate) fn answer_at<'i>(
 /// What is told of the packages that a constraint brings.
 ///
 /// The constraint is of the index. `AllocError` where there is no memory for it.
-#[tactic(auto, unfolding(crate::specs::Links::answers_to))]
+#[tactic(auto, unfolding(crate::specs::WalkLines::answers_to))]
 pub(crate) fn answers_to<'i>(
     alloc: Global,
     index: &'i Index,

@@ -183,7 +183,7 @@ impl<'i> Writer<'i> {
     }
 
     /// Adds the member with what a walk goes on to from a need.
-    #[tactic(auto, using(crate::proofs::FormLemmas::list_map), unfolding(crate::specs::Links::links_in))]
+    #[tactic(auto, using(crate::proofs::FormLemmas::list_map), unfolding(crate::specs::WalkLines::links_in))]
     fn push_need_links(
         &self,
         out: &mut Vec<u8>,
@@ -208,7 +208,7 @@ impl<'i> Writer<'i> {
     }
 
     /// Adds where a walk goes on from a constraint, as members of its item.
-    #[tactic(auto, unfolding(crate::specs::Links::links_in))]
+    #[tactic(auto, unfolding(crate::specs::WalkLines::links_in))]
     pub(crate) fn push_links(
         &self,
         out: &mut Vec<u8>,
