@@ -16,7 +16,8 @@ use Rattle.deb_index.specs.Tables.{number_in}
 use Rattle.deb_index.proofs.FirstLemmas.{name-itself, names-turned, same-name}
 use Rattle.deb_index.proofs.TableLemmas.{IsApart, first-apart, get-there, none-any}
 use Rattle.deb_causes.proofs.NumberingLemmas.{with-first}
-use Rattle.deb_causes.specs.Numbering.{IsListing, text_at, texts_in, with_text}
+use Rattle.deb_causes.specs.Listing.{IsListing, text_at, texts_in}
+use Rattle.deb_causes.specs.Numbering.{with_text}
 
 none-some : (i : ℕ) → None ≡ Some i → ⊥
 none-some i e = cc

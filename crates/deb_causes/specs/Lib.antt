@@ -1,4 +1,5 @@
 pub mod Causes
+pub mod Listing
 pub mod Numbering
 pub mod Wrongs
 pub mod Gathering

@@ -2,7 +2,7 @@
 
 ghost use Rattle.std.specs.Prelude.{◌≡◌, Some, IfOk, OnOk, length};
 ghost use Rattle.deb_index.specs.Tables.{number_in};
-ghost use Rattle.deb_causes.specs.Numbering.{IsListing, texts_in};
+ghost use Rattle.deb_causes.specs.Listing.{IsListing, texts_in};
 
 use std::alloc::{AllocError, Global};
 use std::collections::HashMap;

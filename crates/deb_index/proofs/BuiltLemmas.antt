@@ -9,7 +9,8 @@ use Rattle.deb_index.specs.declared.draft.PackageKey.{PackageKey}
 use Rattle.deb_index.specs.declared.draft.Draft.{Draft}
 use Rattle.deb_index.specs.Packages.{IndexView, PackageView, is_named}
 use Rattle.deb_index.specs.Reading.{same_package, stanza_limit, with_reading}
-use Rattle.deb_index.specs.Tables.{HasRoom, IsSmall, asked_count, asked_limit, number_in, AreNumbers, IsNaming, name_texts}
+use Rattle.deb_index.specs.Tables.{HasRoom, IsSmall, asked_count, asked_limit, number_in}
+use Rattle.deb_index.specs.Names.{AreNumbers, IsNaming, name_texts}
 use Rattle.deb_index.specs.Built.{HasKeysOf, IsBuilt, IsCounted, IsKnown, draft_view, key_view, package_key, same_key}
 use Rattle.deb_index.proofs.FirstLemmas.{any-map}
 use Rattle.deb_index.proofs.KeyLemmas.{any-push, known-push, known-same, or-turned}

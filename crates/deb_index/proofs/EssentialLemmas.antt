@@ -9,7 +9,7 @@ use Rattle.deb_index.specs.Packages.{IndexView, PackageView, is_essential, is_na
 use Rattle.deb_index.specs.declared.names.Lists.{Lists}
 use Rattle.deb_index.specs.declared.names.Names.{Names}
 use Rattle.deb_index.specs.Built.{is_marked}
-use Rattle.deb_index.specs.Tables.{IsNaming, name_texts}
+use Rattle.deb_index.specs.Names.{IsNaming, name_texts}
 use Rattle.deb_index.proofs.EnumerateLemmas.{places-push}
 use Rattle.deb_index.proofs.NameLemmas.{lists-count, only-packages, places-at}
 

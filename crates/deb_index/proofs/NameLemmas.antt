@@ -13,7 +13,8 @@ use Rattle.std.proofs.lemmas.Option.{slice_get_within, slice_get-get_or}
 use Rattle.deb_index.specs.declared.names.Lists.{Lists}
 use Rattle.deb_index.specs.declared.names.Names.{Names}
 use Rattle.deb_index.specs.Packages.{PackageView, first_of_each, is_named, no_package, places_where}
-use Rattle.deb_index.specs.Tables.{items_of, number_in, AreNumbers, IsNaming, all_names, name_texts, package_names}
+use Rattle.deb_index.specs.Tables.{items_of, number_in}
+use Rattle.deb_index.specs.Names.{AreNumbers, IsNaming, all_names, name_texts, package_names}
 use Rattle.deb_index.proofs.EnumerateLemmas.{first-length, places-push}
 use Rattle.deb_index.proofs.FirstLemmas.{any-map, first-push, name-itself, other-name}
 use Rattle.deb_index.proofs.TableLemmas.{IsApart, any-first, any-turned, first-apart, get-there, items-other, items-same, map-others, names-chain, no-items, none-any, number-within, position-is, set-there, some-any}

@@ -8,7 +8,8 @@ use Rattle.deb_relation.specs.Relationship.{atom_view, AtomText, is_usable}
 use Rattle.deb_index.specs.declared.package.Package.{Package}
 use Rattle.deb_index.specs.Packages.{PackageView, IndexView, no_package, package_view, places_where}
 use Rattle.deb_index.specs.Meets.{is_providing, provided_at}
-use Rattle.deb_index.specs.Tables.{items_of, numbered_entries, provided_entries, provided_places}
+use Rattle.deb_index.specs.Tables.{items_of}
+use Rattle.deb_index.specs.Names.{numbered_entries, provided_entries, provided_places}
 use Rattle.deb_index.proofs.EnumerateLemmas.{enumerate-push}
 
 items-append : {T : Type 0} (name : List ℕ) (xs ys : List (List ℕ × T)) → items_of name (xs ++ ys) ≡ items_of name xs ++ items_of name ys

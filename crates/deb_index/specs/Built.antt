@@ -11,7 +11,8 @@ use Rattle.deb_index.specs.declared.names.Names.{Names}
 use Rattle.deb_index.specs.Packages.{PackageView, IndexView, essential_names, is_named, package_view}
 use Rattle.deb_index.specs.Reading.{same_package, stanza_limit, byte_limit, collected, index_of, index_of_both, readings, reading_view, with_reading}
 use Rattle.deb_index.specs.Links.{IsLinked}
-use Rattle.deb_index.specs.Tables.{AreNumbers, IsNaming, provided_places, IsSmall, asked_count, asked_limit, HasRoom}
+use Rattle.deb_index.specs.Names.{AreNumbers, IsNaming, provided_places}
+use Rattle.deb_index.specs.Tables.{IsSmall, asked_count, asked_limit, HasRoom}
 use Rattle.deb_control.specs.Stanzas.{IsClosed, stanzas_of, size_of}
 use Rattle.deb_index.specs.declared.error.BothError.{BothError}
 use Rattle.deb_index.specs.declared.error.BothError.TheVariants as both

@@ -3,6 +3,7 @@ pub mod Reading
 pub mod Meets
 pub mod Constraints
 pub mod Tables
+pub mod Names
 pub mod Rows
 pub mod Links
 pub mod Built

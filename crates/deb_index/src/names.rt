@@ -39,7 +39,7 @@ pub(crate) struct Names {
 }
 
 impl Names {
-    ghost use Rattle.deb_index.specs.Tables.{IsNaming, name_texts, provided_entries, provided_places};
+    ghost use Rattle.deb_index.specs.Names.{IsNaming, name_texts, provided_entries, provided_places};
 
     pub(crate) fn new(alloc: Global) -> Names
         ensures { IsNaming [] [] result }

@@ -3,7 +3,7 @@ use Rattle.std.specs.List.{list_any}
 use Rattle.std.proofs.Math.Seq.{take-length}
 use Rattle.std.proofs.lemmas.List.{append-nil}
 use Rattle.deb_index.specs.Packages.{IndexView, PackageView, essential_names, is_essential, is_named, names, package_view, places_where}
-use Rattle.deb_index.specs.Tables.{IsNaming}
+use Rattle.deb_index.specs.Names.{IsNaming}
 use Rattle.deb_index.specs.Built.{catalog_view, is_marked}
 use Rattle.deb_index.proofs.EssentialLemmas.{essential-step, lists-all, places-none}
 use Rattle.deb_index.proofs.NameLemmas.{names-few}

@@ -1,7 +1,7 @@
 use Rattle.std.proofs.Common.{List, ℕ, [], ◌∙◌, ap, subst, sym, map}
 use Rattle.deb_index.specs.declared.package.Package.{Package}
 use Rattle.deb_index.specs.Packages.{essential_names, package_view}
-use Rattle.deb_index.specs.Tables.{IsNaming, provided_places}
+use Rattle.deb_index.specs.Names.{IsNaming, provided_places}
 use Rattle.deb_index.proofs.builder.Builder.finish.Goals as goal
 
 pub invariant_of-result : goal.invariant_of-result

@@ -1,6 +1,7 @@
 use Rattle.std.proofs.Common.{◌∙◌, ap, sym}
 use Rattle.deb_index.specs.Packages.{package_view}
-use Rattle.deb_index.specs.Tables.{number_in, name_texts}
+use Rattle.deb_index.specs.Tables.{number_in}
+use Rattle.deb_index.specs.Names.{name_texts}
 use Rattle.deb_index.proofs.NameLemmas.{position-known}
 use Rattle.deb_index.proofs.draft.Draft.keep.Goals as goal
 

@@ -4,7 +4,8 @@ use Rattle.std.proofs.lemmas.List.{get_or_push, length-map, map-append}
 use Rattle.deb_index.specs.declared.draft.Draft.{Draft}
 use Rattle.deb_index.specs.declared.package.Package.{Package}
 use Rattle.deb_index.specs.Packages.{package_view}
-use Rattle.deb_index.specs.Tables.{number_in, name_texts}
+use Rattle.deb_index.specs.Tables.{number_in}
+use Rattle.deb_index.specs.Names.{name_texts}
 use Rattle.deb_index.specs.Built.{HasKeysOf, draft_view, key_view, package_key, same_key}
 use Rattle.deb_index.proofs.BuiltLemmas.{adds-package, built-push}
 use Rattle.deb_index.proofs.KeyLemmas.{key-apart}

@@ -1,5 +1,6 @@
 use Rattle.std.proofs.Common.{◌≡◌, ◌++◌, ◌∷◌, [], Some, None, ap, sym, refl, ◌∙◌, arith}
-use Rattle.deb_index.specs.Tables.{number_in, name_texts}
+use Rattle.deb_index.specs.Tables.{number_in}
+use Rattle.deb_index.specs.Names.{name_texts}
 use Rattle.deb_index.proofs.NameLemmas.{add-new, add-there, number-last}
 use Rattle.deb_index.proofs.TableLemmas.{number-within}
 use Rattle.deb_index.proofs.names.Names.add.Goals as goal

@@ -1,7 +1,7 @@
 use Rattle.std.proofs.Common.{◌<◌, ◌+◌, ◌++◌, ◌∷◌, ◌∙◌, [], List, ℕ, ap, sym, subst, map, take, length, arith}
 use Rattle.deb_relation.specs.Relationship.{atom_view}
 use Rattle.deb_index.specs.declared.names.Names.{Names}
-use Rattle.deb_index.specs.Tables.{IsNaming, provided_entries}
+use Rattle.deb_index.specs.Names.{IsNaming, provided_entries}
 use Rattle.deb_index.proofs.ProvidedLemmas.{entry-left, entry-taken}
 use Rattle.deb_index.proofs.names.Names.add_entries.Goals as goal
 use Rattle.deb_index.proofs.names.Names.add_entries.Goals.{then-usable+in_ok-add_entry, else-usable}

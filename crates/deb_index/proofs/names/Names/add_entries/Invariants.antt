@@ -1,7 +1,7 @@
 use Rattle.std.proofs.Common.{ℕ, List, ◌++◌, map, take}
 use Rattle.deb_relation.specs.Relationship.{atom_view}
 use Rattle.deb_index.specs.Packages.{PackageView}
-use Rattle.deb_index.specs.Tables.{IsNaming, provided_entries}
+use Rattle.deb_index.specs.Names.{IsNaming, provided_entries}
 use Rattle.deb_index.proofs.names.Names.add_entries.Given as goal
 
 abbrev pub invariant-loop-number : goal.invariant-loop-number

@@ -1,7 +1,7 @@
 use Rattle.std.proofs.Common.{◌<◌, ◌++◌, ◌∙◌, ap, sym, subst, map, take, length, arith}
 use Rattle.deb_relation.specs.Relationship.{atom_view}
 use Rattle.deb_index.specs.Packages.{package_view}
-use Rattle.deb_index.specs.Tables.{IsNaming, provided_entries, provided_places}
+use Rattle.deb_index.specs.Names.{IsNaming, provided_entries, provided_places}
 use Rattle.deb_index.proofs.ProvidedLemmas.{provided-step}
 use Rattle.deb_index.proofs.SmallLemmas.{small-entries}
 use Rattle.deb_index.proofs.names.Names.add_provided.Goals as goal

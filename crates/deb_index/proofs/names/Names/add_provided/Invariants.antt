@@ -1,6 +1,6 @@
 use Rattle.std.proofs.Common.{[], map, take}
 use Rattle.deb_index.specs.Packages.{package_view}
-use Rattle.deb_index.specs.Tables.{IsNaming, provided_places}
+use Rattle.deb_index.specs.Names.{IsNaming, provided_places}
 use Rattle.deb_index.proofs.names.Names.add_provided.Given as goal
 
 abbrev pub invariant-loop-place : goal.invariant-loop-place

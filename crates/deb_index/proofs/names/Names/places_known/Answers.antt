@@ -1,5 +1,5 @@
 use Rattle.std.proofs.Common.{ap, sym, ◌∙◌}
-use Rattle.deb_index.specs.Tables.{name_texts}
+use Rattle.deb_index.specs.Names.{name_texts}
 use Rattle.deb_index.specs.Packages.{is_named, places_where}
 use Rattle.deb_index.proofs.NameLemmas.{places-none-named, text-at}
 use Rattle.deb_index.proofs.names.Names.places_known.Goals as goal
