@@ -6,7 +6,7 @@ ghost use Rattle.deb_relation.specs.Relationship.{atom_view};
 ghost use Rattle.deb_index.specs.Packages.{is_in, package_at, package_view, places_of};
 ghost use Rattle.deb_index.specs.Meets.{group_satisfiers, provided_at};
 ghost use Rattle.deb_index.specs.Rows.{meets_as_at, provides_as_at, satisfiers_as, group_candidates, row_limit};
-ghost use Rattle.deb_index.specs.Roles as spec;
+ghost use Rattle.deb_index.specs.Rows as spec;
 ghost use Rattle.deb_index.specs.Tables.{asked_count, asked_limit};
 
 use crate::catalog::Catalog;
