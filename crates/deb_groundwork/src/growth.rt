@@ -30,6 +30,8 @@ pub struct Witness {
     pub(crate) more: BaseSet,
     /// What each of them came for; none for the first one, and for those of essential names.
     causes: Vec<Option<Cause>>,
+    /// Places with a need of several answers, of which none was in when it was gone through.
+    open: Vec<u32>,
     /// What was seen to lead nowhere.
     unfit: SparseSet,
     /// How much came in all, by the weights of packages.
@@ -49,6 +51,7 @@ impl Witness {
         Witness {
             more: BaseSet::empty(alloc),
             causes: Vec::new(alloc),
+            open: Vec::new(alloc),
             unfit: SparseSet::new(alloc),
             came: 0,
         }
@@ -125,8 +128,9 @@ impl Witness {
         false
     }
 
-    /// Puts in an answer of a need that has from `few.0` to `few.1` answers, where none is in and the part asks for one. `false` where none will do.
-    fn take_answer(&mut self, ground: &Ground, place: u32, number: u32, few: (usize, usize)) -> bool
+    /// Puts in an answer of a need, where none is in and the part asks for one. Where it has several and a choice can wait, the place that has it
+    /// is open. `false` where none will do.
+    fn take_answer(&mut self, ground: &Ground, place: u32, number: u32, can_wait: bool) -> bool
         requires place { place < length ground.now.part.index.now.packages }
         requires number { number < length (needs_at ground.now.part.index.now place) }
     {
@@ -138,25 +142,23 @@ impl Witness {
             return true;
         }
         match index.answer_row(place, number) {
-            Some(row) => {
-                row.len() < few.0
-                    || row.len() > few.1
-                    || has_any(&self.on(ground.base), row)
-                    || !ground.asks(place, number)
-                    || self.take_one(ground, row, Some(Cause { place, number }))
+            Some(row) if has_any(&self.on(ground.base), row) || !ground.asks(place, number) => true,
+            Some(row) if row.len() < 2 || !can_wait => {
+                self.take_one(ground, row, Some(Cause { place, number }))
             }
-            None => few.1 == 1
-                || !ground.asks(place, number)
-                || self.take_any(ground, place, number),
+            None if !can_wait => {
+                !ground.asks(place, number) || self.take_any(ground, place, number)
+            }
+            _ => self.open.last() == Some(&place) || self.open.push(place).is_ok(),
         }
     }
 
     /// Puts in an answer of each such need of a place that the part asks for. `false` where one has none.
-    fn take_answers(&mut self, ground: &Ground, place: u32, few: (usize, usize)) -> bool
+    fn take_answers(&mut self, ground: &Ground, place: u32, can_wait: bool) -> bool
         requires { place < length ground.now.part.index.now.packages }
     {
         for number in 0..ground.part.index.need_count(place) {
-            if !self.take_answer(ground, place, number, few) {
+            if !self.take_answer(ground, place, number, can_wait) {
                 return false;
             }
         }
@@ -182,26 +184,23 @@ impl Witness {
         true
     }
 
-    /// Puts in what the places need, as long as places come: first only answers, of all places. Where a need isn't answered, the place that has it.
+    /// Puts in what the places need, as long as places come. Where a need isn't answered, the place that has it.
     fn take_needs(&mut self, ground: &Ground) -> Option<u32> {
-        let index = ground.part.index;
-        // Only where all is asked for, what came first may be in the way of what has to come.
-        let mut forced = if ground.asks_all { 0 } else { usize::MAX };
-        let mut answered = 0;
-        let least = if ground.asks_all { 2 } else { 0 };
-        // Each place is gone through twice.
-        for _ in 0..u64::from(index.len()) * 2 {
+        let (mut visited, mut chosen) = (0, 0);
+        // Each place is gone through twice at most.
+        for _ in 0..u64::from(ground.part.index.len()) * 2 {
             let places = self.more.members.as_slice();
-            let (place, few) = if forced < places.len() {
-                forced += 1;
-                (places[forced - 1], (0, 1))
-            } else if answered < places.len() {
-                answered += 1;
-                (places[answered - 1], (least, usize::MAX))
+            // Only where all is asked for, what is chosen first may be in the way of what has to come.
+            let (place, can_wait) = if visited < places.len() {
+                visited += 1;
+                (places[visited - 1], ground.asks_all)
+            } else if chosen < self.open.len() {
+                chosen += 1;
+                (self.open[chosen - 1], false)
             } else {
                 return None;
             };
-            if place >= index.len() || !self.take_answers(ground, place, few) {
+            if place >= ground.part.index.len() || !self.take_answers(ground, place, can_wait) {
                 return Some(place);
             }
         }
@@ -212,6 +211,7 @@ impl Witness {
     pub(crate) fn grow(&mut self, ground: &Ground, p: u32) -> Option<u32> {
         self.more.clear();
         self.causes.clear();
+        self.open.clear();
         if self.unfit.contains(p) || ground.asks_all && !is_fit(ground, &self.more, p) {
             return Some(p);
         }

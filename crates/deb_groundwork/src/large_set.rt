@@ -1,13 +1,15 @@
 //! Large sets: packages of an index, each with what it needs, as many as fit. How they grow is claimed by nothing: what a set is, is looked up.
 
+ghost use Rattle.std.specs.Prelude.{◌≡◌, ◌<◌, true, length};
 ghost use Rattle.deb_groundwork.specs.BaseSets.{IsBase};
 
+use crate::answering::are_answered;
 use crate::base_set::BaseSet;
 use crate::choice::Ground;
-use crate::growth::{Witness, weight};
+use crate::growth::Witness;
 use crate::limits::BASE_SET_TIMES;
 use crate::part::Part;
-use crate::rows::{essential_count, essential_row, has_any};
+use crate::rows::{essential_count, essential_row, has_any, stands_apart, take_hits};
 use deb_index::Index;
 use number_sets::SparseSet;
 use std::alloc::Global;
@@ -33,17 +35,18 @@ impl<'a> LargeSet<'a> {
         lacking: &'a SparseSet,
         times: u64,
     ) -> LargeSet<'a> {
-        let mut sum: u64 = 0;
-        for place in 0..index.len() {
-            sum = sum.saturating_add(weight(index, place));
-        }
+        let asked = if index.name_count() > 0 {
+            index.only_position(0)
+        } else {
+            0
+        };
         LargeSet {
             set: BaseSet::empty(alloc),
             index,
             lacking,
             witness: Witness::new(alloc),
             last_first: false,
-            limit: sum.saturating_mul(times),
+            limit: (u64::from(index.len()) + u64::from(asked)).saturating_mul(times),
         }
     }
 
@@ -54,10 +57,25 @@ impl<'a> LargeSet<'a> {
         self.last_first = last_first;
     }
 
+    /// Whether what is in meets what a package asks for, and nothing is in the way.
+    fn is_ready_for(&self, place: u32) -> bool
+        ensures { result ≡ true → place < length self.now.index.now.packages }
+    {
+        place < self.index.len()
+            && self.set.has_room(self.index, place)
+            && !self.lacking.contains(place)
+            && are_answered(self.index, &self.set.members, place)
+            && stands_apart(self.index, &self.set.members, place)
+    }
+
     /// Puts a package in with what it needs. `false` where that isn't found: then the members are what they were.
     pub(crate) fn add(&mut self, place: u32) -> bool {
         if self.set.members.contains(place) {
             return true;
+        }
+        if self.is_ready_for(place) {
+            return take_hits(self.index, place, &mut self.set.hit)
+                && self.set.members.insert(place).is_ok();
         }
         if self.witness.came >= self.limit {
             return false;

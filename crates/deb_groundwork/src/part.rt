@@ -4,7 +4,6 @@ ghost use Rattle.std.specs.Prelude.{◌≡◌};
 ghost use Rattle.std.specs.List.Sorted.{IsStrictlyIncreasing};
 ghost use Rattle.number_sets.specs.Sets.{members_of};
 
-use crate::rows::essential_count;
 use deb_index::Index;
 
 /// Some constraints of an index by their positions in the list of all, and all from one position on, without those that are taken out.
@@ -34,11 +33,6 @@ impl<'a> Part<'a> {
         ensures { result ≡ positions_in self.now position }
     {
         (position >= self.rest || is_among(self.kept, position)) && !is_among(self.out, position)
-    }
-
-    /// Whether it has all that packages ask for.
-    pub(crate) fn asks_all(&self) -> bool {
-        self.out.is_empty() && self.rest <= essential_count(self.index)
     }
 
     /// Whether it may lack a constraint.

@@ -64,7 +64,7 @@ pub fn is_seen_to_admit(
         part: *part,
         base,
         lacking,
-        asks_all: part.asks_all(),
+        asks_all: false,
         last_first: false,
     };
     witness.start();
@@ -72,11 +72,12 @@ pub fn is_seen_to_admit(
         return false;
     }
     for _ in 0..WITNESS_TRIES {
-        if !witness.comes_to_be(&ground, p) {
-            return false;
-        }
-        let Some(place) = place_amiss(part, base, &witness.more.members) else {
-            return is_witness(part, p, base, &witness.more.members);
+        let place = match witness.grow(&ground, p) {
+            Some(place) => place,
+            None => match place_amiss(part, base, &witness.more.members) {
+                Some(place) => place,
+                None => return is_witness(part, p, base, &witness.more.members),
+            },
         };
         if !witness.rule_out(part.index, place) {
             return false;
