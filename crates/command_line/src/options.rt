@@ -40,6 +40,30 @@ const VALUED: LineOption = LineOption {
     ..FLAG
 };
 
+// An option without a value: its name, and what help says of it.
+macro_rules! flag {
+    ($name:literal => $help:literal) => {
+        LineOption {
+            name: $name,
+            help: $help,
+            ..FLAG
+        }
+    };
+}
+
+// One that need not be said: its name, what help calls its value, the value where it isn't said, if it has one, and what help says of it.
+macro_rules! valued {
+    ($name:literal, $value:expr, $usual:expr => $help:literal) => {
+        LineOption {
+            name: $name,
+            value: $value,
+            usual: $usual,
+            help: $help,
+            ..VALUED
+        }
+    };
+}
+
 // The options, as help lists them.
 static OPTIONS: [LineOption; 18] = [
     LineOption {
@@ -49,90 +73,21 @@ static OPTIONS: [LineOption; 18] = [
         help: "Architecture to check, such as amd64",
         ..VALUED
     },
-    LineOption {
-        name: "bg",
-        value: &["FILE"],
-        help: "A second index, which may be used but is not checked",
-        ..VALUED
-    },
-    LineOption {
-        name: "since",
-        value: &["FILE"],
-        help: "An earlier index: report only what is newly broken",
-        ..VALUED
-    },
-    LineOption {
-        name: "checkonly",
-        value: &["NAMES"],
-        help: "Check only these packages: N1,N2,.. or @FILE",
-        ..VALUED
-    },
-    LineOption {
-        name: "format",
-        value: &["FORM"],
-        usual: &["text"],
-        help: "Format of the report, text or json",
-        ..VALUED
-    },
-    LineOption {
-        name: "workers",
-        value: &["N"],
-        usual: &["4"],
-        help: "Number of workers, 1 to 64",
-        ..VALUED
-    },
-    LineOption {
-        name: "chunk",
-        value: &["K"],
-        usual: &["64"],
-        help: "Packages that a worker takes at a time",
-        ..VALUED
-    },
-    LineOption {
-        name: "explain",
-        help: "Show the set that was found, or why there is none",
-        ..FLAG
-    },
-    LineOption {
-        name: "failures",
-        help: "Show only packages that cannot be installed",
-        ..FLAG
-    },
-    LineOption {
-        name: "successes",
-        help: "Show only packages that can be installed",
-        ..FLAG
-    },
-    LineOption {
-        name: "causes",
-        help: "List what has to be mended, and what each breaks",
-        ..FLAG
-    },
-    LineOption {
-        name: "all-reasons",
-        help: "Show reasons of all causes, not only of the first",
-        ..FLAG
-    },
-    LineOption {
-        name: "why",
-        help: "Show reasons step by step, starting at the package",
-        ..FLAG
-    },
-    LineOption {
-        name: "ignore-essential",
-        help: "Do not require essential packages",
-        ..FLAG
-    },
-    LineOption {
-        name: "strict",
-        help: "Fail if there is nothing to check",
-        ..FLAG
-    },
-    LineOption {
-        name: "quiet",
-        help: "Show no progress and no hints on a terminal",
-        ..FLAG
-    },
+    valued!("bg", &["FILE"], &[] => "A second index, which may be used but is not checked"),
+    valued!("since", &["FILE"], &[] => "An earlier index: report only what is newly broken"),
+    valued!("checkonly", &["NAMES"], &[] => "Check only these packages: N1,N2,.. or @FILE"),
+    valued!("format", &["FORM"], &["text"] => "Format of the report, text or json"),
+    valued!("workers", &["N"], &["4"] => "Number of workers, 1 to 64"),
+    valued!("chunk", &["K"], &["64"] => "Packages that a worker takes at a time"),
+    flag!("explain" => "Show the set that was found, or why there is none"),
+    flag!("failures" => "Show only packages that cannot be installed"),
+    flag!("successes" => "Show only packages that can be installed"),
+    flag!("causes" => "List what has to be mended, and what each breaks"),
+    flag!("all-reasons" => "Show reasons of all causes, not only of the first"),
+    flag!("why" => "Show reasons step by step, starting at the package"),
+    flag!("ignore-essential" => "Do not require essential packages"),
+    flag!("strict" => "Fail if there is nothing to check"),
+    flag!("quiet" => "Show no progress and no hints on a terminal"),
     LineOption {
         name: "help",
         short: Some('h'),
