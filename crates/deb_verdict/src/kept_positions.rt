@@ -27,46 +27,19 @@ pub(crate) fn list_positions(
 {
     let _limit = index.len();
     positions.clear();
-    add_essential(index, positions)?;
-    for place in members {
-        add_needs(index, *place, positions)?;
-        add_aparts(index, *place, positions)?;
-        positions.push(index.only_position(index.name_of(*place)))?;
-    }
-    sort_once(positions);
-    Ok(())
-}
-
-/// Adds the positions of the essential names.
-fn add_essential(index: &Index, positions: &mut Vec<u32>) -> Result<(), AllocError>
-    ensures { OnOk result (Lists index.now (λ c. (name : ℕ) × (c ≡ Constraint.Essential name)) positions.old.items positions.new.items) }
-{
-    let _limit = index.len();
     for position in 0..index.essential_names().len() {
         positions.push(position as u32)?;
     }
-    Ok(())
-}
-
-/// Adds the positions of what the package at a place depends on.
-fn add_needs(index: &Index, place: u32, positions: &mut Vec<u32>) -> Result<(), AllocError>
-    requires { place < length index.now.packages }
-    ensures { OnOk result (Lists index.now (λ c. (j : ℕ) × (c ≡ Constraint.Need place j)) positions.old.items positions.new.items) }
-{
-    for number in 0..index.need_count(place) {
-        positions.push(index.need_position(place, number))?;
+    for place in members {
+        for number in 0..index.need_count(*place) {
+            positions.push(index.need_position(*place, number))?;
+        }
+        for number in 0..index.apart_count(*place) {
+            positions.push(index.apart_position(*place, number))?;
+        }
+        positions.push(index.only_position(index.name_of(*place)))?;
     }
-    Ok(())
-}
-
-/// Adds the positions of what the package at a place keeps out.
-fn add_aparts(index: &Index, place: u32, positions: &mut Vec<u32>) -> Result<(), AllocError>
-    requires { place < length index.now.packages }
-    ensures { OnOk result (Lists index.now (λ c. (j : ℕ) × (c ≡ Constraint.Apart place j)) positions.old.items positions.new.items) }
-{
-    for number in 0..index.apart_count(place) {
-        positions.push(index.apart_position(place, number))?;
-    }
+    sort_once(positions);
     Ok(())
 }
 
