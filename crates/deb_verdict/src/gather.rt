@@ -62,19 +62,6 @@ impl Candidates {
         }
     }
 
-    /// Brings in the places of a row, unless a forced place is among them.
-    fn bring(&mut self, forced: &SparseSet, row: &[u32]) -> Result<(), AllocError>
-        ensures grows { OnOk result ((count : ℕ) → All (λ place. place < count) row.now → Grows count self.old.places self.new.places) }
-        ensures has { OnOk result ((list_any (members_of forced.now) row.now ≡ true) ⊎ IsWithin (members_of row.now) (members_of self.new.places)) }
-        ensures only { OnOk result ((q : ℕ) → members_of self.new.places q ≡ true → (members_of self.old.places q ≡ true) ⊎ (members_of row.now q ≡ true)) }
-        ensures unmet { OnOk result (self.new.unmet ≡ self.old.unmet) }
-    {
-        if has_any(forced, row) {
-            return Ok(());
-        }
-        self.places.extend(row)
-    }
-
     /// Brings in the packages of each essential name that no forced place has.
     fn bring_essentials(&mut self, index: &Index, forced: &SparseSet) -> Result<(), AllocError>
         ensures grows { OnOk result (Grows (length index.now.packages) self.old.places self.new.places) }
@@ -83,28 +70,15 @@ impl Candidates {
         ensures unmet { OnOk result (self.new.unmet ≡ self.old.unmet) }
     {
         for name in index.essential_names() {
-            self.bring(forced, index.places_named(*name))?;
+            let row = index.places_named(*name);
+            if !has_any(forced, row) {
+                self.places.extend(row)?;
+            }
         }
         Ok(())
     }
 
-    /// Brings in all places that answer a need, and lists it, unless a forced place answers it.
-    fn bring_need(&mut self, ground: &Ground<'_>, place: u32, number: u32) -> Result<(), AllocError>
-        requires place { place < length ground.now.index.now.packages }
-        requires number { number < length (needs_at ground.now.index.now place) }
-        ensures gathers { OnOk result (Gathers ground.now.index.now (members_of ground.now.forced.now) (λ q j. (place ≡ q) × (number ≡ j)) self.old self.new) }
-        ensures reaches { OnOk result (Reaches ground.now.index.now (λ q. place == q) self.old.places self.new.places) }
-    {
-        let row = ground.index.answers(place, number, &mut self.found)?;
-        if has_any(ground.forced, row) {
-            return Ok(());
-        }
-        self.places.extend(row)?;
-        self.unmet.push(UnmetNeed { place, number })?;
-        Ok(())
-    }
-
-    /// Goes through the needs of a place.
+    /// Brings in all places that answer a need of a place, and lists it, unless a forced place answers it.
     fn visit(&mut self, ground: &Ground<'_>, place: u32) -> Result<(), AllocError>
         requires { place < length ground.now.index.now.packages }
         ensures gathers { OnOk result (Gathers ground.now.index.now (members_of ground.now.forced.now) (λ q j. place ≡ q) self.old self.new) }
@@ -114,7 +88,11 @@ impl Candidates {
             return Ok(());
         }
         for number in 0..ground.index.need_count(place) {
-            self.bring_need(ground, place, number)?;
+            let row = ground.index.answers(place, number, &mut self.found)?;
+            if !has_any(ground.forced, row) {
+                self.places.extend(row)?;
+                self.unmet.push(UnmetNeed { place, number })?;
+            }
         }
         Ok(())
     }

@@ -1,8 +1,12 @@
-use Rattle.std.proofs.Common.{◌≡◌, ◌<◌, ◌≤◌, length, arith, refl}
+use Rattle.std.proofs.Common.{◌≡◌, ◌<◌, ◌≤◌, ◌∙◌, ℕ, length, arith, refl, sym, ap, inl, inr}
+use Rattle.std.proofs.lemmas.Bool.{eq-eqb}
+use Rattle.deb_groundwork.proofs.Forcing.{member_answers}
+use Rattle.deb_groundwork.proofs.RowLemmas.{row_within}
 use Rattle.deb_index.specs.Packages.{needs_at}
-use Rattle.number_sets.specs.Sets.{members_of}
-use Rattle.deb_verdict.proofs.GatherLemmas.{gathers_none, gathers_more, gathers_place, gathers_met_place}
+use Rattle.number_sets.specs.Sets.{NumberSet, members_of}
+use Rattle.deb_verdict.proofs.GatherLemmas.{gathers_none, gathers_more, gathers_place, gathers_met_place, gathers_met, gathers_unmet}
 use Rattle.deb_verdict.proofs.gather.Candidates.visit.Goals as goal
+use Rattle.deb_verdict.proofs.gather.Candidates.visit.Goals.{then-not-has_any+in_ok-extend+in_ok-push, else-not-has_any}
 
 pub loop-number-init : goal.loop-number-init
 loop-number-init c = record {
@@ -11,12 +15,38 @@ loop-number-init c = record {
 }
 
 pub loop-number-preserved : goal.loop-number-preserved
-loop-number-preserved c = record {
-  gathers =
-      gathers_more c.args.ground.now.index.now (members_of c.args.ground.now.forced.now) c.args.place c.loop-number.number c.args.self.now c.loop-number.self c.bring_need.new.self
-      c.loop-number.invariant.gathers c.in_ok-bring_need.ensures.gathers;
-  reaches = λ p other closed visited within. c.in_ok-bring_need.ensures.reaches p other closed visited (c.loop-number.invariant.reaches p other closed visited within);
-}
+loop-number-preserved c =
+    let index = c.args.ground.now.index.now in
+    let forced : NumberSet = members_of c.args.ground.now.forced.now in
+    let number : ℕ = c.loop-number.number in
+    let below : number < length (needs_at index c.args.place) = omega (arith, c.loop-number-test.true, c.need_count-number-end.ensures) in
+    let so_far = c.loop-number.invariant in
+    elim c.if-not-has_any.branch [
+      | then-not-has_any+in_ok-extend+in_ok-push w ↦
+          rw w.self-is
+          (record {
+            gathers =
+                gathers_more index forced c.args.place number c.args.self.now c.loop-number.self _ so_far.gathers
+                (gathers_unmet index forced c.args.place number c.in_ok-row.row.now c.in_ok-row.ensures c.loop-number.self _ c.requires below
+                (w.in_ok-extend.ensures.grows (length index.packages) (row_within index c.args.place number c.in_ok-row.row.now c.in_ok-row.ensures))
+                w.in_ok-extend.ensures.has w.in_ok-push.ensures.items);
+            reaches = λ p other closed visited within q is_in.
+                elim (w.in_ok-extend.ensures.only q is_in) [
+                  | inl old ↦ so_far.reaches p other closed visited within q old
+                  | inr row ↦
+                      closed.answered c.args.place number q (visited c.args.place (eq-eqb c.args.place c.args.place refl))
+                      (sym (ap (λ list. members_of list q) c.in_ok-row.ensures ∙ member_answers index c.args.place number q) ∙ row)
+                ];
+          })
+      | else-not-has_any w ↦
+          rw w.self-is
+          (record {
+            gathers =
+                gathers_more index forced c.args.place number c.args.self.now c.loop-number.self _ so_far.gathers
+                (gathers_met index forced c.args.place number c.in_ok-row.row.now c.in_ok-row.ensures c.loop-number.self _ refl refl (sym c.has_any.ensures ∙ w.if-not-has_any.false));
+            reaches = so_far.reaches;
+          })
+    ]
 
 pub returns : goal.returns
 returns c =
