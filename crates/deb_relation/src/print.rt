@@ -1,8 +1,8 @@
-//! Texts of elements, one after the other.
+//! Texts of elements, one after the other, and of a group of alternatives.
 
-ghost use Rattle.std.specs.Prelude.{◌≡◌, ◌++◌, ℕ, List, All, OnOk};
+ghost use Rattle.std.specs.Prelude.{◌≡◌, ◌++◌, ℕ, List, All, OnOk, map};
 ghost use Rattle.std.specs.List.{flat_map, join_by};
-ghost use Rattle.deb_relation.specs.Relationship.{atom_view, printed, told_if};
+ghost use Rattle.deb_relation.specs.Relationship.{atom_view, group_text, printed, told_if};
 
 use crate::atom::Atom;
 use std::alloc::AllocError;
@@ -52,7 +52,8 @@ pub fn push_all<T, P: Print<T>>(
     push_joined(out, "", printer, elements)
 }
 
-/// Adds the texts of elements with commas between, behind what leads to them, where there are some. `AllocError` where there is no memory; then some of it may be added.
+/// Adds the texts of elements with commas between, behind what leads to them, where there are some. `AllocError` where there is no memory;
+/// then some of it may be added.
 #[tactic(auto, unfolding(crate::specs::Relationship::told_if))]
 pub fn push_some<T, P: Print<T>>(
     out: &mut Vec<u8>,
@@ -102,4 +103,12 @@ impl<'i> Print<&'i Atom> for Plainly {
     fn print(&self, out: &mut Vec<u8>, atom: &&'i Atom) -> Result<(), AllocError> {
         atom.append_to(out)
     }
+}
+
+/// Adds the atoms of a group, with a bar between two (Debian Policy 7.1). `AllocError` where there is no memory; then some of it may be added.
+#[tactic(auto, using(crate::proofs::JoinLemmas::joined_map), unfolding(crate::specs::Relationship::group_text))]
+pub fn push_group(out: &mut Vec<u8>, group: &[Atom]) -> Result<(), AllocError>
+    ensures { OnOk result (out.new.items ≡ out.old.items ++ group_text (map atom_view group.now)) }
+{
+    push_joined(out, " | ", &Plainly, group)
 }
