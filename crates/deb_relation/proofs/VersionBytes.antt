@@ -1,15 +1,17 @@
 -- A version has only the bytes of its parts, and at least one.
-use Rattle.std.proofs.Common.{◌≡◌, ◌+◌, ◌<◌, ◌==◌, ℕ, List, [], ◌∷◌, length, take, drop, get_or, Bool, true, false, Option, Some, None, refl, arith, inl, inr, suc, zero, add-one}
-use Rattle.std.specs.Prelude.{if◌then◌else◌, not, ◌&&◌}
+use Rattle.std.proofs.Common.{◌≡◌, ◌≢◌, ◌+◌, ◌<◌, ◌==◌, ℕ, List, [], ◌∷◌, length, take, drop, get_or, Bool, true, false, Option, Some, None, refl, arith, inl, inr, suc, zero, add-one}
+use Rattle.std.specs.Prelude.{if◌then◌else◌, not, unwrap_or, ◌&&◌}
 use Rattle.std.proofs.lemmas.Bool.{and_from, and_parts, cases_Bool}
 use Rattle.std.proofs.lemmas.Bool.Decides.{nat_tests}
+use Rattle.std.proofs.lemmas.List.{length-drop, length-take}
 use Rattle.std.proofs.lemmas.List.Quantifiers.{position-Some}
 use Rattle.std.specs.Char.{is_ascii_digit}
 use Rattle.std.specs.List.{list_all}
+use Rattle.std.specs.Option.{option_map_or}
 use Rattle.deb_relation.specs.declared.version.VersionError.{VersionError}
 use Rattle.deb_relation.specs.declared.version.VersionError.TheVariants.{Epoch, Upstream, Revision, Character}
 use Rattle.deb_relation.specs.Bytes.{colon, hyphen, begins}
-use Rattle.deb_relation.specs.VersionText.{colon_in, fault_of, hyphen_in, is_epoch, is_revision_byte, is_upstream_byte, last_position, later_or, rest_fault}
+use Rattle.deb_relation.specs.VersionText.{colon_in, fault_of, hyphen_in, is_epoch, is_revision_byte, is_upstream_byte, last_position, later_or, rest_fault, revision_in, upstream_in}
 use Rattle.deb_relation.proofs.ByteKinds.{colon-is_upstream, digit-is_upstream, hyphen-is_upstream, revision-is_upstream}
 use Rattle.deb_relation.proofs.RunJoins.{list_all-wider, not-true}
 
@@ -43,6 +45,25 @@ last-found p (x ∷ xs) i e = step (last_position p xs) (last-found p xs) e
           rw (← same) (omega arith, passes)
       | inr other ↦ cc (rw other at h)
     ]
+
+-- a revision that is there has bytes unless a hyphen ends the text
+pub revision-filled : (rest : List ℕ) → length (upstream_in rest) + 1 ≢ length rest → option_map_or (λ r. length r == 0) (revision_in rest) false ≡ false
+unfolding hyphen_in
+revision-filled rest other = by (hyphen_in rest) refl
+  where
+    by : (o : Option ℕ) → hyphen_in rest ≡ o → option_map_or (λ r. length r == 0) (revision_in rest) false ≡ false
+    by None e = rw e refl
+    by (Some i) e =
+        let front : length (take i rest) + 1 ≢ length rest = rw e at other in
+        let within = (last-found (λ (b : ℕ). b == hyphen) rest i e).0 in
+        let some : 0 < length (drop (i + 1) rest) = omega (arith, front, within, length-take i rest, length-drop (i + 1) rest) in
+        let test : (length (drop (i + 1) rest) == 0) ≡ false = grind (arith, nat_tests) in
+        rw (e, test) refl
+
+pub rest-decided : (rest : List ℕ) (bytes : Bool) → (length (upstream_in rest) == 0) ≡ false → length (upstream_in rest) + 1 ≢ length rest
+    → (list_all is_upstream_byte (upstream_in rest) && list_all is_revision_byte (unwrap_or (revision_in rest) [])) ≡ bytes → rest_fault rest ≡ (if bytes then None else Some Character)
+unfolding rest_fault
+rest-decided rest bytes some other are = rw (some, revision-filled rest other, are) refl
 
 -- a list that isn't empty begins with an item that passes, if all do
 begins-all : (p : ℕ → Bool) (xs : List ℕ) → (length xs == 0) ≡ false → list_all p xs ≡ true → begins p xs ≡ true
