@@ -1,8 +1,7 @@
 //! The groups of a field, whose atoms lie in one piece of memory.
 
-ghost use Rattle.std.specs.Prelude.{◌≡◌, ◌+◌, ◌<◌, ◌≤◌, ◌∷◌, [], IfOk, false, length, map, slice_index_or};
+ghost use Rattle.std.specs.Prelude.{◌≡◌, ◌+◌, ◌<◌, ◌≤◌, ◌∷◌, [], IfOk, length, map, slice_index_or};
 ghost use Rattle.deb_relation.specs.Relationship.{atom_view, Gives, groups_of};
-ghost use Rattle.deb_relation.specs.Bytes.{bar, has_byte};
 
 use crate::atom::{Atom, RelationError};
 use crate::piece::{self, has_bar};
@@ -29,18 +28,6 @@ impl Model for Groups {
     ghost view = { λ g. lists_in (map atom_view g.atoms.items) g.ends.items };
 
     ghost invariant = { λ g. MayBeEnds (length g.atoms.items) g.ends.items };
-}
-
-// Reads a field without a bar, of which each group has one atom.
-fn read_single(alloc: Global, text: &[u8]) -> Result<Groups, RelationError>
-    requires { has_byte bar text.now ≡ false }
-    ensures { Gives (λ g. g) result (groups_of text.now) }
-{
-    let atoms = parse_list(alloc, text)?;
-    Ok(Groups {
-        atoms,
-        ends: Vec::new(alloc),
-    })
 }
 
 // Reads a field of which any group may have several atoms.
@@ -82,10 +69,11 @@ impl Groups {
         ensures few { IfOk result (λ g. length g ≤ length text.now + 1) }
     {
         if has_bar(text) {
-            read_several(alloc, text)
-        } else {
-            read_single(alloc, text)
+            return read_several(alloc, text);
         }
+        let atoms = parse_list(alloc, text)?;
+        let ends = Vec::new(alloc);
+        Ok(Groups { atoms, ends })
     }
 
     /// How many groups there are.
