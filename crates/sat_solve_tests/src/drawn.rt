@@ -1,7 +1,7 @@
 //! Drawn formulas: each solve of one gives the first set that the plain search finds, or none, and marked groups admit no set. Without one
 //! that is marked as needed there is a set.
 
-ghost use Rattle.std.specs.Prelude.{◌≡◌, ◌<◌, ◌≤◌, length};
+ghost use Rattle.std.specs.Prelude.{◌<◌};
 
 use crate::plain::{Bits, first_set, members_of};
 use sat_solve::{Formula, Lit, Owner, Rotation, Workspace};
@@ -53,52 +53,30 @@ fn draw_clause(
     formula: &mut Formula,
     plain: &mut Vec<Bits>,
     wide: bool,
-)
-    requires vars { 0 < formula.old.vars }
-    requires groups { formula.old.groups ≡ 3 }
-    ensures vars { formula.new.vars ≡ formula.old.vars }
-    ensures groups { formula.new.groups ≡ 3 }
-{
+) {
     let vars = formula.vars();
+    assert!(rt; 0 < vars && formula.groups() == 3);
     let group = numbers.below(3);
-    let (first, second) = (numbers.literal(vars), numbers.literal(vars));
-    let added = match numbers.below(30) {
-        0 if !wide => {
-            plain.push(Bits::new(group, &[])).expect(rt, "no memory");
-            formula.add(group, &[])
-        }
-        1..=4 if !wide => {
-            plain
-                .push(Bits::new(group, &[first]))
-                .expect(rt, "no memory");
-            formula.add(group, &[first])
-        }
-        5..=14 if !wide => {
-            let clause = [first, second];
-            plain
-                .push(Bits::new(group, &clause))
-                .expect(rt, "no memory");
-            formula.add(group, &clause)
-        }
-        _ => {
-            let clause = [first, second, numbers.literal(vars)];
-            plain
-                .push(Bits::new(group, &clause))
-                .expect(rt, "no memory");
-            formula.add(group, &clause)
-        }
+    let literals = [
+        numbers.literal(vars),
+        numbers.literal(vars),
+        numbers.literal(vars),
+    ];
+    let count = match numbers.below(30) {
+        0 if !wide => 0,
+        1..=4 if !wide => 1,
+        5..=14 if !wide => 2,
+        _ => 3,
     };
-    added.expect(rt, "no memory");
+    let clause = &literals[..count];
+    plain.push(Bits::new(group, clause)).expect(rt, "no memory");
+    formula.add(group, clause).expect(rt, "no memory");
 }
 
 /// Adds a drawn list of two owners.
-fn draw_list(rt: &impl Abort, numbers: &mut Numbers, formula: &mut Formula, plain: &mut Vec<Bits>)
-    requires vars { 0 < formula.old.vars }
-    requires groups { formula.old.groups ≡ 3 }
-    ensures vars { formula.new.vars ≡ formula.old.vars }
-    ensures groups { formula.new.groups ≡ 3 }
-{
+fn draw_list(rt: &impl Abort, numbers: &mut Numbers, formula: &mut Formula, plain: &mut Vec<Bits>) {
     let vars = formula.vars();
+    assert!(rt; 0 < vars && formula.groups() == 3);
     let owners = [numbers.owner(vars), numbers.owner(vars)];
     let list = [
         numbers.below(vars),
@@ -118,24 +96,19 @@ fn draw_list(rt: &impl Abort, numbers: &mut Numbers, formula: &mut Formula, plai
 }
 
 /// Fills a formula: the half that is hard has four to five clauses of three literals to a variable, and no lists.
-fn fill(rt: &impl Abort, numbers: &mut Numbers, formula: &mut Formula, plain: &mut Vec<Bits>)
-    requires vars { 0 < formula.old.vars }
-    requires few { formula.old.vars ≤ 16 }
-    requires groups { formula.old.groups ≡ 3 }
-    ensures vars { formula.new.vars ≡ formula.old.vars }
-    ensures groups { formula.new.groups ≡ 3 }
-{
+fn fill(rt: &impl Abort, numbers: &mut Numbers, formula: &mut Formula, plain: &mut Vec<Bits>) {
     let vars = formula.vars();
+    assert!(rt; 0 < vars && vars <= 16);
     let hard = numbers.below(2) == 0;
     let (clauses, lists) = if hard {
         (4 * vars + numbers.below(vars), 0)
     } else {
         (numbers.below(3 * vars), numbers.below(3))
     };
-    'clauses: for _ in 0..clauses {
+    for _ in 0..clauses {
         draw_clause(rt, numbers, formula, plain, hard);
     }
-    'lists: for _ in 0..lists {
+    for _ in 0..lists {
         draw_list(rt, numbers, formula, plain);
     }
 }
@@ -148,11 +121,8 @@ fn has_first(
     plain: &[Bits],
     keep: &[bool],
     must: u32,
-) -> bool
-    requires few { formula.now.vars ≤ 16 }
-    requires keep { length keep.now ≡ formula.now.groups }
-    requires must { must < formula.now.vars }
-{
+) -> bool {
+    assert!(rt; keep.len() == formula.groups() as usize && must < formula.vars());
     let mut marks = Vec::new(rt.alloc());
     let found = formula
         .solve_marked(rt.alloc(), workspace, keep, must, &mut marks)
@@ -180,9 +150,7 @@ fn expect_marks(
     keep: &[bool; 3],
     must: u32,
     marks: &[bool],
-)
-    requires { vars ≤ 16 }
-{
+) {
     for group in 0..3 {
         if marks.get(group) == Some(&true) {
             let mut others = *keep;
@@ -201,11 +169,8 @@ fn expect_needed(
     plain: &[Bits],
     keep: &[bool; 3],
     must: u32,
-)
-    requires few { formula.now.vars ≤ 16 }
-    requires groups { formula.now.groups ≡ 3 }
-    requires must { must < formula.now.vars }
-{
+) {
+    assert!(rt; formula.groups() == 3 && must < formula.vars());
     let mut marks = Vec::new(rt.alloc());
     for group in 0..3 {
         let mut others = *keep;
@@ -245,7 +210,7 @@ fn expect_number(
     let mut formula = Formula::new(rt.alloc(), vars, 3).expect(rt, "no memory");
     let mut plain = Vec::new(rt.alloc());
     fill(rt, &mut numbers, &mut formula, &mut plain);
-    'questions: for _ in 0..4 {
+    for _ in 0..4 {
         let keep = [
             numbers.below(4) > 0,
             numbers.below(4) > 0,

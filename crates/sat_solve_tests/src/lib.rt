@@ -1,18 +1,14 @@
 //! Tests of the public calls of `sat_solve`.
 //!
-//! `scripts` reads clauses and questions from lines of text, `worked` has worked formulas, and `exclusions` worked lists of exclusions, one of
-//! them long; `needed` has groups that are needed; `literals` makes literals. `drawn` sees that many small formulas have the first sets that
-//! `plain` finds, which tries all sets in their order. `growths` has a test for each call that can want memory.
+//! `scripts` reads clauses, lists and questions from lines of text, `worked` has worked formulas; `needed` has groups that are needed. `drawn` sees
+//! that many small formulas have the first sets that `plain` finds, which tries all sets in their order. `growths` has a test for each call that can
+//! want memory.
 #![tactic(auto)]
 
 #[cfg(test)]
 mod drawn;
 #[cfg(test)]
-mod exclusions;
-#[cfg(test)]
 mod growths;
-#[cfg(test)]
-mod literals;
 #[cfg(test)]
 mod needed;
 #[cfg(test)]

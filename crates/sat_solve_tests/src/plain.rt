@@ -1,7 +1,5 @@
 //! A plain search: all sets of at most sixteen variables, in their order.
 
-ghost use Rattle.std.specs.Prelude.{◌<◌, ◌≤◌};
-
 use sat_solve::{Lit, Owner};
 use std::alloc::{AllocError, Global};
 
@@ -51,11 +49,10 @@ impl Bits {
     }
 }
 
-/// The first set of these many variables that contains `must` and makes each clause of a kept group true, as bits.
-pub fn first_set(clauses: &[Bits], vars: u32, keep: &[bool], must: u32) -> Option<u32>
-    requires { vars ≤ 16 }
-{
-    'sets: for number in 0..1u32 << vars {
+/// The first set of so many variables, of which it looks at sixteen, that contains `must` and makes each clause of a kept group true, as bits.
+pub fn first_set(clauses: &[Bits], vars: u32, keep: &[bool], must: u32) -> Option<u32> {
+    let vars = vars.min(16);
+    for number in 0..1u32 << vars {
         let set = number << (16 - vars);
         if set & bit(must) != 0 && clauses.iter().all(|clause| clause.is_met(keep, set)) {
             return Some(set);

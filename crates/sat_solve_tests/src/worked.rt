@@ -1,10 +1,11 @@
-//! Worked formulas.
+//! Worked formulas, one of them with a long list.
 
-use crate::scripts::follow;
+use crate::scripts::{follow, formula_of};
 use sat_solve::Formula;
+use std::alloc::{AllocError, Global};
 
 /// How many variables and groups a formula has, and the lines that are followed with it.
-static WORKED: [(u32, u32, &str); 6] = [
+static WORKED: [(u32, u32, &str); 8] = [
     // Three variables and two groups.
     (
         3,
@@ -66,6 +67,34 @@ static WORKED: [(u32, u32, &str); 6] = [
             10 12 = 2 4 6 12
             11 12 = none",
     ),
+    // The variables 0 and 1 are excluded where variable 3 is in, in group 1.
+    (
+        4,
+        2,
+        "
+            1.3 excludes 0 1 3
+            0: 0 1 2
+            0: 0 1 !2
+            11 3 = none
+            10 3 = 1 3
+            11 0 = 0
+            0: !1 3
+            0: !0 1
+            11 0 = none",
+    ),
+    // Owners that all are in share a list that is out.
+    (
+        7,
+        1,
+        "
+            0.0 0.1 0.2 excludes 3 4 5
+            0: !6 0
+            0: !6 1
+            0: !6 2
+            1 6 = 0 1 2 6
+            0: 5
+            1 6 = none",
+    ),
     // A conflict that rests on few decisions.
     // 30 pairs that are free, and then a contradiction on two variables. A search that goes back by one decision at a time
     // tries each way to choose among the pairs, more than 2^30 of them.
@@ -93,6 +122,30 @@ fn worked_formulas(rt: HostRuntime) {
     let mut formula = Formula::new(rt.alloc(), 0, 0).expect(&rt, "no memory");
     for (vars, groups, lines) in &WORKED {
         formula.restart(*vars, *groups);
-        follow(&rt, &mut formula, *lines);
+        follow(&rt, &mut formula, *lines).expect(&rt, "no memory");
     }
+}
+
+/// The variables below 20,000 exclude each other, and a clause wants one of them.
+fn crowd(alloc: Global) -> Result<String, AllocError> {
+    let mut owners = String::new(alloc);
+    let mut list = String::new(alloc);
+    for var in 0..20_000 {
+        write!(owners, "0.{var} ")?;
+        write!(list, " {var}")?;
+    }
+    format!(in alloc; "{owners}excludes{list}\n0:{list}\n")
+}
+
+#[test]
+fn twenty_thousand_in_one_list(rt: HostRuntime) {
+    let crowd = crowd(rt.alloc()).expect(&rt, "no memory");
+    let mut formula = formula_of(&rt, 20_001, 1, &crowd).expect(&rt, "no memory");
+    let lines = "
+        0: 10000 19999
+        1 20000 = 19999 20000
+        1 10000 = 10000
+        0: 0
+        1 20000 = none";
+    follow(&rt, &mut formula, lines).expect(&rt, "no memory");
 }
