@@ -11,6 +11,7 @@ use run_settings::{Config, Format, Show};
 use std::alloc::{AllocError, AllocGlobal, Global};
 use std::process::Abort;
 use std::test::Fail;
+use test_texts::report_of;
 
 /// The words that are said; all else is as usual.
 #[derive(Clone, Copy)]
@@ -56,10 +57,11 @@ pub enum Call<'a> {
 /// What is expected of an answer.
 #[derive(Clone, Copy)]
 pub enum Wanted<'a> {
-    /// A report of these parts, one behind the other.
-    Whole(&'a [&'a str]),
-    Start(&'a str),
+    /// The report that `report_of` makes of lines.
+    Report(&'a str),
+    /// The report ends as the one that `report_of` makes of lines, or, where these begin with a quotation mark, with the text itself.
     End(&'a str),
+    Start(&'a str),
     Places(&'a [u32]),
     /// No places are asked, since this name is unknown.
     Unknown(&'a [u8]),
@@ -83,7 +85,7 @@ pub const REPORT: Case = Case {
     background: "",
     call: Call::Report,
     asked: USUAL,
-    wanted: Wanted::Whole(&[]),
+    wanted: Wanted::Start(""),
 };
 
 fn ask(alloc: Global, config: &mut Config, asked: &Asked<'_>) -> Result<(), AllocError> {
@@ -110,28 +112,32 @@ fn config_for(alloc: Global, asked: &Asked<'_>) -> Result<Config, AllocError> {
     Ok(config)
 }
 
-/// Whether a text is its parts, one behind the other.
-fn is_made_of(text: &[u8], parts: &[&str]) -> bool {
-    let mut rest = text;
-    for part in parts {
-        match rest.strip_prefix(part.as_bytes()) {
-            Some(behind) => rest = behind,
-            None => return false,
-        }
-    }
-    rest.is_empty()
+fn is_report(alloc: Global, text: &[u8], lines: &str) -> Result<bool, AllocError> {
+    let report = report_of(alloc, lines)?;
+    Ok(text == report.as_bytes())
 }
 
-fn expect_text(rt: &(impl Abort + AllocGlobal), case: &Case, text: &[u8]) {
+fn has_end(alloc: Global, text: &[u8], lines: &str) -> Result<bool, AllocError> {
+    if lines.starts_with('"') {
+        return Ok(text.ends_with(lines.as_bytes()));
+    }
+    let report = report_of(alloc, lines)?;
+    let head = report_of(alloc, "")?;
+    let end = report.strip_prefix(head.as_str()).unwrap_or(&report);
+    Ok(text.ends_with(end.as_bytes()))
+}
+
+fn expect_text(rt: &(impl Abort + AllocGlobal), case: &Case, text: &[u8]) -> Result<(), Fail> {
     let same = match case.wanted {
-        Wanted::Whole(parts) => is_made_of(text, parts),
+        Wanted::Report(lines) => is_report(rt.alloc(), text, lines)?,
+        Wanted::End(lines) => has_end(rt.alloc(), text, lines)?,
         Wanted::Start(start) => text.starts_with(start.as_bytes()),
-        Wanted::End(end) => text.ends_with(end.as_bytes()),
         Wanted::Unknown(name) => text == name,
         Wanted::Places(_) => false,
     };
     let name = case.name;
     assert!(rt; same, "another text: {name}");
+    Ok(())
 }
 
 fn expect_places(rt: &(impl Abort + AllocGlobal), case: &Case, places: &[u32]) {
@@ -163,15 +169,15 @@ fn expect_of(
         Call::Report => {
             let verdicts = verdicts_of(alloc, index, places)?;
             let text = report(alloc, index, places, verdicts.as_slice(), config)?;
-            expect_text(rt, case, &text);
+            expect_text(rt, case, &text)?;
         }
         Call::Told(_) => {
             let (text, _) = report_told(alloc, index, places, told, None, config)?;
-            expect_text(rt, case, &text);
+            expect_text(rt, case, &text)?;
         }
         Call::Since(earlier) => {
             let text = report_since_earlier(alloc, index, places, told, earlier, config)?;
-            expect_text(rt, case, &text);
+            expect_text(rt, case, &text)?;
         }
         Call::News(earlier) => {
             let news = news_since(alloc, index, places, told, earlier, config)?;
@@ -208,10 +214,7 @@ fn expect_under(
     match asked_places(rt.alloc(), index, config) {
         Ok(places) => expect_at(rt, index, places.as_slice(), case, config),
         Err(AskedFault::Memory) => Err(Fail::new("out of memory")),
-        Err(AskedFault::Unknown { name }) => {
-            expect_text(rt, case, name.as_slice());
-            Ok(())
-        }
+        Err(AskedFault::Unknown { name }) => expect_text(rt, case, name.as_slice()),
     }
 }
 

@@ -5,7 +5,7 @@ use crate::causes::{CHAIN_SHOWN, KINDS_IN_JSON, SHARED_TOLD};
 use crate::later::FIRST_IN_JSON;
 use crate::parts::{FAILURES, PLACES_OF_NAMES, SUCCESSES, UNKNOWN_NAME};
 use crate::since::{NEWS, SINCE, SINCE_IN_JSON};
-use crate::why::{EDITOR, EDITOR_REASONS, Walked, expect_reasons, expect_walk};
+use crate::why::{EDITOR_DOCUMENT, EDITOR_WALK, expect_walk};
 use run_settings::Config;
 use std::alloc::AllocGlobal;
 use std::process::Abort;
@@ -74,18 +74,16 @@ fn of_report_told_with_causes(rt: HostRuntime) -> Result<(), Fail> {
     expect_each(&rt, TOLD_WITH_CAUSES)
 }
 
-static WALKED: Walked<'static> = EDITOR;
-
 /// A core as it is walked.
 #[test]
 fn of_report_with_walk(rt: HostRuntime) -> Result<(), Fail> {
-    expect_walk(&rt, &WALKED)
+    expect_walk(&rt, &EDITOR_WALK)
 }
 
 /// Where a walk goes on from each reason, in JSON.
 #[test]
 fn of_json_report_with_walk(rt: HostRuntime) -> Result<(), Fail> {
-    expect_reasons(&rt, &WALKED, EDITOR_REASONS)
+    expect_walk(&rt, &EDITOR_DOCUMENT)
 }
 
 /// The places of what is newly broken.

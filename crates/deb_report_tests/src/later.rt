@@ -19,113 +19,69 @@ const ALL_IN_JSON: Asked<'static> = Asked {
 /// Two packages that miss two and three names, and one that can be installed.
 const MISSING: &str = "a 1 {Depends: x, y} / b 1 {Depends: x, y, z} / c 1";
 
-const HEAD: &str = "architecture: amd64
-report:
-";
+const ALL_CORES: &str = "a 1: broken {missing: a 1 Depends: y} also {missing: a 1 Depends: x}
+b 1: broken {missing: b 1 Depends: z} also {missing: b 1 Depends: y} also {missing: b 1 Depends: x}
+c 1: ok {c 1}
+stanzas 3, skipped 0, duplicates 0, asked 3, broken 2";
 
-const FIRST: &str = " -
-  package: a
-  version: 1
-  architecture: all
-  status: broken
-  reasons:
-   - missing: a 1 Depends: y
-";
+/// Of the first place alone.
+const CORES_OF_FIRST: &str = "a 1: broken {missing: a 1 Depends: y} also {missing: a 1 Depends: x}
+b 1: broken {missing: b 1 Depends: z}
+c 1: ok {c 1}
+stanzas 3, skipped 0, duplicates 0, asked 3, broken 2";
 
-const FIRST_ALSO: &str = "  also:
-   - missing: a 1 Depends: x
-";
+const FIRST_CORES: &str = "a 1: broken {missing: a 1 Depends: y}
+b 1: broken {missing: b 1 Depends: z}
+c 1: ok {c 1}
+stanzas 3, skipped 0, duplicates 0, asked 3, broken 2";
 
-const SECOND: &str = " -
-  package: b
-  version: 1
-  architecture: all
-  status: broken
-  reasons:
-   - missing: b 1 Depends: z
-";
-
-const SECOND_ALSO: &str = "  also:
-   - missing: b 1 Depends: y
-  also:
-   - missing: b 1 Depends: x
-";
-
-const THIRD: &str = " -
-  package: c
-  version: 1
-  architecture: all
-  status: ok
-  installation-set:
-   - c 1
-";
-
-const TAIL: &str = "stanzas: 3
-skipped: 0
-duplicates: 0
-asked: 3
-broken: 2
-";
+/// How many cores stand behind the first.
+const FURTHER: &str = "a 1: broken {missing: a 1 Depends: y} further 1
+b 1: broken {missing: b 1 Depends: z} further 2
+c 1: ok {c 1}
+stanzas 3, skipped 0, duplicates 0, asked 3, broken 2";
 
 /// The blocks without their reasons.
-const SHORT_BLOCKS: &str = " -
-  package: a
-  version: 1
-  architecture: all
-  status: broken
- -
-  package: b
-  version: 1
-  architecture: all
-  status: broken
-";
+const UNEXPLAINED: &str = "a 1: broken
+b 1: broken
+stanzas 3, skipped 0, duplicates 0, asked 3, broken 2";
 
-const DOCUMENT_HEAD: &str =
+const DOCUMENT: &str =
     r#"{"format":2,"options":["explain","all-reasons"],"architecture":"amd64","report":[
-{"package":"a","version":"1","architecture":"all","status":"broken","reasons":[{"kind":"missing","package":"a","version":"1","field":"Depends","relation":"y"}],"also":"#;
-
-const DOCUMENT_ALSO: &str =
-    r#"[[{"kind":"missing","package":"a","version":"1","field":"Depends","relation":"x"}]]"#;
-
-const DOCUMENT_SECOND: &str = r#"},
-{"package":"b","version":"1","architecture":"all","status":"broken","reasons":[{"kind":"missing","package":"b","version":"1","field":"Depends","relation":"z"}],"also":"#;
-
-const DOCUMENT_SECOND_ALSO: &str =
-    r#"[[{"kind":"missing","package":"b","version":"1","field":"Depends","relation":"y"}],[{"kind":"missing","package":"b","version":"1","field":"Depends","relation":"x"}]]"#;
-
-const DOCUMENT_TAIL: &str = r#"},
+{"package":"a","version":"1","architecture":"all","status":"broken",
+ "reasons":[{"kind":"missing","package":"a","version":"1","field":"Depends","relation":"y"}],
+ "also":[[{"kind":"missing","package":"a","version":"1","field":"Depends","relation":"x"}]]},
+{"package":"b","version":"1","architecture":"all","status":"broken",
+ "reasons":[{"kind":"missing","package":"b","version":"1","field":"Depends","relation":"z"}],
+ "also":[[{"kind":"missing","package":"b","version":"1","field":"Depends","relation":"y"}],
+ [{"kind":"missing","package":"b","version":"1","field":"Depends","relation":"x"}]]},
 {"package":"c","version":"1","architecture":"all","status":"ok","installation-set":[{"package":"c","version":"1"}]}
-],"stanzas":3,"skipped":0,"duplicates":0,"asked":3,"broken":2}
-"#;
+],"stanzas":3,"skipped":0,"duplicates":0,"asked":3,"broken":2}"#;
+
+const DOCUMENT_OF_FIRST: &str =
+    r#"{"format":2,"options":["explain","all-reasons"],"architecture":"amd64","report":[
+{"package":"a","version":"1","architecture":"all","status":"broken",
+ "reasons":[{"kind":"missing","package":"a","version":"1","field":"Depends","relation":"y"}],
+ "also":[[{"kind":"missing","package":"a","version":"1","field":"Depends","relation":"x"}]]},
+{"package":"b","version":"1","architecture":"all","status":"broken",
+ "reasons":[{"kind":"missing","package":"b","version":"1","field":"Depends","relation":"z"}],"also":[]},
+{"package":"c","version":"1","architecture":"all","status":"ok","installation-set":[{"package":"c","version":"1"}]}
+],"stanzas":3,"skipped":0,"duplicates":0,"asked":3,"broken":2}"#;
 
 const COUNTED: &str =
     r#"{"format":2,"options":["explain","failures"],"architecture":"amd64","report":[
-{"package":"a","version":"1","architecture":"all","status":"broken","reasons":[{"kind":"missing","package":"a","version":"1","field":"Depends","relation":"y"}],"further":1},
-{"package":"b","version":"1","architecture":"all","status":"broken","reasons":[{"kind":"missing","package":"b","version":"1","field":"Depends","relation":"z"}]}
-],"stanzas":3,"skipped":0,"duplicates":0,"asked":3,"broken":2}
-"#;
+{"package":"a","version":"1","architecture":"all","status":"broken",
+ "reasons":[{"kind":"missing","package":"a","version":"1","field":"Depends","relation":"y"}],"further":1},
+{"package":"b","version":"1","architecture":"all","status":"broken",
+ "reasons":[{"kind":"missing","package":"b","version":"1","field":"Depends","relation":"z"}]}
+],"stanzas":3,"skipped":0,"duplicates":0,"asked":3,"broken":2}"#;
 
 /// A package with a cause of its own, and one of another package, which stand near other names.
 const FAR: &str = "a 1 {Depends: b, y1} / b 1 {Depends: x (>= 2)} / x 1 / y2 1";
 
-const WALKED: &str = "architecture: amd64
-report:
- -
-  package: a
-  version: 1
-  architecture: all
-  status: broken
-  why:
-   - a 1 Depends: y1 missing; similar: y2
-  also:
-   - a 1 Depends: b
-   - b 1 Depends: x (>= 2) missing; present: x 1
-stanzas: 4
-skipped: 0
-duplicates: 0
-asked: 1
-broken: 1
-";
+const WALKED: &str =
+    "a 1: broken why {a 1 Depends: y1 missing; similar: y2} also {a 1 Depends: b / b 1 Depends: x (>= 2) missing; present: x 1}
+stanzas 4, skipped 0, duplicates 0, asked 1, broken 1";
 
 const MANY_WORDS: &str =
     r#"{"format":2,"options":["explain","failures","ignore-essential","checkonly","bg","since","all-reasons","why"],"architecture":"amd64","report":["#;
@@ -139,13 +95,7 @@ pub const FIRST_IN_JSON: Case = Case {
     text: MISSING,
     call: Call::Told(1),
     asked: ALL_IN_JSON,
-    wanted: Wanted::Whole(&[
-        DOCUMENT_HEAD,
-        DOCUMENT_ALSO,
-        DOCUMENT_SECOND,
-        "[]",
-        DOCUMENT_TAIL,
-    ]),
+    wanted: Wanted::Report(DOCUMENT_OF_FIRST),
     ..REPORT
 };
 
@@ -155,7 +105,7 @@ const CASES: &[Case] = &[
         text: MISSING,
         call: Call::Told(3),
         asked: ALL_REASONS,
-        wanted: Wanted::Whole(&[HEAD, FIRST, FIRST_ALSO, SECOND, SECOND_ALSO, THIRD, TAIL]),
+        wanted: Wanted::Report(ALL_CORES),
         ..REPORT
     },
     Case {
@@ -163,22 +113,14 @@ const CASES: &[Case] = &[
         text: MISSING,
         call: Call::Told(1),
         asked: ALL_REASONS,
-        wanted: Wanted::Whole(&[HEAD, FIRST, FIRST_ALSO, SECOND, THIRD, TAIL]),
+        wanted: Wanted::Report(CORES_OF_FIRST),
         ..REPORT
     },
     Case {
         name: "later cores that are not asked for are counted",
         text: MISSING,
         call: Call::Told(3),
-        wanted: Wanted::Whole(&[
-            HEAD,
-            FIRST,
-            "  further: 1\n",
-            SECOND,
-            "  further: 2\n",
-            THIRD,
-            TAIL,
-        ]),
+        wanted: Wanted::Report(FURTHER),
         ..REPORT
     },
     Case {
@@ -190,7 +132,7 @@ const CASES: &[Case] = &[
             format: Format::Json,
             ..USUAL
         },
-        wanted: Wanted::Whole(&[COUNTED]),
+        wanted: Wanted::Report(COUNTED),
         ..REPORT
     },
     Case {
@@ -202,14 +144,14 @@ const CASES: &[Case] = &[
             why: true,
             ..ALL_REASONS
         },
-        wanted: Wanted::Whole(&[WALKED]),
+        wanted: Wanted::Report(WALKED),
         ..REPORT
     },
     Case {
         name: "no later cores are known",
         text: MISSING,
         asked: ALL_REASONS,
-        wanted: Wanted::Whole(&[HEAD, FIRST, SECOND, THIRD, TAIL]),
+        wanted: Wanted::Report(FIRST_CORES),
         ..REPORT
     },
     Case {
@@ -221,7 +163,7 @@ const CASES: &[Case] = &[
             show: Show::Failures,
             ..ALL_REASONS
         },
-        wanted: Wanted::Whole(&[HEAD, SHORT_BLOCKS, TAIL]),
+        wanted: Wanted::Report(UNEXPLAINED),
         ..REPORT
     },
     Case {
@@ -229,13 +171,7 @@ const CASES: &[Case] = &[
         text: MISSING,
         call: Call::Told(3),
         asked: ALL_IN_JSON,
-        wanted: Wanted::Whole(&[
-            DOCUMENT_HEAD,
-            DOCUMENT_ALSO,
-            DOCUMENT_SECOND,
-            DOCUMENT_SECOND_ALSO,
-            DOCUMENT_TAIL,
-        ]),
+        wanted: Wanted::Report(DOCUMENT),
         ..REPORT
     },
     FIRST_IN_JSON,

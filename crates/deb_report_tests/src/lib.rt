@@ -1,17 +1,15 @@
 //! Tests of the public calls of `deb_report`.
 //!
 //! `reporting` has the index of a text, the verdicts on what is asked of it, and the calls that answer from them; `asking` compares what is asked of
-//! the index of a text with what is expected. `parts` has the asked places and the report, each by itself, `causes` the block of causes (`causes_texts`), `similar`
-//! names that are near, `later` the cores behind the first, `why` cores as they are walked, `since` the report since an earlier index (`since_texts`), `growths` a
-//! test for each call that can want memory.
+//! the index of a text with what is expected. `parts` has the asked places and the report, each by itself, `causes` the block of causes, `similar` names
+//! that are near, `later` the cores behind the first, `why` cores as they are walked, `since` the report since an earlier index, `growths` a test for each
+//! call that can want memory.
 #![tactic(auto)]
 
 #[cfg(test)]
 mod asking;
 #[cfg(test)]
 mod causes;
-#[cfg(test)]
-mod causes_texts;
 #[cfg(test)]
 mod growths;
 #[cfg(test)]
@@ -24,7 +22,5 @@ mod reporting;
 mod similar;
 #[cfg(test)]
 mod since;
-#[cfg(test)]
-mod since_texts;
 #[cfg(test)]
 mod why;

@@ -21,105 +21,24 @@ const PLACES: Case = Case {
     ..REPORT
 };
 
-const HEAD: &str = "architecture: amd64\nreport:\n";
+const RELATED_FAILURES: &str =
+    "a 1: broken {depends: a 1 Pre-Depends: n (= 1) / depends: a 1 Depends: b / depends: b 1 Depends: n (= 2) / versions: n}
+c 1: broken {missing: c 1 Depends: zz | yy}
+d 1: broken {depends: d 1 Depends: e / conflict: e 1 Breaks: d}
+stanzas 7, skipped 0, duplicates 0, asked 7, broken 3";
 
-const RELATED_FAILURES: &str = " -
-  package: a
-  version: 1
-  architecture: all
-  status: broken
-  reasons:
-   - depends: a 1 Pre-Depends: n (= 1)
-   - depends: a 1 Depends: b
-   - depends: b 1 Depends: n (= 2)
-   - versions: n
- -
-  package: c
-  version: 1
-  architecture: all
-  status: broken
-  reasons:
-   - missing: c 1 Depends: zz | yy
- -
-  package: d
-  version: 1
-  architecture: all
-  status: broken
-  reasons:
-   - depends: d 1 Depends: e
-   - conflict: e 1 Breaks: d
-";
+const RELATED_SUCCESSES: &str = "n 1: ok {n 1}
+n 2: ok {n 2}
+b 1: ok {n 2 / b 1}
+e 1: ok {e 1}
+stanzas 7, skipped 0, duplicates 0, asked 7, broken 3";
 
-const RELATED_SUCCESSES: &str = " -
-  package: n
-  version: 1
-  architecture: all
-  status: ok
-  installation-set:
-   - n 1
- -
-  package: n
-  version: 2
-  architecture: all
-  status: ok
-  installation-set:
-   - n 2
- -
-  package: b
-  version: 1
-  architecture: all
-  status: ok
-  installation-set:
-   - n 2
-   - b 1
- -
-  package: e
-  version: 1
-  architecture: all
-  status: ok
-  installation-set:
-   - e 1
-";
+const ESSENTIAL_REPORT: &str = "base 1 amd64: ok {base 1}
+x 1: broken {essential: base / conflict: x 1 Conflicts: base}
+stanzas 2, skipped 0, duplicates 0, asked 2, broken 1";
 
-const RELATED_TAIL: &str = "stanzas: 7\nskipped: 0\nduplicates: 0\nasked: 7\nbroken: 3\n";
-
-const ESSENTIAL_REPORT: &str = "architecture: amd64
-report:
- -
-  package: base
-  version: 1
-  architecture: amd64
-  status: ok
-  installation-set:
-   - base 1
- -
-  package: x
-  version: 1
-  architecture: all
-  status: broken
-  reasons:
-   - essential: base
-   - conflict: x 1 Conflicts: base
-stanzas: 2
-skipped: 0
-duplicates: 0
-asked: 2
-broken: 1
-";
-
-const SHORT_REPORT: &str = "architecture: amd64
-report:
- -
-  package: x
-  version: 1
-  architecture: all
-  status: broken
-stanzas: 2
-skipped: 0
-duplicates: 0
-asked: 1
-broken: 1
-";
+const SHORT_REPORT: &str = "x 1: broken
+stanzas 2, skipped 0, duplicates 0, asked 1, broken 1";
 
 pub const PLACES_OF_NAMES: Case = Case {
     name: "the places of names rise",
@@ -148,7 +67,7 @@ pub const FAILURES: Case = Case {
         show: Show::Failures,
         ..USUAL
     },
-    wanted: Wanted::Whole(&[HEAD, RELATED_FAILURES, RELATED_TAIL]),
+    wanted: Wanted::Report(RELATED_FAILURES),
     ..REPORT
 };
 
@@ -159,7 +78,7 @@ pub const SUCCESSES: Case = Case {
         show: Show::Successes,
         ..USUAL
     },
-    wanted: Wanted::Whole(&[HEAD, RELATED_SUCCESSES, RELATED_TAIL]),
+    wanted: Wanted::Report(RELATED_SUCCESSES),
     ..REPORT
 };
 
@@ -181,7 +100,7 @@ const CASES: &[Case] = &[
     Case {
         name: "essential names are reasons",
         text: ESSENTIAL,
-        wanted: Wanted::Whole(&[ESSENTIAL_REPORT]),
+        wanted: Wanted::Report(ESSENTIAL_REPORT),
         ..REPORT
     },
     Case {
@@ -192,7 +111,7 @@ const CASES: &[Case] = &[
             only: Some(&[b"x"]),
             ..USUAL
         },
-        wanted: Wanted::Whole(&[SHORT_REPORT]),
+        wanted: Wanted::Report(SHORT_REPORT),
         ..REPORT
     },
 ];

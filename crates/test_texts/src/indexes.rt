@@ -22,13 +22,13 @@ fn append_stanza(out: &mut String, written: &str) -> Result<(), AllocError> {
 }
 
 /// Adds the text of an index: `a 1 {Depends: b; Breaks: c} / b 2 amd64` are two stanzas, with an empty line between them. What begins as a stanza does, or
-/// with a blank, is the text itself.
+/// with a blank or a line feed, is the text itself.
 ///
 /// # Errors
 ///
 /// Want of memory.
 pub fn append_index(out: &mut String, written: &str) -> Result<(), AllocError> {
-    if written.starts_with("Package:") || written.starts_with(' ') || written.is_empty() {
+    if written.starts_with("Package:") || written.starts_with([' ', '\n']) || written.is_empty() {
         return out.push_str(written);
     }
     let mut is_first = true;

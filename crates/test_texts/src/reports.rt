@@ -2,20 +2,23 @@
 
 use std::alloc::{AllocError, Global};
 
-/// Adds the list of `KEY {ITEM / ITEM}`, which stands so far in; an item behind `>` stands one step further in.
+/// Adds the list of `KEY {ITEM / ITEM}`, which stands so far in; each `>` before an item sets it one step further in.
 fn append_list(out: &mut String, key: &str, items: &str, margin: &str) -> Result<(), AllocError> {
     write!(out, "{margin}{key}:\n")?;
     for item in items.split(" / ") {
-        match item.strip_prefix('>') {
-            Some(inner) => write!(out, "{margin}   - {inner}\n")?,
-            None if item.is_empty() => {}
-            None => write!(out, "{margin} - {item}\n")?,
+        let inner = item.trim_start_matches('>');
+        if !item.is_empty() {
+            out.push_str(margin)?;
+            for _ in inner.len()..item.len() {
+                out.push_str("  ")?;
+            }
+            write!(out, " - {inner}\n")?;
         }
     }
     Ok(())
 }
 
-/// Adds such lists. Where no key is written, it is this one.
+/// Adds such lists, and lines of `KEY NUMBER`. Where no key is written, it is this one.
 fn append_lists(
     out: &mut String,
     lists: &str,
@@ -26,6 +29,8 @@ fn append_lists(
         if let Some((key, items)) = list.split_once('{') {
             let key = key.trim();
             append_list(out, if key.is_empty() { usual } else { key }, items, margin)?;
+        } else if let Some((key, number)) = list.trim().split_once(' ') {
+            write!(out, "{margin}{key}: {number}\n")?;
         }
     }
     Ok(())
@@ -78,6 +83,21 @@ fn append_line(out: &mut String, line: &str) -> Result<(), AllocError> {
     }
 }
 
+/// The lines of a text, where one that begins with a blank goes on with the one before it, and this is between them.
+fn joined(alloc: Global, written: &str, between: &str) -> Result<String, AllocError> {
+    let mut out = String::new(alloc);
+    for line in written.lines() {
+        let told = line.trim_start();
+        if told.len() < line.len() {
+            out.push_str(between)?;
+        } else if !out.is_empty() {
+            out.push('\n')?;
+        }
+        out.push_str(told)?;
+    }
+    Ok(out)
+}
+
 /// The report for amd64 of a line for each block, one for its end, and one for each cause:
 ///
 /// ```text
@@ -87,19 +107,25 @@ fn append_line(out: &mut String, line: &str) -> Result<(), AllocError> {
 /// cause 1 1 reasons {missing: c} needed-by {b 1 Depends: c} broken {a 1}
 /// ```
 ///
-/// What begins as a report, a document or a fault does is the text itself, but for its last line feed, which may be left out.
+/// A line that begins with a blank goes on with the one before it. What begins as a document does is the text itself, where such a line goes on at once.
+/// What begins as a report or a fault does is the text itself, but for its last line feed, which may be left out.
 ///
 /// # Errors
 ///
 /// Want of memory.
 pub fn report_of(alloc: Global, written: &str) -> Result<String, AllocError> {
-    for start in ["architecture:", "{\"", "debcheck", "error:"] {
+    if written.starts_with("{\"") {
+        let mut out = joined(alloc, written, "")?;
+        out.push('\n')?;
+        return Ok(out);
+    }
+    for start in ["architecture:", "debcheck", "error:"] {
         if written.starts_with(start) {
             return format!(in alloc; "{}\n", written.strip_suffix('\n').unwrap_or(written));
         }
     }
     let mut out = String::from_str(alloc, "architecture: amd64\nreport:\n")?;
-    for line in written.lines() {
+    for line in joined(alloc, written, " ")?.lines() {
         append_line(&mut out, line)?;
     }
     Ok(out)

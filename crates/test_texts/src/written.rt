@@ -25,6 +25,7 @@ report:
    - missing: b 2 Depends: c | d
   also:
    - conflict: b 2 Conflicts: a
+  further: 1
  -
   package: a
   version: 2
@@ -33,6 +34,7 @@ report:
   why:
    - a 2 Depends: x | y
      - x 1 Depends: z missing; present: z 1
+       - y 1
  -
   package: b
   version: 2
@@ -66,8 +68,9 @@ causes: 1
 ";
 
 const SHORT_REPORT: &str =
-    "a 1: broken {depends: a 1 Depends: b / missing: b 2 Depends: c | d} also {conflict: b 2 Conflicts: a}
-a 2: broken why {a 2 Depends: x | y / >x 1 Depends: z missing; present: z 1}
+    "a 1: broken {depends: a 1 Depends: b / missing: b 2 Depends: c | d} also {conflict: b 2 Conflicts: a} further 1
+a 2: broken why {a 2 Depends: x | y /
+    >x 1 Depends: z missing; present: z 1 / >>y 1}
 b 2 amd64: ok {a 3 / b 2}
 c 1: ok
 stanzas 4, asked 3, broken 2, newly-broken 2, mended {d 1 / e 1}, gone {}, causes 1
@@ -84,12 +87,17 @@ fn texts_are_those_that_are_written(rt: HostRuntime) {
         ),
         (INDEX, INDEX),
         (" x", " x"),
+        ("\n", "\n"),
         ("", ""),
     ] {
         let made = index_of(alloc, written).expect(&rt, "no memory");
         assert!(rt; made.as_str() == text, "{made}");
     }
-    for (written, text) in [(SHORT_REPORT, REPORT), (REPORT, REPORT), ("{\"", "{\"\n")] {
+    for (written, text) in [
+        (SHORT_REPORT, REPORT),
+        (REPORT, REPORT),
+        ("{\"a\":[\n  1]\n}\n", "{\"a\":[1]\n}\n"),
+    ] {
         let made = report_of(alloc, written).expect(&rt, "no memory");
         assert!(rt; made.as_str() == text, "{made}");
     }

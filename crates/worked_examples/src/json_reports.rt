@@ -26,12 +26,18 @@ r 1:1.0~b-1 {Depends: n (= 2)}
 gives 1
 {"format":2,"options":["explain"],"architecture":"amd64","report":[
 {"package":"e","version":"1","architecture":"all","status":"ok","installation-set":[{"package":"e","version":"1"}]},
-{"package":"x","version":"1","architecture":"all","status":"broken","reasons":[{"kind":"essential","name":"e"},{"kind":"conflict","package":"x","version":"1","field":"Conflicts","relation":"e"}]},
-{"package":"m","version":"1","architecture":"all","status":"broken","reasons":[{"kind":"missing","package":"m","version":"1","field":"Depends","relation":"gone (>= 2) | gone-too"}]},
+{"package":"x","version":"1","architecture":"all","status":"broken","reasons":[{"kind":"essential","name":"e"},
+ {"kind":"conflict","package":"x","version":"1","field":"Conflicts","relation":"e"}]},
+{"package":"m","version":"1","architecture":"all","status":"broken",
+ "reasons":[{"kind":"missing","package":"m","version":"1","field":"Depends","relation":"gone (>= 2) | gone-too"}]},
 {"package":"n","version":"1","architecture":"all","status":"ok","installation-set":[{"package":"e","version":"1"},{"package":"n","version":"1"}]},
 {"package":"n","version":"2","architecture":"amd64","status":"ok","installation-set":[{"package":"e","version":"1"},{"package":"n","version":"2"}]},
-{"package":"q","version":"1","architecture":"all","status":"broken","reasons":[{"kind":"depends","package":"q","version":"1","field":"Pre-Depends","relation":"n (= 1)"},{"kind":"depends","package":"q","version":"1","field":"Depends","relation":"r"},{"kind":"depends","package":"r","version":"1:1.0~b-1","field":"Depends","relation":"n (= 2)"},{"kind":"versions","name":"n"}]},
-{"package":"r","version":"1:1.0~b-1","architecture":"all","status":"ok","installation-set":[{"package":"e","version":"1"},{"package":"n","version":"2"},{"package":"r","version":"1:1.0~b-1"}]}
+{"package":"q","version":"1","architecture":"all","status":"broken",
+ "reasons":[{"kind":"depends","package":"q","version":"1","field":"Pre-Depends","relation":"n (= 1)"},
+ {"kind":"depends","package":"q","version":"1","field":"Depends","relation":"r"},
+ {"kind":"depends","package":"r","version":"1:1.0~b-1","field":"Depends","relation":"n (= 2)"},{"kind":"versions","name":"n"}]},
+{"package":"r","version":"1:1.0~b-1","architecture":"all","status":"ok","installation-set":[{"package":"e","version":"1"},
+ {"package":"n","version":"2"},{"package":"r","version":"1:1.0~b-1"}]}
 ],"stanzas":7,"skipped":0,"duplicates":0,"asked":7,"broken":3}
 ====
 without_explanations under --arch amd64 --format json
@@ -63,7 +69,9 @@ gives 1
 {"package":"a","version":"1","architecture":"all","status":"broken"},
 {"package":"b","version":"1","architecture":"all","status":"broken"}
 ],"stanzas":3,"skipped":0,"duplicates":0,"asked":3,"broken":2,"causes":[
-{"packages":2,"frees":2,"reasons":[{"kind":"missing","relation":"c (>= 2)"}],"needed-by":[{"package":"b","version":"1","field":"Depends","relation":"c (>= 2)"}],"hits":[],"versions":[],"present":[{"package":"c","version":"1"}],"similar":[],"broken":[{"package":"a","version":"1"},{"package":"b","version":"1"}]}
+{"packages":2,"frees":2,"reasons":[{"kind":"missing","relation":"c (>= 2)"}],
+ "needed-by":[{"package":"b","version":"1","field":"Depends","relation":"c (>= 2)"}],"hits":[],"versions":[],
+ "present":[{"package":"c","version":"1"}],"similar":[],"broken":[{"package":"a","version":"1"},{"package":"b","version":"1"}]}
 ]}
 ====
 causes_of_all_kinds under --arch amd64 --format json --successes --causes --checkonly x,m,q,r
@@ -73,9 +81,15 @@ gives 1
 {"format":2,"options":["successes","checkonly","causes"],"architecture":"amd64","report":[
 {"package":"r","version":"1:1.0~b-1","architecture":"all","status":"ok"}
 ],"stanzas":7,"skipped":0,"duplicates":0,"asked":4,"broken":3,"causes":[
-{"packages":1,"frees":1,"reasons":[{"kind":"essential","name":"e"},{"kind":"conflict","package":"x","version":"1","field":"Conflicts","relation":"e"}],"needed-by":[],"hits":[{"package":"e","version":"1"}],"versions":[],"present":[],"similar":[],"broken":[{"package":"x","version":"1"}]},
-{"packages":1,"frees":1,"reasons":[{"kind":"missing","relation":"gone (>= 2) | gone-too"}],"needed-by":[{"package":"m","version":"1","field":"Depends","relation":"gone (>= 2) | gone-too"}],"hits":[],"versions":[],"present":[],"similar":[],"broken":[{"package":"m","version":"1"}]},
-{"packages":1,"frees":1,"reasons":[{"kind":"versions","name":"n"}],"needed-by":[],"hits":[],"versions":[{"package":"n","version":"1"},{"package":"n","version":"2"}],"present":[],"similar":[],"broken":[{"package":"q","version":"1"}]}
+{"packages":1,"frees":1,"reasons":[{"kind":"essential","name":"e"},
+ {"kind":"conflict","package":"x","version":"1","field":"Conflicts","relation":"e"}],
+ "needed-by":[],"hits":[{"package":"e","version":"1"}],"versions":[],"present":[],"similar":[],"broken":[{"package":"x","version":"1"}]},
+{"packages":1,"frees":1,"reasons":[{"kind":"missing","relation":"gone (>= 2) | gone-too"}],
+ "needed-by":[{"package":"m","version":"1","field":"Depends","relation":"gone (>= 2) | gone-too"}],"hits":[],"versions":[],"present":[],"similar":[],
+ "broken":[{"package":"m","version":"1"}]},
+{"packages":1,"frees":1,"reasons":[{"kind":"versions","name":"n"}],
+ "needed-by":[],"hits":[],"versions":[{"package":"n","version":"1"},{"package":"n","version":"2"}],"present":[],"similar":[],
+ "broken":[{"package":"q","version":"1"}]}
 ]}
 ====
 near_by_provides under --arch amd64 --format json --failures --causes
@@ -84,7 +98,10 @@ gives 1
 {"format":2,"options":["failures","causes"],"architecture":"amd64","report":[
 {"package":"a","version":"1","architecture":"all","status":"broken"}
 ],"stanzas":3,"skipped":0,"duplicates":0,"asked":3,"broken":1,"causes":[
-{"packages":1,"frees":1,"reasons":[{"kind":"missing","relation":"v (>= 3)"}],"needed-by":[{"package":"a","version":"1","field":"Depends","relation":"v (>= 3)"}],"hits":[],"versions":[],"present":[{"package":"p","version":"1","provides":["v (= 1)","v"]},{"package":"v","version":"1"}],"similar":[],"broken":[{"package":"a","version":"1"}]}
+{"packages":1,"frees":1,"reasons":[{"kind":"missing","relation":"v (>= 3)"}],
+ "needed-by":[{"package":"a","version":"1","field":"Depends","relation":"v (>= 3)"}],"hits":[],"versions":[],
+ "present":[{"package":"p","version":"1","provides":["v (= 1)","v"]},{"package":"v","version":"1"}],"similar":[],
+ "broken":[{"package":"a","version":"1"}]}
 ]}
 ====
 no_causes_in_an_empty_index under --arch amd64 --format json --causes

@@ -10,7 +10,10 @@ own_version_does_not_meet_in_JSON under --arch amd64 --why --checkonly p --forma
 p 1 {Depends: a (>= 2) | b} / a 1 {Provides: b; Depends: gone}
 gives 1
 {"format":2,"options":["explain","checkonly","why"],"architecture":"amd64","report":[
-{"package":"p","version":"1","architecture":"all","status":"broken","reasons":[{"kind":"depends","package":"p","version":"1","field":"Depends","relation":"a (>= 2) | b","met-by":[{"package":"a","version":"1","provides":["b"]}]},{"kind":"missing","package":"a","version":"1","field":"Depends","relation":"gone","alternatives":["gone"],"present":[],"similar":[]}]}
+{"package":"p","version":"1","architecture":"all","status":"broken",
+ "reasons":[{"kind":"depends","package":"p","version":"1","field":"Depends","relation":"a (>= 2) | b",
+ "met-by":[{"package":"a","version":"1","provides":["b"]}]},{"kind":"missing","package":"a","version":"1","field":"Depends","relation":"gone",
+ "alternatives":["gone"],"present":[],"similar":[]}]}
 ],"stanzas":2,"skipped":0,"duplicates":0,"asked":1,"broken":1}
 ====
 own_name_lacks_the_mark under --arch amd64 --why --checkonly p
@@ -34,7 +37,8 @@ stanzas 2, skipped 0, duplicates 0, asked 1, broken 1
 near_misses_are_never_above under --arch amd64 --why --checkonly p
 p 1 {Depends: x | y} / x 1 {Depends: x (>= 2)} / y 1 {Depends: gone (>= 2)} / v 1 {Provides: gone:i386 (= 2), gone (= 1), gone:any}
 gives 1
-p 1: broken why {p 1 Depends: x | y / >x 1 Depends: x (>= 2) missing; present: x 1 / >y 1 Depends: gone (>= 2) missing; present: v 1 (provides gone (= 1), gone:any)}
+p 1: broken why {p 1 Depends: x | y / >x 1 Depends: x (>= 2) missing; present: x 1 /
+    >y 1 Depends: gone (>= 2) missing; present: v 1 (provides gone (= 1), gone:any)}
 stanzas 4, skipped 0, duplicates 0, asked 1, broken 1
 ====
 own_name_is_one_of_the_ten under --arch amd64 --why --checkonly p
