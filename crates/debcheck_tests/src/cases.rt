@@ -2,7 +2,6 @@
 
 ghost use Rattle.std.specs.Prelude.{◌≡◌, ◌<◌, ◌≤◌, IfOk, false};
 
-use crate::tally::Tally;
 use deb_index::IndexError;
 use deb_input::RunFault;
 use deb_report::Summary;
@@ -12,18 +11,8 @@ use std::alloc::{AllocError, Global};
 use std::process::Abort;
 use std::thread::Threads;
 use test_devices::{Feed, Held, sink_with_room, source_of};
-use work_draw::OpenGate;
-
-/// Which run it is.
-#[derive(Clone, Copy)]
-pub enum Way {
-    /// On an index, and on a background where there is one.
-    Plain,
-    /// The same, with a gate that counts three chunks.
-    Counted,
-    /// Since an earlier index.
-    Since,
-}
+use test_texts::report_of;
+use work_draw::{Gate, OpenGate};
 
 /// Which reader fails behind its text.
 #[derive(Clone, Copy)]
@@ -63,13 +52,13 @@ pub const BY_TWO: Settings = Settings {
 #[derive(Clone, Copy)]
 pub struct Case<'a> {
     pub name: &'static str,
-    pub way: Way,
     pub settings: Settings,
     /// The names that are asked; all packages where there is none.
     pub only: &'static [&'static [u8]],
     pub index: &'a [u8],
     pub background: Option<&'a [u8]>,
-    pub earlier: &'a [u8],
+    /// The run is since this index, where there is one.
+    pub earlier: Option<&'a [u8]>,
     /// How many bytes come at each read.
     pub step: usize,
     pub torn: Torn,
@@ -78,7 +67,8 @@ pub struct Case<'a> {
     /// How many bytes are taken at each write, and at which the writer fails.
     pub room: usize,
     pub fails_at: u32,
-    pub written: &'a [u8],
+    /// The report, as `report_of` makes it of lines, of which a writer that fails has the front; nothing is written where there are none.
+    pub written: &'a str,
     pub status: u8,
     /// The name that no package has, or words for a fault of the index.
     pub told: &'static str,
@@ -89,25 +79,17 @@ pub struct Case<'a> {
 /// Nothing is broken in no text.
 pub const EMPTY: Case<'static> = Case {
     name: "no text",
-    way: Way::Plain,
     settings: BY_TWO,
     only: &[],
     index: b"",
     background: None,
-    earlier: b"",
+    earlier: None,
     step: 1,
     torn: Torn::None,
     begun: 1,
     room: 1,
     fails_at: 0,
-    written: b"architecture: amd64
-report:
-stanzas: 0
-skipped: 0
-duplicates: 0
-asked: 0
-broken: 0
-",
+    written: "stanzas 0, skipped 0, duplicates 0, asked 0, broken 0",
     status: 0,
     told: "",
     summary: Some(NOTHING),
@@ -144,7 +126,7 @@ fn background_name(alloc: Global, case: &Case<'_>) -> Result<Option<String>, All
     }
 }
 
-fn config_of(alloc: Global, case: &Case<'_>) -> Result<Config, AllocError>
+pub fn config_of(alloc: Global, case: &Case<'_>) -> Result<Config, AllocError>
     ensures workers { IfOk result (λ config. (0 < config.workers) × (config.workers ≤ 64)) }
     ensures chunk { IfOk result (λ config. 0 < config.chunk) }
 {
@@ -180,31 +162,12 @@ fn feed(text: &[u8], step: usize, torn: bool) -> Feed<'_>
     source
 }
 
-/// A run behind a gate that counts: no chunk begins twice or ends without a beginning, and all three end where there is a report.
-fn run_counted(
-    rt: &(impl Abort + Threads + Sync + AllocGlobal),
-    config: &Config,
-    index: &mut Feed<'_>,
-    background: &mut Feed<'_>,
-    output: &mut Held,
-) -> Result<Summary, RunFault>
-    requires workers { (0 < config.now.workers) × (config.now.workers ≤ 64) }
-    requires chunk { 0 < config.now.chunk }
-    requires index { index.old.failed ≡ false }
-    requires background { background.old.failed ≡ false }
-    requires output { output.old.failed ≡ false }
-{
-    let tally = Tally::new();
-    let outcome = run(rt, rt.alloc(), config, index, background, output, &tally);
-    assert!(rt; tally.has_at_least(u32::from(outcome.is_ok())));
-    outcome
-}
-
-/// What the run comes to, and how many of its readers were read. Nothing is read in the place of a background where there is none.
-fn outcome_of(
-    rt: &(impl Abort + Threads + Sync + AllocGlobal),
+/// What the run comes to behind a gate, and how many of its readers were read. Nothing is read in the place of a background where there is none.
+pub fn outcome_of(
+    rt: &(impl Threads + Sync + AllocGlobal),
     config: &Config,
     case: &Case<'_>,
+    gate: &(impl Gate + Sync),
     output: &mut Held,
 ) -> (Result<Summary, RunFault>, u32)
     requires workers { (0 < config.now.workers) × (config.now.workers ≤ 64) }
@@ -216,28 +179,19 @@ fn outcome_of(
     let behind = case.background.unwrap_or(b"");
     let fails = case.background.is_none() || matches!(case.torn, Torn::Background);
     let mut background = feed(behind, case.step, fails);
-    let mut earlier = feed(case.earlier, case.step, matches!(case.torn, Torn::Earlier));
-    let outcome = match case.way {
-        Way::Plain => run(
+    let before = case.earlier.unwrap_or(b"");
+    let mut earlier = feed(before, case.step, matches!(case.torn, Torn::Earlier));
+    let outcome = if case.earlier.is_some() {
+        let job = Job {
             rt,
             alloc,
             config,
-            &mut index,
-            &mut background,
-            output,
-            &OpenGate,
-        ),
-        Way::Counted => run_counted(rt, config, &mut index, &mut background, output),
-        Way::Since => {
-            let job = Job {
-                rt,
-                alloc,
-                config,
-                gate: &OpenGate,
-                is_last: false,
-            };
-            run_since(&job, &mut index, &mut background, &mut earlier, output)
-        }
+            gate,
+            is_last: false,
+        };
+        run_since(&job, &mut index, &mut background, &mut earlier, output)
+    } else {
+        run(rt, alloc, config, &mut index, &mut background, output, gate)
     };
     let begun = index.reads.min(1) + background.reads.min(1) + earlier.reads.min(1);
     (outcome, begun)
@@ -257,46 +211,74 @@ fn told_by(outcome: &Result<Summary, RunFault>) -> &[u8] {
     }
 }
 
-/// Whether the run came to what the case says.
-fn fits(case: &Case<'_>, outcome: &Result<Summary, RunFault>, output: &Held) -> bool {
+/// What is written of a report by the writer of the case.
+fn taken<'a>(case: &Case<'_>, report: &'a str) -> &'a [u8] {
+    let report = report.as_bytes();
+    match case.fails_at.checked_sub(1) {
+        Some(calls) => &report[..case.room.saturating_mul(calls as usize).min(report.len())],
+        None => report,
+    }
+}
+
+/// Whether the run came to what the case says, with this report.
+fn fits(case: &Case<'_>, outcome: &Result<Summary, RunFault>, output: &Held, report: &str) -> bool {
     let numbers = match outcome {
         Ok(summary) => output.flushed && case.summary == Some(*summary),
         Err(_) => case.summary.is_none(),
     };
     numbers
-        && output.bytes.as_slice() == case.written
+        && output.bytes.as_slice() == taken(case, report)
         && status(outcome) == case.status
         && told_by(outcome) == case.told.as_bytes()
+}
+
+/// The report of a case, perhaps none.
+fn report_in(alloc: Global, case: &Case<'_>) -> Result<String, AllocError> {
+    if case.written.is_empty() {
+        return Ok(String::new(alloc));
+    }
+    report_of(alloc, case.written)
 }
 
 fn expect_under(
     rt: &(impl Abort + Threads + Sync + AllocGlobal),
     config: &Config,
     case: &Case<'_>,
+    gate: &(impl Gate + Sync),
 ) -> Result<(), AllocError>
     requires workers { (0 < config.now.workers) × (config.now.workers ≤ 64) }
     requires chunk { 0 < config.now.chunk }
 {
+    let report = report_in(rt.alloc(), case)?;
     let mut output = sink_with_room(rt.alloc(), case.room, case.fails_at)?;
-    let (outcome, begun) = outcome_of(rt, config, case, &mut output);
+    let (outcome, begun) = outcome_of(rt, config, case, gate, &mut output);
     if matches!(outcome, Err(RunFault::Memory)) {
         assert!(rt; output.calls == 0 && output.bytes.is_empty() && status(&outcome) == 69);
         return Err(AllocError);
     }
-    assert!(rt; fits(case, &outcome, &output), "{}", case.name);
+    assert!(rt; fits(case, &outcome, &output, &report), "{}", case.name);
     assert!(rt; begun == case.begun, "the readers of {}", case.name);
     Ok(())
 }
 
-/// The run comes to what the case says, or wants memory with nothing written.
+/// The run comes to what the case says behind a gate, or wants memory with nothing written.
+pub fn expect_behind(
+    rt: &(impl Abort + Threads + Sync + AllocGlobal),
+    case: &Case<'_>,
+    gate: &(impl Gate + Sync),
+) -> Result<(), AllocError> {
+    let config = config_of(rt.alloc(), case)?;
+    let outcome = expect_under(rt, &config, case, gate);
+    drop(config);
+    outcome
+}
+
+/// The same where nothing holds it up.
 pub fn expect(
     rt: &(impl Abort + Threads + Sync + AllocGlobal),
     case: &Case<'_>,
 ) -> Result<(), AllocError> {
-    let config = config_of(rt.alloc(), case)?;
-    let outcome = expect_under(rt, &config, case);
-    drop(config);
-    outcome
+    expect_behind(rt, case, &OpenGate)
 }
 
 /// The run comes to what the case says.

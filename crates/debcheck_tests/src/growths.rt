@@ -1,14 +1,16 @@
 //! One test for each call that can want memory; trials/growths runs them with each growth of memory refused in turn.
 
-use crate::cases::{BY_TWO, Case, EMPTY, NOTHING, Settings, Way, expect};
+use crate::cases::{BY_TWO, Case, EMPTY, NOTHING, Settings, expect, expect_behind};
 use crate::runs::FRONT;
 use crate::since_runs::{SINCE, SINCE_WITH_ALL_REASONS};
+use crate::tally::Tally;
 use deb_input::RunFault;
 use deb_report::Summary;
 use debcheck::write_fault;
 use std::alloc::{AllocError, Global};
 use std::process::Abort;
-use test_devices::{BACKED_REPORT, BACKGROUND, CHAIN, CHAIN_REPORT, Held, INDEX, sink_with_room};
+use std::thread::Threads;
+use test_devices::{BACKGROUND, CHAIN, Held, INDEX, sink_with_room};
 
 static NO_TEXT: Case<'static> = EMPTY;
 
@@ -73,7 +75,6 @@ fn of_run_since_with_all_reasons(rt: HostRuntime) -> Result<(), AllocError> {
 /// Three packages, two of them broken, in three chunks.
 const COUNTED: Case<'static> = Case {
     name: "two workers",
-    way: Way::Counted,
     settings: BY_TWO,
     step: 1_000,
     room: 1_000,
@@ -89,16 +90,27 @@ static BY_ONE_WORKER: Case<'static> = Case {
     ..COUNTED
 };
 
+/// No chunk begins twice or ends without a beginning, and all three end where there is a report.
+fn expect_counted(
+    rt: &(impl Abort + Threads + Sync + AllocGlobal),
+    case: &Case<'_>,
+) -> Result<(), AllocError> {
+    let tally = Tally::new();
+    let outcome = expect_behind(rt, case, &tally);
+    assert!(rt; tally.has_at_least(u32::from(outcome.is_ok())));
+    outcome
+}
+
 #[test]
 fn of_run_with_one_worker(rt: HostRuntime) -> Result<(), AllocError> {
-    expect(&rt, &BY_ONE_WORKER)
+    expect_counted(&rt, &BY_ONE_WORKER)
 }
 
 static BY_TWO_WORKERS: Case<'static> = COUNTED;
 
 #[test]
 fn of_run_with_two_workers(rt: HostRuntime) -> Result<(), AllocError> {
-    expect(&rt, &BY_TWO_WORKERS)
+    expect_counted(&rt, &BY_TWO_WORKERS)
 }
 
 /// A package that needs one of the background, and a broken one, by two workers.

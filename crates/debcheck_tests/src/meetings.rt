@@ -1,14 +1,12 @@
 //! Whole runs in which two workers have to meet, in each check of theirs.
 
-ghost use Rattle.std.specs.Prelude.{◌<◌, ◌≤◌};
-
-use debcheck::{Job, run, run_since};
-use run_settings::{Config, Show};
+use crate::cases::{BY_TWO, Case, EMPTY, Settings, config_of, outcome_of};
+use run_settings::Show;
 use std::alloc::AllocError;
 use std::sync::atomic::{AtomicU32, Ordering};
 use std::thread;
 use std::thread::Threads;
-use test_devices::{sink_of, source_of};
+use test_devices::sink_of;
 use work_draw::Gate;
 
 /// Holds each of the first two chunks of a check back, until both were begun; counts the checks, and those in which one waited in vain.
@@ -81,39 +79,22 @@ fn checks_of(
     rt: &(impl Threads + Sync + AllocGlobal),
     show: Show,
     explain: bool,
-    since: bool,
+    earlier: Option<&'static [u8]>,
 ) -> Result<(u32, u32), AllocError> {
-    let alloc = rt.alloc();
-    let mut config = Config::usual(alloc)?;
-    config.workers = 2;
-    config.chunk = 1;
-    config.show = show;
-    config.explain = explain;
+    let case = Case {
+        settings: Settings {
+            show,
+            explain,
+            ..BY_TWO
+        },
+        index: BROKEN,
+        earlier,
+        ..EMPTY
+    };
+    let config = config_of(rt.alloc(), &case)?;
     let gate = Meeting::new();
-    let mut index = source_of(BROKEN, 50);
-    let mut background = source_of(b"", 50);
-    let mut earlier = source_of(EARLIER, 50);
-    let mut output = sink_of(alloc, 50, 0, false);
-    if since {
-        let job = Job {
-            rt,
-            alloc,
-            config: &config,
-            gate: &gate,
-            is_last: false,
-        };
-        let _ = run_since(&job, &mut index, &mut background, &mut earlier, &mut output);
-    } else {
-        let _ = run(
-            rt,
-            alloc,
-            &config,
-            &mut index,
-            &mut background,
-            &mut output,
-            &gate,
-        );
-    }
+    let mut output = sink_of(rt.alloc(), 50, 0, false);
+    let _ = outcome_of(rt, &config, &case, &gate, &mut output);
     drop(config);
     Ok((
         gate.checks.load(Ordering::SeqCst),
@@ -124,17 +105,17 @@ fn checks_of(
 /// With sets: one check.
 #[test]
 fn workers_meet_where_sets_are_told(rt: HostRuntime) {
-    assert!(rt; matches!(checks_of(&rt, Show::All, true, false), Ok((1, 0))));
+    assert!(rt; matches!(checks_of(&rt, Show::All, true, None), Ok((1, 0))));
 }
 
 /// Without sets: one check, of those that are not seen to be installable.
 #[test]
 fn workers_meet_where_no_set_is_told(rt: HostRuntime) {
-    assert!(rt; matches!(checks_of(&rt, Show::Failures, false, false), Ok((1, 0))));
+    assert!(rt; matches!(checks_of(&rt, Show::Failures, false, None), Ok((1, 0))));
 }
 
 /// Since an earlier index: one of that, and one of the index, with the cores of the newly broken.
 #[test]
 fn workers_meet_where_news_are_explained(rt: HostRuntime) {
-    assert!(rt; matches!(checks_of(&rt, Show::All, true, true), Ok((2, 0))));
+    assert!(rt; matches!(checks_of(&rt, Show::All, true, Some(EARLIER)), Ok((2, 0))));
 }

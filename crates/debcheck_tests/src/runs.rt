@@ -30,7 +30,6 @@ fn status_tells_whether_some_are_broken(rt: HostRuntime) {
 pub const FRONT: Case<'static> = Case {
     name: "a failing writer",
     fails_at: 5,
-    written: b"arch",
     status: 68,
     summary: None,
     ..EMPTY
@@ -50,36 +49,10 @@ Version: 1
 Architecture: all
 ";
 
-const ALTERNATIVES_REPORT: &[u8] = b"architecture: amd64
-report:
- -
-  package: a
-  version: 1
-  architecture: all
-  status: ok
-  installation-set:
-   - a 1
-   - c 1
- -
-  package: b
-  version: 1
-  architecture: all
-  status: ok
-  installation-set:
-   - b 1
- -
-  package: c
-  version: 1
-  architecture: all
-  status: ok
-  installation-set:
-   - c 1
-stanzas: 3
-skipped: 0
-duplicates: 0
-asked: 3
-broken: 0
-";
+const ALTERNATIVES_REPORT: &str = "a 1: ok {a 1 / c 1}
+b 1: ok {b 1}
+c 1: ok {c 1}
+stanzas 3, skipped 0, duplicates 0, asked 3, broken 0";
 
 const CHOICE: Case<'static> = Case {
     name: "alternatives",
@@ -95,29 +68,10 @@ const CHOICE: Case<'static> = Case {
     ..EMPTY
 };
 
-const CHAIN_FAILURES: &[u8] = b"architecture: amd64
-report:
- -
-  package: a
-  version: 1
-  architecture: all
-  status: broken
-  reasons:
-   - depends: a 1 Depends: b
-   - missing: b 1 Pre-Depends: c (>= 2)
- -
-  package: b
-  version: 1
-  architecture: all
-  status: broken
-  reasons:
-   - missing: b 1 Pre-Depends: c (>= 2)
-stanzas: 3
-skipped: 0
-duplicates: 0
-asked: 3
-broken: 2
-";
+const CHAIN_FAILURES: &str =
+    "a 1: broken {depends: a 1 Depends: b / missing: b 1 Pre-Depends: c (>= 2)}
+b 1: broken {missing: b 1 Pre-Depends: c (>= 2)}
+stanzas 3, skipped 0, duplicates 0, asked 3, broken 2";
 
 const FAILURES: Case<'static> = Case {
     name: "failures alone with their reasons",
@@ -139,24 +93,9 @@ const FAILURES: Case<'static> = Case {
     ..EMPTY
 };
 
-const TWO_SHOWN: &[u8] = b"architecture: amd64
-report:
- -
-  package: a
-  version: 1
-  architecture: all
-  status: broken
- -
-  package: c
-  version: 1
-  architecture: all
-  status: ok
-stanzas: 3
-skipped: 0
-duplicates: 0
-asked: 2
-broken: 1
-";
+const TWO_SHOWN: &str = "a 1: broken
+c 1: ok
+stanzas 3, skipped 0, duplicates 0, asked 2, broken 1";
 
 const NAMED: Case<'static> = Case {
     name: "named packages in the order of the index",
@@ -182,7 +121,7 @@ const NAMED: Case<'static> = Case {
 const UNKNOWN: Case<'static> = Case {
     name: "the first unknown name",
     only: &[b"a", b"zz", b"yy"],
-    written: b"",
+    written: "",
     status: 66,
     told: "zz",
     summary: None,
@@ -193,7 +132,7 @@ const FAULT: Case<'static> = Case {
     name: "a fault of the text",
     index: b" x",
     room: 50,
-    written: b"",
+    written: "",
     status: 65,
     told: "bad line in stanza 1",
     summary: None,

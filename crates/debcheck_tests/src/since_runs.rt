@@ -1,8 +1,8 @@
 //! Runs since an earlier index, with devices that fail.
 
-use crate::cases::{Case, EMPTY, NOTHING, Settings, Torn, Way, expect_answer};
+use crate::cases::{BY_TWO, Case, EMPTY, NOTHING, Settings, Torn, expect_answer};
 use deb_report::Summary;
-use run_settings::{Format, Show};
+use run_settings::Format;
 use std::process::Abort;
 use std::thread::Threads;
 
@@ -14,47 +14,23 @@ const EARLIER: &[u8] = b"Package: b\nVersion: 2\nArchitecture: all\nDepends: y\n
 
 const BACKGROUND: &[u8] = b"Package: z\nVersion: 1\nArchitecture: all\n";
 
-const REPORT: &[u8] = b"architecture: amd64
-report:
- -
-  package: d
-  version: 1
-  architecture: all
-  status: broken
-  reasons:
-   - missing: d 1 Depends: y
-stanzas: 2
-skipped: 0
-duplicates: 0
-background: 1
-asked: 1
-broken: 1
-newly-broken: 1
-mended:
-gone:
- - b 2
-";
+const REPORT: &str = "d 1: broken {missing: d 1 Depends: y}
+stanzas 2, skipped 0, duplicates 0, background 1, asked 1, broken 1, newly-broken 1, mended {}, gone {b 2}";
 
 /// The usual settings.
 const USUAL: Settings = Settings {
     workers: 4,
     chunk: 64,
-    show: Show::All,
-    explain: true,
-    all_reasons: false,
-    causes: false,
-    why: false,
-    format: Format::Text,
+    ..BY_TWO
 };
 
 /// A run on all three, byte by byte.
 const GOES_ON: Case<'static> = Case {
     name: "readers that go on",
-    way: Way::Since,
     settings: USUAL,
     index: INDEX,
     background: Some(BACKGROUND),
-    earlier: EARLIER,
+    earlier: Some(EARLIER),
     begun: 3,
     room: 50,
     written: REPORT,
@@ -92,7 +68,7 @@ const TORN: Case<'static> = Case {
     name: "a reader of the index that fails",
     torn: Torn::Index,
     begun: 3,
-    written: b"",
+    written: "",
     status: 67,
     told: "index",
     summary: None,
@@ -120,7 +96,7 @@ const TORN_EARLIER: Case<'static> = Case {
 /// A fault of the earlier index goes before all that the index has.
 const FAULT: Case<'static> = Case {
     name: "a fault of the earlier index",
-    earlier: b" x",
+    earlier: Some(b" x"),
     begun: 2,
     status: 65,
     told: "a fault of the earlier index",
@@ -138,7 +114,7 @@ fn expect_torn(
     let mut case = *torn;
     match torn.torn {
         Torn::Background => case.background = Some(&BACKGROUND[..count.min(BACKGROUND.len())]),
-        Torn::Earlier => case.earlier = &EARLIER[..count.min(EARLIER.len())],
+        Torn::Earlier => case.earlier = Some(&EARLIER[..count.min(EARLIER.len())]),
         _ => case.index = &INDEX[..count.min(INDEX.len())],
     }
     expect_answer(rt, &case);
@@ -179,7 +155,7 @@ Depends: x
 const FIRST: Case<'static> = Case {
     name: "first reasons of news",
     index: NEWS,
-    earlier: BEFORE,
+    earlier: Some(BEFORE),
     step: 50,
     written: FIRST_REASONS,
     summary: Some(Summary {
@@ -193,25 +169,8 @@ const FIRST: Case<'static> = Case {
     ..GOES_ON
 };
 
-const FIRST_REASONS: &[u8] = b"architecture: amd64
-report:
- -
-  package: b
-  version: 1
-  architecture: all
-  status: broken
-  reasons:
-   - missing: b 1 Depends: c (>= 2)
-stanzas: 4
-skipped: 0
-duplicates: 0
-background: 1
-asked: 3
-broken: 2
-newly-broken: 1
-mended:
-gone:
-";
+const FIRST_REASONS: &str = "b 1: broken {missing: b 1 Depends: c (>= 2)}
+stanzas 4, skipped 0, duplicates 0, background 1, asked 3, broken 2, newly-broken 1, mended {}, gone {}";
 
 const WALKED: Case<'static> = Case {
     name: "all reasons and causes of news",
@@ -225,48 +184,11 @@ const WALKED: Case<'static> = Case {
     ..FIRST
 };
 
-const WALKS_AND_CAUSES: &[u8] = b"architecture: amd64
-report:
- -
-  package: b
-  version: 1
-  architecture: all
-  status: broken
-  why:
-   - b 1 Depends: c (>= 2) missing; present: c 1
-  also:
-   - b 1 Depends: y missing
-stanzas: 4
-skipped: 0
-duplicates: 0
-background: 1
-asked: 3
-broken: 2
-newly-broken: 1
-mended:
-gone:
-causes: 2
- -
-  packages: 1
-  frees: 0
-  reasons:
-   - missing: c (>= 2)
-  needed-by:
-   - b 1 Depends: c (>= 2)
-  present:
-   - c 1
-  broken:
-   - b 1
- -
-  packages: 1
-  frees: 0
-  reasons:
-   - missing: y
-  needed-by:
-   - b 1 Depends: y
-  broken:
-   - b 1
-";
+const WALKS_AND_CAUSES: &str =
+    "b 1: broken why {b 1 Depends: c (>= 2) missing; present: c 1} also {b 1 Depends: y missing}
+stanzas 4, skipped 0, duplicates 0, background 1, asked 3, broken 2, newly-broken 1, mended {}, gone {}, causes 2
+cause 1 0 reasons {missing: c (>= 2)} needed-by {b 1 Depends: c (>= 2)} present {c 1} broken {b 1}
+cause 1 0 reasons {missing: y} needed-by {b 1 Depends: y} broken {b 1}";
 
 const IN_JSON: Case<'static> = Case {
     name: "all reasons and causes of news in JSON",
@@ -280,14 +202,19 @@ const IN_JSON: Case<'static> = Case {
     ..FIRST
 };
 
-const DOCUMENT: &[u8] =
-    br#"{"format":2,"options":["explain","bg","since","causes","all-reasons"],"architecture":"amd64","report":[
-{"package":"b","version":"1","architecture":"all","status":"broken","reasons":[{"kind":"missing","package":"b","version":"1","field":"Depends","relation":"c (>= 2)"}],"also":[[{"kind":"missing","package":"b","version":"1","field":"Depends","relation":"y"}]]}
+const DOCUMENT: &str =
+    r#"{"format":2,"options":["explain","bg","since","causes","all-reasons"],"architecture":"amd64","report":[
+{"package":"b","version":"1","architecture":"all","status":"broken",
+ "reasons":[{"kind":"missing","package":"b","version":"1","field":"Depends","relation":"c (>= 2)"}],
+ "also":[[{"kind":"missing","package":"b","version":"1","field":"Depends","relation":"y"}]]}
 ],"stanzas":4,"skipped":0,"duplicates":0,"background":1,"asked":3,"broken":2,"newly-broken":1,"mended":[],"gone":[],"causes":[
-{"packages":1,"frees":0,"reasons":[{"kind":"missing","relation":"c (>= 2)"}],"needed-by":[{"package":"b","version":"1","field":"Depends","relation":"c (>= 2)"}],"hits":[],"versions":[],"present":[{"package":"c","version":"1"}],"similar":[],"broken":[{"package":"b","version":"1"}]},
-{"packages":1,"frees":0,"reasons":[{"kind":"missing","relation":"y"}],"needed-by":[{"package":"b","version":"1","field":"Depends","relation":"y"}],"hits":[],"versions":[],"present":[],"similar":[],"broken":[{"package":"b","version":"1"}]}
-]}
-"#;
+{"packages":1,"frees":0,"reasons":[{"kind":"missing","relation":"c (>= 2)"}],
+ "needed-by":[{"package":"b","version":"1","field":"Depends","relation":"c (>= 2)"}],"hits":[],"versions":[],
+ "present":[{"package":"c","version":"1"}],"similar":[],"broken":[{"package":"b","version":"1"}]},
+{"packages":1,"frees":0,"reasons":[{"kind":"missing","relation":"y"}],
+ "needed-by":[{"package":"b","version":"1","field":"Depends","relation":"y"}],"hits":[],"versions":[],"present":[],"similar":[],
+ "broken":[{"package":"b","version":"1"}]}
+]}"#;
 
 /// Without explanations and causes no core is told.
 const UNEXPLAINED: Case<'static> = Case {
@@ -300,23 +227,8 @@ const UNEXPLAINED: Case<'static> = Case {
     ..FIRST
 };
 
-const STATUSES: &[u8] = b"architecture: amd64
-report:
- -
-  package: b
-  version: 1
-  architecture: all
-  status: broken
-stanzas: 4
-skipped: 0
-duplicates: 0
-background: 1
-asked: 3
-broken: 2
-newly-broken: 1
-mended:
-gone:
-";
+const STATUSES: &str = "b 1: broken
+stanzas 4, skipped 0, duplicates 0, background 1, asked 3, broken 2, newly-broken 1, mended {}, gone {}";
 
 static RUNS: [Case<'static>; 6] = [GOES_ON, FAULT, FIRST, WALKED, IN_JSON, UNEXPLAINED];
 

@@ -2,13 +2,13 @@
 
 ghost use Rattle.std.specs.Prelude.{◌≡◌, false};
 
-use crate::programs::{WITH_BACKGROUND, WITHOUT_BACKGROUND};
 use crate::runs::{Case, Left, expect_of, run_line};
 use debcheck::OpenFault;
 use std::process::Abort;
 use std::thread::Threads;
 use std::time::Clock;
-use test_devices::{BACKGROUND, Cabinet, Feed, Held, INDEX, sink_of, source_of};
+use test_devices::{BACKED_REPORT, BACKGROUND, Cabinet, Feed, Held, INDEX, sink_of, source_of};
+use test_texts::report_of;
 
 /// The program comes to what the case says, where its background fails behind this front.
 fn expect_refusal(
@@ -117,18 +117,29 @@ fn expect_written(
 
 const UNWRITTEN: &[u8] = b"debcheck: cannot write the report\n";
 
+/// The words of programs, and their reports.
+static REPORTS: [(&str, &str); 2] = [
+    ("|--arch|amd64|--explain|--bg|others", BACKED_REPORT),
+    ("|--arch|amd64|--failures", FAILURES),
+];
+
+const FAILURES: &str = "a 1: broken
+c 1: broken
+stanzas 2, skipped 0, duplicates 0, asked 2, broken 2";
+
 /// The report is written byte by byte and flushed once. Where the flush fails, that is told.
 #[test]
 fn one_byte_a_call_writes_the_whole_report(rt: HostRuntime) {
-    for case in [&WITH_BACKGROUND, &WITHOUT_BACKGROUND] {
+    for (words, report) in &REPORTS {
+        let report = report_of(rt.alloc(), *report).expect(&rt, "no memory");
         let written = Written {
-            bytes: case.told,
-            calls: case.told.len(),
+            bytes: report.as_bytes(),
+            calls: report.len(),
             flushes: 1,
         };
         for (flush_fails, status) in [(false, 1), (true, 68)] {
             let output = sink_of(rt.alloc(), 1, 0, flush_fails);
-            expect_written(&rt, case.words, output, &written, status);
+            expect_written(&rt, *words, output, &written, status);
         }
     }
 }
@@ -136,20 +147,22 @@ fn one_byte_a_call_writes_the_whole_report(rt: HostRuntime) {
 /// The output takes a front byte by byte, and at the next write it fails or takes no byte: then nothing more is asked of it.
 #[test]
 fn each_write_fails_in_turn(rt: HostRuntime) {
-    let case = &WITHOUT_BACKGROUND;
+    let words = "|--arch|amd64|--failures";
+    let report = report_of(rt.alloc(), FAILURES).expect(&rt, "no memory");
+    let report = report.as_bytes();
     let mut call: u32 = 0;
-    for count in 0..case.told.len() {
+    for count in 0..report.len() {
         call = call.saturating_add(1);
         let written = Written {
-            bytes: &case.told[..count],
+            bytes: &report[..count],
             calls: count + 1,
             flushes: 0,
         };
         let fails = sink_of(rt.alloc(), 1, call, false);
-        expect_written(&rt, case.words, fails, &written, 68);
+        expect_written(&rt, words, fails, &written, 68);
         let mut sticks = sink_of(rt.alloc(), 1, 0, false);
         sticks.sticks_at = call;
-        expect_written(&rt, case.words, sticks, &written, 68);
+        expect_written(&rt, words, sticks, &written, 68);
     }
 }
 

@@ -1,184 +1,73 @@
 //! Whole programs: words, an index and perhaps files go in, and the status, the output and the errors are compared.
 
 use crate::more_reasons::{ALL_REASONS, EDITOR, TWO_CAUSES, WHY};
-use crate::runs::{Case, expect_each, expect_on, run_on};
+use crate::runs::{expect_each, run_on};
 use crate::since_programs::{
     self, ALL_OF_NEWS, BACKGROUND_OF_BOTH, CUT, EARLIER, ELSEWHERE, NEWS, TWO_NEEDS,
 };
 use debcheck::OpenFault;
 use std::str::from_utf8;
-use test_devices::{BACKED_REPORT, BACKGROUND, Cabinet, INDEX, source_of};
+use test_devices::{BACKGROUND, Cabinet, INDEX, source_of};
 
-pub const WITH_BACKGROUND: Case<'static> = Case {
-    words: "|--arch|amd64|--explain|--bg|others",
-    index: INDEX,
-    status: 1,
-    told: BACKED_REPORT,
-};
-
-pub const WITHOUT_BACKGROUND: Case<'static> = Case {
-    words: "|--arch|amd64|--failures",
-    index: INDEX,
-    status: 1,
-    told: b"architecture: amd64
-report:
- -
-  package: a
-  version: 1
-  architecture: all
-  status: broken
- -
-  package: c
-  version: 1
-  architecture: all
-  status: broken
-stanzas: 2
-skipped: 0
-duplicates: 0
-asked: 2
-broken: 2
-",
-};
-
-const CAUSES_IN_JSON: Case<'static> = Case {
-    words: "|--arch|amd64|--format|json|--causes|--bg=others",
-    index: INDEX,
-    status: 1,
-    told: b"{\"format\":2,\"options\":[\"bg\",\"causes\"],\"architecture\":\"amd64\",\"report\":[
-{\"package\":\"a\",\"version\":\"1\",\"architecture\":\"all\",\"status\":\"ok\"},
-{\"package\":\"c\",\"version\":\"1\",\"architecture\":\"all\",\"status\":\"broken\"}
-],\"stanzas\":4,\"skipped\":0,\"duplicates\":0,\"background\":2,\"asked\":2,\"broken\":1,\"causes\":[
-{\"packages\":1,\"frees\":1,\"reasons\":[{\"kind\":\"missing\",\"relation\":\"d\"}],\"needed-by\":[{\"package\":\"c\",\"version\":\"1\",\"field\":\"Depends\",\"relation\":\"d\"}],\"hits\":[],\"versions\":[],\"present\":[],\"similar\":[],\"broken\":[{\"package\":\"c\",\"version\":\"1\"}]}
+/// What programs tell on an index each of whose packages needs one that is not there.
+static ON_INDEX: &str = r#"|--arch|amd64|--explain|--bg|others gives 1
+a 1: ok {a 1 / b 2}
+c 1: broken {missing: c 1 Depends: d}
+stanzas 4, skipped 0, duplicates 0, background 2, asked 2, broken 1
+====
+|--arch|amd64|--failures gives 1
+a 1: broken
+c 1: broken
+stanzas 2, skipped 0, duplicates 0, asked 2, broken 2
+====
+|--arch|amd64|--format|json|--causes|--bg=others gives 1
+{"format":2,"options":["bg","causes"],"architecture":"amd64","report":[
+{"package":"a","version":"1","architecture":"all","status":"ok"},
+{"package":"c","version":"1","architecture":"all","status":"broken"}
+],"stanzas":4,"skipped":0,"duplicates":0,"background":2,"asked":2,"broken":1,"causes":[
+{"packages":1,"frees":1,"reasons":[{"kind":"missing","relation":"d"}],
+ "needed-by":[{"package":"c","version":"1","field":"Depends","relation":"d"}],
+ "hits":[],"versions":[],"present":[],"similar":[],"broken":[{"package":"c","version":"1"}]}
 ]}
-",
-};
+====
+|--arch|amd64|--checkonly|a|--bg|others|--quiet gives 0
+a 1: ok
+stanzas 4, skipped 0, duplicates 0, background 2, asked 1, broken 0
+====
+|--version gives 0
+debcheck 1.0.0
+====
+|--arch|amd64|--bg|others|--checkonly|a,zz gives 66
+debcheck: unknown package zz
+====
+|--arch|all gives 64
+error: invalid value "all" for '--arch <A>': one or more letters, digits and -, neither all nor any
 
-const NOTHING_BROKEN: Case<'static> = Case {
-    words: "|--arch|amd64|--checkonly|a|--bg|others|--quiet",
-    index: INDEX,
-    status: 0,
-    told: b"architecture: amd64
-report:
- -
-  package: a
-  version: 1
-  architecture: all
-  status: ok
-stanzas: 4
-skipped: 0
-duplicates: 0
-background: 2
-asked: 1
-broken: 0
-",
-};
+For more information, try '--help'."#;
 
-const FAULT: Case<'static> = Case {
-    words: "|--arch|amd64",
-    index: b"Package: a\nVersion: 1\nArchitecture: all\n\nPackage: b\n",
-    status: 65,
-    told: b"debcheck: stanza 2: missing field\n",
-};
+static ON_FAULTY: &str = "|--arch|amd64 gives 65
+debcheck: stanza 2: missing field";
 
-const UNKNOWN_NAME: Case<'static> = Case {
-    words: "|--arch|amd64|--bg|others|--checkonly|a,zz",
-    index: INDEX,
-    status: 66,
-    told: b"debcheck: unknown package zz\n",
-};
+static ON_EMPTY: &str = "|--arch|amd64|--strict gives 65
+debcheck: the index is empty";
 
-/// One stanza of another architecture.
-const FOREIGN: &[u8] = b"Package: a
-Version: 1
-Architecture: arm64
-";
+/// One stanza of another architecture, of which nothing is asked.
+static ON_FOREIGN: &str = "|--arch|amd64|--strict|--format|json gives 65
+debcheck: no stanza is of this architecture or of all
+====
+|--arch|amd64|--bg|others|--strict gives 65
+debcheck: nothing is asked
+====
+|--arch|amd64|--strict|--checkonly|a gives 66
+debcheck: unknown package a
+====
+|--arch|amd64 gives 0
+stanzas 1, skipped 1, duplicates 0, asked 0, broken 0";
 
-/// Those of which nothing is asked, one most of whose stanzas are of other architectures, and a run that isn't strict.
-static STRICT_RUNS: &[Case<'static>] = &[
-    Case {
-        words: "|--arch|amd64|--strict",
-        index: b"",
-        status: 65,
-        told: b"debcheck: the index is empty\n",
-    },
-    Case {
-        words: "|--arch|amd64|--strict|--format|json",
-        index: FOREIGN,
-        status: 65,
-        told: b"debcheck: no stanza is of this architecture or of all\n",
-    },
-    Case {
-        words: "|--arch|amd64|--bg|others|--strict",
-        index: FOREIGN,
-        status: 65,
-        told: b"debcheck: nothing is asked\n",
-    },
-    Case {
-        words: "|--arch|amd64|--strict|--checkonly|a",
-        index: FOREIGN,
-        status: 66,
-        told: b"debcheck: unknown package a\n",
-    },
-    Case {
-        words: "|--arch|amd64|--strict",
-        index: b"Package: a
-Version: 1
-Architecture: arm64
-
-Package: b
-Version: 1
-Architecture: arm64
-
-Package: c
-Version: 1
-Architecture: amd64
-",
-        status: 0,
-        told: b"architecture: amd64
-report:
- -
-  package: c
-  version: 1
-  architecture: amd64
-  status: ok
-stanzas: 3
-skipped: 2
-duplicates: 0
-asked: 1
-broken: 0
-",
-    },
-    Case {
-        words: "|--arch|amd64",
-        index: FOREIGN,
-        status: 0,
-        told: b"architecture: amd64
-report:
-stanzas: 1
-skipped: 1
-duplicates: 0
-asked: 0
-broken: 0
-",
-    },
-];
-
-const REFUSED_VALUE: Case<'static> = Case {
-    words: "|--arch|all",
-    index: INDEX,
-    status: 64,
-    told: b"error: invalid value \"all\" for '--arch <A>': one or more letters, digits and -, neither all nor any
-
-For more information, try '--help'.
-",
-};
-
-const VERSION: Case<'static> = Case {
-    words: "|--version",
-    index: INDEX,
-    status: 0,
-    told: b"debcheck 1.0.0\n",
-};
+/// Most stanzas are of another architecture.
+static ON_MOSTLY_FOREIGN: &str = "|--arch|amd64|--strict gives 0
+c 1 amd64: ok
+stanzas 3, skipped 2, duplicates 0, asked 1, broken 0";
 
 /// What stands under the names of files.
 static FILES: [(&str, &[u8]); 6] = [
@@ -190,30 +79,31 @@ static FILES: [(&str, &[u8]); 6] = [
     ("cut", CUT),
 ];
 
-static REPORTS: &[Case<'static>] = &[
-    WITH_BACKGROUND,
-    WITHOUT_BACKGROUND,
-    CAUSES_IN_JSON,
-    NOTHING_BROKEN,
-    VERSION,
-];
-
-static FAULTS: &[Case<'static>] = &[FAULT, UNKNOWN_NAME, REFUSED_VALUE];
-
 /// A report goes to the output, and a fault to the errors.
 #[test]
 fn each_program_tells_what_is_written(rt: HostRuntime) {
     let files = Cabinet::new(&FILES, OpenFault::Unopened);
-    for cases in [REPORTS, FAULTS, STRICT_RUNS, since_programs::FAULTS] {
-        for case in cases {
-            expect_on(&rt, &files, case);
-        }
-    }
     for (index, document) in [
+        (from_utf8(INDEX).unwrap_or(""), ON_INDEX),
+        (
+            "Package: a\nVersion: 1\nArchitecture: all\n\nPackage: b\n",
+            ON_FAULTY,
+        ),
+        ("", ON_EMPTY),
+        ("a 1 arm64", ON_FOREIGN),
+        ("a 1 arm64 / b 1 arm64 / c 1 amd64", ON_MOSTLY_FOREIGN),
         (TWO_CAUSES, ALL_REASONS),
         (EDITOR, WHY),
         (from_utf8(since_programs::INDEX).unwrap_or(""), NEWS),
         (TWO_NEEDS, ALL_OF_NEWS),
+        (
+            from_utf8(since_programs::INDEX).unwrap_or(""),
+            since_programs::ON_INDEX,
+        ),
+        ("Package: a\nVersion: 1\n", since_programs::ON_FAULTY),
+        ("", since_programs::ON_EMPTY),
+        ("\n", since_programs::ON_EMPTY),
+        ("c 1 arm64", since_programs::ON_FOREIGN),
     ] {
         expect_each(&rt, &files, index, document);
     }

@@ -1,7 +1,5 @@
 //! Whole programs that are asked what became of an earlier index.
 
-use crate::runs::Case;
-
 /// In the earlier index `a`, `b` and `c` are broken, and `d` isn't.
 pub const EARLIER: &[u8] = b"Package: a
 Version: 1
@@ -121,90 +119,39 @@ d 1: broken
 e 1: broken
 stanzas 4, skipped 0, duplicates 0, asked 4, broken 3, newly-broken 3, mended {}, gone {}"#;
 
-/// An index with a fault in its first stanza.
-const FAULTY: &[u8] = b"Package: a\nVersion: 1\n";
+/// Faults of the index and of the asked names go before those of the earlier index; that an index has no package goes behind an unknown name. An earlier
+/// index without a package is no fault.
+pub static ON_INDEX: &str = "|--arch|amd64|--since|cut gives 65
+debcheck: earlier index: stanza 2: bad line
+====
+|--arch|amd64|--since|old|--checkonly|zz gives 66
+debcheck: unknown package zz
+====
+|--arch|amd64|--bg|cut|--since|cut gives 65
+debcheck: earlier index: stanza 2: bad line";
+
+/// The first stanza has a fault.
+pub static ON_FAULTY: &str = "|--arch|amd64|--since|cut|--checkonly|zz gives 65
+debcheck: earlier index: stanza 2: bad line
+====
+|--arch|amd64|--since|old|--checkonly|zz gives 65
+debcheck: stanza 1: missing field
+====
+|--arch|amd64|--bg|cut|--since|old gives 65
+debcheck: background: stanza 2: bad line";
+
+pub static ON_EMPTY: &str = "|--arch|amd64|--since|old gives 65
+debcheck: the index is empty
+====
+|--arch|amd64|--strict|--quiet|--since|old gives 65
+debcheck: the index is empty";
 
 /// One stanza, of another architecture.
-const FOREIGN: &[u8] = b"Package: c
-Version: 1
-Architecture: arm64
-";
-
-const EMPTY: &[u8] = b"debcheck: the index is empty\n";
-
-/// Those of the index and of the asked names go before those of the earlier index; that an index has no package goes behind an unknown name. An earlier
-/// index without a package is no fault.
-pub static FAULTS: &[Case<'static>] = &[
-    Case {
-        words: "|--arch|amd64|--since|cut",
-        index: INDEX,
-        status: 65,
-        told: b"debcheck: earlier index: stanza 2: bad line\n",
-    },
-    Case {
-        words: "|--arch|amd64|--since|cut|--checkonly|zz",
-        index: FAULTY,
-        status: 65,
-        told: b"debcheck: earlier index: stanza 2: bad line\n",
-    },
-    Case {
-        words: "|--arch|amd64|--since|old|--checkonly|zz",
-        index: FAULTY,
-        status: 65,
-        told: b"debcheck: stanza 1: missing field\n",
-    },
-    Case {
-        words: "|--arch|amd64|--since|old|--checkonly|zz",
-        index: INDEX,
-        status: 66,
-        told: b"debcheck: unknown package zz\n",
-    },
-    Case {
-        words: "|--arch|amd64|--bg|cut|--since|cut",
-        index: INDEX,
-        status: 65,
-        told: b"debcheck: earlier index: stanza 2: bad line\n",
-    },
-    Case {
-        words: "|--arch|amd64|--bg|cut|--since|old",
-        index: FAULTY,
-        status: 65,
-        told: b"debcheck: background: stanza 2: bad line\n",
-    },
-    Case {
-        words: "|--arch|amd64|--since|old",
-        index: b"",
-        status: 65,
-        told: EMPTY,
-    },
-    Case {
-        words: "|--arch|amd64|--since|old",
-        index: b"\n",
-        status: 65,
-        told: EMPTY,
-    },
-    Case {
-        words: "|--arch|amd64|--strict|--quiet|--since|old",
-        index: b"",
-        status: 65,
-        told: EMPTY,
-    },
-    Case {
-        words: "|--arch|amd64|--since|old",
-        index: FOREIGN,
-        status: 65,
-        told: b"debcheck: no stanza is of this architecture or of all\n",
-    },
-    Case {
-        words: "|--arch|amd64|--since|old|--bg|behind",
-        index: FOREIGN,
-        status: 65,
-        told: b"debcheck: nothing is asked\n",
-    },
-    Case {
-        words: "|--arch|amd64|--since|old|--checkonly|c",
-        index: FOREIGN,
-        status: 66,
-        told: b"debcheck: unknown package c\n",
-    },
-];
+pub static ON_FOREIGN: &str = "|--arch|amd64|--since|old gives 65
+debcheck: no stanza is of this architecture or of all
+====
+|--arch|amd64|--since|old|--bg|behind gives 65
+debcheck: nothing is asked
+====
+|--arch|amd64|--since|old|--checkonly|c gives 66
+debcheck: unknown package c";

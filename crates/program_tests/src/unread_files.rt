@@ -2,132 +2,68 @@
 
 use crate::runs::{Case, expect_on};
 use debcheck::OpenFault;
+use std::process::Abort;
+use std::thread::Threads;
+use std::time::Clock;
 use test_devices::{Cabinet, INDEX};
+use test_texts::report_of;
 
-/// A file that is opened, perhaps none, and whether its reading fails; why another isn't opened, and how many are asked for before that is told; the
-/// words, the status, and what is told.
-static UNREAD: [(&[(&str, &[u8])], bool, OpenFault, u32, &str, u8, &[u8]); 10] = [
-    (
-        &[],
-        false,
-        OpenFault::Unopened,
-        1,
-        "|--arch|amd64|--bg|others",
-        67,
-        NO_BACKGROUND,
-    ),
-    (
-        &[],
-        false,
-        OpenFault::Memory,
-        1,
-        "|--arch|amd64|--bg|others",
-        69,
-        NO_MEMORY,
-    ),
-    (
-        &[],
-        false,
-        OpenFault::Unopened,
-        1,
-        "|--arch|amd64|--bg|b|--checkonly|@names",
-        67,
-        NO_NAMES,
-    ),
-    (
-        &[],
-        false,
-        OpenFault::Memory,
-        1,
-        "|--arch|amd64|--checkonly|@names",
-        69,
-        NO_MEMORY,
-    ),
-    (
-        NAMES,
-        true,
-        OpenFault::Unopened,
-        1,
-        "|--arch|amd64|--since|b|--checkonly|@names",
-        67,
-        NO_NAMES,
-    ),
-    (
-        BAD_NAMES,
-        false,
-        OpenFault::Unopened,
-        1,
-        "|--arch|amd64|--since|b|--checkonly|@names",
-        65,
-        BAD_NAME,
-    ),
-    (
-        BEHIND,
-        false,
-        OpenFault::Unopened,
-        1,
-        "|--arch|amd64|--since|no",
-        67,
-        NO_EARLIER,
-    ),
-    (
-        BEHIND,
-        false,
-        OpenFault::Unopened,
-        2,
-        "|--arch|amd64|--since|no|--bg|others",
-        67,
-        NO_EARLIER,
-    ),
-    (
-        BEHIND,
-        false,
-        OpenFault::Unopened,
-        1,
-        "|--arch|amd64|--since|no|--bg|nor",
-        67,
-        NO_BACKGROUND,
-    ),
-    (
-        BEHIND,
-        false,
-        OpenFault::Memory,
-        2,
-        "|--arch|amd64|--since|no|--bg|others",
-        69,
-        NO_MEMORY,
-    ),
+static FILES: [(&str, &[u8]); 3] = [
+    ("names", b"a\n"),
+    ("bad-names", b"a b\n"),
+    ("others", b"Package: y\nVersion: 1\nArchitecture: all\n"),
 ];
 
-const NAMES: &[(&str, &[u8])] = &[("names", b"a\n")];
+/// How many files are asked for before it is told that another isn't opened; the words, the status, and what is told.
+static UNOPENED: &str = "1 |--arch|amd64|--bg|no gives 67 debcheck: cannot read the background
+1 |--arch|amd64|--bg|b|--checkonly|@no gives 67 debcheck: cannot read the names
+1 |--arch|amd64|--since|b|--checkonly|@bad-names gives 65 debcheck: names: line 1: bad name
+1 |--arch|amd64|--since|no gives 67 debcheck: cannot read the earlier index
+2 |--arch|amd64|--since|no|--bg|others gives 67 debcheck: cannot read the earlier index
+1 |--arch|amd64|--since|no|--bg|nor gives 67 debcheck: cannot read the background";
 
-const BAD_NAMES: &[(&str, &[u8])] = &[("names", b"a b\n")];
+/// The same where memory is wanted to open it.
+static NO_MEMORY: &str = "1 |--arch|amd64|--bg|no gives 69 debcheck: out of memory
+1 |--arch|amd64|--checkonly|@no gives 69 debcheck: out of memory
+2 |--arch|amd64|--since|no|--bg|others gives 69 debcheck: out of memory";
 
-const BEHIND: &[(&str, &[u8])] = &[("others", b"Package: y\nVersion: 1\nArchitecture: all\n")];
+/// The same where reading a file fails.
+static TORN: &str =
+    "1 |--arch|amd64|--since|b|--checkonly|@names gives 67 debcheck: cannot read the names";
 
-const NO_BACKGROUND: &[u8] = b"debcheck: cannot read the background\n";
-
-const NO_EARLIER: &[u8] = b"debcheck: cannot read the earlier index\n";
-
-const NO_NAMES: &[u8] = b"debcheck: cannot read the names\n";
-
-const BAD_NAME: &[u8] = b"debcheck: names: line 1: bad name\n";
-
-const NO_MEMORY: &[u8] = b"debcheck: out of memory\n";
+fn expect_line(
+    rt: &(impl Abort + Clock + Threads + Sync + AllocGlobal),
+    fault: OpenFault,
+    torn: bool,
+    line: &str,
+) {
+    let mut files = Cabinet::new(&FILES, fault);
+    files.torn = torn;
+    let (asked, program) = line.split_once(' ').expect(rt, line);
+    let (words, end) = program.split_once(" gives ").expect(rt, line);
+    let (status, told) = end.split_once(' ').expect(rt, line);
+    let told = report_of(rt.alloc(), told).expect(rt, "no memory");
+    let case = Case {
+        words,
+        index: INDEX,
+        status: status.parse::<u8>().expect(rt, line),
+        told: told.as_bytes(),
+    };
+    let reads = expect_on(rt, &files, &case);
+    let wanted = asked.parse::<u32>().expect(rt, line);
+    assert!(rt; reads == 0 && files.asked() == wanted, "{line}");
+}
 
 /// The names are read before all else, the background is opened before the earlier index, and both before the index is read.
 #[test]
 fn files_go_before_the_index(rt: HostRuntime) {
-    for (files, torn, fault, asked, words, status, told) in &UNREAD {
-        let mut files = Cabinet::new(*files, *fault);
-        files.torn = *torn;
-        let case = Case {
-            words: *words,
-            index: INDEX,
-            status: *status,
-            told: *told,
-        };
-        let reads = expect_on(&rt, &files, &case);
-        assert!(rt; reads == 0 && files.asked() == *asked, "{words}");
+    for (fault, torn, lines) in [
+        (OpenFault::Unopened, false, UNOPENED),
+        (OpenFault::Memory, false, NO_MEMORY),
+        (OpenFault::Unopened, true, TORN),
+    ] {
+        for line in lines.lines() {
+            expect_line(&rt, fault, torn, line);
+        }
     }
 }
