@@ -1,9 +1,9 @@
 //! Tests of the public calls of `deb_index`.
 //!
-//! `reading` makes an index of a text, or of a text and a background; `showing` prints what is to be seen of one, which most tests compare with one text;
-//! `texts` has texts that several tests read. `examples` has worked examples, `satisfiers`, `needs` and `rows` have what meets an atom, `positions` the
-//! places of constraints in their list, `backgrounds` indexes of two texts, `faults` and `limits` what is refused, `side_by_side` texts that several workers
-//! read, `pieces` texts that come in pieces, `growths` a test for each call that can want memory.
+//! `reading` makes an index of a text, or of a text and a background; `showing` prints what is to be seen of one, which most tests compare with one text, and
+//! `meeting` what meets an atom; `texts` has texts that several tests read. `examples` has worked examples, `satisfiers`, `needs` and `rows` have what meets an
+//! atom, `positions` the places of constraints in their list, `backgrounds` indexes of two texts, `faults` and `limits` what is refused, `side_by_side` texts
+//! that several workers read, `pieces` texts that come in pieces, `growths` a test for each call that can want memory.
 #![tactic(auto)]
 
 #[cfg(test)]
@@ -16,6 +16,8 @@ mod faults;
 mod growths;
 #[cfg(test)]
 mod limits;
+#[cfg(test)]
+mod meeting;
 #[cfg(test)]
 mod needs;
 #[cfg(test)]

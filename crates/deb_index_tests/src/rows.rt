@@ -7,7 +7,8 @@ use std::process::Abort;
 use std::thread::Threads;
 
 const MIXED: &str =
-    "a 1 {Pre-Depends: v | w (>= 2), a; Depends: w | v, v | v, none, none | w:any (<< 2), w:i386 | v:amd64 (= 2), w:any; Conflicts: a, v; Breaks: w (<< 2), none; Provides: a (= 7), v (= 2)} /
+    "a 1 {Pre-Depends: v | w (>= 2), a; Depends: w | v, v | v, none, none | w:any (<< 2), w:i386 | v:amd64 (= 2), w:any;
+Conflicts: a, v; Breaks: w (<< 2), none; Provides: a (= 7), v (= 2)} /
 w 1 amd64 {Multi-Arch: allowed; Provides: v; Depends: a (= 7)} / v 3 / w 2 {Conflicts: v (>> 2), w:any; Depends: a (= 1) | a (>> 1) | w, v}";
 
 // Each atom is asked for by two packages, most of them in both roles.

@@ -2,9 +2,10 @@
 
 ghost use Rattle.std.specs.Prelude.{◌<◌, length};
 
+use crate::meeting::append_each_met;
 use crate::reading::{Texts, read};
 use deb_index::{BothError, Index, Package};
-use deb_relation::{Atom, parse_list};
+use deb_relation::Atom;
 use std::alloc::{AllocError, Global};
 use std::process::Abort;
 use std::slice::from_ref;
@@ -162,7 +163,7 @@ fn append_groups(out: &mut String, index: &Index) -> Result<(), AllocError> {
 }
 
 /// Adds places: how many there are and the first one, where they are many.
-fn append_places(out: &mut String, places: &[u32]) -> Result<(), AllocError> {
+pub fn append_places(out: &mut String, places: &[u32]) -> Result<(), AllocError> {
     if places.len() > 20 {
         write!(out, " {} from {:?}", places.len(), places.first())
     } else {
@@ -217,72 +218,6 @@ fn append_answers_by(
 fn append_answers(out: &mut String, index: &Index) -> Result<(), AllocError> {
     let mut lent = Vec::from_slice(*out.allocator(), &[9, 8])?;
     append_answers_by(out, index, &mut lent)
-}
-
-/// Whether exactly those packages meet an atom that are at these places.
-fn are_met(index: &Index, atom: &Atom, places: &[u32]) -> bool {
-    for place in 0..index.len() {
-        if index.meets(place, atom) != places.contains(&place) {
-            return false;
-        }
-    }
-    true
-}
-
-/// The places of the packages that meet an atom as an alternative.
-fn met_in_a_group(alloc: Global, index: &Index, atom: &Atom) -> Result<Vec<u32>, AllocError> {
-    let mut found = Vec::new(alloc);
-    for place in 0..index.len() {
-        if index.meets_need(place, atom) {
-            found.push(place)?;
-        }
-    }
-    Ok(found)
-}
-
-fn append_met_atom(
-    out: &mut String,
-    index: &Index,
-    atom: &Atom,
-    as_need: bool,
-) -> Result<(), AllocError> {
-    if as_need {
-        let found = met_in_a_group(*out.allocator(), index, atom)?;
-        return append_places(out, &found);
-    }
-    let found = index.satisfiers(*out.allocator(), atom)?;
-    if are_met(index, atom, &found) {
-        append_places(out, &found)
-    } else {
-        out.push_str(" others")
-    }
-}
-
-fn append_met_atoms(
-    out: &mut String,
-    index: &Index,
-    atoms: &[Atom],
-    as_need: bool,
-) -> Result<(), AllocError> {
-    let mut before = if as_need { "met in a group:" } else { "met:" };
-    for atom in atoms {
-        out.push_str(before)?;
-        append_met_atom(out, index, atom, as_need)?;
-        before = " |";
-    }
-    out.push('\n')
-}
-
-fn append_each_met(
-    out: &mut String,
-    index: &Index,
-    list: &str,
-    as_need: bool,
-) -> Result<(), AllocError> {
-    match parse_list(*out.allocator(), list.as_bytes()) {
-        Ok(atoms) => append_met_atoms(out, index, &atoms, as_need),
-        Err(_) => out.push_str("no atoms\n"),
-    }
 }
 
 fn append_part(out: &mut String, index: &Index, part: Part) -> Result<(), AllocError> {

@@ -173,7 +173,7 @@ fn essential_names_that_do_not_count(rt: HostRuntime) {
 
 /// Two indexes by turns in one workspace. At last a set of the other index comes before an agent that is broken and one that is forced.
 const BY_TURNS: &str = "all agents
-base 1 {Essential: yes; Depends: m1 | m2, lib} / m1 1 {Provides: mail-agent; Conflicts: mail-agent} / m2 1 {Provides: mail-agent; Conflicts: mail-agent} / u 1 {Depends: m1, m2} / lib 1
+base 1 {Essential: yes; Depends: m1 | m2, lib} / m1 1 {Provides: v; Conflicts: v} / m2 1 {Provides: v; Conflicts: v} / u 1 {Depends: m1, m2} / lib 1
 0 set [0, 2, 4]
 1 set [0, 1, 4]
 2 set [0, 2, 4]
@@ -188,7 +188,7 @@ n 1 / n 2 / a 1 {Depends: n (= 1), b} / b 1 {Depends: n (= 2)}
 3 set [1, 3]
 
 all agents
-base 1 {Essential: yes; Depends: m1 | m2, lib} / m1 1 {Provides: mail-agent; Conflicts: mail-agent} / m2 1 {Provides: mail-agent; Conflicts: mail-agent} / u 1 {Depends: m1, m2} / lib 1
+base 1 {Essential: yes; Depends: m1 | m2, lib} / m1 1 {Provides: v; Conflicts: v} / m2 1 {Provides: v; Conflicts: v} / u 1 {Depends: m1, m2} / lib 1
 0 set [0, 2, 4]
 1 set [0, 1, 4]
 2 set [0, 2, 4]
@@ -200,7 +200,7 @@ n 1 / n 2 / a 1 {Depends: n (= 1), b} / b 1 {Depends: n (= 2)}
 3 set [1, 3]
 
 the last agents
-base 1 {Essential: yes; Depends: m1 | m2, lib} / m1 1 {Provides: mail-agent; Conflicts: mail-agent} / m2 1 {Provides: mail-agent; Conflicts: mail-agent} / u 1 {Depends: m1, m2} / lib 1
+base 1 {Essential: yes; Depends: m1 | m2, lib} / m1 1 {Provides: v; Conflicts: v} / m2 1 {Provides: v; Conflicts: v} / u 1 {Depends: m1, m2} / lib 1
 3 core [Apart(2, 0), Need(3, 0), Need(3, 1)]
 1 set [0, 1, 4]";
 
