@@ -29,16 +29,6 @@ impl Model for RowStore {
 }
 
 impl RowStore {
-    fn new(alloc: Global) -> RowStore
-        ensures { result ≡ [] }
-    {
-        RowStore {
-            ends: Vec::new(alloc),
-            kept: Vec::new(alloc),
-            places: Vec::new(alloc),
-        }
-    }
-
     // Puts a row down, last, or that it is left out.
     fn push(&mut self, row: Option<&[u32]>) -> Result<(), AllocError>
         ensures ok { OnOk result (self.new ≡ self.old ++ option_map (λ r. r.now) row.entry ∷ []) }
@@ -130,7 +120,11 @@ impl Rows {
     {
         Rows {
             numbers: Vec::new(alloc),
-            store: RowStore::new(alloc),
+            store: RowStore {
+                ends: Vec::new(alloc),
+                kept: Vec::new(alloc),
+                places: Vec::new(alloc),
+            },
         }
     }
 
