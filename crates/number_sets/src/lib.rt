@@ -1,6 +1,6 @@
 //! Sets of numbers: what they are, which of two comes first, and a set that is kept as a list; and rows of numbers.
 //!
-//! `specs/Sets` defines sets of numbers and their order, `specs/SparseSets` lists to which numbers come, `specs/Rows` rows of numbers; `proofs` has lemmas,
+//! `specs/Sets` defines sets of numbers, their order and lists to which numbers come, `specs/Rows` rows of numbers; `proofs` has lemmas,
 //! too, on lists that are gone through, for the crates above. The modules, in reading order:
 //!
 //! - `sparse_set`: the set of numbers that work is done on;
