@@ -1,7 +1,7 @@
 use Rattle.std.proofs.Common.{rules, ◌≡◌, ℕ, ◌+◌, false, List, refl, sym, subst, arith}
 use Rattle.number_sets.specs.Sets.{NumberSet, members_of}
-use Rattle.core_extract.specs.Reduction.{left, IsReduced}
-use Rattle.core_extract.proofs.Cores.{reduced_pushed, rising_after}
+use Rattle.core_extract.specs.Reduction.{left}
+use Rattle.core_extract.proofs.Cores.{IsReduced, reduced_pushed, rising_after}
 use Rattle.core_extract.proofs.reduction.first_failing.Goals as goal
 
 pub loop-first-preserved-in_ok-push-2 : goal.loop-first-preserved-in_ok-push-2

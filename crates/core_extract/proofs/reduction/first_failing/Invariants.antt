@@ -1,7 +1,8 @@
 use Rattle.std.proofs.Common.{◌-◌, ◌*◌, ◌+◌, ◌^◌, ◌≤◌, min}
 use Rattle.std.specs.List.Sorted.{IsStrictlyIncreasing}
 use Rattle.number_sets.specs.Sets.{members_of}
-use Rattle.core_extract.specs.Reduction.{IsReduced, AreSame}
+use Rattle.core_extract.specs.Reduction.{AreSame}
+use Rattle.core_extract.proofs.Cores.{IsReduced}
 use Rattle.core_extract.proofs.reduction.first_failing.Given as goal
 
 abbrev pub invariant-loop-first : goal.invariant-loop-first
