@@ -6,7 +6,7 @@ use Rattle.std.proofs.lemmas.Option.{slice_get-get_or, slice_get_within, get_or_
 use Rattle.number_sets.specs.Sets.{NumberSet}
 use Rattle.std.specs.declared.alloc.Global.{Global}
 use Rattle.sat_solve.specs.Clauses.{IsAnswer, Clause, AreWithin, no_span}
-use Rattle.sat_solve.specs.Reasons.{IsProblem, IsSolution, IsMarkedSolution, IsAnswerTo, IsUsed, IsLearnt, Backs}
+use Rattle.sat_solve.specs.Reasons.{IsSolution, IsMarkedSolution, IsAnswerTo, IsUsed, IsLearnt, Backs}
 use Rattle.sat_solve.specs.declared.clause.Lit.{Lit}
 use Rattle.sat_solve.specs.declared.trail.Reason.TheVariants.{Clause as OfClause}
 use Rattle.sat_solve.specs.declared.clause.Problem.{Problem}
@@ -62,9 +62,9 @@ none_answered problem used is none = record {
 }
 
 -- a clause brings in nothing but what its marked group does
-pub backed_clause : (problem : Problem) (old new : List Bool) (clause : ℕ) → IsProblem problem → IsUsed problem new → AreWithin old new → clause < length problem.spans.now → (get_or problem.keep.now (get_or problem.spans.now clause no_span).group false ≡ true → slice_get new (get_or problem.spans.now clause no_span).group ≡ Some true) → (members : NumberSet) → IsMarkedSolution problem new members → Backs problem old (OfClause clause) members
-backed_clause problem old new clause asked is within below marked members holds = (
+pub backed_clause : (problem : Problem) (old new : List Bool) (clause : ℕ) → IsUsed problem new → AreWithin old new → clause < length problem.spans.now → (get_or problem.keep.now (get_or problem.spans.now clause no_span).group false ≡ true → slice_get new (get_or problem.spans.now clause no_span).group ≡ Some true) → (members : NumberSet) → IsMarkedSolution problem new members → Backs problem old (OfClause clause) members
+backed_clause problem old new clause is within below marked members holds = (
   fewer_meet problem old new members within holds,
-  λ _ unowned kept. clause_met problem.vars (length problem.keep.now) problem.literals.now problem.spans.now asked.clauses clause no_span below
+  λ _ unowned kept. clause_met problem.vars (length problem.keep.now) problem.literals.now problem.spans.now problem.clauses clause no_span below
       new members is.sized unowned (get_or_from_slice_get new _ true false (marked kept)) holds.meets,
 )

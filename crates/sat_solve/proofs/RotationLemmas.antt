@@ -10,7 +10,7 @@ use Rattle.std.proofs.lemmas.Option.{slice_get-get_or, slice_get_read, slice_get
 use Rattle.number_sets.specs.Sets.{NumberSet, members_of}
 use Rattle.number_sets.proofs.MembersLemmas.{pushed_has, pushed_keeps}
 use Rattle.sat_solve.specs.Clauses.{clause_holds, clauses_by, clauses_at, clauses_of, MeetsSpan, no_span}
-use Rattle.sat_solve.specs.Reasons.{IsProblem, IsSolution, variables_of}
+use Rattle.sat_solve.specs.Reasons.{IsSolution, variables_of}
 use Rattle.sat_solve.specs.Rotation.{turned, AreNeeded, MeetsBut, BreaksAlone, IsTrueBut, owns, speaks, HasAt, ListsOn, IsListed}
 use Rattle.sat_solve.specs.declared.clause.Lit.{Lit}
 use Rattle.sat_solve.specs.declared.clause.Span.{Span}
@@ -234,7 +234,7 @@ no_group : (keep : List Bool) (group : ℕ) → slice_get keep group ≡ Some tr
 no_group keep group found past = omega (arith, slice_get_within keep group true found)
 
 -- where it was put down of each variable whether it is in a set
-module _ (problem : Problem) (inside : List Bool) (members : NumberSet) (asked : IsProblem problem) (sized : length inside ≡ problem.vars) (same : (var : ℕ) → get_or inside var false ≡ members var) where
+module _ (problem : Problem) (inside : List Bool) (members : NumberSet) (sized : length inside ≡ problem.vars) (same : (var : ℕ) → get_or inside var false ≡ members var) where
   put_down : turned inside problem.vars ≡ members
   put_down = fun_ext (λ var. subst (λ n. turned inside n var ≡ get_or inside var false) sized (unturned inside var) ∙ same var)
 
@@ -254,4 +254,4 @@ module _ (problem : Problem) (inside : List Bool) (members : NumberSet) (asked :
   pub meets_each : IsSolution problem members → (k : ℕ) → MeetsBut problem (turned inside problem.vars) (length problem.keep.now) k
   meets_each solution k below kept other =
       subst (λ set. MeetsSpan set problem.literals.now (get_or problem.spans.now k no_span)) (sym put_down)
-      (span_met problem.vars (length problem.keep.now) problem.literals.now problem.spans.now asked.clauses k no_span below problem.keep.now members refl kept solution.meets)
+      (span_met problem.vars (length problem.keep.now) problem.literals.now problem.spans.now problem.clauses k no_span below problem.keep.now members refl kept solution.meets)

@@ -9,7 +9,7 @@ use Rattle.std.proofs.lemmas.Bool.Decides.{eqb_tells}
 use Rattle.number_sets.specs.Sets.{NumberSet, IsFirst, members_of}
 use Rattle.sat_solve.specs.Clauses.{clause_holds, not_both, clauses_of, no_span}
 use Rattle.sat_solve.specs.Trail.{ComesDownTo, value_in, set_of, is_decided, Follows, IsSound, IsLinked, rank, power_of_three, steps_of, IsTrail}
-use Rattle.sat_solve.specs.Reasons.{IsProblem, IsSolution, IsLearnt, Implied, Backs, named_by, RestsOn, AreReasoned, AreParts, FailsOn, IsReasonFor}
+use Rattle.sat_solve.specs.Reasons.{IsSolution, IsLearnt, Implied, Backs, named_by, RestsOn, AreReasoned, AreParts, FailsOn, IsReasonFor}
 use Rattle.sat_solve.specs.SolverState.{IsSolver, Gives, GoesOn, height}
 use Rattle.sat_solve.specs.Jumps.{AreDenied}
 use Rattle.sat_solve.specs.declared.clause.Lit.{Lit}
@@ -73,10 +73,10 @@ module _ (problem : Problem) (old : Solver) (reason : Reason) (clause : List Lit
   }
 
 -- a kept clause gives itself
-pub clause_gives : (problem : Problem) (solver : Solver) (clause : ℕ) → IsProblem problem → IsSolver problem solver → clause < length problem.spans.now → is_some (get_or problem.spans.now clause no_span).owner ≡ false → get_or problem.keep.now (get_or problem.spans.now clause no_span).group false ≡ true → Gives problem solver (Clause clause) (slice_range problem.literals.now (get_or problem.spans.now clause no_span).start (get_or problem.spans.now clause no_span).end)
-clause_gives problem solver clause asked is inside unowned kept = record {
+pub clause_gives : (problem : Problem) (solver : Solver) (clause : ℕ) → IsSolver problem solver → clause < length problem.spans.now → is_some (get_or problem.spans.now clause no_span).owner ≡ false → get_or problem.keep.now (get_or problem.spans.now clause no_span).group false ≡ true → Gives problem solver (Clause clause) (slice_range problem.literals.now (get_or problem.spans.now clause no_span).start (get_or problem.spans.now clause no_span).end)
+clause_gives problem solver clause is inside unowned kept = record {
   implied = refl;
-  meets = λ set holds. clause_met problem.vars (length problem.keep.now) problem.literals.now problem.spans.now asked.clauses clause no_span inside problem.keep.now set refl unowned kept holds.meets;
+  meets = λ set holds. clause_met problem.vars (length problem.keep.now) problem.literals.now problem.spans.now problem.clauses clause no_span inside problem.keep.now set refl unowned kept holds.meets;
   backed = λ set holds. holds.1 inside unowned kept;
   part = tt;
   parts = is.parts;

@@ -3,18 +3,13 @@ use Rattle.std.specs.Prelude.{◌≡◌, ℕ, ◌<◌, ◌≤◌, ◌==◌, Bool
 use Rattle.std.specs.List.{list_any}
 use Rattle.std.specs.declared.alloc.Global.{Global}
 use Rattle.number_sets.specs.Sets.{NumberSet}
-use Rattle.sat_solve.specs.Clauses.{IsTrueSet, AreWithin, clause_holds, not_both, IsAnswer, clause_at, clauses_of, no_span, AreClauses}
+use Rattle.sat_solve.specs.Clauses.{IsTrueSet, AreWithin, clause_holds, not_both, IsAnswer, clause_at, clauses_of, no_span}
 use Rattle.sat_solve.specs.Trail.{value_in, is_decision, is_decided}
 use Rattle.sat_solve.specs.declared.clause.Lit.{Lit}
 use Rattle.sat_solve.specs.declared.trail.Step.{Step}
 use Rattle.sat_solve.specs.declared.trail.Reason.{Reason}
 use Rattle.sat_solve.specs.declared.trail.Reason.TheVariants.{Decision, Given, Clause, Pair, Learnt, AllOlder}
 use Rattle.sat_solve.specs.declared.clause.Problem.{Problem}
-
--- the clauses and the variable that a problem names are in range
-pub record IsProblem (problem : Problem) : Type 0 where
-  pub clauses : AreClauses problem.vars (length problem.keep.now) problem.literals.now problem.spans.now
-  pub must : problem.must < problem.vars
 
 -- the set is one that the problem asks for
 abbrev pub IsSolution : Problem → NumberSet → Type 0

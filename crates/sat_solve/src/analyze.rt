@@ -8,7 +8,7 @@ ghost use Rattle.std.specs.Prelude.{Some, [], All, length, slice_get, slice_inde
 ghost use Rattle.number_sets.specs.Sets.{NumberSet};
 ghost use Rattle.sat_solve.specs.Clauses.{AreWithin};
 ghost use Rattle.sat_solve.specs.Trail.{steps_of, IsSound, IsTrail};
-ghost use Rattle.sat_solve.specs.Reasons.{IsSolution, IsMarkedSolution, IsUsed, Backs, AllBack, IsProblem, Implied};
+ghost use Rattle.sat_solve.specs.Reasons.{IsSolution, IsMarkedSolution, IsUsed, Backs, AllBack, Implied};
 ghost use Rattle.sat_solve.specs.Reasons.{FailsOn, AreReasoned, named_by, is_seen, variables_of, SeesAll};
 ghost use Rattle.sat_solve.specs.Jumps.{IsJump, IsTaken};
 
@@ -66,7 +66,6 @@ fn rest_on(
     seen: &mut Vec<bool>,
     used: &mut Vec<bool>,
 ) -> Result<(), AllocError>
-    requires problem { IsProblem problem.now }
     requires used { IsUsed problem.now used.old.items }
     ensures seen { IfOk result (λ _. SeesAll (named_by problem.now arena.now reason) seen.old.items seen.new.items) }
     ensures used { IfOk result (λ _. IsUsed problem.now used.new.items) }
@@ -185,7 +184,6 @@ impl Analysis {
         used: &mut Vec<bool>,
         conflict: Reason,
     ) -> Result<(), AllocError>
-        requires problem { IsProblem problem.now }
         requires used { IsUsed problem.now used.old.items }
         requires linked { IsTrail trail.now }
         requires vars { trail.now.vars ≡ problem.now.vars }

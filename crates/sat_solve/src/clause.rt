@@ -1,6 +1,8 @@
 //! Literals, where the literals of a clause stand, and what a solve is asked.
 
-ghost use Rattle.std.specs.Prelude.{◌≡◌, false};
+ghost use Rattle.std.specs.Prelude.{◌≡◌, ◌<◌, false, length};
+ghost use Rattle.std.proofs.Props.{props};
+ghost use Rattle.sat_solve.specs.Clauses.{AreClauses};
 
 /// A literal: a variable, or its negation.
 ///
@@ -57,4 +59,6 @@ pub(crate) struct Problem<'a> {
     pub keep: &'a [bool],
     /// The variable that is to be in.
     pub must: u32,
+    ghost clauses: { AreClauses vars (length keep.now) literals.now spans.now } by { Prim.hlevel props },
+    ghost in_range: { must < vars },
 }

@@ -1,7 +1,6 @@
 //! Propagation of lists whose variables exclude each other: what comes in walks the lists that it owns or stands in.
 
 ghost use Rattle.std.specs.Prelude.{◌<◌, length, IfOk};
-ghost use Rattle.sat_solve.specs.Reasons.{IsProblem};
 ghost use Rattle.sat_solve.specs.SolverState.{IsSolver, GoesOn};
 
 use crate::clause::{Lit, Problem, Span};
@@ -66,7 +65,6 @@ impl Exclusions {
         number: usize,
         owner: u32,
     ) -> Result<(), AllocError>
-        requires problem { IsProblem problem.now }
         requires number { number < length problem.now.spans.now }
     {
         let span = problem.spans[number];
@@ -149,7 +147,6 @@ impl Exclusions {
         solver: &mut Solver,
         var: u32,
     ) -> Result<Option<Reason>, AllocError>
-        requires problem { IsProblem problem.now }
         requires solver { IsSolver problem.now solver.old }
         ensures { IfOk result (GoesOn problem.now solver.old solver.new) }
     {

@@ -1,7 +1,7 @@
 //! Lists of the spans that speak of each variable, and behind these of each group.
 
 ghost use Rattle.std.specs.Prelude.{◌≡◌, ℕ, ◌<◌, true, length, OnOk};
-ghost use Rattle.sat_solve.specs.Reasons.{IsProblem, variables_of};
+ghost use Rattle.sat_solve.specs.Reasons.{variables_of};
 ghost use Rattle.sat_solve.specs.Rotation.{HasAt, IsListed, ListsOn};
 
 use crate::clause::{Lit, Problem};
@@ -31,7 +31,6 @@ fn push_literals(lists: &mut Vec<Vec<u32>>, literals: &[Lit], number: u32) -> Re
 
 /// Lists a span at all that it speaks of.
 fn push_span(lists: &mut Vec<Vec<u32>>, problem: &Problem, number: u32) -> Result<(), AllocError>
-    requires problem { IsProblem problem.now }
     requires number { number < length problem.now.spans.now }
     ensures on { OnOk result (ListsOn lists.old.items lists.new.items) }
     ensures here { OnOk result (IsListed problem.now lists.new.items number) }
@@ -51,7 +50,6 @@ pub(crate) fn list_spans(
     lists: &mut Vec<Vec<u32>>,
     problem: &Problem,
 ) -> Result<(), AllocError>
-    requires { IsProblem problem.now }
     ensures { OnOk result ((k : ℕ) → k < length problem.now.spans.now → IsListed problem.now lists.new.items k) }
 {
     for key in 0..lists.len() {

@@ -5,7 +5,6 @@
 //! set breaks is looked up among the clauses that speak of the turned variable, and those of the group that the set before it broke.
 
 ghost use Rattle.std.specs.Prelude.{◌≡◌, ℕ, ◌<◌, ◌⊎◌, true, Some, length, slice_get, IfOk, OnOk};
-ghost use Rattle.sat_solve.specs.Reasons.{IsProblem};
 ghost use Rattle.sat_solve.specs.Rotation.{BreaksAlone, IsListed, MarksNeeded};
 
 use crate::clause::Problem;
@@ -69,7 +68,6 @@ impl Rotation {
 
     /// Takes in a set. False if it breaks another kept group than this one.
     fn start(&mut self, problem: &Problem, set: &[u32], group: u32) -> Result<bool, AllocError>
-        requires { IsProblem problem.now }
         ensures alone { IfOk result (λ alone. alone ≡ true → BreaksAlone problem.now self.new.inside.items group) }
         ensures group { IfOk result (λ _. self.new.group ≡ group) }
         ensures lists { self.new.lists ≡ self.old.lists }
@@ -83,9 +81,7 @@ impl Rotation {
     }
 
     /// A group that breaks where a variable is turned. It is a hint.
-    fn broken_by(&self, problem: &Problem, var: u32) -> Option<u32>
-        requires { IsProblem problem.now }
-    {
+    fn broken_by(&self, problem: &Problem, var: u32) -> Option<u32> {
         let numbers = self.lists.get(var as usize)?;
         let number = self.turned(var).first_broken(problem, numbers, usize::MAX)?;
         Some(problem.spans.get(number as usize)?.group)
@@ -93,7 +89,6 @@ impl Rotation {
 
     /// Turns a variable, if the set then breaks this group alone.
     fn turn(&mut self, problem: &Problem, var: u32, group: u32) -> bool
-        requires problem { IsProblem problem.now }
         requires listed { (k : ℕ) → k < length problem.now.spans.now → IsListed problem.now self.old.lists.items k }
         requires before { BreaksAlone problem.now self.old.inside.items self.old.group }
         ensures after { BreaksAlone problem.now self.new.inside.items self.new.group }
@@ -122,7 +117,6 @@ impl Rotation {
 
     /// Has variables turned that mend the group that the set breaks.
     fn push_turns(&mut self, problem: &Problem) -> Result<(), AllocError>
-        requires { IsProblem problem.now }
         ensures { (self.new.lists ≡ self.old.lists) × (self.new.inside ≡ self.old.inside) × (self.new.group ≡ self.old.group) }
     {
         let set = Turned {
@@ -146,7 +140,6 @@ impl Rotation {
         turn: Turn,
         marks: &mut Vec<bool>,
     ) -> Result<(), AllocError>
-        requires problem { IsProblem problem.now }
         requires listed { (k : ℕ) → k < length problem.now.spans.now → IsListed problem.now self.old.lists.items k }
         requires before { BreaksAlone problem.now self.old.inside.items self.old.group }
         requires needed { MarksNeeded problem.now marks.old.items }
@@ -185,7 +178,6 @@ impl Rotation {
         group: u32,
         marks: &mut Vec<bool>,
     ) -> Result<(), AllocError>
-        requires { IsProblem problem.now }
         ensures needed { OnOk result (MarksNeeded problem.now marks.new.items) }
         ensures sized { OnOk result (length marks.new.items ≡ length problem.now.keep.now) }
     {
@@ -229,7 +221,6 @@ fn push_turns_for(
     number: u32,
     turns: &mut Vec<Turn>,
 ) -> Result<(), AllocError>
-    requires { IsProblem problem.now }
 {
     let Some(span) = problem.spans.get(number as usize).copied() else {
         return Ok(());

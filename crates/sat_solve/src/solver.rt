@@ -3,7 +3,7 @@
 ghost use Rattle.std.specs.Prelude.{◌≡◌, ◌<◌, true, false, All, IfOk};
 ghost use Rattle.number_sets.specs.Sets.{NumberSet};
 ghost use Rattle.sat_solve.specs.Trail.{is_decided, IsTrail};
-ghost use Rattle.sat_solve.specs.Reasons.{IsMarkedSolution, IsProblem, Implied, IsLearnt, IsReasonFor};
+ghost use Rattle.sat_solve.specs.Reasons.{IsMarkedSolution, Implied, IsLearnt, IsReasonFor};
 ghost use Rattle.sat_solve.specs.Jumps.{IsAt, IsJump};
 ghost use Rattle.sat_solve.specs.SolverState.{IsSolver, Gives, UndoesTo, Decides, GoesOn, height};
 
@@ -45,7 +45,6 @@ impl Solver {
 
     /// Begins anew for a problem: only its variable is in.
     pub(crate) fn restart(&mut self, problem: &Problem) -> Result<(), AllocError>
-        requires { IsProblem problem.now }
         ensures { IfOk result (λ _. IsSolver problem.now self.new) }
     {
         self.learnt.clear();
@@ -88,7 +87,6 @@ impl Solver {
         problem: &Problem,
         clause: usize,
     ) -> Result<Option<Reason>, AllocError>
-        requires problem { IsProblem problem.now }
         requires solver { IsSolver problem.now self.old }
         ensures { IfOk result (GoesOn problem.now self.old self.new) }
     {
@@ -125,7 +123,6 @@ impl Solver {
         span: usize,
         place: usize,
     ) -> Result<Option<Reason>, AllocError>
-        requires problem { IsProblem problem.now }
         requires solver { IsSolver problem.now self.old }
         ensures { IfOk result (GoesOn problem.now self.old self.new) }
     {

@@ -4,7 +4,6 @@ ghost use Rattle.std.specs.Prelude.{◌≡◌, ℕ, ◌≤◌, ◌==◌, ◌||�
 ghost use Rattle.std.specs.List.{list_all};
 ghost use Rattle.number_sets.specs.Sets.{members_of};
 ghost use Rattle.sat_solve.specs.Clauses.{clause_holds, MeetsSpan};
-ghost use Rattle.sat_solve.specs.Reasons.{IsProblem};
 ghost use Rattle.sat_solve.specs.Rotation.{IsClearPart, MeetsBut, turned};
 
 use crate::clause::{Lit, Problem, Span};
@@ -99,7 +98,6 @@ impl<'a> Turned<'a> {
         but: usize,
         clear: &mut (usize, usize),
     ) -> bool
-        requires problem { IsProblem problem.now }
         requires clear { IsClearPart (turned self.now.inside.now self.now.var) problem.now.literals.now clear.old }
         ensures clear { IsClearPart (turned self.now.inside.now self.now.var) problem.now.literals.now clear.new }
         ensures met { result ≡ true → MeetsBut problem.now (turned self.now.inside.now self.now.var) but number }
@@ -117,7 +115,6 @@ impl<'a> Turned<'a> {
 
     /// The first of these spans that doesn't hold, though it is kept, and not of a group.
     pub(crate) fn first_broken(&self, problem: &Problem, numbers: &[u32], but: usize) -> Option<u32>
-        requires { IsProblem problem.now }
         ensures { IfNone result ((k : ℕ) → members_of numbers.now k ≡ true → MeetsBut problem.now (turned self.now.inside.now self.now.var) but k) }
     {
         for number in numbers {
@@ -131,7 +128,6 @@ impl<'a> Turned<'a> {
 
     /// Whether all spans hold that are kept, and not of a group.
     pub(crate) fn meets_all(&self, problem: &Problem, but: usize) -> bool
-        requires { IsProblem problem.now }
         ensures met { result ≡ true → (k : ℕ) → MeetsBut problem.now (turned self.now.inside.now self.now.var) but k }
         ensures unmet { result ≡ false → ((k : ℕ) → MeetsBut problem.now (turned self.now.inside.now self.now.var) but k) → ⊥ }
     {

@@ -1,7 +1,6 @@
 //! Propagation by two watched literals (M. Moskewicz and others, "Chaff: engineering an efficient SAT solver", 2001).
 
 ghost use Rattle.std.specs.Prelude.{◌<◌, IfOk};
-ghost use Rattle.sat_solve.specs.Reasons.{IsProblem};
 ghost use Rattle.sat_solve.specs.SolverState.{IsSolver, GoesOn};
 
 use crate::clause::{Lit, Problem};
@@ -159,9 +158,7 @@ impl Watches {
     }
 
     /// What is to become of a watch whose literal failed.
-    fn fate(&self, problem: &Problem, solver: &Solver, watch: u32) -> Fate
-        requires { IsProblem problem.now }
-    {
+    fn fate(&self, problem: &Problem, solver: &Solver, watch: u32) -> Fate {
         let clause = watch as usize / 2;
         if clause < problem.spans.len() {
             let span = problem.spans[clause];
@@ -204,7 +201,6 @@ impl Watches {
         solver: &mut Solver,
         failed: Lit,
     ) -> Result<Option<Reason>, AllocError>
-        requires problem { IsProblem problem.now }
         requires solver { IsSolver problem.now solver.old }
         ensures { IfOk result (GoesOn problem.now solver.old solver.new) }
     {
@@ -239,7 +235,6 @@ impl Watches {
         problem: &Problem,
         solver: &mut Solver,
     ) -> Result<Option<Reason>, AllocError>
-        requires problem { IsProblem problem.now }
         requires solver { IsSolver problem.now solver.old }
         ensures { IfOk result (GoesOn problem.now solver.old solver.new) }
     {
@@ -269,7 +264,6 @@ impl Watches {
         problem: &Problem,
         solver: &mut Solver,
     ) -> Result<Option<Reason>, AllocError>
-        requires problem { IsProblem problem.now }
         requires solver { IsSolver problem.now solver.old }
         ensures { IfOk result (GoesOn problem.now solver.old solver.new) }
     {

@@ -8,13 +8,13 @@ use Rattle.sat_solve.proofs.SolverLemmas.{clause_gives, with_arena, grown_solver
 use Rattle.sat_solve.proofs.solver.Solver.examine.Goals as goal
 
 pub force-requires-clause-gives : goal.force-requires-clause-gives
-force-requires-clause-gives c = clause_gives c.args.problem.now c.args.self.now c.args.clause c.requires.problem c.requires.solver c.if-clause-problem.true (sym c.if-is_some.ensures) c.if-not-problem-span.false
+force-requires-clause-gives c = clause_gives c.args.problem.now c.args.self.now c.args.clause c.requires.solver c.if-clause-problem.true (sym c.if-is_some.ensures) c.if-not-problem-span.false
 
 pub force-requires-clause-in_range : goal.force-requires-clause-in_range
 force-requires-clause-in_range c =
     let Below : Lit → Type 0 = λ literal. literal.var < c.args.problem.now.vars in
     let span : Span = get_or c.args.problem.now.spans.now c.args.clause no_span in
-    All-take Below (span.end - span.start) (drop span.start c.args.problem.now.literals.now) (All-drop Below span.start c.args.problem.now.literals.now c.requires.problem.clauses.in_range)
+    All-take Below (span.end - span.start) (drop span.start c.args.problem.now.literals.now) (All-drop Below span.start c.args.problem.now.literals.now c.args.problem.now.clauses.in_range)
 
 pub remainder-requires-clause-in_range : goal.remainder-requires-clause-in_range
 remainder-requires-clause-in_range c =
