@@ -1,6 +1,6 @@
 -- A list that the images of another list are put behind, one after another.
-use Rattle.std.proofs.Common.{◌≡◌, ℕ, ◌+◌, ◌<◌, ◌≤◌, List, [], ◌∷◌, ◌++◌, map, length, get_or, take, sym, ◌∙◌, ap, append_assoc, arith}
-use Rattle.std.proofs.lemmas.List.{append-nil, map-append, take_more, take_all, take-append-le}
+use Rattle.std.proofs.Common.{◌≡◌, ℕ, ◌+◌, ◌<◌, ◌≤◌, List, [], ◌∷◌, ◌++◌, map, length, get_or, take, sym, ◌∙◌, ap, append_assoc}
+use Rattle.std.proofs.lemmas.List.{append-nil, map-append, take_more, take_all}
 
 module _ {A B : Type 0} (image : A → B) (xs : List A) (before : List B) where
   -- the images of the first `i` came behind the list
@@ -19,11 +19,3 @@ module _ {A B : Type 0} (image : A → B) (xs : List A) (before : List B) where
 
   pub appended_whole : (i : ℕ) (now : List B) → length xs ≤ i → Appends i now → now ≡ before ++ map image xs
   appended_whole i now past so_far = so_far ∙ ap (λ list. before ++ map image list) (take_all i xs past)
-
-  pub appended_undone : (i count : ℕ) (now after : List B) → count ≡ length before → after ≡ take count now → Appends i now → after ≡ before
-  appended_undone i count now after size after_is so_far =
-      after_is
-      ∙ (ap (take count) so_far
-      ∙ (ap (λ n. take n (before ++ map image (take i xs))) size
-      ∙ (take-append-le (length before) before (map image (take i xs)) (omega arith)
-      ∙ take_all (length before) before (omega arith))))

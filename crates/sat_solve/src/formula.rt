@@ -227,12 +227,9 @@ fn push_list(list: &[u32], literals: &mut Vec<Lit>) -> Result<(), AllocError>
     ensures ok { IfOk result (λ _. literals.new.items ≡ literals.old.items ++ map out_of list.now) }
     ensures err { OnErr result (literals.new.items ≡ literals.old.items) }
 {
-    let start = literals.len();
+    literals.reserve(list.len())?;
     for var in list {
-        if let Err(error) = literals.push(Lit::out(*var)) {
-            literals.truncate(start);
-            return Err(error.into());
-        }
+        literals.push_reserved(Lit::out(*var));
     }
     Ok(())
 }
@@ -247,18 +244,14 @@ fn push_owners(
     ensures ok { IfOk result (λ _. spans.new.items ≡ spans.old.items ++ map (span_of start end) owners.now) }
     ensures err { OnErr result (spans.new.items ≡ spans.old.items) }
 {
-    let count = spans.len();
+    spans.reserve(owners.len())?;
     for owner in owners {
-        let span = Span {
+        spans.push_reserved(Span {
             group: owner.group,
             start,
             end,
             owner: Some(owner.var),
-        };
-        if let Err(error) = spans.push(span) {
-            spans.truncate(count);
-            return Err(error.into());
-        }
+        });
     }
     Ok(())
 }
