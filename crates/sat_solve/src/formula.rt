@@ -1,7 +1,7 @@
 //! A formula: clauses in groups, and the calls that solve it.
 
 ghost use Rattle.std.specs.Prelude.{◌≡◌, ◌<◌, length, All, IfOk, OnErr, OnOk, [], ◌∷◌, ◌++◌, map};
-ghost use Rattle.sat_solve.specs.Clauses.{IsAnswer, excluding, out_of, span_of};
+ghost use Rattle.sat_solve.specs.Clauses.{IsAnswer, clauses_of, excluding, out_of, span_of};
 ghost use Rattle.sat_solve.specs.Rotation.{AreNeeded};
 
 use crate::clause::{Lit, Owner, Problem, Span};
@@ -146,7 +146,7 @@ impl Formula {
         requires must { must < self.now.vars }
         ensures { IfOk result (IsAnswer self.now.vars self.now.clauses keep.now must keep.now) }
     {
-        Ok(self.search_in(alloc, workspace, keep, must)?)
+        Ok(workspace.solve(alloc, &self.problem(keep, must))?)
     }
 
     /// What `solve_in` gives. Where there is no set, `marks` then names kept groups that already admit none, one mark a group.
@@ -164,7 +164,7 @@ impl Formula {
         requires must { must < self.now.vars }
         ensures { IfOk result (IsAnswer self.now.vars self.now.clauses keep.now must marks.new.items) }
     {
-        let answer = self.search_in(alloc, workspace, keep, must)?;
+        let answer = workspace.solve(alloc, &self.problem(keep, must))?;
         marks.clear();
         marks.extend_from_slice(&workspace.solver.used)?;
         Ok(answer)
@@ -189,36 +189,24 @@ impl Formula {
         ensures sized { OnOk result (length marks.new.items ≡ self.now.groups) }
         ensures needed { OnOk result (AreNeeded self.now.vars self.now.clauses keep.now must marks.new.items) }
     {
-        let problem = Problem {
-            vars: self.vars,
-            literals: &self.literals,
-            spans: &self.spans,
-            keep,
-            must,
-        };
-        rotation.walk(alloc, &problem, set, group, marks)
+        rotation.walk(alloc, &self.problem(keep, must), set, group, marks)
     }
 
-    /// What `solve_in` gives. Where there is no set, the workspace then has the marks of `solve_marked`.
-    fn search_in(
-        &self,
-        alloc: Global,
-        workspace: &mut Workspace,
-        keep: &[bool],
-        must: u32,
-    ) -> Result<Option<Vec<u32>>, AllocError>
+    /// What a solve is asked of the formula.
+    fn problem<'a>(&'a self, keep: &'a [bool], must: u32) -> Problem<'a>
         requires keep { length keep.now ≡ self.now.groups }
         requires must { must < self.now.vars }
-        ensures { IfOk result (IsAnswer self.now.vars self.now.clauses keep.now must workspace.new.solver.used.items) }
+        ensures vars { result.vars ≡ self.now.vars }
+        ensures clauses { clauses_of result.literals.now result.spans.now ≡ self.now.clauses }
+        ensures asked { (result.keep.now ≡ keep.now) × (result.must ≡ must) }
     {
-        let problem = Problem {
+        Problem {
             vars: self.vars,
             literals: &self.literals,
             spans: &self.spans,
             keep,
             must,
-        };
-        workspace.solve(alloc, &problem)
+        }
     }
 }
 
