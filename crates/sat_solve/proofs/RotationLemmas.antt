@@ -19,6 +19,7 @@ use Rattle.sat_solve.proofs.FlatLemmas.{all_flat}
 use Rattle.sat_solve.proofs.ExclusionLemmas.{excluded_out, excluded_clear, clear_excluded}
 use Rattle.sat_solve.proofs.ReasonLemmas.{clause_same}
 use Rattle.sat_solve.proofs.SpanLemmas.{groups_by, span_met}
+use Rattle.sat_solve.proofs.MarkLemmas.{there_if_read}
 
 -- a span that is pushed to one list
 module _ (lists : List (Vec ℕ Global)) (at number : ℕ) (before after : Vec ℕ Global) (read : slice_get lists at ≡ Some before) (pushed : after.items ≡ before.items ++ number ∷ []) where
@@ -217,6 +218,13 @@ marked_more problem inside old new group alone needed marked other is = elim (ma
   | inr same ↦
       subst (λ g. (set : NumberSet) × IsTrueBut problem.vars (clauses_of problem.literals.now problem.spans.now) problem.keep.now problem.must g set) (sym same)
       ((λ var. get_or inside var false), breaks_but problem inside group alone)
+]
+
+-- what is marked then was, or is the one that was marked now
+pub marked_or : (old new : List Bool) (group : ℕ) → new ≡ set old group true → (other : ℕ) → slice_get new other ≡ Some true → (slice_get old other ≡ Some true) ⊎ (other ≡ group)
+marked_or old new group same other found = elim (cases_eq other group) [
+  | inl is ↦ inr is
+  | inr apart ↦ inl (there_if_read old other (sym (get_or-set_other old group other true false apart) ∙ get_or_from_slice_get (set old group true) other true false (sym (ap (λ marks. slice_get marks other) same) ∙ found)))
 ]
 
 -- none of these is marked

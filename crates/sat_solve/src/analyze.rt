@@ -4,7 +4,7 @@
 //! and K. Sakallah, "GRASP: a search algorithm for propositional satisfiability", 1999), and else what older levels say.
 
 ghost use Rattle.std.specs.Prelude.{◌≡◌, ℕ, ◌<◌, true, false, IfOk};
-ghost use Rattle.std.specs.Prelude.{Some, [], All, length, slice_get, slice_index_or, slice_set};
+ghost use Rattle.std.specs.Prelude.{Some, [], All, length, slice_get, slice_index_or};
 ghost use Rattle.number_sets.specs.Sets.{NumberSet};
 ghost use Rattle.sat_solve.specs.Clauses.{AreWithin};
 ghost use Rattle.sat_solve.specs.Trail.{steps_of, IsSound, IsTrail};
@@ -12,7 +12,7 @@ ghost use Rattle.sat_solve.specs.Reasons.{IsSolution, IsMarkedSolution, IsUsed, 
 ghost use Rattle.sat_solve.specs.Reasons.{FailsOn, AreReasoned, named_by, is_seen, variables_of, SeesAll};
 ghost use Rattle.sat_solve.specs.Jumps.{IsJump, IsTaken};
 
-use crate::clause::{Lit, Problem};
+use crate::clause::{Lit, Problem, mark};
 use crate::trail::{Reason, Step, Trail};
 use std::alloc::{AllocError, Global};
 
@@ -27,21 +27,12 @@ pub(crate) struct Analysis {
     pub target: usize,
 }
 
-/// Sees a variable.
-fn see(seen: &mut Vec<bool>, var: u32)
-    ensures { seen.new.items ≡ slice_set seen.old.items var true }
-{
-    if (var as usize) < seen.len() {
-        seen[var as usize] = true;
-    }
-}
-
 /// Sees the variables of literals.
 fn see_literals(seen: &mut Vec<bool>, literals: &[Lit])
     ensures { SeesAll (variables_of literals.now) seen.old.items seen.new.items }
 {
     for literal in literals {
-        see(seen, literal.var);
+        mark(seen, literal.var);
     }
 }
 

@@ -1,6 +1,6 @@
-//! Literals, where the literals of a clause stand, and what a solve is asked.
+//! Literals, where the literals of a clause stand, what a solve is asked, and marks by number.
 
-ghost use Rattle.std.specs.Prelude.{◌≡◌, ◌<◌, false, length};
+ghost use Rattle.std.specs.Prelude.{◌≡◌, ◌<◌, true, false, length, slice_set};
 ghost use Rattle.std.proofs.Props.{props};
 ghost use Rattle.sat_solve.specs.Clauses.{AreClauses};
 
@@ -61,4 +61,13 @@ pub(crate) struct Problem<'a> {
     pub must: u32,
     ghost clauses: { AreClauses vars (length keep.now) literals.now spans.now } by { Prim.hlevel props },
     ghost in_range: { must < vars },
+}
+
+/// Marks a number, if there is a mark for it.
+pub(crate) fn mark(marks: &mut Vec<bool>, number: u32)
+    ensures { marks.new.items ≡ slice_set marks.old.items number true }
+{
+    if (number as usize) < marks.len() {
+        marks[number as usize] = true;
+    }
 }

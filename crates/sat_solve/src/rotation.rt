@@ -4,10 +4,10 @@
 //! Each group that a set breaks alone is needed: without its clauses there is a set. How the sets are come by is claimed by nothing. What a
 //! set breaks is looked up among the clauses that speak of the turned variable, and those of the group that the set before it broke.
 
-ghost use Rattle.std.specs.Prelude.{◌≡◌, ℕ, ◌<◌, ◌⊎◌, true, Some, length, slice_get, IfOk, OnOk};
+ghost use Rattle.std.specs.Prelude.{◌≡◌, ℕ, ◌<◌, true, length, IfOk, OnOk};
 ghost use Rattle.sat_solve.specs.Rotation.{BreaksAlone, IsListed, MarksNeeded};
 
-use crate::clause::Problem;
+use crate::clause::{Problem, mark};
 use crate::occurrences::{list_spans, listed_by};
 use crate::turned::Turned;
 use std::alloc::{AllocError, Global};
@@ -32,16 +32,6 @@ pub struct Rotation {
     /// The group that it breaks alone.
     group: u32,
     turns: Vec<Turn>,
-}
-
-/// Marks a group.
-fn mark(marks: &mut Vec<bool>, group: u32)
-    ensures marked { (other : ℕ) → slice_get marks.new.items other ≡ Some true → (slice_get marks.old.items other ≡ Some true) ⊎ (other ≡ group) }
-    ensures sized { length marks.new.items ≡ length marks.old.items }
-{
-    if (group as usize) < marks.len() {
-        marks[group as usize] = true;
-    }
 }
 
 impl Rotation {
@@ -75,7 +65,9 @@ impl Rotation {
         self.group = group;
         self.inside.clear();
         self.inside.resize(problem.vars as usize, false)?;
-        put_in(&mut self.inside, set);
+        for var in set {
+            mark(&mut self.inside, *var);
+        }
         let set = self.turned(problem.vars);
         Ok(set.has(problem.must) && set.meets_all(problem, group as usize))
     }
@@ -200,17 +192,6 @@ impl Rotation {
             self.take(problem, turn, marks)?;
         }
         Ok(())
-    }
-}
-
-/// Puts in the variables of a set.
-fn put_in(inside: &mut Vec<bool>, set: &[u32])
-    ensures { length inside.new.items ≡ length inside.old.items }
-{
-    for var in set {
-        if (*var as usize) < inside.len() {
-            inside[*var as usize] = true;
-        }
     }
 }
 

@@ -1,6 +1,7 @@
-use Rattle.std.proofs.Common.{ℕ, false, Vec, Global, Bool, refl, sym, subst, arith, ◌∙◌}
+use Rattle.std.proofs.Common.{ℕ, true, false, Vec, Global, Bool, length, refl, sym, ap, subst, arith, ◌∙◌}
+use Rattle.std.proofs.lemmas.List.{length-set}
 use Rattle.sat_solve.specs.Rotation.{BreaksAlone, IsListed}
-use Rattle.sat_solve.proofs.RotationLemmas.{marked_more, none_marked}
+use Rattle.sat_solve.proofs.RotationLemmas.{marked_more, marked_or, none_marked}
 use Rattle.sat_solve.proofs.rotation.Rotation.walk.Goals as goal
 
 pub returns-then-listed_by-gt-LISTED-clause-needed : goal.returns-then-listed_by-gt-LISTED-clause-needed
@@ -17,8 +18,8 @@ loop-init c =
           subst (λ (group : ℕ). BreaksAlone problem c.push_turns.new.self.inside.items group) (sym (c.in_ok-push_turns.ensures.2 ∙ c.in_ok-start.ensures.group))
           (subst (λ (inside : Vec Bool Global). BreaksAlone problem inside.items c.args.group) (sym c.in_ok-push_turns.ensures.1) alone);
       needed = marked_more problem c.start.new.self.inside.items c.resize.new.self.items c.mark.new.marks.items c.args.group alone (λ group is. absurd (none_marked c.resize.new.self.items
-          (λ k below. c.in_ok-resize.ensures.by_index.1 k false refl (omega (arith, c.clear.ensures.items, c.clear.new.self.ok)) (omega (arith, c.in_ok-resize.ensures.len, c.resize.new.self.ok))) group is)) c.mark.ensures.marked;
-      sized = omega (arith, c.mark.ensures.sized, c.in_ok-resize.ensures.len, c.resize.new.self.ok);
+          (λ k below. c.in_ok-resize.ensures.by_index.1 k false refl (omega (arith, c.clear.ensures.items, c.clear.new.self.ok)) (omega (arith, c.in_ok-resize.ensures.len, c.resize.new.self.ok))) group is)) (marked_or c.resize.new.self.items c.mark.new.marks.items c.args.group c.mark.ensures);
+      sized = omega (arith, ap length c.mark.ensures, length-set c.resize.new.self.items c.args.group true, c.in_ok-resize.ensures.len, c.resize.new.self.ok);
     }
 
 pub loop-preserved : goal.loop-preserved
