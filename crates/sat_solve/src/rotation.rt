@@ -107,7 +107,7 @@ impl Rotation {
         true
     }
 
-    /// Has variables turned that mend the group that the set breaks.
+    /// Has the variables turned, one after the other, of each span of the broken group that the set breaks.
     fn push_turns(&mut self, problem: &Problem) -> Result<(), AllocError>
         ensures { (self.new.lists ≡ self.old.lists) × (self.new.inside ≡ self.old.inside) × (self.new.group ≡ self.old.group) }
     {
@@ -120,7 +120,27 @@ impl Rotation {
             return Ok(());
         };
         for number in numbers {
-            push_turns_for(problem, &set, *number, &mut self.turns)?;
+            let Some(span) = problem.spans.get(*number as usize).copied() else {
+                continue;
+            };
+            let mut clear = (0, 0);
+            if set.satisfies_span(problem.literals, span, &mut clear) {
+                continue;
+            }
+            if let Some(owner) = span.owner {
+                self.turns.push(Turn {
+                    var: owner,
+                    back: None,
+                })?;
+            }
+            for literal in &problem.literals[span.start..span.end] {
+                if span.owner.is_none() || set.has(literal.var) {
+                    self.turns.push(Turn {
+                        var: literal.var,
+                        back: None,
+                    })?;
+                }
+            }
         }
         Ok(())
     }
@@ -193,36 +213,4 @@ impl Rotation {
         }
         Ok(())
     }
-}
-
-/// Has a variable turned for each literal of a span, if a set breaks it.
-fn push_turns_for(
-    problem: &Problem,
-    set: &Turned,
-    number: u32,
-    turns: &mut Vec<Turn>,
-) -> Result<(), AllocError>
-{
-    let Some(span) = problem.spans.get(number as usize).copied() else {
-        return Ok(());
-    };
-    let mut clear = (0, 0);
-    if set.satisfies_span(problem.literals, span, &mut clear) {
-        return Ok(());
-    }
-    if let Some(owner) = span.owner {
-        turns.push(Turn {
-            var: owner,
-            back: None,
-        })?;
-    }
-    for literal in &problem.literals[span.start..span.end] {
-        if span.owner.is_none() || set.has(literal.var) {
-            turns.push(Turn {
-                var: literal.var,
-                back: None,
-            })?;
-        }
-    }
-    Ok(())
 }
