@@ -109,11 +109,7 @@ impl Analysis {
     fn has(&self, var: u32) -> bool
         ensures { result ≡ is_seen self.now.seen.items var }
     {
-        if (var as usize) < self.seen.len() {
-            self.seen[var as usize]
-        } else {
-            true
-        }
+        self.seen.get(var as usize).copied().unwrap_or(true)
     }
 
     /// Where the level of the seen step at a place begins, twice, if no older step of it is seen.

@@ -83,10 +83,8 @@ impl Exclusions {
 
     /// Whether the newest list is that of a span.
     fn is_newest(&self, span: Span) -> bool {
-        match self.walks.get(self.walks.len().saturating_sub(2)) {
-            Some(list) => list.start == span.start && list.end == span.end,
-            None => false,
-        }
+        let newest = self.walks.get(self.walks.len().saturating_sub(2));
+        newest.is_some_and(|list| list.start == span.start && list.end == span.end)
     }
 
     /// Adds the list of a span, whose owners stand from this number on.
@@ -121,11 +119,6 @@ impl Exclusions {
         Ok(())
     }
 
-    /// The link of a number, if there is one.
-    fn link_at(&self, number: Option<usize>) -> Option<Link> {
-        self.links.get(number?).copied()
-    }
-
     /// What a variable that came in has yet to walk by a link.
     ///
     /// Where another one walked and is still in, that ruled out already what this one would.
@@ -152,7 +145,7 @@ impl Exclusions {
     {
         let mut next = self.newest.get(var as usize).copied().flatten();
         'links: for _ in 0..self.links.len() {
-            let Some(link) = self.link_at(next) else {
+            let Some(link) = next.and_then(|number| self.links.get(number).copied()) else {
                 break;
             };
             next = link.after;

@@ -143,18 +143,16 @@ impl Watches {
 
     /// Takes a literal's list away.
     fn take_list(&mut self, list: usize) -> u32 {
-        match self.head.get_mut(list) {
-            Some(head) => mem::replace(head, END),
-            None => END,
-        }
+        self.head
+            .get_mut(list)
+            .map_or(END, |head| mem::replace(head, END))
     }
 
     /// Where in its clause a watch's literal stands.
     fn place_of(&self, watch: u32) -> u32 {
-        match self.watches.get(watch as usize) {
-            Some(watch) => watch.place,
-            None => 0,
-        }
+        self.watches
+            .get(watch as usize)
+            .map_or(0, |watch| watch.place)
     }
 
     /// What is to become of a watch whose literal failed.
@@ -174,9 +172,9 @@ impl Watches {
     /// What is to become of a watch of this clause.
     fn fate_in(&self, literals: &[Lit], trail: &Trail, watch: u32) -> Fate {
         let other = self.place_of(watch ^ 1);
-        match literals.get(other as usize) {
-            Some(literal) if trail.truth(*literal) == Some(true) => return Fate::Stay,
-            _ => {}
+        let held = literals.get(other as usize);
+        if held.is_some_and(|literal| trail.truth(*literal) == Some(true)) {
+            return Fate::Stay;
         }
         // Where the last look for a literal ended, the next one begins: so a clause is read once for each time it is forced.
         let mut place = self.place_of(watch);
