@@ -55,11 +55,11 @@ impl Solver {
         self.propagated = 0;
         self.used.clear();
         self.used.resize(problem.keep.len(), false)?;
-        self.trail.push(Step {
+        let must = Lit {
             var: problem.must,
-            value: true,
-            reason: Reason::Given,
-        })
+            positive: true,
+        };
+        self.trail.push(must, Reason::Given)
     }
 
     /// Decides that the least free variable is out. False where none is free.
@@ -70,11 +70,11 @@ impl Solver {
         for var in self.cursor..problem.vars {
             if self.trail.value(var).is_none() {
                 self.cursor = var;
-                self.trail.push(Step {
+                let out = Lit {
                     var,
-                    value: false,
-                    reason: Reason::Decision,
-                })?;
+                    positive: false,
+                };
+                self.trail.push(out, Reason::Decision)?;
                 return Ok(true);
             }
         }
@@ -108,11 +108,7 @@ impl Solver {
         let Some(literal) = left else {
             return Ok(Some(reason));
         };
-        self.trail.push(Step {
-            var: literal.var,
-            value: literal.positive,
-            reason,
-        })?;
+        self.trail.push(literal, reason)?;
         Ok(None)
     }
 
@@ -159,11 +155,7 @@ impl Solver {
             None => Ok(None),
             Some(None) => Ok(Some(reason)),
             Some(Some(literal)) => {
-                self.trail.push(Step {
-                    var: literal.var,
-                    value: literal.positive,
-                    reason,
-                })?;
+                self.trail.push(literal, reason)?;
                 Ok(None)
             }
         }
@@ -225,11 +217,7 @@ impl Solver {
         };
         self.undo_to(place);
         let reason = reason_of(&mut self.arena, problem, clause)?;
-        self.trail.push(Step {
-            var: first.var,
-            value: first.positive,
-            reason,
-        })?;
+        self.trail.push(*first, reason)?;
         Ok(true)
     }
 }

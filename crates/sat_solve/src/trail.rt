@@ -131,17 +131,21 @@ impl Trail {
         self.value(var) == Some(true)
     }
 
-    /// Sets a variable that is free.
-    pub(crate) fn push(&mut self, step: Step) -> Result<(), AllocError>
+    /// Lets a literal hold whose variable is free.
+    pub(crate) fn push(&mut self, literal: Lit, reason: Reason) -> Result<(), AllocError>
         requires linked { IsTrail self.old }
-        requires in_range { step.var < self.old.vars }
-        requires free { value_in (steps_of self.old) step.var ≡ None }
+        requires in_range { literal.var < self.old.vars }
+        requires free { value_in (steps_of self.old) literal.var ≡ None }
         ensures linked { IfOk result (λ _. IsTrail self.new) }
         ensures vars { self.new.vars ≡ self.old.vars }
-        ensures pushed { IfOk result (λ _. steps_of self.new ≡ step ∷ steps_of self.old) }
+        ensures pushed { IfOk result (λ _. steps_of self.new ≡ record { var = literal.var; value = literal.positive; reason = reason } ∷ steps_of self.old) }
     {
-        self.steps.push(step)?;
-        self.values[step.var as usize] = Some(step.value);
+        self.steps.push(Step {
+            var: literal.var,
+            value: literal.positive,
+            reason,
+        })?;
+        self.values[literal.var as usize] = Some(literal.positive);
         Ok(())
     }
 
