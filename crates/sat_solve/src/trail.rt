@@ -32,10 +32,7 @@ impl Reason {
     pub(crate) fn is_decision(self) -> bool
         ensures { result ≡ is_decision self }
     {
-        match self {
-            Reason::Decision => true,
-            _ => false,
-        }
+        matches!(self, Reason::Decision)
     }
 
     /// Where the arena ends without this reason's part, if it ends here with it.
@@ -158,11 +155,8 @@ impl Trail {
         let mut free = None;
         for literal in clause {
             match self.value(literal.var) {
-                Some(value) => {
-                    if value == literal.positive {
-                        return None;
-                    }
-                }
+                Some(value) if value == literal.positive => return None,
+                Some(_) => {}
                 None => {
                     if free.is_some() {
                         return None;
