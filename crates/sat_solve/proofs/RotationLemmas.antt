@@ -2,6 +2,7 @@
 use Rattle.std.proofs.Common.{◌≡◌, ◌≢◌, ℕ, ◌+◌, ◌<◌, ◌≤◌, ◌⊎◌, Bool, true, false, ◌||◌, ◌&&◌, not, cond, eqb, ltb, is_some, IfNone, Vec, Global, Option, Some, None, List, [], ◌∷◌, ◌++◌, map, All, length, get_or, set, take, slice_get, slice_range, refl, sym, ◌∙◌, ap, subst, inl, inr, arith}
 use mathlib.Core.Path.{fun_ext}
 use Rattle.std.specs.List.{list_all}
+use Rattle.std.specs.Option.{option_map_or}
 use Rattle.std.proofs.lemmas.Bool.{false≢true, cases_Bool, cases_eq, cases_lt, ltb-true, or_left, or_right, or_cases, eq-eqb, eqb-true, ne_eqb}
 use Rattle.std.proofs.lemmas.List.{get_or-set_same, get_or-set_other, get_or_past, length-set, take_all}
 use Rattle.std.proofs.lemmas.List.Folds.{list_any_more}
@@ -11,7 +12,7 @@ use Rattle.number_sets.specs.Sets.{NumberSet, members_of}
 use Rattle.number_sets.proofs.MembersLemmas.{pushed_has, pushed_keeps}
 use Rattle.sat_solve.specs.Clauses.{clause_holds, clauses_by, clauses_at, clauses_of, MeetsSpan, no_span}
 use Rattle.sat_solve.specs.Reasons.{IsSolution, variables_of}
-use Rattle.sat_solve.specs.Rotation.{turned, AreNeeded, MeetsBut, BreaksAlone, IsTrueBut, owns, speaks, HasAt, ListsOn, IsListed}
+use Rattle.sat_solve.specs.Rotation.{turned, AreNeeded, MeetsBut, BreaksAlone, IsTrueBut, speaks, HasAt, ListsOn, IsListed}
 use Rattle.sat_solve.specs.declared.clause.Lit.{Lit}
 use Rattle.sat_solve.specs.declared.clause.Span.{Span}
 use Rattle.sat_solve.specs.declared.clause.Problem.{Problem}
@@ -20,6 +21,10 @@ use Rattle.sat_solve.proofs.ExclusionLemmas.{excluded_out, excluded_clear, clear
 use Rattle.sat_solve.proofs.ReasonLemmas.{clause_same}
 use Rattle.sat_solve.proofs.SpanLemmas.{groups_by, span_met}
 use Rattle.sat_solve.proofs.MarkLemmas.{there_if_read}
+
+-- whether a span has this owner
+abbrev pub owns : Option ℕ → ℕ → Bool
+owns held var = option_map_or (λ owner. eqb owner var) held false
 
 -- a span that is pushed to one list
 module _ (lists : List (Vec ℕ Global)) (at number : ℕ) (before after : Vec ℕ Global) (read : slice_get lists at ≡ Some before) (pushed : after.items ≡ before.items ++ number ∷ []) where

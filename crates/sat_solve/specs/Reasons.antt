@@ -56,10 +56,6 @@ Brings problem AllOlder set = IsSolution problem set
 abbrev pub Backs : Problem → List Bool → Reason → NumberSet → Type 0
 Backs problem used reason set = IsMarkedSolution problem used set × Brings problem reason set
 
--- with the newer marks each set backs a reason as it was to with the older ones
-abbrev pub AllBack : Problem → List Bool → List Bool → Reason → Type 0
-AllBack problem old new reason = (set : NumberSet) → IsMarkedSolution problem new set → Backs problem old reason set
-
 -- the variables of these literals
 abbrev pub variables_of : List Lit → NumberSet
 variables_of literals var = list_any (λ literal. literal.var == var) literals

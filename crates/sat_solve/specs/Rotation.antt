@@ -1,6 +1,7 @@
 -- Sets that break one group alone, and lists of the spans that speak of a variable or of a group.
-use Rattle.std.specs.Prelude.{◌≡◌, ◌≢◌, ℕ, ◌+◌, ◌<◌, ◌==◌, ◌||◌, Bool, true, false, not, Vec, Option, Some, None, List, All, length, if◌then◌else◌, slice_get, slice_range, slice_index_or}
+use Rattle.std.specs.Prelude.{◌≡◌, ◌≢◌, ℕ, ◌+◌, ◌<◌, ◌==◌, ◌||◌, Bool, true, false, not, Vec, Some, List, All, length, if◌then◌else◌, slice_get, slice_range, slice_index_or}
 use Rattle.std.specs.List.{list_all}
+use Rattle.std.specs.Option.{option_map_or}
 use Rattle.std.specs.declared.alloc.Global.{Global}
 use Rattle.number_sets.specs.Sets.{NumberSet, members_of}
 use Rattle.sat_solve.specs.Clauses.{Clause, clause_holds, MeetsSpan, clauses_of, no_span}
@@ -45,15 +46,10 @@ pub record BreaksAlone (problem : Problem) (inside : List Bool) (group : ℕ) : 
   pub has_must : slice_index_or inside problem.must false ≡ true
   pub met : (k : ℕ) → MeetsBut problem (λ var. slice_index_or inside var false) group k
 
--- whether a span has this owner
-abbrev pub owns : Option ℕ → ℕ → Bool
-owns None var = false
-owns (Some owner) var = owner == var
-
 -- a span speaks of the variables of its part, of its owner, and, past all variables, of its group
 abbrev pub speaks : Problem → Span → NumberSet
 speaks problem span key =
-    variables_of (slice_range problem.literals.now span.start span.end) key || (owns span.owner key || (problem.vars + span.group == key))
+    variables_of (slice_range problem.literals.now span.start span.end) key || (option_map_or (λ owner. owner == key) span.owner false || (problem.vars + span.group == key))
 
 -- the list at a number, if there is one, has a span
 abbrev pub HasAt : List (Vec ℕ Global) → ℕ → ℕ → Type 0

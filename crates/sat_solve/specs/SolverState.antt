@@ -1,5 +1,5 @@
 -- The state of a solve between two steps of it.
-use Rattle.std.specs.Prelude.{◌≡◌, ◌≢◌, ℕ, ◌+◌, ◌*◌, ◌-◌, ◌<◌, ◌≤◌, Bool, true, false, Option, Some, None, List, All, length, take, reverse}
+use Rattle.std.specs.Prelude.{◌≡◌, ◌≢◌, ℕ, ◌+◌, ◌*◌, ◌-◌, ◌<◌, ◌≤◌, Bool, true, false, Option, None, IfSome, List, All, length, take, reverse}
 use Rattle.number_sets.specs.Sets.{NumberSet}
 use Rattle.sat_solve.specs.Clauses.{clause_holds}
 use Rattle.sat_solve.specs.Trail.{value_in, is_decision, IsSound, rank, power_of_three, steps_of, IsTrail}
@@ -45,16 +45,11 @@ IsConflict problem solver reason = FailsOn (Backs problem solver.used.items reas
 abbrev pub height : Problem → Solver → ℕ
 height problem solver = rank problem.vars (steps_of solver.trail)
 
--- a conflict that was found, if one was
-abbrev pub IsFoundConflict : Problem → Solver → Option Reason → Type 0
-IsFoundConflict problem solver None = Unit {0}
-IsFoundConflict problem solver (Some conflict) = IsConflict problem solver conflict
-
 -- the solver went on, and found this conflict or none
 pub record GoesOn (problem : Problem) (old new : Solver) (found : Option Reason) : Type 0 where
   pub solver : IsSolver problem new
   pub rises : height problem old ≤ height problem new
-  pub conflict : IsFoundConflict problem new found
+  pub conflict : IfSome found (IsConflict problem new)
 
 -- the solver decided a variable, if one was free
 pub record Decides (problem : Problem) (old new : Solver) (decided : Bool) : Type 0 where

@@ -8,7 +8,7 @@ ghost use Rattle.std.specs.Prelude.{Some, [], All, length, slice_get, slice_inde
 ghost use Rattle.number_sets.specs.Sets.{NumberSet};
 ghost use Rattle.sat_solve.specs.Clauses.{AreWithin};
 ghost use Rattle.sat_solve.specs.Trail.{steps_of, IsSound, IsTrail};
-ghost use Rattle.sat_solve.specs.Reasons.{IsSolution, IsMarkedSolution, IsUsed, Backs, AllBack, Implied};
+ghost use Rattle.sat_solve.specs.Reasons.{IsSolution, IsMarkedSolution, IsUsed, Backs, Implied};
 ghost use Rattle.sat_solve.specs.Reasons.{FailsOn, AreReasoned, named_by, is_seen, variables_of, SeesAll};
 ghost use Rattle.sat_solve.specs.Jumps.{IsJump, IsTaken};
 
@@ -60,7 +60,7 @@ fn rest_on(
     requires used { IsUsed problem.now used.old.items }
     ensures seen { IfOk result (λ _. SeesAll (named_by problem.now arena.now reason) seen.old.items seen.new.items) }
     ensures used { IfOk result (λ _. IsUsed problem.now used.new.items) }
-    ensures backs { IfOk result (λ _. AllBack problem.now used.old.items used.new.items reason) }
+    ensures backs { IfOk result (λ _. (set : NumberSet) → IsMarkedSolution problem.now used.new.items set → Backs problem.now used.old.items reason set) }
 {
     match reason {
         Reason::Decision | Reason::Given => Ok(()),

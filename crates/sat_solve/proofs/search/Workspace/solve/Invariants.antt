@@ -1,12 +1,12 @@
-use Rattle.std.proofs.Common.{◌-◌}
+use Rattle.std.proofs.Common.{◌-◌, IfSome}
 use Rattle.sat_solve.specs.Trail.{power_of_three}
-use Rattle.sat_solve.specs.SolverState.{IsSolver, IsFoundConflict, height}
+use Rattle.sat_solve.specs.SolverState.{IsSolver, IsConflict, height}
 use Rattle.sat_solve.proofs.search.Workspace.solve.Given as goal
 
 abbrev pub invariant-rounds : goal.invariant-rounds
 invariant-rounds l = record {
   solver : IsSolver l.problem l.self.solver;
-  found : IsFoundConflict l.problem l.self.solver l.found;
+  found : IfSome l.found (IsConflict l.problem l.self.solver);
 }
 
 abbrev pub decreases-rounds : goal.decreases-rounds
