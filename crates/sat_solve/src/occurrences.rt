@@ -1,10 +1,9 @@
 //! Lists of the spans that speak of each variable, and behind these of each group.
 
-ghost use Rattle.std.specs.Prelude.{◌≡◌, ℕ, ◌<◌, true, length, OnOk};
-ghost use Rattle.sat_solve.specs.Reasons.{variables_of};
+ghost use Rattle.std.specs.Prelude.{ℕ, ◌<◌, length, OnOk};
 ghost use Rattle.sat_solve.specs.Rotation.{HasAt, IsListed, ListsOn};
 
-use crate::clause::{Lit, Problem};
+use crate::clause::Problem;
 use std::alloc::{AllocError, Global};
 
 /// Lists a span, where there is a list.
@@ -18,17 +17,6 @@ fn push_number(lists: &mut Vec<Vec<u32>>, key: usize, number: u32) -> Result<(),
     Ok(())
 }
 
-/// Lists a span at the variables of its literals.
-fn push_literals(lists: &mut Vec<Vec<u32>>, literals: &[Lit], number: u32) -> Result<(), AllocError>
-    ensures on { OnOk result (ListsOn lists.old.items lists.new.items) }
-    ensures here { OnOk result ((key : ℕ) → variables_of literals.now key ≡ true → HasAt lists.new.items key number) }
-{
-    for literal in literals {
-        push_number(lists, literal.var as usize, number)?;
-    }
-    Ok(())
-}
-
 /// Lists a span at all that it speaks of.
 fn push_span(lists: &mut Vec<Vec<u32>>, problem: &Problem, number: u32) -> Result<(), AllocError>
     requires number { number < length problem.now.spans.now }
@@ -36,7 +24,10 @@ fn push_span(lists: &mut Vec<Vec<u32>>, problem: &Problem, number: u32) -> Resul
     ensures here { OnOk result (IsListed problem.now lists.new.items number) }
 {
     let span = problem.spans[number as usize];
-    push_literals(lists, &problem.literals[span.start..span.end], number)?;
+    let literals = &problem.literals[span.start..span.end];
+    for literal in literals {
+        push_number(lists, literal.var as usize, number)?;
+    }
     if let Some(owner) = span.owner {
         push_number(lists, owner as usize, number)?;
     }

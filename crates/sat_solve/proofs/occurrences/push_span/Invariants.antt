@@ -1,7 +1,7 @@
 use Rattle.std.proofs.Common.{◌≡◌, ℕ, true, take}
 use Rattle.sat_solve.specs.Reasons.{variables_of}
 use Rattle.sat_solve.specs.Rotation.{HasAt, ListsOn}
-use Rattle.sat_solve.proofs.occurrences.push_literals.Given as goal
+use Rattle.sat_solve.proofs.occurrences.push_span.Given as goal
 
 abbrev pub invariant-loop-literal : goal.invariant-loop-literal
 invariant-loop-literal l = record {
