@@ -3,17 +3,16 @@
 //! The clause has one literal of the newest level that the conflict rests on, that of the first unique implication point (J. Marques-Silva
 //! and K. Sakallah, "GRASP: a search algorithm for propositional satisfiability", 1999), and else what older levels say.
 
-ghost use Rattle.std.specs.Prelude.{◌≡◌, ℕ, ◌<◌, true, false, IfOk};
-ghost use Rattle.std.specs.Prelude.{Some, [], All, length, slice_get, slice_index_or};
+ghost use Rattle.std.specs.Prelude.{◌≡◌, ℕ, ◌<◌, true, false, Some, [], length, slice_get, slice_index_or, IfOk};
 ghost use Rattle.number_sets.specs.Sets.{NumberSet};
 ghost use Rattle.sat_solve.specs.Clauses.{AreWithin};
-ghost use Rattle.sat_solve.specs.Trail.{steps_of, IsSound, IsTrail};
-ghost use Rattle.sat_solve.specs.Reasons.{IsSolution, IsMarkedSolution, IsUsed, Backs, Implied};
-ghost use Rattle.sat_solve.specs.Reasons.{FailsOn, AreReasoned, named_by, is_seen, variables_of, SeesAll};
+ghost use Rattle.sat_solve.specs.Reasons.{IsMarkedSolution, IsUsed, Backs, IsLearnt, named_by, is_seen, variables_of, SeesAll};
 ghost use Rattle.sat_solve.specs.Jumps.{IsJump, IsTaken};
+ghost use Rattle.sat_solve.specs.SolverState.{IsSolver, IsConflict};
 
 use crate::clause::{Lit, Problem, mark};
-use crate::trail::{Reason, Step, Trail};
+use crate::solver::Solver;
+use crate::trail::{Reason, Trail};
 use std::alloc::{AllocError, Global};
 
 /// What one conflict rests on.
@@ -166,24 +165,19 @@ impl Analysis {
     pub(crate) fn analyze(
         &mut self,
         problem: &Problem,
-        trail: &Trail,
-        arena: &[Lit],
-        used: &mut Vec<bool>,
+        solver: &mut Solver,
         conflict: Reason,
     ) -> Result<(), AllocError>
-        requires used { IsUsed problem.now used.old.items }
-        requires linked { IsTrail trail.now }
-        requires vars { trail.now.vars ≡ problem.now.vars }
-        requires sound { IsSound (IsSolution problem.now) (steps_of trail.now) }
-        requires reasoned { AreReasoned (Backs problem.now used.old.items) (named_by problem.now arena.now) (steps_of trail.now) }
-        requires conflict { FailsOn (Backs problem.now used.old.items conflict) (steps_of trail.now) (named_by problem.now arena.now conflict) }
-        ensures used { IfOk result (λ _. IsUsed problem.now used.new.items) }
-        ensures fewer { IfOk result (λ _. (set : NumberSet) → IsMarkedSolution problem.now used.new.items set
-            → IsMarkedSolution problem.now used.old.items set) }
-        ensures ranged { IfOk result (λ _. All (λ literal. literal.var < problem.now.vars) self.new.clause.items) }
-        ensures implied { IfOk result (λ _. Implied problem.now used.new.items self.new.clause.items) }
-        ensures jump { IfOk result (λ _. IsJump trail.now.steps.items 0 self.new.target self.new.clause.items) }
+        requires solver { IsSolver problem.now solver.old }
+        requires conflict { IsConflict problem.now solver.old conflict }
+        ensures solver { IfOk result (λ _. IsSolver problem.now solver.new) }
+        ensures trail { solver.new.trail ≡ solver.old.trail }
+        ensures learnt { IfOk result (λ _. IsLearnt problem.now solver.new.used.items self.new.clause) }
+        ensures jump { IfOk result (λ _. IsJump solver.new.trail.steps.items 0 self.new.target self.new.clause.items) }
     {
+        let trail = &solver.trail;
+        let arena = solver.arena.as_slice();
+        let used = &mut solver.used;
         self.seen.clear();
         self.seen.resize(problem.vars as usize, false)?;
         self.clause.clear();
