@@ -158,9 +158,8 @@ impl Exclusions {
                 } else {
                     (other, link.at)
                 };
-                let conflict = solver.examine_pair(problem, span, place)?;
-                if conflict.is_some() {
-                    return Ok(conflict);
+                if let Some(conflict) = solver.examine_pair(problem, span, place)? {
+                    return Ok(Some(conflict));
                 }
             }
         }

@@ -126,10 +126,7 @@ impl Formula {
         requires must { must < self.now.vars }
         ensures { IfOk result (IsAnswer self.now.vars self.now.clauses keep.now must keep.now) }
     {
-        let mut workspace = Workspace::new(alloc);
-        let answer = self.solve_in(alloc, &mut workspace, keep, must);
-        drop(workspace);
-        answer
+        self.solve_in(alloc, &mut Workspace::new(alloc), keep, must)
     }
 
     /// What `solve` gives, found in the buffers of an earlier solve.

@@ -242,14 +242,12 @@ impl Watches {
             }
             let step = solver.trail.steps[solver.propagated];
             solver.propagated += 1;
-            let conflict = self.visit(problem, solver, step.denied())?;
-            if conflict.is_some() {
-                return Ok(conflict);
+            if let Some(conflict) = self.visit(problem, solver, step.denied())? {
+                return Ok(Some(conflict));
             }
             if step.value {
-                let conflict = self.exclusions.rule_out(problem, solver, step.var)?;
-                if conflict.is_some() {
-                    return Ok(conflict);
+                if let Some(conflict) = self.exclusions.rule_out(problem, solver, step.var)? {
+                    return Ok(Some(conflict));
                 }
             }
         }
