@@ -71,7 +71,8 @@ impl Exclusions {
         if !problem.keep[span.group as usize] {
             return Ok(());
         }
-        if !self.is_newest(span) {
+        let newest = self.walks.get(self.walks.len().saturating_sub(2));
+        if !newest.is_some_and(|list| list.start == span.start && list.end == span.end) {
             self.add_list(problem, span, number)?;
         }
         if let Some(owners) = self.walks.last_mut() {
@@ -79,12 +80,6 @@ impl Exclusions {
         }
         let places = self.walks.len().saturating_sub(2);
         self.link(owner, places, number, true)
-    }
-
-    /// Whether the newest list is that of a span.
-    fn is_newest(&self, span: Span) -> bool {
-        let newest = self.walks.get(self.walks.len().saturating_sub(2));
-        newest.is_some_and(|list| list.start == span.start && list.end == span.end)
     }
 
     /// Adds the list of a span, whose owners stand from this number on.
