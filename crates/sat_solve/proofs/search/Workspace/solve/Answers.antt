@@ -26,12 +26,12 @@ pub returns-then-not-branch-3 : goal.returns-then-not-branch-3
 returns-then-not-branch-3 c =
     none_answered c.args.problem.now c.backjump-then-not-branch-2.new.self.solver.used.items c.in_ok-backjump-2.ensures.solver.used (c.in_ok-backjump-2.ensures.none c.if-not-branch-3.true)
 
-pub propagate-requires-clause-solver : goal.propagate-requires-clause-solver
-propagate-requires-clause-solver c =
+pub propagate-requires : goal.propagate-requires
+propagate-requires c =
     elim c.match-found.branch [
-      | in-Some+in_ok-backjump+else-not-branch w ↦ rw w.self-is w.in_ok-backjump.ensures.solver
-      | in_default+in_ok-decide+then-not-branch-2+in_ok-is_solution+else-branch+in_ok-backjump-2+else-not-branch-3 w ↦ rw w.self-is w.in_ok-backjump-2.ensures.solver
-      | in_default+in_ok-decide+else-not-branch-2 w ↦ rw w.self-is w.in_ok-decide.ensures.solver
+      | in-Some+in_ok-backjump+else-not-branch w ↦ record { solver = rw w.self-is w.in_ok-backjump.ensures.solver }
+      | in_default+in_ok-decide+then-not-branch-2+in_ok-is_solution+else-branch+in_ok-backjump-2+else-not-branch-3 w ↦ record { solver = rw w.self-is w.in_ok-backjump-2.ensures.solver }
+      | in_default+in_ok-decide+else-not-branch-2 w ↦ record { solver = rw w.self-is w.in_ok-decide.ensures.solver }
     ]
 
 pub rounds-smaller : goal.rounds-smaller
