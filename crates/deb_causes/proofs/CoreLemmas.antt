@@ -5,7 +5,7 @@ use Rattle.std.specs.List.Sorted.{IsStrictlyIncreasing}
 use Rattle.std.specs.Option.{option_map_or}
 use Rattle.std.specs.Str.{bytes_eq}
 use Rattle.std.proofs.lemmas.Bool.{and_left, and_parts, cases_Bool, eq-eqb, eqb-true, false≢true, or_cases, or_from, or_left, or_parts, or_right}
-use Rattle.std.proofs.lemmas.List.{length-append, map-append}
+use Rattle.std.proofs.lemmas.List.{map-append}
 use Rattle.std.proofs.lemmas.List.Elements.{All-same, filter-append}
 use Rattle.std.proofs.lemmas.List.Folds.{list_any-append}
 use Rattle.std.proofs.lemmas.Option.{slice_get_past}
@@ -50,30 +50,18 @@ wrongs-more index cause more x b is there =
 
 -- a constraint whose text is new, and one whose text is there
 pub wrong-new : (index : IndexView) (cause more wrongs : List Constraint) (x : Constraint) (texts new : List (List ℕ)) → more ≡ cause ++ x ∷ [] → wrongs ≡ first_of_each (says_same index) cause
-    → texts ≡ map (says index) wrongs → new ≡ with_text texts (says index x) → length texts < length new → (new ≡ map (says index) (wrongs ++ x ∷ [])) × (wrongs ++ x ∷ [] ≡ first_of_each (says_same index) more)
-wrong-new index cause more wrongs x texts new is firsts are grown longer = by (list_any (bytes_eq (says index x)) texts) refl
-  where
-    by : (b : Bool) → list_any (bytes_eq (says index x)) texts ≡ b → (new ≡ map (says index) (wrongs ++ x ∷ [])) × (wrongs ++ x ∷ [] ≡ first_of_each (says_same index) more)
-    by true e =
-        let same : length new ≡ length texts = ap length (grown ∙ ap (λ b. cond b texts (texts ++ says index x ∷ [])) e) in
-        absurd (omega arith)
-    by false e = (
-      grown ∙ ap (λ b. cond b texts (texts ++ says index x ∷ [])) e ∙ ap (λ ts. ts ++ says index x ∷ []) are ∙ sym (map-append (says index) wrongs (x ∷ [])),
-      ap (λ ws. ws ++ x ∷ []) firsts ∙ sym (wrongs-more index cause more x false is (said-there index cause wrongs x texts firsts are ∙ e)),
-    )
+    → texts ≡ map (says index) wrongs → new ≡ with_text texts (says index x) → list_any (bytes_eq (says index x)) texts ≡ false → (new ≡ map (says index) (wrongs ++ x ∷ [])) × (wrongs ++ x ∷ [] ≡ first_of_each (says_same index) more)
+wrong-new index cause more wrongs x texts new is firsts are grown e = (
+  grown ∙ ap (λ b. cond b texts (texts ++ says index x ∷ [])) e ∙ ap (λ ts. ts ++ says index x ∷ []) are ∙ sym (map-append (says index) wrongs (x ∷ [])),
+  ap (λ ws. ws ++ x ∷ []) firsts ∙ sym (wrongs-more index cause more x false is (said-there index cause wrongs x texts firsts are ∙ e)),
+)
 
 pub wrong-known : (index : IndexView) (cause more wrongs : List Constraint) (x : Constraint) (texts new : List (List ℕ)) → more ≡ cause ++ x ∷ [] → wrongs ≡ first_of_each (says_same index) cause
-    → texts ≡ map (says index) wrongs → new ≡ with_text texts (says index x) → length new ≤ length texts → (new ≡ map (says index) wrongs) × (wrongs ≡ first_of_each (says_same index) more)
-wrong-known index cause more wrongs x texts new is firsts are grown shorter = by (list_any (bytes_eq (says index x)) texts) refl
-  where
-    by : (b : Bool) → list_any (bytes_eq (says index x)) texts ≡ b → (new ≡ map (says index) wrongs) × (wrongs ≡ first_of_each (says_same index) more)
-    by true e = (
-      grown ∙ ap (λ b. cond b texts (texts ++ says index x ∷ [])) e ∙ are,
-      firsts ∙ sym (wrongs-more index cause more x true is (said-there index cause wrongs x texts firsts are ∙ e)),
-    )
-    by false e =
-        let size : length new ≡ length (texts ++ says index x ∷ []) = ap length (grown ∙ ap (λ b. cond b texts (texts ++ says index x ∷ [])) e) in
-        absurd (omega (arith, length-append texts (says index x ∷ [])))
+    → texts ≡ map (says index) wrongs → new ≡ with_text texts (says index x) → list_any (bytes_eq (says index x)) texts ≡ true → (new ≡ map (says index) wrongs) × (wrongs ≡ first_of_each (says_same index) more)
+wrong-known index cause more wrongs x texts new is firsts are grown e = (
+  grown ∙ ap (λ b. cond b texts (texts ++ says index x ∷ [])) e ∙ are,
+  firsts ∙ sym (wrongs-more index cause more x true is (said-there index cause wrongs x texts firsts are ∙ e)),
+)
 
 -- ---- needs by their positions
 

@@ -5,7 +5,6 @@ mod FreedLaw
 pub mod GatheringLemmas
 pub mod GatheredCauses
 pub mod NumberingLemmas
-pub mod ListingLemmas
 pub mod SaidLemmas
 pub mod PartLemmas
 pub mod WrongsLemmas

@@ -1,5 +1,4 @@
 pub mod Causes
-pub mod Listing
 pub mod Numbering
 pub mod Wrongs
 pub mod Gathering

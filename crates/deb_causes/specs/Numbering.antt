@@ -1,17 +1,16 @@
 -- Texts with numbers, in the order of their coming, and the broken packages and cores that have the number of a cause.
-use Rattle.std.specs.Prelude.{◌≡◌, ℕ, List, [], ◌∷◌, ◌++◌, if◌then◌else◌, map}
+use Rattle.std.specs.Prelude.{◌≡◌, ℕ, List, [], ◌∷◌, Vec, map, if◌then◌else◌, ◌++◌}
 use Rattle.std.specs.List.{list_any}
 use Rattle.std.specs.Str.{bytes_eq}
+use Rattle.indexmap.specs.IndexSet.{IndexSet}
 use Rattle.deb_index.specs.Packages.{first_of_each}
-use Rattle.deb_causes.specs.Listing.{texts_in}
-use Rattle.deb_causes.specs.declared.numbering.Numbering.{Numbering}
 use Rattle.deb_index.specs.declared.constraint.Constraint.{Constraint}
 use Rattle.deb_causes.specs.declared.gathered.NumberedCore.{NumberedCore}
 use Rattle.deb_causes.specs.declared.gathered.NumberedPackage.{NumberedPackage}
 
 -- the texts, by their numbers
-abbrev pub texts_of : Numbering → List (List ℕ)
-texts_of numbering = texts_in numbering.numbers
+abbrev pub texts_of : {A S : Type 0} → IndexSet (Vec ℕ A) S → List (List ℕ)
+texts_of texts = map (λ text. text.items) texts.keys
 
 -- the texts with one more, where it is not among them
 abbrev pub with_text : List (List ℕ) → List ℕ → List (List ℕ)

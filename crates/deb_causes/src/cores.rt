@@ -8,9 +8,9 @@ ghost use Rattle.deb_health.specs.Causes.{cause_in};
 ghost use Rattle.number_sets.specs.Sets.{members_of};
 ghost use Rattle.deb_causes.specs.Causes.{is_answer_to, is_version_of, needs_in, says_same, versions_in, is_need_at, is_only};
 
-use crate::numbering::Numbering;
-use crate::wrongs::{is_final, number_of};
+use crate::wrongs::{is_final, says_of};
 use deb_index::{Constraint, Index};
+use indexmap::IndexSet;
 use number_sets::{SparseSet, sort_once};
 use std::alloc::{AllocError, Global};
 
@@ -23,13 +23,12 @@ pub(crate) fn wrongs_in(
     requires { All (IsOfIndex index.now) core.now }
     ensures { IfOk result (λ wrongs. wrongs.items ≡ first_of_each (says_same index.now) (cause_in index.now core.now)) }
 {
-    let mut said = Numbering::new(alloc);
+    let mut said = IndexSet::new(alloc);
     let mut wrongs = Vec::new(alloc);
     for constraint in core {
         if is_final(alloc, index, *constraint)? {
-            let known = said.len();
-            number_of(alloc, index, *constraint, &mut said)?;
-            if said.len() > known {
+            let is_new = said.insert(says_of(alloc, index, *constraint)?)?;
+            if is_new {
                 wrongs.push(*constraint)?;
             }
         }

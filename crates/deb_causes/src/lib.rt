@@ -5,7 +5,7 @@
 //!
 //! - `near`: the packages that have the name of an alternative, or provide it.
 //! - `stems`: what is left of names without their numbers; `similar`: the names of an index with such a stem.
-//! - `numbering` gives each text a number, `wrongs` one to each cause;
+//! - `wrongs` gives a number to what each constraint says, and to each cause;
 //! - `gathered` gathers cores by the numbers of their causes, `cores` says what the cores of a cause tell, and `causes` lists them.
 //! - `laws`: what holds of the packages that a cause frees.
 #![tactic(auto)]
@@ -15,7 +15,6 @@ mod cores;
 mod gathered;
 pub mod laws;
 mod near;
-mod numbering;
 mod similar;
 mod stems;
 mod wrongs;

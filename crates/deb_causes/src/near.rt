@@ -135,23 +135,6 @@ fn near_miss<'i>(
     Ok(NearMiss { deb, provides })
 }
 
-/// What is told of the packages at these places.
-fn misses_at<'i>(
-    alloc: Global,
-    index: &'i Index,
-    atoms: &[&Atom],
-    places: &[u32],
-) -> Result<Vec<NearMiss<'i>>, AllocError>
-    requires { All (λ place. place < length index.now.packages) places.now }
-    ensures { IfOk result (λ misses. map near_view misses.items ≡ map (near_miss_at index.now (map (λ atom. atom_view atom.now) atoms.now)) places.now) }
-{
-    let mut misses = Vec::new(alloc);
-    for place in places {
-        misses.push(near_miss(alloc, index.arch(), atoms, index.package(*place))?)?;
-    }
-    Ok(misses)
-}
-
 /// The packages of the index, by place, that have the name of an alternative of a need among these constraints, or provide it.
 ///
 /// The constraints are of the index. `AllocError` where there is no memory for it.
@@ -165,6 +148,9 @@ pub fn near_misses<'i>(
     ensures { IfOk result (λ misses. map near_view misses.items ≡ near_misses index.now constraints.now) }
 {
     let atoms = alternatives_of(alloc, index, constraints)?;
-    let places = near_places(alloc, index, atoms.as_slice())?;
-    misses_at(alloc, index, atoms.as_slice(), places.as_slice())
+    let mut misses = Vec::new(alloc);
+    for place in &near_places(alloc, index, &atoms)? {
+        misses.push(near_miss(alloc, index.arch(), &atoms, index.package(*place))?)?;
+    }
+    Ok(misses)
 }

@@ -182,28 +182,6 @@ impl Similar {
         }
     }
 
-    /// Tells the names that have the stem of an atom's name, and are none of the atoms', atom by atom.
-    fn tell<'s>(
-        &'s self,
-        alloc: Global,
-        atoms: &[&Atom],
-        told: &mut Told<'s>,
-    ) -> Result<(), AllocError>
-        requires sought { All (λ atom. has_text (stems_in self.now) (stem atom.name) ≡ true) (map (λ atom. atom_view atom.now) atoms.now) }
-        requires known { told.old.known.keys ≡ [] }
-        requires none { told.old.names.items ≡ [] }
-        ensures { OnOk result ((seen : List (List ℕ)) → IsFoundIn seen self.now → IsTold (map (λ atom. atom_view atom.now) atoms.now)
-            (flat_map (λ atom. first_with_stem seen (stem atom.name)) (map (λ atom. atom_view atom.now) atoms.now)) told.new) }
-    {
-        add_names(alloc, atoms, &mut told.known)?;
-        let mut stem = Vec::new(alloc);
-        for atom in atoms {
-            put_stem(&mut stem, atom.name.as_slice())?;
-            told.push_all(alloc, self.list(stem.as_slice()))?;
-        }
-        Ok(())
-    }
-
     /// The names that differ in numbers alone from those of the alternatives of a need among these constraints, alternative by alternative: ten at most.
     ///
     /// The constraints are of the index, and their stems were looked for. `AllocError` where there is no memory for it.
@@ -223,7 +201,12 @@ impl Similar {
             known: HashSet::new(alloc),
             names: Vec::new(alloc),
         };
-        self.tell(alloc, atoms.as_slice(), &mut told)?;
+        add_names(alloc, &atoms, &mut told.known)?;
+        let mut stem = Vec::new(alloc);
+        for atom in &atoms {
+            put_stem(&mut stem, atom.name.as_slice())?;
+            told.push_all(alloc, self.list(stem.as_slice()))?;
+        }
         let Told { known: _, names } = told;
         Ok(names)
     }

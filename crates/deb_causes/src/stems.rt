@@ -105,24 +105,6 @@ fn add_stem(
     Ok(())
 }
 
-/// Adds the stems of the names that some atoms have.
-fn add_stems(
-    alloc: Global,
-    atoms: &[&Atom],
-    lists: &mut HashMap<Vec<u8>, Vec<Vec<u8>>>,
-) -> Result<(), AllocError>
-    ensures sought { OnOk result (All (λ atom. has_text (map (λ key. key.items) (keys lists.new)) (stem atom.name) ≡ true)
-        (map (λ atom. atom_view atom.now) atoms.now)) }
-    ensures none { OnOk result (All (λ list. list.items ≡ []) (values lists.old) → All (λ list. list.items ≡ []) (values lists.new)) }
-{
-    let mut buffer = Vec::new(alloc);
-    for atom in atoms {
-        put_stem(&mut buffer, atom.name.as_slice())?;
-        add_stem(alloc, buffer.as_slice(), lists)?;
-    }
-    Ok(())
-}
-
 /// The stems of the alternatives of all needs among the constraints, with an empty list for each.
 pub(crate) fn stems_of(
     alloc: Global,
@@ -135,6 +117,10 @@ pub(crate) fn stems_of(
 {
     let atoms = alternatives_of(alloc, index, constraints)?;
     let mut lists = HashMap::new(alloc);
-    add_stems(alloc, atoms.as_slice(), &mut lists)?;
+    let mut buffer = Vec::new(alloc);
+    for atom in &atoms {
+        put_stem(&mut buffer, atom.name.as_slice())?;
+        add_stem(alloc, buffer.as_slice(), &mut lists)?;
+    }
     Ok(lists)
 }

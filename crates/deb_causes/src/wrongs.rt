@@ -10,9 +10,9 @@ ghost use Rattle.deb_causes.specs.Near.{is_missing};
 ghost use Rattle.deb_causes.specs.Numbering.{Grows, IsFront, texts_of, with_text};
 ghost use Rattle.deb_causes.specs.Wrongs.{number_said};
 
-use crate::numbering::Numbering;
 use deb_index::{Constraint, Index};
 use deb_relation::push_group;
+use indexmap::IndexSet;
 use number_sets::sort_once;
 use std::alloc::{AllocError, Global};
 
@@ -52,7 +52,11 @@ fn push_bytes(text: &mut Vec<u32>, bytes: &[u8]) -> Result<(), AllocError>
 
 /// What a constraint says is wrong.
 #[tactic(auto, unfolding(crate::specs::Causes::says))]
-fn says_of(alloc: Global, index: &Index, constraint: Constraint) -> Result<Vec<u32>, AllocError>
+pub(crate) fn says_of(
+    alloc: Global,
+    index: &Index,
+    constraint: Constraint,
+) -> Result<Vec<u32>, AllocError>
     requires { IsOfIndex index.now constraint }
     ensures { IfOk result (λ text. text.items ≡ says index.now constraint) }
 {
@@ -71,18 +75,17 @@ fn says_of(alloc: Global, index: &Index, constraint: Constraint) -> Result<Vec<u
     Ok(text)
 }
 
-/// The number of what a constraint says.
-pub(crate) fn number_of(
-    alloc: Global,
-    index: &Index,
-    constraint: Constraint,
-    said: &mut Numbering,
-) -> Result<u32, AllocError>
-    requires { IsOfIndex index.now constraint }
-    ensures texts { OnOk result (texts_of said.new ≡ with_text (texts_of said.old) (says index.now constraint)) }
-    ensures number { IfOk result (λ number. number_in (says index.now constraint) (texts_of said.new) ≡ Some number) }
+/// The number of a text: its place among some, behind which it goes where it is new.
+fn number_of(texts: &mut IndexSet<Vec<u32>>, text: Vec<u32>) -> Result<u32, AllocError>
+    ensures texts { OnOk result (texts_of texts.new ≡ with_text (texts_of texts.old) text.items) }
+    ensures number { IfOk result (λ number. number_in text.items (texts_of texts.new) ≡ Some number) }
 {
-    said.number(says_of(alloc, index, constraint)?)
+    let (place, _) = texts.insert_full(text)?;
+    // There is no memory for so many texts that the place of one doesn't fit.
+    if place > u32::MAX as usize {
+        return Err(AllocError);
+    }
+    Ok(place as u32)
 }
 
 /// The numbers of what the final constraints of a core say, in their order.
@@ -90,7 +93,7 @@ fn numbers_said(
     alloc: Global,
     index: &Index,
     core: &[Constraint],
-    said: &mut Numbering,
+    said: &mut IndexSet<Vec<u32>>,
 ) -> Result<Vec<u32>, AllocError>
     requires { All (IsOfIndex index.now) core.now }
     ensures numbers { IfOk result (λ numbers. (texts : List (List ℕ)) → IsFront (texts_of said.new) texts
@@ -100,8 +103,8 @@ fn numbers_said(
     let mut numbers = Vec::new(alloc);
     for constraint in core {
         if is_final(alloc, index, *constraint)? {
-            let number = number_of(alloc, index, *constraint, said)?;
-            numbers.push(number)?;
+            let text = says_of(alloc, index, *constraint)?;
+            numbers.push(number_of(said, text)?)?;
         }
     }
     Ok(numbers)
@@ -110,8 +113,8 @@ fn numbers_said(
 /// What constraints say, and what causes say, each by the numbers of what its constraints say.
 #[derive(Drop)]
 pub(crate) struct Wrongs {
-    said: Numbering,
-    causes: Numbering,
+    said: IndexSet<Vec<u32>>,
+    causes: IndexSet<Vec<u32>>,
 }
 
 impl Wrongs {
@@ -123,8 +126,8 @@ impl Wrongs {
         ensures causes { causes_of result ≡ [] }
     {
         Wrongs {
-            said: Numbering::new(alloc),
-            causes: Numbering::new(alloc),
+            said: IndexSet::new(alloc),
+            causes: IndexSet::new(alloc),
         }
     }
 
@@ -147,7 +150,7 @@ impl Wrongs {
     {
         let mut key = numbers_said(alloc, index, core, &mut self.said)?;
         sort_once(&mut key);
-        let number = self.causes.number(key)?;
+        let number = number_of(&mut self.causes, key)?;
         Ok(number)
     }
 }

@@ -19,7 +19,7 @@ returns c =
     let old = texts_of c.args.self.now.said in
     let new = texts_of c.numbers_said.new.said in
     let keys_old = texts_of c.args.self.now.causes in
-    let keys_new = texts_of c.number.new.self in
+    let keys_new = texts_of c.number_of.new.texts in
     let key : (texts : List (List ℕ)) → StandOnce texts → IsFront new texts → c.sort_once.new.numbers.items ≡ key_of index texts cause =
     λ texts once begins. numbers-key index texts cause c.in_ok-key.key.items c.sort_once.new.numbers.items once (c.in_ok-key.ensures.numbers texts begins) c.sort_once.ensures.rising c.sort_once.ensures.same in
     record {
