@@ -2,6 +2,7 @@ mod JoinLemmas
 mod ReportLemmas
 mod SoughtLemmas
 mod AskedLemmas
+mod FindLemmas
 mod MarkLemmas
 pub mod ShownLemmas
 pub mod FormLemmas

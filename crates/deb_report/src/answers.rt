@@ -47,36 +47,22 @@ fn answers_by(arch: &[u8], deb: &Package, entry: &Atom, atom: &Atom) -> bool
 fn is_itself(arch: &[u8], deb: &Package, atoms: &[Atom]) -> bool
     ensures { result ≡ list_any (answers_itself arch.now (package_view deb.now)) (map atom_view atoms.now) }
 {
-    for atom in atoms {
-        if answers_itself(arch, deb, atom) {
-            return true;
-        }
-    }
-    false
+    atoms.iter().any(|atom| answers_itself(arch, deb, atom))
 }
 
 /// Whether a package meets one of these alternatives by an entry of its Provides.
 fn is_by(arch: &[u8], deb: &Package, entry: &Atom, atoms: &[Atom]) -> bool
     ensures { result ≡ list_any (answers_by arch.now (package_view deb.now) (atom_view entry.now)) (map atom_view atoms.now) }
 {
-    for atom in atoms {
-        if answers_by(arch, deb, entry, atom) {
-            return true;
-        }
-    }
-    false
+    atoms.iter().any(|atom| answers_by(arch, deb, entry, atom))
 }
 
 /// The first entry of a package's Provides that meets one of these alternatives.
 fn first_entry<'i>(arch: &[u8], deb: &'i Package, atoms: &[Atom]) -> Option<&'i Atom>
     ensures { option_map (λ entry. atom_view entry.now) result ≡ first_entry arch.now (map atom_view atoms.now) (package_view deb.now) }
 {
-    for entry in &deb.provides {
-        if is_by(arch, deb, entry, atoms) {
-            return Some(entry);
-        }
-    }
-    None
+    let mut entries = deb.provides.iter();
+    entries.find(|entry| is_by(arch, deb, entry, atoms))
 }
 
 /// The entry that is told of a package that meets one of these alternatives.
