@@ -2,7 +2,7 @@
 
 ghost use Rattle.std.specs.Prelude.{◌≡◌, ◌++◌, ◌<◌, OnOk};
 ghost use Rattle.std.specs.Char.{digit_char};
-ghost use Rattle.std.specs.List.{flat_map, list_any};
+ghost use Rattle.std.specs.List.{list_any};
 ghost use Rattle.deb_report.specs.Forms.{escaped_byte, member, needs_escape, quoted};
 
 use deb_relation::push_texts;
@@ -35,16 +35,6 @@ fn push_escaped_byte(out: &mut Vec<u8>, byte: u8) -> Result<(), AllocError>
     Ok(())
 }
 
-/// Adds a text as it stands between quotes.
-fn push_escaped(out: &mut Vec<u8>, text: &[u8]) -> Result<(), AllocError>
-    ensures { OnOk result (out.new.items ≡ out.old.items ++ flat_map escaped_byte text.now) }
-{
-    for byte in text {
-        push_escaped_byte(out, *byte)?;
-    }
-    Ok(())
-}
-
 /// Whether some byte of a text can't stand in a string as it is.
 fn needs_escapes(text: &[u8]) -> bool
     ensures { result ≡ list_any needs_escape text.now }
@@ -62,7 +52,9 @@ pub fn push_quoted(out: &mut Vec<u8>, text: &[u8]) -> Result<(), AllocError>
         return push_texts(out, &[b"\"", text, b"\""]);
     }
     out.extend_from_slice(b"\"")?;
-    push_escaped(out, text)?;
+    for byte in text {
+        push_escaped_byte(out, *byte)?;
+    }
     out.extend_from_slice(b"\"")
 }
 

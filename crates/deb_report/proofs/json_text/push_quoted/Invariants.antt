@@ -1,7 +1,7 @@
 use Rattle.std.proofs.Common.{◌≡◌, ◌++◌, take}
 use Rattle.std.specs.List.{flat_map}
 use Rattle.deb_report.specs.Forms.{escaped_byte}
-use Rattle.deb_report.proofs.json_text.push_escaped.Given as goal
+use Rattle.deb_report.proofs.json_text.push_quoted.Given as goal
 
 abbrev pub invariant-loop-byte : goal.invariant-loop-byte
 invariant-loop-byte l = l.out.items ≡ l.initial.out.items ++ flat_map escaped_byte (take l.byte-index l.text)
