@@ -206,7 +206,7 @@ answer-added index place number q old new row is grows has only =
     λ there. let grown = grows (length index.packages) inside in
     ap (λ places. members_of places q) grown.appended ∙ list_any-append (λ member. member == q) old grown.more ∙ or_left (members_of old q) (members_of grown.more q) there in
     let answering : members_of row q ≡ answers index place number q =
-    ap (λ places. members_of places q) is ∙ member-places_where test index.packages q ∙ group-at index.arch (need_at index place number) (slice_get index.packages q) in
+    ap (λ places. members_of places q) is ∙ member-places_where test index.packages q ∙ group-at (meets_need index.arch) (need_at index place number) (slice_get index.packages q) in
     same_test (members_of new q) (members_of old q || members_of row q)
     (λ there. elim (only q there) [
       | inl before ↦ or_left (members_of old q) (members_of row q) before

@@ -1,9 +1,8 @@
 -- Clauses in the making, what a set says of the entries of a place, and what is gathered of places that may not stand together.
-use Rattle.std.specs.Prelude.{◌≡◌, ℕ, ◌<◌, Bool, true, ◌||◌, ◌&&◌, nat_le, List, All, length, ◌⊎◌, ◌≤◌, false, Contains, slice_index, slice_index_or}
+use Rattle.std.specs.Prelude.{◌≡◌, ℕ, ◌<◌, Bool, true, ◌||◌, nat_le, List, All, length, ◌⊎◌, ◌≤◌, false, Contains, slice_index, slice_index_or}
 use Rattle.deb_index.specs.declared.constraint.Constraint.TheVariants.{Essential, Apart}
 use Rattle.deb_index.specs.Packages.{IndexView, essential_names, aparts_at, apart_at, package_at, names, name_at}
 use Rattle.deb_index.specs.Meets.{satisfiers}
-use Rattle.deb_index.specs.Rows.{candidate_count, row_limit}
 use Rattle.deb_index.specs.Constraints.{Holds, IsAlone}
 use Rattle.sat_solve.specs.declared.clause.Lit.{Lit}
 use Rattle.number_sets.specs.Sets.{NumberSet, members_of}
@@ -20,10 +19,9 @@ pub record Widens (test : NumberSet → Bool) (count : ℕ) (before after : List
 abbrev pub narrow_limit : ℕ
 narrow_limit = 64
 
--- an entry of the package at a place has a row, and hits few packages
+-- an entry of the package at a place hits few packages
 abbrev pub is_narrow : IndexView → ℕ → ℕ → Bool
-is_narrow index place j =
-    nat_le (candidate_count index (apart_at index place j)) row_limit && nat_le (length (satisfiers index (apart_at index place j))) narrow_limit
+is_narrow index place j = nat_le (length (satisfiers index (apart_at index place j))) narrow_limit
 
 -- some package of each essential name is in the set
 abbrev pub MeetsEssentials : IndexView → NumberSet → Type 0

@@ -24,7 +24,7 @@ pub(crate) struct Entry {
     number: u32,
 }
 
-/// Whether an entry hits many packages, or very many may meet it.
+/// Whether an entry hits many packages.
 fn is_wide(index: &Index, place: u32, number: u32) -> bool
     requires place { place < length index.now.packages }
     requires number { number < length (aparts_at index.now place) }

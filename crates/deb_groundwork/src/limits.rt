@@ -6,7 +6,7 @@ pub(crate) const FEW: u32 = 64;
 /// Of a need at most so many alternatives are looked at.
 pub(crate) const ALTERNATIVES: usize = 64;
 
-/// Of an alternative's name at most so many bearers are looked at: as many as a row is made from. With all of 5,000 it takes 2.87 s for 0.02.
+/// Of an alternative's name at most so many bearers are looked at: as many as a row has. With all of 5,000 it takes 2.87 s for 0.02.
 pub(crate) const BEARERS: usize = 256;
 
 /// How often at most all places are gone through for hopeless ones, in rising order and in falling order by turns. Of the 32,381 packages that are

@@ -23,7 +23,7 @@ some_member (q ∷ rest) some = (q, or_left (eqb q q) (members_of rest q) (eq-eq
 module _ (index : IndexView) where
   answer_of_member : (p j q : ℕ) → members_of (group_satisfiers index (need_at index p j)) q ≡ true → answers index p j q ≡ true
   answer_of_member p j q is_in =
-      sym (group-at index.arch (need_at index p j) (slice_get index.packages q))
+      sym (group-at (meets_need index.arch) (need_at index p j) (slice_get index.packages q))
       ∙ (sym (member-places_where (λ item. list_any (meets_need index.arch item) (need_at index p j)) index.packages q) ∙ is_in)
 
   -- the set of all packages meets what isn't final

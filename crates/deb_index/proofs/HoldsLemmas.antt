@@ -4,7 +4,6 @@ use Rattle.std.specs.Prelude.{count_by}
 use Rattle.std.specs.List.{list_any}
 use Rattle.std.specs.Option.{option_map_or}
 use Rattle.std.proofs.lemmas.Bool.{cases_Bool, false≢true, or_cases, or_left, or_right, and_from, and_parts, not-true, not_from_false, eqb-true, eq-eqb, leb-true, le-leb, false_from_ne_true}
-use Rattle.deb_relation.specs.Relationship.{AtomText}
 use Rattle.deb_index.specs.declared.constraint.Constraint.{Constraint}
 use Rattle.deb_index.specs.declared.constraint.Constraint.TheVariants.{Essential, Need, Apart, Only}
 use Rattle.deb_index.specs.Packages.{IndexView, PackageView, apart_at, is_named, name_at, need_at, places_of, places_where}
@@ -14,14 +13,15 @@ use Rattle.deb_index.proofs.MemberLemmas.{member-places_where}
 use Rattle.deb_index.proofs.RisingLemmas.{any-member, member-any, where-rising}
 use Rattle.deb_index.proofs.CountLemmas.{count-from-one, one-from-count}
 
-none-meets : (group : List AtomText) → false ≡ list_any (λ a. false) group
-none-meets [] = refl
-none-meets (a ∷ group) = none-meets group
+module _ {P A : Type 0} (test : P → A → Bool) where
+  none-meets : (group : List A) → false ≡ list_any (λ a. false) group
+  none-meets [] = refl
+  none-meets (a ∷ group) = none-meets group
 
--- a package meets an alternative of a group, asked of the package or of its place
-pub group-at : (arch : List ℕ) (group : List AtomText) (o : Option PackageView) → option_map_or (λ q. list_any (meets_need arch q) group) o false ≡ list_any (λ a. option_map_or (λ q. meets_need arch q a) o false) group
-group-at arch group None = none-meets group
-group-at arch group (Some q) = refl
+  -- a package meets an alternative of a group, asked of the package or of its place
+  pub group-at : (group : List A) (o : Option P) → option_map_or (λ q. list_any (test q) group) o false ≡ list_any (λ a. option_map_or (λ q. test q a) o false) group
+  group-at group None = none-meets group
+  group-at group (Some q) = refl
 
 module _ (index : IndexView) (set : ℕ → Bool) where
   abbrev at : (PackageView → Bool) → ℕ → Bool
@@ -34,7 +34,7 @@ module _ (index : IndexView) (set : ℕ → Bool) where
   hit_by p j = λ q. meets index.arch q (apart_at index p j)
 
   answers-at : (p j q : ℕ) → at (answering p j) q ≡ answers index p j q
-  answers-at p j q = group-at index.arch (need_at index p j) (slice_get index.packages q)
+  answers-at p j q = group-at (meets_need index.arch) (need_at index p j) (slice_get index.packages q)
 
   some-at : (test : PackageView → Bool) → list_any set (places_where test index.packages) ≡ true → (q : ℕ) × (set q ≡ true) × (at test q ≡ true)
   some-at test h = let found = any-member set (places_where test index.packages) h in (found.0, found.1, sym (member-places_where test index.packages found.0) ∙ found.2)

@@ -61,7 +61,7 @@ named_is_place index q number named = found_within (is_named (name_at index numb
 pub answers_is_place : (index : IndexView) (p j q : ℕ) → answers index p j q ≡ true → q < length index.packages
 answers_is_place index p j q answered =
     let found : Option PackageView = slice_get index.packages q in
-    found_within (λ item. list_any (meets_need index.arch item) (need_at index p j)) index.packages q found refl (group-at index.arch (need_at index p j) found ∙ answered)
+    found_within (λ item. list_any (meets_need index.arch item) (need_at index p j)) index.packages q found refl (group-at (meets_need index.arch) (need_at index p j) found ∙ answered)
 
 -- the places of a name are those that have it
 pub member_named : (index : IndexView) (number q : ℕ) → members_of (places_of index (name_at index number)) q ≡ has_name index q number

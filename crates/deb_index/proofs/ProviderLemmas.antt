@@ -3,8 +3,7 @@ use Rattle.std.proofs.Common.{◌≡◌, ℕ, suc, zero, ◌+◌, ◌<◌, Bool,
 use Rattle.std.specs.List.{list_any, enumerate_from, flat_map}
 use Rattle.std.specs.Option.{option_map_or}
 use Rattle.std.proofs.lemmas.Bool.{eq-eqb, ne_eqb}
-use Rattle.std.proofs.lemmas.List.{take_more}
-use Rattle.std.proofs.lemmas.List.Folds.{list_any-append}
+use Rattle.std.proofs.lemmas.List.Folds.{list_any-append, list_any_more}
 use Rattle.deb_relation.specs.Relationship.{AtomText, is_usable}
 use Rattle.deb_index.specs.declared.meets.Role.{Role}
 use Rattle.deb_index.specs.declared.meets.Role.TheVariants.{Alternative, Entry}
@@ -119,12 +118,14 @@ module _ (role : Role) (index : IndexView) (atom : AtomText) where
       at (Some p) = ap (λ b. (is_named atom.name p && meets_as role index.arch p atom) || b) (package-any p) ∙ meets-either role index.arch p atom
 
   -- all candidates were asked, and so all that meet the atom are found
-  pub all-asked : (before middle after : ℕ → Bool) (named : List ℕ) (provided : List (ℕ × ℕ)) (q : ℕ) → named ≡ places_of index atom.name → provided ≡ provided_at index atom.name
-      → middle q ≡ (before q || (is_in named q && meets_as_at role index q atom)) → after q ≡ (middle q || list_any (is_entry_of q) provided)
-      → after q ≡ (before q || meets_as_at role index q atom)
-  all-asked before middle after named provided q n p first second =
-      second ∙ ap (λ b. b || list_any (is_entry_of q) provided) first ∙ or-assoc (before q) (is_in named q && meets_as_at role index q atom) (list_any (is_entry_of q) provided)
+  pub all-asked : (before middle : ℕ → Bool) (named : List ℕ) (provided : List (ℕ × ℕ)) (q : ℕ) → named ≡ places_of index atom.name → provided ≡ provided_at index atom.name
+      → middle q ≡ (before q || (is_in named q && meets_as_at role index q atom)) → (middle q || list_any (is_entry_of q) provided) ≡ (before q || meets_as_at role index q atom)
+  all-asked before middle named provided q n p first =
+      ap (λ b. b || list_any (is_entry_of q) provided) first ∙ or-assoc (before q) (is_in named q && meets_as_at role index q atom) (list_any (is_entry_of q) provided)
       ∙ ap (λ b. before q || b) ((λ k. (is_in (n k) q && meets_as_at role index q atom) || list_any (is_entry_of q) (p k)) ∙ candidates-any q)
+
+pub or-weaker : (before in_list meets : Bool) → (before || (in_list && meets)) ≡ true → (before || meets) ≡ true
+or-weaker before in_list meets there = grind (arith, there)
 
 -- ---- entries are asked one after the other
 
@@ -135,8 +136,10 @@ entry-put found p q t passes = grind (arith, passes, list_any-append (λ place. 
 pub entry-left : (found : List ℕ) (p q : ℕ) (t : Bool) → t ≡ false → is_in found q ≡ (is_in found q || (eqb p q && t))
 entry-left found p q t fails = grind (arith, fails)
 
-pub entries-more : (before found now : Bool) (t : ℕ × ℕ → Bool) (entries : List (ℕ × ℕ)) (i : ℕ) (e : ℕ × ℕ) → i < length entries → e ≡ get_or entries i (0, 0)
-    → found ≡ (before || list_any t (take i entries)) → now ≡ (found || t e) → now ≡ (before || list_any t (take (i + 1) entries))
-entries-more before found now t entries i e within at old new =
-    new ∙ ap (λ b. b || t e) old ∙ or-assoc before (list_any t (take i entries)) (t e)
-    ∙ ap (λ b. before || b) (ap (λ b. list_any t (take i entries) || b) (sym (or-none (t e))) ∙ sym (list_any-append t (take i entries) (e ∷ [])) ∙ ap (list_any t) (sym (take_more entries i (0, 0) within ∙ ap (λ x. take i entries ++ x ∷ []) (sym at))))
+pub entries-more : (before found : Bool) (role : Role) (index : IndexView) (atom : AtomText) (q : ℕ) (entries : List (ℕ × ℕ)) (i : ℕ) (e : ℕ × ℕ) (wanted : Bool)
+    → i < length entries → e ≡ get_or entries i (0, 0) → wanted ≡ provides_as_at role index e atom → found ≡ (before || list_any (is_entry_of role index atom q) (take i entries))
+    → (found || (eqb e.0 q && wanted)) ≡ (before || list_any (is_entry_of role index atom q) (take (i + 1) entries))
+entries-more before found role index atom q entries i e wanted within at is old =
+    let t : ℕ × ℕ → Bool = is_entry_of role index atom q in
+    (λ k. old k || (eqb e.0 q && is k)) ∙ or-assoc before (list_any t (take i entries)) (t e)
+    ∙ ap (λ b. before || b) (ap (λ b. list_any t (take i entries) || b) (ap t at) ∙ sym (list_any_more t entries i (0, 0) within))

@@ -1,15 +1,14 @@
 -- When an entry or a group has a row, and which.
-use Rattle.std.proofs.Common.{◌≡◌, ◌<◌, ◌+◌, ℕ, Bool, true, false, not, cond, List, [], ◌∷◌, ◌++◌, map, length, take, get_or, Option, Some, None, refl, sym, ap, ◌∙◌, arith}
-use Rattle.std.specs.Prelude.{IfSome, nat_le}
+use Rattle.std.proofs.Common.{◌≡◌, ◌<◌, ◌≤◌, ◌∙◌, ℕ, Bool, true, false, cond, get_or, List, [], ◌∷◌, length, Option, Some, None, refl, sym, ap, arith}
+use Rattle.std.specs.Prelude.{IfSome}
 use Rattle.std.specs.Option.{is_some, option_map}
-use Rattle.std.proofs.lemmas.Bool.{false≢true, lt-leb}
-use Rattle.std.proofs.lemmas.List.{map-append, take-map, take_more}
-use Rattle.std.proofs.lemmas.List.Sums.{sum_by_push}
-use Rattle.deb_relation.specs.declared.atom.Atom.{Atom}
-use Rattle.deb_relation.specs.Relationship.{atom_view}
-use Rattle.deb_index.specs.Packages.{IndexView}
-use Rattle.deb_index.specs.Rows.{candidate_count, group_candidates, row_limit}
-use Rattle.deb_index.proofs.PartLemmas.{sum-take}
+use Rattle.std.proofs.lemmas.Bool.{le-leb, lt-leb}
+use Rattle.deb_relation.specs.Relationship.{AtomText}
+use Rattle.deb_index.specs.declared.meets.Role.TheVariants.{Entry}
+use Rattle.deb_index.specs.Packages.{IndexView, places_where}
+use Rattle.deb_index.specs.Meets.{meets, satisfiers}
+use Rattle.deb_index.specs.Rows.{IsFound, row_limit, row_of, satisfiers_as}
+use Rattle.deb_index.proofs.FoundLemmas.{or-none}
 
 none-some : (x : List ℕ) → None ≡ Some x → ⊥
 none-some x e = cc
@@ -30,18 +29,22 @@ module _ {R : Type 0} (now : R → List ℕ) (row : List ℕ) where
   row-there true (Some r) e = refl
   row-there false (Some r) e = absurd (none-some (now r) (sym e))
 
-pub kept : {A : Type 0} (few : Bool) (row : A) → not few ≡ false → cond few (Some row) None ≡ Some row
-kept true row h = refl
-kept false row h = absurd (false≢true (sym h))
+-- the row of what was found, up to the limit of a row
+module _ (places found : List ℕ) (is : IsFound row_limit places found) where
+  pub row-few : length found ≤ row_limit → row_of places ≡ Some found
+  row-few few =
+      let same : places ≡ found = sym (is.all few) in
+      ap row_of same ∙ ap (λ b. cond b (Some found) None) (le-leb (length found) row_limit few)
 
-module _ (index : IndexView) where
-  -- one alternative more
-  module _ (atoms : List Atom) (i : ℕ) (a : Atom) (within : i < length atoms) (at : a ≡ get_or atoms i a) where
-    more : map atom_view (take (i + 1) atoms) ≡ map atom_view (take i atoms) ++ atom_view a ∷ []
-    more = ap (map atom_view) (take_more atoms i a within ∙ ap (λ x. take i atoms ++ x ∷ []) (sym at)) ∙ map-append atom_view (take i atoms) (a ∷ [])
+  pub row-many : row_limit < length found → row_of places ≡ None
+  row-many many = ap (λ b. cond b (Some places) None) (lt-leb (length places) row_limit (is.more many))
 
-    pub count-more : group_candidates index (map atom_view (take (i + 1) atoms)) ≡ group_candidates index (map atom_view (take i atoms)) + candidate_count index (atom_view a)
-    count-more = ap (group_candidates index) more ∙ sum_by_push (candidate_count index) (map atom_view (take i atoms)) (atom_view a)
+-- an entry asks for one atom
+pub alone : (index : IndexView) (atom : AtomText) → satisfiers_as Entry index (atom ∷ []) ≡ satisfiers index atom
+alone index atom = λ i. places_where (λ q. or-none (meets index.arch q atom) i) index.packages
 
-    pub count-past : row_limit < group_candidates index (map atom_view (take i atoms)) + candidate_count index (atom_view a) → nat_le (group_candidates index (map atom_view atoms)) row_limit ≡ false
-    count-past many = lt-leb (group_candidates index (map atom_view atoms)) row_limit (omega (arith, many, count-more, sum-take (candidate_count index) (i + 1) (map atom_view atoms), ap (group_candidates index) (sym (take-map atom_view (i + 1) atoms))))
+-- a list of one thing
+pub only-one : {A : Type 0} (xs : List A) (x : A) → length xs ≡ 1 → x ≡ get_or xs 0 x → xs ≡ x ∷ []
+only-one [] x one is = absurd (omega (arith, one))
+only-one (y ∷ []) x one is = ap (λ z. z ∷ []) (sym is)
+only-one (y ∷ z ∷ more) x one is = absurd (omega (arith, one))

@@ -1,34 +1,16 @@
--- Rows of places: those that meet a group or an entry, where few packages come into question; and which row an atom got in each of its roles.
-use Rattle.std.specs.Prelude.{◌+◌, ℕ, nat_le, List, length, sum_by, Option, Some, None, if◌then◌else◌, Bool, false, ◌&&◌, slice_get, ◌≡◌, ◌<◌, slice_index_or}
+-- Rows of places: those that meet a group or an entry, where they are few; and which row an atom got in each of its roles.
+use Rattle.std.specs.Prelude.{ℕ, nat_le, List, [], ◌∷◌, length, Option, Some, None, if◌then◌else◌, Bool, true, false, ◌&&◌, ◌||◌, slice_get, ◌≡◌, ◌<◌, ◌≤◌, slice_index_or}
 use Rattle.deb_relation.specs.Relationship.{AtomText, is_usable, atom_view}
-use Rattle.deb_index.specs.Packages.{IndexView, places_of, PackageView, places_where}
-use Rattle.deb_index.specs.Meets.{group_satisfiers, provided_at, satisfiers, allows, meets, meets_bound, meets_need, provided_version}
+use Rattle.deb_index.specs.Packages.{IndexView, PackageView, is_in, places_where}
+use Rattle.deb_index.specs.Meets.{allows, group_satisfiers, meets, meets_bound, meets_need, provided_version, satisfiers}
 use Rattle.std.specs.Option.{option_map_or}
 use Rattle.deb_index.specs.declared.meets.Role.{Role}
 use Rattle.deb_index.specs.declared.meets.Role.TheVariants.{Alternative, Entry}
-use Rattle.std.specs.List.{All}
+use Rattle.std.specs.List.{All, list_any}
+use Rattle.std.specs.List.Sorted.{IsStrictlyIncreasing}
+use Rattle.number_sets.specs.Sets.{NumberSet}
 use Rattle.deb_index.specs.declared.memo.Memo.{Memo}
 use Rattle.deb_index.specs.declared.memo.Met.{Met}
-
--- how many candidates a row is made for at most
-abbrev pub row_limit : ℕ
-row_limit = 256
-
--- the candidates of an atom: the packages of its name, and the entries that provide it
-abbrev pub candidate_count : IndexView → AtomText → ℕ
-candidate_count index atom = length (places_of index atom.name) + length (provided_at index atom.name)
-
--- those of a group are the candidates of its alternatives
-abbrev pub group_candidates : IndexView → List AtomText → ℕ
-group_candidates index group = sum_by (candidate_count index) group
-
--- the row of a group: the places of the packages that meet an alternative of the need
-abbrev pub answer_row : IndexView → List AtomText → Option (List ℕ)
-answer_row index group = if nat_le (group_candidates index group) row_limit then Some (group_satisfiers index group) else None
-
--- the row of an entry: the places of the packages that meet it, whether or not they meet it as an alternative
-abbrev pub hit_row : IndexView → AtomText → Option (List ℕ)
-hit_row index atom = if nat_le (candidate_count index atom) row_limit then Some (satisfiers index atom) else None
 
 abbrev pub meets_as : Role → List ℕ → PackageView → AtomText → Bool
 meets_as Alternative arch q atom = meets_need arch q atom
@@ -50,16 +32,49 @@ provides_as role arch q number atom = option_map_or (λ entry. usable_as role ar
 abbrev pub provides_as_at : Role → IndexView → ℕ × ℕ → AtomText → Bool
 provides_as_at role index e atom = option_map_or (λ q. provides_as role index.arch q e.1 atom) (slice_get index.packages e.0) false
 
-abbrev pub satisfiers_as : Role → IndexView → AtomText → List ℕ
-satisfiers_as role index atom = places_where (λ q. meets_as role index.arch q atom) index.packages
+-- how many places a row has at most
+abbrev pub row_limit : ℕ
+row_limit = 256
 
--- the row of an atom that stands alone in its role
-abbrev pub row_as : Role → IndexView → AtomText → Option (List ℕ)
-row_as role index atom = if nat_le (candidate_count index atom) row_limit then Some (satisfiers_as role index atom) else None
+-- the row of some places, unless they are too many
+abbrev pub row_of : List ℕ → Option (List ℕ)
+row_of places = if nat_le (length places) row_limit then Some places else None
+
+-- the row of a group: the places of the packages that meet an alternative of the need
+abbrev pub answer_row : IndexView → List AtomText → Option (List ℕ)
+answer_row index group = row_of (group_satisfiers index group)
+
+-- the row of an entry: the places of the packages that meet it, whether or not they meet it as an alternative
+abbrev pub hit_row : IndexView → AtomText → Option (List ℕ)
+hit_row index atom = row_of (satisfiers index atom)
+
+-- the places of the packages that meet one of some atoms in their role, rising
+abbrev pub satisfiers_as : Role → IndexView → List AtomText → List ℕ
+satisfiers_as role index asked = places_where (λ q. list_any (meets_as role index.arch q) asked) index.packages
+
+-- the row of what is asked for in a role: of the alternatives of a group, or of an entry alone
+abbrev pub row_as : Role → IndexView → List AtomText → Option (List ℕ)
+row_as role index asked = row_of (satisfiers_as role index asked)
+
+-- ---- how a row is found
+
+-- places of a set came to a list: all, or some, and then the list has more than so many, each once
+pub record Adds (most : ℕ) (set : NumberSet) (before after : List ℕ) (are_all : Bool) : Type 0 where
+  pub all : are_all ≡ true → (q : ℕ) → is_in after q ≡ (is_in before q || set q)
+  pub among : (q : ℕ) → is_in after q ≡ true → (is_in before q || set q) ≡ true
+  pub rising : are_all ≡ false → IsStrictlyIncreasing after
+  pub more : are_all ≡ false → most < length after
+
+-- a list has these places, unless there are more than so many: then it has more, too
+pub record IsFound (most : ℕ) (places found : List ℕ) : Type 0 where
+  pub all : length found ≤ most → found ≡ places
+  pub more : most < length found → most < length places
+
+-- ---- how it is remembered
 
 -- the row with a number is that of an atom
 abbrev pub HasRow : IndexView → Role → List (Option (List ℕ)) → ℕ → AtomText → Type 0
-HasRow index role rows number atom = (number < length rows) × (slice_index_or rows number None ≡ row_as role index atom)
+HasRow index role rows number atom = (number < length rows) × (slice_index_or rows number None ≡ row_as role index (atom ∷ []))
 
 -- what is remembered of an atom, if anything is, is the number of its row
 abbrev pub IsMet : IndexView → Role → List (Option (List ℕ)) → Option Met → Type 0

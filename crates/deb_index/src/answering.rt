@@ -4,13 +4,14 @@ ghost use Rattle.std.specs.Option.{is_some};
 ghost use Rattle.deb_relation.specs.Relationship.{atom_view};
 ghost use Rattle.deb_index.specs.Packages.{apart_at, aparts_at, need_at, needs_at};
 ghost use Rattle.deb_index.specs.Meets.{group_satisfiers, meets_at, meets_need_at, satisfiers};
-ghost use Rattle.deb_index.specs.Rows.{candidate_count, group_candidates, row_limit};
+ghost use Rattle.deb_index.specs.Rows.{row_limit};
 
 use crate::index::Index;
 use crate::lookup::Lookup;
 use crate::meets::Role;
 use deb_relation::Atom;
 use std::alloc::{AllocError, Global};
+use std::slice::from_ref;
 
 impl Index {
     /// Whether the package at a place meets an atom. An atom with a qualifier other than `any` and the index's architecture
@@ -34,12 +35,12 @@ impl Index {
     }
 
     /// The places of the packages that meet an alternative of a group as `meets_need` tells, rising, each once. There is such
-    /// a row exactly where the alternatives have at most 256 candidates in all: packages of the name, and entries that provide it.
+    /// a row exactly where there are at most 256 of them.
     pub fn answer_row(&self, place: u32, number: u32) -> Option<&[u32]>
         requires place { place < length self.now.packages }
         requires number { number < length (needs_at self.now place) }
         ensures row { IfSome result (λ row. row.now ≡ group_satisfiers self.now (need_at self.now place number)) }
-        ensures short { is_some result ≡ nat_le (group_candidates self.now (need_at self.now place number)) row_limit }
+        ensures short { is_some result ≡ nat_le (length (group_satisfiers self.now (need_at self.now place number))) row_limit }
     {
         let first = self.links.starts[place as usize].group;
         self.links.groups.get(first as usize + number as usize)
@@ -63,17 +64,18 @@ impl Index {
         if let Some(row) = self.answer_row(place, number) {
             return Ok(row);
         }
-        Lookup::new(&self.catalog).find_group(self.need(place, number), found)?;
+        let alternatives = self.need(place, number);
+        Lookup::new(&self.catalog).find(Role::Alternative, alternatives, usize::MAX, found)?;
         Ok(found)
     }
 
     /// The places of the packages that meet an entry as `meets` tells, rising, be they marked `Multi-Arch: allowed` or not.
-    /// There is such a row exactly where the entry has at most 256 candidates: packages of the name, and entries that provide it.
+    /// There is such a row exactly where there are at most 256 of them.
     pub fn hit_row(&self, place: u32, number: u32) -> Option<&[u32]>
         requires place { place < length self.now.packages }
         requires number { number < length (aparts_at self.now place) }
         ensures row { IfSome result (λ row. row.now ≡ satisfiers self.now (apart_at self.now place number)) }
-        ensures short { is_some result ≡ nat_le (candidate_count self.now (apart_at self.now place number)) row_limit }
+        ensures short { is_some result ≡ nat_le (length (satisfiers self.now (apart_at self.now place number))) row_limit }
     {
         let first = self.links.starts[place as usize].entry;
         self.links.entries.get(first as usize + number as usize)
@@ -87,9 +89,7 @@ impl Index {
         ensures { IfOk result (λ v. v.items ≡ satisfiers self.now (atom_view atom.now)) }
     {
         let mut found = Vec::new(alloc);
-        let lookup = Lookup::new(&self.catalog);
-        let candidates = lookup.candidates(atom.name.as_slice());
-        lookup.find(Role::Entry, atom, candidates, &mut found)?;
+        Lookup::new(&self.catalog).find(Role::Entry, from_ref(atom), usize::MAX, &mut found)?;
         Ok(found)
     }
 }

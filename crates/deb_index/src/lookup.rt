@@ -1,11 +1,11 @@
 //! What the packages that meet an atom are looked up in.
-ghost use Rattle.std.specs.Prelude.{◌≡◌, ◌<◌, ◌≤◌, ◌&&◌, ◌||◌, ◌==◌, ℕ, OnOk, length, map, nat_le, not, sum_by};
+ghost use Rattle.std.specs.Prelude.{◌≡◌, ◌<◌, ◌≤◌, ◌&&◌, ◌==◌, ℕ, IfOk, OnOk, length, map, sum_by};
 ghost use Rattle.std.specs.List.{list_any};
 ghost use Rattle.std.specs.List.Sorted.{IsStrictlyIncreasing};
 ghost use Rattle.deb_relation.specs.Relationship.{atom_view};
 ghost use Rattle.deb_index.specs.Packages.{is_in, package_at, package_view, places_of};
-ghost use Rattle.deb_index.specs.Meets.{group_satisfiers, provided_at};
-ghost use Rattle.deb_index.specs.Rows.{meets_as_at, provides_as_at, satisfiers_as, group_candidates, row_limit};
+ghost use Rattle.deb_index.specs.Meets.{provided_at};
+ghost use Rattle.deb_index.specs.Rows.{Adds, IsFound, meets_as_at, provides_as_at, satisfiers_as};
 ghost use Rattle.deb_index.specs.Rows as spec;
 ghost use Rattle.deb_index.specs.Tables.{asked_count, asked_limit};
 
@@ -16,9 +16,6 @@ use crate::package::Package;
 use deb_relation::Atom;
 use std::alloc::AllocError;
 use std::marker::Model;
-
-/// How many candidates a row is made for at most. So the rows grow with what is asked for, however many packages provide it.
-pub(crate) const ROW_LIMIT: usize = 256;
 
 /// Packages by place, an architecture, and the names that they have or provide for it. Contracts see an index that has these alone.
 #[derive(Drop)]
@@ -63,27 +60,12 @@ impl<'a> Lookup<'a> {
         &self.packages[place as usize]
     }
 
-    /// Where a name is found.
-    pub(crate) fn candidates(&self, name: &[u8]) -> Candidates<'a>
+    // Where a name is found.
+    fn candidates(&self, name: &[u8]) -> Candidates<'a>
         ensures named { result.named.now ≡ places_of self.now name.now }
         ensures provided { result.provided.now ≡ provided_at self.now name.now }
     {
         self.names.candidates(name)
-    }
-
-    /// Whether the alternatives of a group have too many candidates for a row.
-    pub(crate) fn has_many(&self, group: &[Atom]) -> bool
-        ensures { result ≡ not (nat_le (group_candidates self.now (map atom_view group.now)) row_limit) }
-    {
-        let mut count = 0;
-        for atom in group {
-            let candidates = self.candidates(atom.name.as_slice());
-            count += candidates.named.len() + candidates.provided.len();
-            if count > ROW_LIMIT {
-                return true;
-            }
-        }
-        false
     }
 
     // Whether there is a package at a place, and it meets an atom in its role.
@@ -114,99 +96,105 @@ impl<'a> Lookup<'a> {
         }
     }
 
-    /// Finds the places that meet an alternative of a group, rising, each once; they take the place of what the list held.
-    // Sorted once, in the end: to put each alternative's places among those before would be quadratic in a long group.
-    pub(crate) fn find_group(&self, group: &[Atom], found: &mut Vec<u32>) -> Result<(), AllocError>
-        ensures { OnOk result (found.new.items ≡ group_satisfiers self.now (map atom_view group.now)) }
+    /// Finds the places that meet one of some atoms in their role, rising, each once; they take the place of what the list held. Where there
+    /// are more than so many, the list has more, too, but some are left out.
+    // Sorted once, in the end: to put each atom's places among those before would be quadratic in a long group.
+    pub(crate) fn find(
+        &self,
+        role: Role,
+        asked: &[Atom],
+        most: usize,
+        found: &mut Vec<u32>,
+    ) -> Result<(), AllocError>
+        ensures { OnOk result (IsFound most (satisfiers_as role self.now (map atom_view asked.now)) found.new.items) }
     {
         found.clear();
-        for atom in group {
-            let candidates = self.candidates(atom.name.as_slice());
-            self.add_found(Role::Alternative, atom, candidates, found)?;
+        for atom in asked {
+            if !self.add_found(role, atom, most, found)? {
+                return Ok(());
+            }
         }
         put_in_order(found);
         Ok(())
     }
 
-    /// Finds the places that meet an atom in its role, rising, among the candidates of its name; they take the place of what the list
-    /// held.
-    pub(crate) fn find(
-        &self,
-        role: Role,
-        atom: &Atom,
-        candidates: Candidates,
-        found: &mut Vec<u32>,
-    ) -> Result<(), AllocError>
-        requires named { candidates.named.now ≡ places_of self.now (atom_view atom.now).name }
-        requires provided { candidates.provided.now ≡ provided_at self.now (atom_view atom.now).name }
-        ensures { OnOk result (found.new.items ≡ satisfiers_as role self.now (atom_view atom.now)) }
-    {
-        found.clear();
-        self.add_found(role, atom, candidates, found)?;
-        put_in_order(found);
-        Ok(())
-    }
-
-    // The same, but they come behind what the list held, in any order, and some twice.
+    // Adds the places that meet an atom, in any order, and some twice. `false` where some are left out, since there are more than so many.
     fn add_found(
         &self,
         role: Role,
         atom: &Atom,
-        candidates: Candidates,
+        most: usize,
         found: &mut Vec<u32>,
-    ) -> Result<(), AllocError>
-        requires named { candidates.named.now ≡ places_of self.now (atom_view atom.now).name }
-        requires provided { candidates.provided.now ≡ provided_at self.now (atom_view atom.now).name }
-        ensures { OnOk result ((q : ℕ) → is_in found.new.items q ≡ (is_in found.old.items q || meets_as_at role self.now q (atom_view atom.now))) }
+    ) -> Result<bool, AllocError>
+        ensures { IfOk result (Adds most (λ q. meets_as_at role self.now q (atom_view atom.now)) found.old.items found.new.items) }
     {
-        self.add_named(role, atom, candidates.named, found)?;
-        self.add_providers(role, atom, candidates.provided, found)
+        let candidates = self.candidates(atom.name.as_slice());
+        if !self.add_named(role, atom, candidates.named, most, found)? {
+            return Ok(false);
+        }
+        self.add_providers(role, atom, candidates.provided, most, found)
     }
 
-    // Adds those of some places where the package meets an atom.
+    // The same for those of some places where the package meets an atom.
     fn add_named(
         &self,
         role: Role,
         atom: &Atom,
         places: &[u32],
+        most: usize,
         found: &mut Vec<u32>,
-    ) -> Result<(), AllocError>
-        ensures { OnOk result ((q : ℕ)
-            → is_in found.new.items q ≡ (is_in found.old.items q || (is_in places.now q && meets_as_at role self.now q (atom_view atom.now)))) }
+    ) -> Result<bool, AllocError>
+        ensures { IfOk result
+            (Adds most (λ q. is_in places.now q && meets_as_at role self.now q (atom_view atom.now)) found.old.items found.new.items) }
     {
         for place in places {
-            add_if(self.meets_as(role, *place, atom), *place, found)?;
+            if !add_if(self.meets_as(role, *place, atom), *place, most, found)? {
+                return Ok(false);
+            }
         }
-        Ok(())
+        Ok(true)
     }
 
-    // Adds those of some entries by which their packages meet an atom of their name. No other entry of a package is looked at.
+    // The same for those of some entries by which their packages meet an atom of their name. No other entry of a package is looked at.
     fn add_providers(
         &self,
         role: Role,
         atom: &Atom,
         entries: &[(u32, u32)],
+        most: usize,
         found: &mut Vec<u32>,
-    ) -> Result<(), AllocError>
-        ensures { OnOk result ((q : ℕ)
-            → is_in found.new.items q
-            ≡ (is_in found.old.items q || list_any (λ e. e.0 == q && provides_as_at role self.now e (atom_view atom.now)) entries.now)) }
+    ) -> Result<bool, AllocError>
+        ensures { IfOk result
+            (Adds most (λ q. list_any (λ e. e.0 == q && provides_as_at role self.now e (atom_view atom.now)) entries.now) found.old.items found.new.items) }
     {
         for entry in entries {
-            add_if(self.provides_as(role, *entry, atom), entry.0, found)?;
+            if !add_if(self.provides_as(role, *entry, atom), entry.0, most, found)? {
+                return Ok(false);
+            }
         }
-        Ok(())
+        Ok(true)
     }
 }
 
-// Adds a place if it is wanted.
-fn add_if(is_wanted: bool, place: u32, found: &mut Vec<u32>) -> Result<(), AllocError>
-    ensures { OnOk result ((q : ℕ) → is_in found.new.items q ≡ (is_in found.old.items q || (place == q && is_wanted))) }
+// Adds a place if it is wanted. `false` where there are more than so many now, also without those that came again.
+fn add_if(
+    is_wanted: bool,
+    place: u32,
+    most: usize,
+    found: &mut Vec<u32>,
+) -> Result<bool, AllocError>
+    ensures { IfOk result (Adds most (λ q. place == q && is_wanted) found.old.items found.new.items) }
 {
-    if is_wanted {
-        found.push(place)?;
+    if !is_wanted {
+        return Ok(true);
     }
-    Ok(())
+    found.push(place)?;
+    // They are sorted each time as many have come again as there may be.
+    if found.len() / 2 <= most {
+        return Ok(true);
+    }
+    put_in_order(found);
+    Ok(found.len() <= most)
 }
 
 // Whether a package may stand for an atom in its role, for an architecture, where it meets its name and bound.

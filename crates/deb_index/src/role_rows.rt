@@ -4,7 +4,7 @@ ghost use Rattle.deb_relation.specs.Relationship.{atom_view};
 ghost use Rattle.deb_index.specs.Packages.{aparts, needs, package_view};
 ghost use Rattle.deb_index.specs.Tables.{asked_count, asked_limit};
 
-use crate::lookup::{Lookup, ROW_LIMIT};
+use crate::lookup::Lookup;
 use crate::meets::Role;
 use crate::memo::{Memo, digest_of};
 use crate::package::Package;
@@ -12,6 +12,10 @@ use deb_relation::Atom;
 use number_sets::Rows;
 use std::alloc::{AllocError, Global};
 use std::marker::Model;
+use std::slice::from_ref;
+
+/// How many places a row has at most. So the rows grow with what is asked for, however many packages meet it.
+const ROW_LIMIT: usize = 256;
 
 /// The rows that were asked for in one role so far. Contracts see them with the role, and with the index that they are looked up in.
 #[derive(Drop)]
@@ -67,7 +71,7 @@ impl<'t> RoleRows<'t> {
         ensures rows { OnOk result (self.new.rows ≡ self.old.rows ++ map (answer_row self.old.index) (needs (package_view asking.now))) }
     {
         for number in 0..asking.need_count() {
-            self.add_group(asking.need(number))?;
+            self.add(asking.need(number))?;
         }
         Ok(())
     }
@@ -82,58 +86,43 @@ impl<'t> RoleRows<'t> {
         ensures rows { OnOk result (self.new.rows ≡ self.old.rows ++ map (hit_row self.old.index) (aparts (package_view asking.now))) }
     {
         for number in 0..asking.apart_count() {
-            self.add_atom(asking.apart(number))?;
+            self.add(from_ref(asking.apart(number)))?;
         }
         Ok(())
     }
 
-    fn add_group(&mut self, group: &'t [Atom]) -> Result<(), AllocError>
-        requires few { length self.old.rows < asked_limit }
-        requires alternatives { self.old.role ≡ Alternative }
-        ensures index { self.new.index ≡ self.old.index }
-        ensures role { self.new.role ≡ self.old.role }
-        ensures row { OnOk result (self.new.rows ≡ self.old.rows ++ answer_row self.old.index (map atom_view group.now) ∷ []) }
-    {
-        if let [atom] = group {
-            return self.add_atom(atom);
-        }
-        if self.lookup.has_many(group) {
-            return self.rows.push(None);
-        }
-        self.lookup.find_group(group, &mut self.found)?;
-        self.rows.push(Some(&self.found))
-    }
-
-    // Adds the row of an atom that stands alone.
-    fn add_atom(&mut self, atom: &'t Atom) -> Result<(), AllocError>
+    // Adds the row of what is asked for: the alternatives of a group, or an entry alone.
+    fn add(&mut self, asked: &'t [Atom]) -> Result<(), AllocError>
         requires few { length self.old.rows < asked_limit }
         ensures index { self.new.index ≡ self.old.index }
         ensures role { self.new.role ≡ self.old.role }
-        ensures row { OnOk result (self.new.rows ≡ self.old.rows ++ row_as self.old.role self.old.index (atom_view atom.now) ∷ []) }
+        ensures row { OnOk result (self.new.rows ≡ self.old.rows ++ row_as self.old.role self.old.index (map atom_view asked.now) ∷ []) }
     {
+        let [atom] = asked else {
+            return self.find(asked);
+        };
         let digest = digest_of(atom);
         if let Some(number) = self.memo.get(digest, atom) {
             return self.rows.push_again(number);
         }
         let number = self.rows.len() as u32;
-        self.find_atom(atom)?;
+        self.find(asked)?;
         self.memo.put(digest, atom, number);
         Ok(())
     }
 
-    // The same for an atom that is not remembered.
-    fn find_atom(&mut self, atom: &Atom) -> Result<(), AllocError>
+    // The same for what is not remembered.
+    fn find(&mut self, asked: &[Atom]) -> Result<(), AllocError>
         requires few { length self.old.rows < asked_limit }
         ensures index { self.new.index ≡ self.old.index }
         ensures role { self.new.role ≡ self.old.role }
-        ensures row { OnOk result (self.new.rows ≡ self.old.rows ++ row_as self.old.role self.old.index (atom_view atom.now) ∷ []) }
+        ensures row { OnOk result (self.new.rows ≡ self.old.rows ++ row_as self.old.role self.old.index (map atom_view asked.now) ∷ []) }
     {
-        let candidates = self.lookup.candidates(atom.name.as_slice());
-        if candidates.named.len() + candidates.provided.len() > ROW_LIMIT {
+        self.lookup
+            .find(self.role, asked, ROW_LIMIT, &mut self.found)?;
+        if self.found.len() > ROW_LIMIT {
             return self.rows.push(None);
         }
-        self.lookup
-            .find(self.role, atom, candidates, &mut self.found)?;
         self.rows.push(Some(&self.found))
     }
 

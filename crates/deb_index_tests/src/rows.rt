@@ -114,7 +114,8 @@ struct Crowd {
 
 const ROWS: &[Part] = &[Part::Counts, Part::AnswerRows, Part::HitRows];
 
-// A row stands where there are no more than 256 candidates. What has more has none for whoever asks, also behind rows that come again.
+// A row stands where no more than 256 packages meet what is asked for, however many have the name. Where more do, there is none for whoever asks,
+// also behind rows that come again.
 static CROWDS: [Crowd; 6] = [
     Crowd {
         asked: ALONE_AND_BESIDE,
@@ -162,7 +163,7 @@ apart 0: 255 from Some(1)
         again: false,
         parts: &[Part::Counts, Part::AnswerRows, Part::Answers],
         wanted: "packages 263, stanzas 263, skipped 0, duplicates 0
-need 0: none | none | none | none | [0]
+need 0: none | [0] | none | none | [0]
 answers 0: 262 from Some(1) | [0] | 262 from Some(1) | 263 from Some(0) | [0]
 ",
     },
@@ -184,7 +185,7 @@ fn expect_rows(rt: &(impl Abort + Threads + Sync + AllocGlobal), crowd: &Crowd) 
     let text = providers(rt.alloc(), crowd.asked, crowd.count, crowd.again).expect(rt, "no memory");
     expect_shown(
         rt,
-        "rows of many candidates",
+        "rows of many packages",
         Texts::One(text.as_bytes(), true),
         crowd.parts,
         crowd.wanted,
@@ -192,7 +193,7 @@ fn expect_rows(rt: &(impl Abort + Threads + Sync + AllocGlobal), crowd: &Crowd) 
 }
 
 #[test]
-fn rows_of_many_candidates(rt: HostRuntime) {
+fn rows_of_many_packages(rt: HostRuntime) {
     for crowd in &CROWDS {
         expect_rows(&rt, crowd);
     }

@@ -1,13 +1,39 @@
-use Rattle.std.proofs.Common.{◌||◌, ◌∙◌, ap}
-use Rattle.deb_relation.specs.Relationship.{atom_view}
-use Rattle.deb_index.specs.Packages.{is_in}
+use Rattle.std.proofs.Common.{◌≡◌, ◌<◌, ◌≤◌, ◌+◌, ◌||◌, ◌∙◌, Bool, ap, length, map, sym, arith}
+use Rattle.deb_relation.specs.Relationship.{AtomText, atom_view}
+use Rattle.deb_index.specs.Packages.{PackageView, is_in}
 use Rattle.deb_index.specs.Rows.{meets_as, meets_as_at}
-use Rattle.deb_index.proofs.FoundLemmas.{in-order}
+use Rattle.std.specs.List.{list_any}
+use Rattle.std.proofs.lemmas.List.{take_all}
+use Rattle.deb_index.proofs.FoundLemmas.{among-few, asked-at, atom-more, atoms-taken, found-all, found-some, in-order}
 use Rattle.deb_index.proofs.lookup.Lookup.find.Goals as goal
+
+pub loop-atom-init : goal.loop-atom-init
+loop-atom-init c = λ q. ap (λ l. is_in l q) c.clear.ensures.items
+
+pub loop-atom-preserved : goal.loop-atom-preserved
+loop-atom-preserved c = λ q.
+    let meets : AtomText → Bool = meets_as_at c.args.role c.args.self.now q in
+    let within : c.loop-atom.atom-index < length c.args.asked.now = omega arith in
+    c.in_ok-add_found.ensures.all c.if-not-branch.false q ∙ ap (λ b. b || meets (atom_view c.atom-item.result)) (c.loop-atom.invariant q)
+    ∙ sym (atom-more meets c.args.asked.now c.loop-atom.atom-index c.atom-item.result within c.atom-item.is)
+
+pub returns-then-not-branch : goal.returns-then-not-branch
+returns-then-not-branch c =
+    let index = c.args.self.now in
+    let asked = map atom_view c.args.asked.now in
+    let within : c.loop-atom.atom-index < length c.args.asked.now = omega arith in
+    let added = c.in_ok-add_found.ensures in
+    found-some _ _ _ (added.more c.if-not-branch.true)
+    (among-few (λ (q : PackageView). list_any (meets_as c.args.role index.arch q) asked) index.packages _ (added.rising c.if-not-branch.true) (λ q there.
+    let meets : AtomText → Bool = meets_as_at c.args.role index q in
+    sym (asked-at c.args.role index asked q) ∙ atoms-taken meets c.args.asked.now (c.loop-atom.atom-index + 1)
+    (atom-more meets c.args.asked.now c.loop-atom.atom-index c.atom-item.result within c.atom-item.is ∙ ap (λ b. b || meets (atom_view c.atom-item.result)) (sym (c.loop-atom.invariant q)) ∙ added.among q there)))
 
 pub returns : goal.returns
 returns c =
-    let v = c.args.self.now in
-    let atom = atom_view c.args.atom.now in
-    in-order (λ q. meets_as c.args.role v.arch q atom) v.packages _ c.put_in_order.ensures.rising
-    (λ q. c.put_in_order.ensures.same q ∙ c.in_ok-add_found.ensures q ∙ ap (λ l. is_in l q || meets_as_at c.args.role v q atom) c.clear.ensures.items)
+    let index = c.args.self.now in
+    let asked = map atom_view c.args.asked.now in
+    let all : length c.args.asked.now ≤ c.loop-atom.atom-index = omega arith in
+    found-all _ _ _ (in-order (λ (q : PackageView). list_any (meets_as c.args.role index.arch q) asked) index.packages _ c.put_in_order.ensures.rising (λ q.
+    c.put_in_order.ensures.same q ∙ c.loop-atom.invariant q ∙ ap (λ some. list_any (meets_as_at c.args.role index q) (map atom_view some)) (take_all c.loop-atom.atom-index c.args.asked.now all)
+    ∙ asked-at c.args.role index asked q))

@@ -1,10 +1,9 @@
 use Rattle.std.proofs.Common.{◌≡◌, ℕ, map, take}
 use Rattle.std.specs.List.{list_any}
 use Rattle.deb_relation.specs.Relationship.{atom_view}
-use Rattle.deb_index.specs.declared.meets.Role.TheVariants.{Alternative}
 use Rattle.deb_index.specs.Packages.{is_in}
 use Rattle.deb_index.specs.Rows.{meets_as_at}
-use Rattle.deb_index.proofs.lookup.Lookup.find_group.Given as goal
+use Rattle.deb_index.proofs.lookup.Lookup.find.Given as goal
 
 abbrev pub invariant-loop-atom : goal.invariant-loop-atom
-invariant-loop-atom l = (q : ℕ) → is_in l.found.items q ≡ list_any (meets_as_at Alternative l.self q) (map atom_view (take l.atom-index l.group))
+invariant-loop-atom l = (q : ℕ) → is_in l.found.items q ≡ list_any (meets_as_at l.role l.self q) (map atom_view (take l.atom-index l.asked))
