@@ -25,22 +25,6 @@ consumes_over (Some xs) (Some ys) front limit h over =
     let whole : length xs ≡ length front + length ys = ap length h ∙ length-append front ys in
     omega arith
 
--- a read that gave so many bytes
-pub consumes_count : (a b c : Option (List ℕ)) (front buf : List ℕ) (n room limit : ℕ) → Consumes a b front → length front + room ≡ limit → Consumes b c (take n buf) → n ≤ length buf → n ≤ room
-    → (bytes : List ℕ) × Consumes a c bytes × (length bytes + (room - n) ≡ limit)
-consumes_count a b c front buf n room limit h sum k held fits =
-    let part : length (take n buf) ≡ n = length-take-le n buf held in
-    let whole : length (front ++ take n buf) ≡ length front + length (take n buf) = length-append front (take n buf) in
-    (front ++ take n buf, consumes_more a b c front (take n buf) h k, omega arith)
-
--- a last read that gave nothing
-pub consumes_last : (a b c : Option (List ℕ)) (front : List ℕ) (n : ℕ) (buf : List ℕ) → Consumes a b front → n ≡ 0 → Consumes b c (take n buf) → Consumes a c front
-consumes_last a b c front n buf h e k =
-    let none : take n buf ≡ [] = rw e refl in
-    let P : List ℕ → Type 0 = λ part. Consumes b c part in
-    let Q : List ℕ → Type 0 = λ bytes. Consumes a c bytes in
-    subst Q (append-nil front) (consumes_more a b c front [] h (subst P none k))
-
 -- a room with so many bytes more behind those of its front
 filled_more : (room part : List ℕ) (filled size n : ℕ) → filled ≤ length room → n ≤ length part → take (filled + n) (put_mid filled size room part) ≡ take filled room ++ take n part
 filled_more room part filled size n fits held =
@@ -56,12 +40,26 @@ held_more narrow room part held filled size n kept is within fits more =
     let front : take filled room ≡ held = sym (take-take filled (length narrow) room within) ∙ ap (take filled) kept ∙ is in
     filled_more room part filled size n fits more ∙ ap (λ bytes. bytes ++ take n part) front
 
-pub consumes_filled : (a b c : Option (List ℕ)) (room part : List ℕ) (filled size n : ℕ) → Consumes a b (take filled room) → Consumes b c (take n part) → filled ≤ length room → n ≤ length part
-    → Consumes a c (take (filled + n) (put_mid filled size room part))
-consumes_filled a b c room part filled size n h k fits held =
-    let P : List ℕ → Type 0 = λ bytes. Consumes a c bytes in
-    subst P (sym (filled_more room part filled size n fits held)) (consumes_more a b c (take filled room) (take n part) h k)
+-- what is held then
+pub held_count : (held next part : List ℕ) (n : ℕ) → next ≡ held ++ take n part → n ≤ length part → length next ≡ length held + n
+held_count held next part n is fits =
+    let taken : length (take n part) ≡ n = length-take-le n part fits in
+    let whole : length next ≡ length held + length (take n part) = ap length is ∙ length-append held (take n part) in
+    omega arith
 
 -- more is held, and more behind that
 pub holds_on : (old mid new : Option (List ℕ)) (held more most : List ℕ) → HoldsMore held more old mid → HoldsMore more most mid new → HoldsMore held most old new
 holds_on old mid new held more most h k = (h.0 ++ k.0, consumes_more old mid new h.0 k.0 h.1 k.1, k.2 ∙ ap (λ bytes. bytes ++ k.0) h.2 ∙ append_assoc held h.0 k.0)
+
+-- all that was read is held
+pub consumes_held : (old mid new : Option (List ℕ)) (held next : List ℕ) → Consumes old mid held → HoldsMore held next mid new → Consumes old new next
+consumes_held old mid new held next h k =
+    let P : List ℕ → Type 0 = λ bytes. Consumes old new bytes in
+    subst P (sym k.2) (consumes_more old mid new held k.0 h k.1)
+
+-- what is read behind nothing that is held adds to what was read
+pub skips : (old mid new : Option (List ℕ)) (held next bytes : List ℕ) → Consumes old mid bytes → held ≡ [] → HoldsMore held next mid new
+    → (all : List ℕ) × Consumes old new all × (length all ≡ length bytes + length next)
+skips old mid new held next bytes h none k =
+    let same : next ≡ k.0 = k.2 ∙ ap (λ front. front ++ k.0) none in
+    (bytes ++ k.0, consumes_more old mid new bytes k.0 h k.1, length-append bytes k.0 ∙ ap (λ part. length bytes + length part) (sym same))

@@ -1,5 +1,5 @@
 -- Lemmas on the lines of faults.
-use Rattle.std.proofs.Common.{◌≡◌, ℕ, List, ◌++◌, codes, decimal, ap, ◌∙◌, append_assoc}
+use Rattle.std.proofs.Common.{◌≡◌, ℕ, OnOk, Result, Ok, Err, is_ok, List, ◌++◌, codes, decimal, ap, ◌∙◌, append_assoc, if◌then◌else◌}
 use Rattle.deb_input.specs.Faults.{stanza_text}
 
 -- the line of a stanza's fault goes on
@@ -8,3 +8,8 @@ unfolding stanza_text
 stanza_text-more out stanza what more =
     let start : List ℕ = codes "stanza " ++ decimal stanza ++ codes ": " in
     append_assoc out (start ++ what) more ∙ ap (λ rest. out ++ rest) (append_assoc start what more)
+
+-- what a last call puts behind a text, where it succeeds
+pub last_pushed : {T E : Type 0} (r : Result T E) (new old more : List ℕ) → new ≡ (if is_ok r then old ++ more else old) → OnOk r (new ≡ old ++ more)
+last_pushed (Ok x) new old more is = is
+last_pushed (Err e) new old more is = tt

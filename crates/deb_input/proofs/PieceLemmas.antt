@@ -13,7 +13,7 @@ use Rattle.deb_input.specs.declared.fault.RunFault.{RunFault}
 use Rattle.deb_input.specs.declared.fault.RunFault.TheVariants.{Read, TooLong, BackgroundRead, BackgroundTooLong, EarlierRead, EarlierTooLong, NamesRead, NamesTooLong, BadNameLine, Index, Background, Earlier, UnknownAsked, Slipped, Memory, Write}
 use Rattle.deb_index.specs.Built.{Accepts, FrontView, IsFrontOf, Refuses}
 use Rattle.deb_input.specs.Pieces.{FailsToFinish, IsClosedFront, ReadsAll, ReadsFront, ReadsText, RefusesPiece, TakesLast, TakesPiece}
-use Rattle.deb_input.specs.Inputs.{FailsAtRead, FailsToRead}
+use Rattle.deb_input.specs.Inputs.{FailsAtRead, FailsToRead, ReadsOneOver}
 use Rattle.deb_input.proofs.DeviceLemmas.{consumes_more, consumes_nothing}
 use Rattle.deb_input.proofs.IndexLemmas.{fore-fails}
 
@@ -147,6 +147,25 @@ fails-at-read text before mid failed limit (UnknownAsked name) same h = absurd h
 fails-at-read text before mid failed limit (Slipped slip) same h = absurd h
 fails-at-read text before mid failed limit Memory same h = h ∙ same
 fails-at-read text before mid failed limit Write same h = absurd h
+
+-- it reads no more than the limit where it ends before its time
+pub never-over : (old new : Option (List ℕ)) (before failed : Bool) (limit : ℕ) (fault : RunFault) → FailsAtRead before failed fault → ReadsOneOver limit old new fault
+never-over old new before failed limit TooLong h = absurd h
+never-over old new before failed limit Read h = tt
+never-over old new before failed limit BackgroundRead h = tt
+never-over old new before failed limit BackgroundTooLong h = tt
+never-over old new before failed limit EarlierRead h = tt
+never-over old new before failed limit EarlierTooLong h = tt
+never-over old new before failed limit NamesRead h = tt
+never-over old new before failed limit NamesTooLong h = tt
+never-over old new before failed limit (BadNameLine line) h = tt
+never-over old new before failed limit (Index fault) h = tt
+never-over old new before failed limit (Background fault) h = tt
+never-over old new before failed limit (Earlier fault) h = tt
+never-over old new before failed limit (UnknownAsked name) h = tt
+never-over old new before failed limit (Slipped slip) h = tt
+never-over old new before failed limit Memory h = tt
+never-over old new before failed limit Write h = tt
 
 -- what is left is too long for what is left of the limit
 over-behind : (old mid : Option (List ℕ)) (bytes : List ℕ) (room limit : ℕ) → Consumes old mid bytes → limit ≤ length bytes + room → IfSome mid (λ rest. room < length rest) → IfSome old (λ all. limit < length all)

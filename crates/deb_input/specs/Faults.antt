@@ -51,15 +51,6 @@ fault_text (Slipped slip) = slip_text slip
 fault_text Memory = codes "out of memory"
 fault_text Write = codes "cannot write the report"
 
--- what of it stands behind a front that tells nothing more of the fault
-abbrev pub rest_text : RunFault → List ℕ
-rest_text (BadNameLine line) = decimal line ++ codes ": bad name"
-rest_text (Index fault) = index_fault_text fault
-rest_text (Background fault) = index_fault_text fault
-rest_text (Earlier fault) = index_fault_text fault
-rest_text (UnknownAsked name) = name.items
-rest_text _ = []
-
 -- the line on standard error: the program's name, what is said, and LF
 unfoldable pub fault_line : RunFault → List ℕ
 fault_line fault = codes "debcheck: " ++ fault_text fault ++ (10 ∷ [])

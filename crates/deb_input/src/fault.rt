@@ -1,7 +1,7 @@
 //! Why a run fails, and what is said of it.
 
 ghost use Rattle.std.specs.Prelude.{◌≡◌, ◌++◌, IfOk, OnOk, decimal};
-ghost use Rattle.deb_input.specs.Faults.{fault_line, fault_text, index_fault_text, rest_text, slip_text, stanza_text};
+ghost use Rattle.deb_input.specs.Faults.{fault_line, fault_text, index_fault_text, slip_text, stanza_text};
 ghost use Rattle.deb_input.specs.declared.fault.RunFault.TheVariants.{Memory};
 
 use crate::strict::Slip;
@@ -131,54 +131,42 @@ fn slip_text(slip: Slip) -> &'static [u8]
     }
 }
 
-// The front of what is said of a fault: all of it but for numbers, names and faults of stanzas, and what stands behind them.
+// What is said of a fault.
 #[tactic(auto, unfolding(crate::specs::Faults::fault_text))]
-fn front_of(fault: &RunFault) -> &'static [u8]
-    ensures { fault_text fault.now ≡ result.now ++ rest_text fault.now }
+fn push_fault(alloc: Global, out: &mut Vec<u8>, fault: &RunFault) -> Result<(), AllocError>
+    ensures { OnOk result (out.new.items ≡ out.old.items ++ fault_text fault.now) }
 {
     match fault {
-        RunFault::Read => b"cannot read the index",
-        RunFault::TooLong => b"the index is too long",
-        RunFault::BackgroundRead => b"cannot read the background",
-        RunFault::BackgroundTooLong => b"the background is too long",
-        RunFault::EarlierRead => b"cannot read the earlier index",
-        RunFault::EarlierTooLong => b"the earlier index is too long",
-        RunFault::NamesRead => b"cannot read the names",
-        RunFault::NamesTooLong => b"the names are too many",
-        RunFault::BadNameLine { .. } => b"names: line ",
-        RunFault::Index(_) => b"",
-        RunFault::Background(_) => b"background: ",
-        RunFault::Earlier(_) => b"earlier index: ",
-        RunFault::UnknownAsked { .. } => b"unknown package ",
-        RunFault::Slipped(slip) => slip_text(*slip),
-        RunFault::Memory => b"out of memory",
-        RunFault::Write => b"cannot write the report",
-    }
-}
-
-// What is said behind the front.
-fn push_rest(alloc: Global, out: &mut Vec<u8>, fault: &RunFault) -> Result<(), AllocError>
-    ensures { OnOk result (out.new.items ≡ out.old.items ++ rest_text fault.now) }
-{
-    match fault {
+        RunFault::Read => out.extend_from_slice(b"cannot read the index"),
+        RunFault::TooLong => out.extend_from_slice(b"the index is too long"),
+        RunFault::BackgroundRead => out.extend_from_slice(b"cannot read the background"),
+        RunFault::BackgroundTooLong => out.extend_from_slice(b"the background is too long"),
+        RunFault::EarlierRead => out.extend_from_slice(b"cannot read the earlier index"),
+        RunFault::EarlierTooLong => out.extend_from_slice(b"the earlier index is too long"),
+        RunFault::NamesRead => out.extend_from_slice(b"cannot read the names"),
+        RunFault::NamesTooLong => out.extend_from_slice(b"the names are too many"),
         RunFault::BadNameLine { line } => {
+            out.extend_from_slice(b"names: line ")?;
             push_number(alloc, out, *line)?;
             out.extend_from_slice(b": bad name")
         }
         RunFault::Index(fault) => push_index_fault(alloc, out, fault),
-        RunFault::Background(fault) => push_index_fault(alloc, out, fault),
-        RunFault::Earlier(fault) => push_index_fault(alloc, out, fault),
-        RunFault::UnknownAsked { name } => out.extend_from_slice(name.as_slice()),
-        _ => Ok(()),
+        RunFault::Background(fault) => {
+            out.extend_from_slice(b"background: ")?;
+            push_index_fault(alloc, out, fault)
+        }
+        RunFault::Earlier(fault) => {
+            out.extend_from_slice(b"earlier index: ")?;
+            push_index_fault(alloc, out, fault)
+        }
+        RunFault::UnknownAsked { name } => {
+            out.extend_from_slice(b"unknown package ")?;
+            out.extend_from_slice(name.as_slice())
+        }
+        RunFault::Slipped(slip) => out.extend_from_slice(slip_text(*slip)),
+        RunFault::Memory => out.extend_from_slice(b"out of memory"),
+        RunFault::Write => out.extend_from_slice(b"cannot write the report"),
     }
-}
-
-// What is said of a fault.
-fn push_fault(alloc: Global, out: &mut Vec<u8>, fault: &RunFault) -> Result<(), AllocError>
-    ensures { OnOk result (out.new.items ≡ out.old.items ++ fault_text fault.now) }
-{
-    out.extend_from_slice(front_of(fault))?;
-    push_rest(alloc, out, fault)
 }
 
 /// The line of want of memory for standard error, which takes none.

@@ -1,11 +1,11 @@
-//! Bytes that were read and are not yet taken into the index.
+//! Bytes that were read and are not yet taken.
 
 ghost use Rattle.std.specs.Prelude.{◌≡◌, ◌<◌, ◌+◌, ◌^◌, ◌≤◌, [], IfErr, IfOk, OnOk, drop, length, take, true};
+ghost use Rattle.std.specs.Io.KnownBytes.{IsAtEnd};
 ghost use Rattle.deb_input.specs.Pieces.{HoldsMore, TellsFull};
 ghost use Rattle.deb_input.specs.Inputs.{FailsAtRead};
 
 use crate::fault::RunFault;
-use crate::input::fill;
 use devices::Source;
 use std::alloc::{AllocError, Global};
 use std::marker::Model;
@@ -13,7 +13,7 @@ use std::marker::Model;
 // How many bytes are read at once at least, where so many are wanted.
 const LEAST: usize = 65_536;
 
-/// Bytes that were read and are not yet taken into the index. Their memory is kept for the next ones, since what is given back and asked for again
+/// Bytes that were read and are not yet taken. Their memory is kept for the next ones, since what is given back and asked for again
 /// costs time. Contracts see it as the bytes.
 #[derive(Drop)]
 pub(crate) struct Held {
@@ -76,11 +76,13 @@ impl Held {
         room.max(self.filled).max(LEAST).min(count)
     }
 
-    // `read_more`, in memory that is made at once.
-    fn read_part<S: Source>(&mut self, reader: &mut S, count: usize) -> Result<bool, RunFault>
+    // Reads up to so many bytes more behind those that are held, by one read; how many came.
+    fn read_part<S: Source>(&mut self, reader: &mut S, count: usize) -> Result<usize, RunFault>
+        requires some { 0 < count }
         requires count { length self.old + count < 2 ^ 64 }
         ensures bytes { OnOk result (HoldsMore self.old self.new (S.remaining reader.old) (S.remaining reader.new)) }
-        ensures full { IfOk result (TellsFull count self.old self.new (S.remaining reader.new)) }
+        ensures came { IfOk result (λ came. (length self.new ≡ length self.old + came) × (came ≤ count)) }
+        ensures end { IfOk result (λ came. came ≡ 0 → IsAtEnd (S.remaining reader.new)) }
         ensures mark { OnOk result (S.failed reader.new ≡ S.failed reader.old) }
         ensures refused { IfErr result (FailsAtRead (S.failed reader.old) (S.failed reader.new)) }
         ensures steady { S.may_fail reader.new ≡ S.may_fail reader.old }
@@ -88,9 +90,13 @@ impl Held {
     {
         let wanted = self.filled + count;
         widen(&mut self.bytes, wanted)?;
-        let came = fill(reader, &mut self.bytes[self.filled..wanted])?;
-        self.filled += came;
-        Ok(came == count)
+        match reader.read_some(&mut self.bytes[self.filled..wanted]) {
+            Err(_) => Err(RunFault::Read),
+            Ok(came) => {
+                self.filled += came;
+                Ok(came)
+            }
+        }
     }
 
     /// Reads so many bytes more behind those that are held, or all that are left where they are fewer; whether there were so many.
@@ -112,7 +118,7 @@ impl Held {
         let wanted = self.len() + count;
         'reads: while self.len() < wanted {
             let part = self.part_of(wanted - self.len());
-            if !self.read_part(reader, part)? {
+            if self.read_part(reader, part)? == 0 {
                 return Ok(false);
             }
         }

@@ -3,8 +3,8 @@
 //! The modules, in reading order:
 //!
 //! - `fault`: why a run fails, and the line of that; `strict`: what a strict run takes for a fault.
-//! - `input`: reading to the end or into a room; `held`: bytes that were read and are not yet taken into an index; `pieces`: an index whose text is
-//!   read piece by piece, by way of what is held of it.
+//! - `held`: bytes that were read and are not yet taken; `input`: reading to the end; `pieces`: an index whose text is read piece by piece, by way of
+//!   what is held of it.
 //! - `names`: the names that stand in a file.
 #![tactic(auto)]
 

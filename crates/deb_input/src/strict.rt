@@ -35,20 +35,13 @@ pub fn slip_in(stanzas: u32, skipped: u32, asked: u32) -> Option<Slip>
     None
 }
 
-// Whether a slip is a fault.
-fn is_strict(config: &Config) -> bool
-    ensures { result ≡ (settings_of config.now).strict }
-{
-    config.strict || config.since.is_some()
-}
-
 /// The fault of a strict run that asks these places of the index, where it has one: the first of what `Slip` lists.
 #[tactic(auto, unfolding(crate::specs::Inputs::slip_of))]
 pub fn slip_of(config: &Config, index: &Index, asked: &[u32]) -> Option<Slip>
     requires few { length asked.now < 2 ^ 32 }
     ensures { result ≡ slip_of (settings_of config.now) index.now asked.now }
 {
-    if !is_strict(config) {
+    if !(config.strict || config.since.is_some()) {
         return None;
     }
     slip_in(index.stanzas(), index.skipped(), asked.len() as u32)
