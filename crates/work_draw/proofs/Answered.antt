@@ -1,8 +1,6 @@
 -- Answers to the parts of a list are answers to the list.
 use Rattle.std.proofs.Common.{◌≡◌, ℕ, zero, suc, ◌+◌, ◌-◌, ◌*◌, ◌<◌, ◌≤◌, List, [], ◌∷◌, ◌++◌, All, take, drop, length, get_or, flat_map, map, Result, Ok, Err, IfOk, sym, ap, ◌∙◌, subst, refl, arith, min, take-append-drop, drop-drop, drop_of_length-le, take_all}
-use Rattle.std.specs.Int.{div_ceil}
 use Rattle.std.specs.List.{range_with_len}
-use Rattle.std.proofs.lemmas.Grind.{common_steps, div_ceil_times}
 use Rattle.std.proofs.lemmas.List.{length-drop, take_min, take_more}
 use Rattle.std.proofs.lemmas.List.Elements.{All-cons, All-nil}
 use Rattle.work_draw.specs.declared.pieces.Piece.{Piece}
@@ -65,10 +63,6 @@ AnswersEach-length R [] [] h = refl
 AnswersEach-length R [] (y ∷ ys) h = absurd h
 AnswersEach-length R (x ∷ xs) [] h = absurd h
 AnswersEach-length R (x ∷ xs) (y ∷ ys) h = ap suc (AnswersEach-length R xs ys h.1)
-
--- each chunk begins before the end of the list
-pub chunk_begins : (total n size len : ℕ) → 0 < size → total ≡ div_ceil len size → n < total → n * size < len
-chunk_begins total n size len some is below = grind (arith, common_steps, div_ceil_times len size some)
 
 -- the first of those from a place on, cut twice, are a chunk
 pub chunk_cut : {A : Type 0} (asked : List A) (begin size count : ℕ) → count ≡ min (length (take (length asked - begin) (drop begin asked))) size

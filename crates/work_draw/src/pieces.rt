@@ -1,5 +1,5 @@
 //! What is made of the numbers that are drawn, and the pieces of all workers in the order of their numbers.
-ghost use Rattle.std.specs.Prelude.{◌≡◌, IfOk, false, flat_map};
+ghost use Rattle.std.specs.Prelude.{IfOk};
 ghost use Rattle.work_draw.specs.Drawing.{HoldsEachOnce};
 ghost use Rattle.work_draw.specs.Checks.{numbers_of, InOrderOfNumber};
 
@@ -27,19 +27,6 @@ pub struct Drawn<V = Vec<Verdict>> {
     pub refused: bool,
 }
 
-impl<V: Drop> Drawn<V> {
-    /// The drawer and the pieces, unless memory was refused.
-    pub(crate) fn whole(self) -> Result<(Drawer, Vec<Piece<V>>), AllocError>
-        ensures { IfOk result (λ r. (self.refused ≡ false) × (r.0 ≡ self.drawer) × (r.1 ≡ self.pieces)) }
-    {
-        if self.refused {
-            Err(AllocError)
-        } else {
-            Ok((self.drawer, self.pieces))
-        }
-    }
-}
-
 /// The verdicts of the pieces by rising number, where each number below `total` stands once and no other does.
 /// The pieces are consumed, also where memory is refused.
 pub fn gather<T: Drop>(
@@ -51,12 +38,6 @@ pub fn gather<T: Drop>(
     ensures { IfOk result (λ all. InOrderOfNumber total pieces.items all.items) }
 {
     pieces.sort_unstable_by_key(|piece| piece.number);
-    concatenated(alloc, pieces)
-}
-
-fn concatenated<T: Drop>(alloc: Global, pieces: Vec<Piece<Vec<T>>>) -> Result<Vec<T>, AllocError>
-    ensures { IfOk result (λ all. all.items ≡ flat_map (λ p. p.verdicts.items) pieces.items) }
-{
     let mut all = Vec::new(alloc);
     for piece in pieces {
         let Piece {

@@ -14,10 +14,9 @@ use std::alloc::{AllocError, Global};
 use std::thread;
 use std::thread::Threads;
 
-/// Draws until no number is left, and makes a piece of each, in the order of the draws.
+/// Draws until no number is left, and makes a piece of each, in the order of the draws and in one workspace.
 fn draw_each<F: Finder>(
     alloc: Global,
-    workspace: &mut Workspace,
     finder: &F,
     board: &Board,
     drawer: &mut Drawer,
@@ -30,8 +29,9 @@ fn draw_each<F: Finder>(
     ensures refused { GainsButLast drawer.old.numbers pieces.new.items drawer.new.numbers }
     ensures found { Find (F.finds finder.now) pieces.new.items }
 {
+    let mut workspace = Workspace::new(alloc)?;
     while let Some(number) = board.draw(drawer) {
-        let verdicts = finder.find(alloc, workspace, number)?;
+        let verdicts = finder.find(alloc, &mut workspace, number)?;
         pieces.push(Piece { number, verdicts })?;
     }
     Ok(())
@@ -53,14 +53,10 @@ fn draw_found<F: Finder>(
     let mut drawn = Drawn {
         drawer,
         pieces: Vec::new(alloc),
-        refused: true,
+        refused: false,
     };
-    if let Ok(mut workspace) = Workspace::new(alloc) {
-        let Drawn { drawer, pieces, .. } = &mut drawn;
-        let outcome = draw_each(alloc, &mut workspace, finder, board, drawer, pieces);
-        drawn.refused = outcome.is_err();
-        drop(workspace);
-    }
+    let Drawn { drawer, pieces, .. } = &mut drawn;
+    drawn.refused = draw_each(alloc, finder, board, drawer, pieces).is_err();
     drawn
 }
 
@@ -190,5 +186,8 @@ pub fn crew<G: Gate + Sync, R: Threads + Sync>(
     };
     let drawn = crew_found(rt, alloc, &chunks, board, drawer, workers);
     drop(groundwork);
-    drawn.whole()
+    if drawn.refused {
+        return Err(AllocError);
+    }
+    Ok((drawn.drawer, drawn.pieces))
 }
