@@ -1,11 +1,8 @@
 //! Hints: what is guessed of the inputs of a run is noted on the reader of its index, and told on a screen behind all else.
 
-use crate::beginning::beginning_text;
-use crate::input::Input;
-use crate::name::name_text;
 use crate::outcome::{fault_text, file_text, summary_text};
 use deb_index::Index;
-use deb_input::RunFault;
+use deb_input::{Input, RunFault, beginning_text, name_text};
 use deb_report::Summary;
 use devices::{Opener, Source};
 use run_settings::Config;

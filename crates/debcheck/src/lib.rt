@@ -7,8 +7,7 @@
 //! - `phases`: a run, from bytes to bytes, and the `job` that its parts share; `since`: one that reads an earlier index first; `asked`: the places that
 //!   are asked in it; `verdicts`: what is told of them, and the report of that.
 //! - `hints`: what is guessed of inputs and of a run is noted, and told on a screen, in a line that begins with `hint: `. Of a guess nothing is promised, and
-//!   what a run answers and writes is the same without it. A guess is made by an input's first bytes (`beginning`), by the stanza for whose fault it is
-//!   refused (`stanza`), by its `architecture`, by either of these (`reading`), by a `name` that is asked in vain, or by the `outcome` of a run.
+//!   what a run answers and writes is the same without it. A guess is made by what `deb_input` read, or by the `outcome` of a run.
 //! - `exit_status`: the status of a run; `output`: the lines of faults, written.
 //! - `laws`: what holds of runs and of reports.
 //! - `program`: a program, from its words to its exit status, on the files that are opened by their names, one of which may have the names that are
@@ -16,38 +15,27 @@
 //! - `progress`: the line that tells how far a run has come; `wiping` takes it away before the program's output is written.
 #![tactic(auto)]
 
-mod architecture;
 mod asked;
-mod beginning;
 mod exit_status;
 mod hints;
-mod input;
 mod job;
 pub mod laws;
-mod lines;
-mod name;
 mod outcome;
 mod output;
 mod phases;
 mod program;
 mod progress;
-mod reading;
 mod since;
-mod stanza;
 mod verdicts;
 mod wiping;
 
-pub use architecture::elsewhere_text;
 pub use asked::asked_places;
-pub use beginning::beginning_text;
 pub use command_line::{LineFault, VERSION_LINE, line_status, read_line, words_of};
 pub use deb_input::{RunFault, Slip, fault_line, read_all};
 pub use deb_report::{Summary, report};
 pub use devices::{DeviceFault, Disk, OpenFault, Opener, Recording, Sink, Source, Std};
 pub use exit_status::status;
-pub use input::Input;
 pub use job::Job;
-pub use name::name_text;
 pub use outcome::{fault_text, file_text, summary_text};
 pub use output::{write_fault, write_line_fault};
 pub use phases::run;
@@ -55,4 +43,3 @@ pub use program::{Ended, run_process, run_program};
 pub use progress::Progress;
 pub use run_settings::{CHUNK_LIMIT, Config, Format, Show};
 pub use since::run_since;
-pub use stanza::stanza_text;

@@ -1,7 +1,6 @@
 //! What the numbers or the fault of a run tell.
 
-use crate::input::{Input, option_of, text_of};
-use deb_input::{RunFault, Slip, slip_in};
+use deb_input::{Input, RunFault, Slip, option_of, slip_in, text_of};
 use deb_report::Summary;
 use std::alloc::Global;
 use std::io::ErrorKind;

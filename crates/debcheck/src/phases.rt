@@ -8,12 +8,10 @@ ghost use Rattle.deb_input.specs.Inputs.{IsReadAs, input, is_unread};
 ghost use Rattle.debcheck.specs.Run.{FailsToIndex, FailsToReadBehind, ReadsAs, RunsOn, Tells, behind, written};
 
 use crate::hints::note_unknown;
-use crate::input::Input;
 use crate::job::Job;
-use crate::reading::reading_text;
 use crate::verdicts::check_and_tell;
 use deb_index::{Index, TEXT_LIMIT};
-use deb_input::{RunFault, TextRead, finish, read_all, read_text};
+use deb_input::{Input, RunFault, TextRead, finish, read_all, read_text, reading_text};
 use deb_report::{BrokenPackage, Summary};
 use devices::{Sink, Source, write_all};
 use run_settings::Config;

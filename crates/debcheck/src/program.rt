@@ -10,7 +10,6 @@ ghost use Rattle.debcheck.specs.Run.{written};
 
 use crate::exit_status::status;
 use crate::hints::{note_input, tell_hint};
-use crate::input::Input;
 use crate::job::Job;
 use crate::output::{refuse, tell_outcome};
 use crate::phases::run_ending;
@@ -18,7 +17,7 @@ use crate::progress::Progress;
 use crate::since::run_since;
 use crate::wiping::Wiping;
 use command_line::{LineFault, read_line, words_of};
-use deb_input::{RunFault, read_names};
+use deb_input::{Input, RunFault, read_names};
 use deb_report::Summary;
 use devices::{Disk, OpenFault, Opener, Recording, Sink, Source, Std};
 use run_settings::Config;

@@ -10,10 +10,9 @@ ghost use Rattle.debcheck.specs.Run.{FailsEarlier, FailsToIndex, IfIndexed, IsOf
 
 use crate::job::Job;
 use crate::phases::{read_index, report_and_write};
-use crate::reading::reading_text;
 use crate::verdicts::find_broken_packages;
 use deb_index::Index;
-use deb_input::{RunFault, TextRead, finish, read_text};
+use deb_input::{RunFault, TextRead, finish, read_text, reading_text};
 use deb_report::{BrokenPackage, Summary};
 use devices::{Sink, Source};
 use std::thread::Threads;
@@ -53,7 +52,7 @@ fn read_before<E: Source, B: Source, G: Gate + Sync, R: Threads + Sync>(
     ensures may_fail { IfErr result (λ fault. fault ≡ RunFault.BackgroundRead → B.may_fail background.old ≡ true) }
     ensures earlier_may_fail { IfErr result (λ fault. fault ≡ RunFault.EarlierRead → E.may_fail earlier.old ≡ true) }
 {
-    match read_index(job, crate::input::Input::Earlier, earlier, background) {
+    match read_index(job, deb_input::Input::Earlier, earlier, background) {
         Ok((index, more)) => {
             let broken = find_broken_packages(job, &index);
             drop(index);
@@ -81,7 +80,7 @@ fn read_now<S: Source, G: Gate + Sync, R: Threads + Sync>(
     let size = reader.piece();
     let TextRead { outcome, last } = read_text(job.rt, job.alloc, job.config, reader, size)?;
     let index = finish(job.rt, job.alloc, job.config, outcome, more);
-    let (of, piece) = (crate::input::Input::Index, last.as_slice());
+    let (of, piece) = (deb_input::Input::Index, last.as_slice());
     reader.note(reading_text(job.alloc, job.config, of, &index, piece, more));
     index
 }

@@ -1,7 +1,7 @@
 //! The first bytes of inputs, and what they tell.
 
 use crate::text::expect_text;
-use debcheck::{Input, beginning_text};
+use deb_input::{Input, beginning_text};
 
 /// How inputs begin, and what is told of an index that does.
 static BEGINNINGS: &[(&[u8], &str)] = &[

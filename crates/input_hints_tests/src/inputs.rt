@@ -2,7 +2,7 @@
 
 use crate::text::expect_text;
 use deb_index::{Index, IndexError};
-use debcheck::{Input, elsewhere_text, name_text, stanza_text};
+use deb_input::{Input, elsewhere_text, name_text, stanza_text};
 use run_settings::Config;
 use std::process::Abort;
 

@@ -1,9 +1,9 @@
 //! What runs and their faults tell.
 
 use crate::text::expect_text;
-use deb_input::{RunFault, Slip};
+use deb_input::{Input, RunFault, Slip};
 use deb_report::Summary;
-use debcheck::{Input, fault_text, file_text, summary_text};
+use debcheck::{fault_text, file_text, summary_text};
 use std::io::ErrorKind;
 
 const EMPTY: &str = "the index is empty: see whether what writes it failed";

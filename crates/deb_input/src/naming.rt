@@ -26,7 +26,7 @@ pub(crate) fn name_of<'t>(input: Input) -> &'t [u8] {
 }
 
 /// The option that names its file, with what stands between the two; the index has none.
-pub(crate) fn option_of<'t>(input: Input) -> &'t [u8] {
+pub fn option_of<'t>(input: Input) -> &'t [u8] {
     match input {
         Input::Index => b"",
         Input::Background => b"--bg ",
@@ -36,6 +36,6 @@ pub(crate) fn option_of<'t>(input: Input) -> &'t [u8] {
 }
 
 /// A text of these parts; none where there is no memory for it.
-pub(crate) fn text_of(alloc: Global, parts: &[&[u8]]) -> Option<Vec<u8>> {
+pub fn text_of(alloc: Global, parts: &[&[u8]]) -> Option<Vec<u8>> {
     parts.concat(alloc).ok()
 }

@@ -1,7 +1,7 @@
 //! What the first bytes of an input tell of it.
 
-use crate::input::{Input, name_of, option_of, text_of};
 use crate::lines::has_field;
+use crate::naming::{Input, name_of, option_of, text_of};
 use std::alloc::Global;
 
 // What is likely wrong with an input, and what to do: advice, or a command that makes an index of its file FILE.

@@ -1,7 +1,7 @@
 //! That an input is of another architecture.
 
-use crate::input::{Input, name_of, text_of};
 use crate::lines::{shown, value_in};
+use crate::naming::{Input, name_of, text_of};
 use run_settings::Config;
 use std::alloc::Global;
 

@@ -1,10 +1,10 @@
 //! What is told of an index that was read, or refused.
 
 use crate::architecture::elsewhere_text;
-use crate::input::Input;
+use crate::fault::RunFault;
+use crate::naming::Input;
 use crate::stanza::stanza_text;
 use deb_index::Index;
-use deb_input::RunFault;
 use run_settings::Config;
 use std::alloc::Global;
 

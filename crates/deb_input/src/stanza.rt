@@ -1,7 +1,7 @@
 //! Of which package a stanza is.
 
-use crate::input::{Input, name_of, text_of};
 use crate::lines::{is_blank, shown, value_in};
+use crate::naming::{Input, name_of, text_of};
 use deb_index::{Index, IndexError, TEXT_LIMIT};
 use run_settings::Config;
 use std::alloc::Global;

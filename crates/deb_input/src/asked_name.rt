@@ -1,7 +1,7 @@
 //! What a name is that is asked in vain.
 
-use crate::input::text_of;
 use crate::lines::shown;
+use crate::naming::text_of;
 use deb_index::Index;
 use std::alloc::Global;
 
