@@ -10,7 +10,7 @@ use debcheck::write_fault;
 use std::alloc::{AllocError, Global};
 use std::process::Abort;
 use std::thread::Threads;
-use test_devices::{BACKGROUND, CHAIN, Held, INDEX, sink_with_room};
+use test_devices::{BACKED_REPORT, BACKGROUND, CHAIN, CHAIN_REPORT, Held, INDEX, sink_with_room};
 
 static NO_TEXT: Case<'static> = EMPTY;
 

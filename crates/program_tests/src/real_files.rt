@@ -1,6 +1,5 @@
 //! Files of the system, and of a system that is none: what is opened, what keeps a file from being read, and that a copy of its descriptor is read.
 
-use crate::programs::WITH_BACKGROUND;
 use crate::runs::run_line;
 use debcheck::{Disk, OpenFault, Opener, Source};
 use std::alloc::Allocator;
@@ -10,7 +9,8 @@ use std::fs::{
 use std::io;
 use std::io::{ErrorKind, Read, Seek, SeekFrom, Write};
 use std::os::unix::fs::OpenOptionsExt;
-use test_devices::{BACKGROUND, INDEX, sink_of, source_of};
+use test_devices::{BACKED_REPORT, BACKGROUND, INDEX, sink_of, source_of};
+use test_texts::report_of;
 
 /// A program reads its background from the disk as from memory.
 #[test]
@@ -27,7 +27,8 @@ fn a_background_is_read_from_the_disk(rt: HostRuntime) {
         sink_of(alloc, 50, 0, false),
     );
     let _ = remove_file(&rt, name);
-    assert!(rt; left.status == 1 && left.output.bytes.as_slice() == WITH_BACKGROUND.told);
+    let report = report_of(alloc, BACKED_REPORT).expect(&rt, "no memory");
+    assert!(rt; left.status == 1 && left.output.bytes.as_slice() == report.as_bytes());
 }
 
 #[test]
