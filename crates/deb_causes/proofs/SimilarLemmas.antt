@@ -125,21 +125,9 @@ known-again texts name one there =
 
 -- ---- tests
 
-pub not-false : (b : Bool) → not b ≡ false → b ≡ true
-not-false true e = refl
-not-false false e = sym e
-
-pub not-true : (b : Bool) → not b ≡ true → b ≡ false
-not-true true e = sym e
-not-true false e = refl
-
 pub or-second : (a b : Bool) → (a || b) ≡ true → not a ≡ true → b ≡ true
 or-second true b some none = absurd (false≢true none)
 or-second false b some none = some
-
-pub or-none : (a : Bool) → a ≡ (a || false)
-or-none true = refl
-or-none false = refl
 
 pub or-turned : (a b : List ℕ) (rest : Bool) → (bytes_eq a b || rest) ≡ (rest || bytes_eq b a)
 or-turned a b rest = ap (λ same. same || rest) (names-turned a b) ∙ swap (bytes_eq b a) rest

@@ -6,7 +6,7 @@ ghost use Rattle.deb_causes.specs.Causes.{IsCauseOf, by_count, cause_view, cause
 ghost use Rattle.deb_causes.specs.Gathering.{cause_from, part_view};
 ghost use Rattle.deb_health.specs.Verdicts.{IsAskedOf, shown_view};
 
-use crate::cores::{needs_in, versions_in, wrongs_in};
+use crate::cause_of_core::{needs_in, versions_in, wrongs_in};
 use crate::gathered::{Cause, Part, number_packages, parts_of};
 use crate::wrongs::Wrongs;
 use deb_health::Shown;

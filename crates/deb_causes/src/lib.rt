@@ -6,12 +6,12 @@
 //! - `near`: the packages that have the name of an alternative, or provide it.
 //! - `stems`: what is left of names without their numbers; `similar`: the names of an index with such a stem.
 //! - `wrongs` gives a number to what each constraint says, and to each cause;
-//! - `gathered` gathers cores by the numbers of their causes, `cores` says what the cores of a cause tell, and `causes` lists them.
+//! - `gathered` gathers cores by the numbers of their causes, `cause_of_core` says what is wrong by a core, and `causes` lists them.
 //! - `laws`: what holds of the packages that a cause frees.
 #![tactic(auto)]
 
+mod cause_of_core;
 mod causes;
-mod cores;
 mod gathered;
 pub mod laws;
 mod near;

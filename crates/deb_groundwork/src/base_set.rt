@@ -8,7 +8,7 @@ ghost use Rattle.deb_groundwork.specs.BaseSets.{HasRoom, IsBase};
 ghost use Rattle.deb_groundwork.specs.Parts.{positions_in};
 
 use crate::answering::are_answered;
-use crate::check::{has_no_earlier, meets_essentials};
+use crate::healthy_set::{has_no_earlier, meets_essentials};
 use crate::part::Part;
 use crate::rows::{Places, has_free_name, stands_apart, take_hits};
 use deb_index::Index;

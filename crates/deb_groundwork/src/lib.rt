@@ -8,19 +8,19 @@
 //!   no healthy set has, and a `base_set` has many packages, each with what it asks for.
 //! - One way sets grow without a search: `growth`, on a base set, by a `choice` of one answer for each need. Nothing is claimed of it. A `large_set`
 //!   grows so package by package; what it comes to is looked up, and is a base set. `installable` marks the packages of such sets.
-//! - Whether a part admits none with a package. `witness` sees that some set meets it, which grows and is looked up by `check`. `propagation` refutes
+//! - Whether a part admits none with a package. `witness` sees that some set meets it, which grows, and is looked up by `healthy_set`. `propagation` refutes
 //!   it by what the package asks for with no choice, down to a `conflict`; `derivation` has the steps of such a refutation, and checks them.
 #![tactic(auto)]
 
 mod answering;
 mod base_set;
-mod check;
 mod choice;
 mod conflict;
 mod derivation;
 mod forced;
 mod groundwork;
 mod growth;
+mod healthy_set;
 mod hopeless;
 mod installable;
 mod large_set;

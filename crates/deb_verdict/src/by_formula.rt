@@ -170,7 +170,6 @@ fn refute_described(
 /// Lists constraints of a part each of which every refutation of it needs, by sets that are come by from the last one, if that lacks the first
 /// constraint of the rest alone.
 fn list_needed(
-    alloc: Global,
     part: &Part<'_>,
     p: u32,
     described: &CoreFormula,
@@ -184,21 +183,14 @@ fn list_needed(
         Err(group) => group,
     };
     mark_kept(part, &described.positions, &mut workspace.keep)?;
-    described.formula.mark_needed(
-        alloc,
+    let marks = described.formula.mark_needed(
         &mut workspace.rotation,
         &workspace.keep,
         described.must,
         &workspace.set,
         group.min(u32::MAX as usize) as u32,
-        &mut workspace.marks,
     )?;
-    take_marked(
-        &described.positions,
-        &workspace.marks,
-        &mut workspace.needed,
-    )?;
-    Ok(())
+    take_marked(&described.positions, marks, &mut workspace.needed)
 }
 
 /// Whether a formula may tell of enough constraints at once that they are needed: where the last refutation used a good part of its own.
@@ -228,7 +220,7 @@ pub(crate) fn learn(
     if workspace.set.is_empty() {
         return Ok(());
     }
-    list_needed(alloc, part, p, described, workspace)?;
+    list_needed(part, p, described, workspace)?;
     known.take(alloc, part.kept, part.rest, &workspace.needed)
 }
 

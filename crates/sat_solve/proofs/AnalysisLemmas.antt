@@ -1,15 +1,15 @@
 -- Conflict analysis: the walk back over the trail from a conflict to the clause that it teaches.
-use Rattle.std.proofs.Common.{◌≡◌, ◌≢◌, ℕ, zero, suc, ◌+◌, ◌-◌, ◌<◌, ◌≤◌, Bool, true, false, ◌||◌, not, eqb, if◌then◌else◌, Option, Some, None, List, [], ◌∷◌, ◌⊎◌, ◌++◌, reverse, length, get_or, set, take, drop, refl, sym, ◌∙◌, ap, subst, inl, inr, arith, length-take, get_or-set_same, get_or-set_other}
+use Rattle.std.proofs.Common.{◌≡◌, ◌≢◌, ℕ, zero, suc, ◌+◌, ◌-◌, ◌<◌, ◌≤◌, Bool, true, false, ◌||◌, eqb, Option, Some, None, List, [], ◌∷◌, ◌++◌, reverse, length, get_or, set, take, drop, refl, sym, ◌∙◌, ap, subst, inl, inr, arith, length-take, get_or-set_same, get_or-set_other}
 use Rattle.std.proofs.Math.Bool.{or-false}
-use Rattle.std.proofs.lemmas.Bool.{false≢true, cases_lt, cases_eq, ne_eqb, or_cases, or_left, or_right, or_from}
+use Rattle.std.proofs.lemmas.Bool.{false≢true, cases_lt, cases_eq, ne_eqb, or_cases, or_from}
 use Rattle.std.proofs.lemmas.Bool.Decides.{eqb_tells}
 use Rattle.std.proofs.lemmas.List.{take_more, take_all, take-take, take-append-drop, drop_more, reverse-append, get_or_default, get_or-take, length-set, get_or_past}
 use Rattle.std.specs.List.{list_any}
-use Rattle.std.proofs.lemmas.List.Folds.{list_any_more, list_any-append}
+use Rattle.std.proofs.lemmas.List.Folds.{list_any_more}
 use Rattle.number_sets.specs.Sets.{NumberSet}
 use Rattle.sat_solve.specs.Clauses.{clause_holds, literal_holds}
 use Rattle.sat_solve.specs.Trail.{value_in, is_decided, AllFresh, IsSound, IsLinked, Agrees, ComesDownTo}
-use Rattle.sat_solve.specs.Reasons.{AgreesOn, FailsOn, RestsOn, AreReasoned, SeesAll, is_seen}
+use Rattle.sat_solve.specs.Reasons.{FailsOn, AreReasoned, SeesAll, is_seen}
 use Rattle.sat_solve.specs.Jumps.{denied, IsAt, AreDenied, IsCut, IsJump, IsTaken}
 use Rattle.sat_solve.specs.declared.clause.Lit.{Lit}
 use Rattle.sat_solve.specs.declared.trail.Step.{Step}
@@ -17,59 +17,7 @@ use Rattle.sat_solve.specs.declared.trail.Reason.{Reason}
 use Rattle.sat_solve.specs.declared.trail.Reason.TheVariants.{Decision}
 use Rattle.sat_solve.proofs.TrailLemmas.{value_in_newest, value_in_older, value_in_kept}
 use Rattle.sat_solve.proofs.ValueLemmas.{set_in_range}
-
--- each set with P that agrees with these steps on what is seen makes the clause true
-abbrev pub Leaves : (NumberSet → Type 0) → List Step → NumberSet → List Lit → Type 0
-Leaves P steps marked clause = (set : NumberSet) → P set → AgreesOn steps marked set → clause_holds set clause ≡ true
-
--- a literal fails by its step, and holds in a set that disagrees with the step
-denied_by : (has value : Bool) → has ≡ value → (if not value then has else not has) ≡ false
-denied_by true true same = refl
-denied_by false false same = refl
-denied_by true false same = absurd (false≢true (sym same))
-denied_by false true same = absurd (false≢true same)
-
-denied_or : (has value : Bool) → (has ≡ value) ⊎ ((if not value then has else not has) ≡ true)
-denied_or true true = inl refl
-denied_or false false = inl refl
-denied_or true false = inr refl
-denied_or false true = inr refl
-
-module _ (P : NumberSet → Type 0) (step : Step) (older : List Step) where
-  -- a step that is not seen is passed over
-  pub walk_unmarked : (marked : NumberSet) (clause : List Lit) → marked step.var ≡ false → Leaves P (step ∷ older) marked clause → Leaves P older marked clause
-  walk_unmarked marked clause unmarked leaves set holds agrees =
-      leaves set holds
-      (λ var value mark there. elim (eqb_tells step.var var) [
-        | inl same ↦ let here : marked step.var ≡ true = ap marked same.1 ∙ mark in absurd (false≢true (sym unmarked ∙ here))
-        | inr other ↦ agrees var value mark (sym (value_in_older step older var other.1) ∙ there)
-      ])
-
-  -- a seen step whose value follows from what the set has
-  agrees_more : (marked set : NumberSet) → set step.var ≡ step.value → AgreesOn older marked set → AgreesOn (step ∷ older) marked set
-  agrees_more marked set here agrees var value mark there =
-      elim (eqb_tells step.var var) [
-        | inl same ↦
-            let given : Some step.value ≡ Some value = sym (value_in_newest step older var same.1) ∙ there in
-            let moved : set var ≡ set step.var = ap set (sym same.1) in
-            cc
-        | inr other ↦ agrees var value mark (sym (value_in_older step older var other.1) ∙ there)
-      ]
-
-  -- the literal of a step is taken into the clause
-  pub walk_taken : (marked : NumberSet) (clause : List Lit) → Leaves P (step ∷ older) marked clause → Leaves P older marked (clause ++ denied step ∷ [])
-  walk_taken marked clause leaves set holds agrees =
-      list_any-append (literal_holds set) clause (denied step ∷ [])
-      ∙ elim (denied_or (set step.var) step.value) [
-        | inl here ↦ or_left (clause_holds set clause) (clause_holds set (denied step ∷ [])) (leaves set holds (agrees_more marked set here agrees))
-        | inr against ↦ or_right (clause_holds set clause) (clause_holds set (denied step ∷ [])) (or_left (literal_holds set (denied step)) false against)
-      ]
-
-  -- by a seen step that was forced, what it rests on is seen
-  pub walk_forced : (Q B : NumberSet → Type 0) (marked more reasons : NumberSet) (clause : List Lit) → ((set : NumberSet) → Q set → P set) → ((set : NumberSet) → Q set → B set) → RestsOn B older step reasons → ((var : ℕ) → marked var ≡ true → more var ≡ true) → ((var : ℕ) → reasons var ≡ true → more var ≡ true) → Leaves P (step ∷ older) marked clause → Leaves Q older more clause
-  walk_forced Q B marked more reasons clause fewer backs rests kept named leaves set holds agrees =
-      let here : set step.var ≡ step.value = rests set (backs set holds) (λ var value mark there. agrees var value (named var mark) there) in
-      leaves set (fewer set holds) (agrees_more marked set here (λ var value mark there. agrees var value (kept var mark) there))
+use Rattle.sat_solve.proofs.WalkLemmas.{Leaves, denied_by, walk_forced, walk_taken, walk_unmarked}
 
 abbrev no_step : Step
 no_step = record { var = 0; value = false; reason = Decision }

@@ -167,26 +167,25 @@ impl Formula {
         Ok(answer)
     }
 
-    /// Marks kept groups, one mark a group, without each of which the others have a set: those that are come by from a set, if it breaks
-    /// the clauses of one group alone.
+    /// The marks, one a group, of kept groups without each of which the others have a set: those that are come by from a set, if it
+    /// breaks the clauses of one group alone.
     ///
     /// Nothing need be known of the set and of the group. The error is want of memory.
-    pub fn mark_needed(
+    pub fn mark_needed<'r>(
         &self,
-        alloc: Global,
-        rotation: &mut Rotation,
+        rotation: &'r mut Rotation,
         keep: &[bool],
         must: u32,
         set: &[u32],
         group: u32,
-        marks: &mut Vec<bool>,
-    ) -> Result<(), AllocError>
+    ) -> Result<&'r [bool], AllocError>
         requires keep { length keep.now ≡ self.now.groups }
         requires must { must < self.now.vars }
-        ensures sized { OnOk result (length marks.new.items ≡ self.now.groups) }
-        ensures needed { OnOk result (AreNeeded self.now.vars self.now.clauses keep.now must marks.new.items) }
+        ensures sized { IfOk result (λ marks. length marks.now ≡ self.now.groups) }
+        ensures needed { IfOk result (λ marks. AreNeeded self.now.vars self.now.clauses keep.now must marks.now) }
     {
-        rotation.walk(alloc, &self.problem(keep, must), set, group, marks)
+        rotation.walk(&self.problem(keep, must), set, group)?;
+        Ok(&rotation.marks)
     }
 
     /// What a solve is asked of the formula.

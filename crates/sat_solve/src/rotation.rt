@@ -32,6 +32,9 @@ pub struct Rotation {
     /// The group that it breaks alone.
     group: u32,
     turns: Vec<Turn>,
+    /// The groups that are come by.
+    pub(crate) marks: Vec<bool>,
+    alloc: Global,
 }
 
 impl Rotation {
@@ -42,6 +45,8 @@ impl Rotation {
             inside: Vec::new(alloc),
             group: 0,
             turns: Vec::new(alloc),
+            marks: Vec::new(alloc),
+            alloc,
         }
     }
 
@@ -61,6 +66,7 @@ impl Rotation {
         ensures alone { IfOk result (λ alone. alone ≡ true → BreaksAlone problem.now self.new.inside.items group) }
         ensures group { IfOk result (λ _. self.new.group ≡ group) }
         ensures lists { self.new.lists ≡ self.old.lists }
+        ensures marks { self.new.marks ≡ self.old.marks }
     {
         self.group = group;
         self.inside.clear();
@@ -86,6 +92,7 @@ impl Rotation {
         ensures after { BreaksAlone problem.now self.new.inside.items self.new.group }
         ensures group { result ≡ true → self.new.group ≡ group }
         ensures lists { self.new.lists ≡ self.old.lists }
+        ensures marks { self.new.marks ≡ self.old.marks }
     {
         if var == problem.must || var >= problem.vars {
             return false;
@@ -109,7 +116,8 @@ impl Rotation {
 
     /// Has the variables turned, one after the other, of each span of the broken group that the set breaks.
     fn push_turns(&mut self, problem: &Problem) -> Result<(), AllocError>
-        ensures { (self.new.lists ≡ self.old.lists) × (self.new.inside ≡ self.old.inside) × (self.new.group ≡ self.old.group) }
+        ensures set { (self.new.lists ≡ self.old.lists) × (self.new.inside ≡ self.old.inside) × (self.new.group ≡ self.old.group) }
+        ensures marks { self.new.marks ≡ self.old.marks }
     {
         let set = Turned {
             inside: &self.inside,
@@ -146,18 +154,13 @@ impl Rotation {
     }
 
     /// Takes a turn, and marks the group that it brings to. The next turns are those of that group, and then the way back.
-    fn take(
-        &mut self,
-        problem: &Problem,
-        turn: Turn,
-        marks: &mut Vec<bool>,
-    ) -> Result<(), AllocError>
+    fn take(&mut self, problem: &Problem, turn: Turn) -> Result<(), AllocError>
         requires listed { (k : ℕ) → k < length problem.now.spans.now → IsListed problem.now self.old.lists.items k }
         requires before { BreaksAlone problem.now self.old.inside.items self.old.group }
-        requires needed { MarksNeeded problem.now marks.old.items }
+        requires needed { MarksNeeded problem.now self.old.marks.items }
         ensures after { OnOk result (BreaksAlone problem.now self.new.inside.items self.new.group) }
-        ensures needed { OnOk result (MarksNeeded problem.now marks.new.items) }
-        ensures sized { length marks.new.items ≡ length marks.old.items }
+        ensures needed { OnOk result (MarksNeeded problem.now self.new.marks.items) }
+        ensures sized { length self.new.marks.items ≡ length self.old.marks.items }
         ensures lists { self.new.lists ≡ self.old.lists }
     {
         if let Some(group) = turn.back {
@@ -168,11 +171,11 @@ impl Rotation {
             return Ok(());
         };
         let before = self.group;
-        let is_marked = marks.get(group as usize).copied() == Some(true);
+        let is_marked = self.marks.get(group as usize).copied() == Some(true);
         if is_marked || !self.turn(problem, turn.var, group) {
             return Ok(());
         }
-        mark(marks, group);
+        mark(&mut self.marks, group);
         self.turns.push(Turn {
             var: turn.var,
             back: Some(before),
@@ -184,32 +187,30 @@ impl Rotation {
     /// Marks the groups that are come by from a set, if that breaks a group alone.
     pub(crate) fn walk(
         &mut self,
-        alloc: Global,
         problem: &Problem,
         set: &[u32],
         group: u32,
-        marks: &mut Vec<bool>,
     ) -> Result<(), AllocError>
-        ensures needed { OnOk result (MarksNeeded problem.now marks.new.items) }
-        ensures sized { OnOk result (length marks.new.items ≡ length problem.now.keep.now) }
+        ensures needed { OnOk result (MarksNeeded problem.now self.new.marks.items) }
+        ensures sized { OnOk result (length self.new.marks.items ≡ length problem.now.keep.now) }
     {
-        marks.clear();
-        marks.resize(problem.keep.len(), false)?;
+        self.marks.clear();
+        self.marks.resize(problem.keep.len(), false)?;
         if listed_by(problem) > LISTED {
             return Ok(());
         }
-        list_spans(alloc, &mut self.lists, problem)?;
+        list_spans(self.alloc, &mut self.lists, problem)?;
         if !self.start(problem, set, group)? {
             return Ok(());
         }
-        mark(marks, group);
+        mark(&mut self.marks, group);
         self.turns.clear();
         self.push_turns(problem)?;
         for _ in 0..LISTED {
             let Some(turn) = self.turns.pop() else {
                 break;
             };
-            self.take(problem, turn, marks)?;
+            self.take(problem, turn)?;
         }
         Ok(())
     }

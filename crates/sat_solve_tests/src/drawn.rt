@@ -171,7 +171,6 @@ fn expect_needed(
     must: u32,
 ) {
     assert!(rt; formula.groups() == 3 && must < formula.vars());
-    let mut marks = Vec::new(rt.alloc());
     for group in 0..3 {
         let mut others = *keep;
         others[group] = false;
@@ -179,19 +178,11 @@ fn expect_needed(
             .solve_in(rt.alloc(), workspace, &others, must)
             .expect(rt, "no memory");
         if let Some(set) = found {
-            formula
-                .mark_needed(
-                    rt.alloc(),
-                    rotation,
-                    keep,
-                    must,
-                    &set,
-                    group as u32,
-                    &mut marks,
-                )
+            let marks = formula
+                .mark_needed(rotation, keep, must, &set, group as u32)
                 .expect(rt, "no memory");
             assert!(rt; marks.get(group) == Some(&true));
-            expect_marks(rt, formula.vars(), plain, keep, must, &marks);
+            expect_marks(rt, formula.vars(), plain, keep, must, marks);
         }
     }
 }

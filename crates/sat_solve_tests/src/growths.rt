@@ -160,9 +160,8 @@ fn expect_needed(
     rotation: &mut Rotation,
 ) -> Result<(), AllocError> {
     assert!(rt; formula.groups() == 3 && formula.vars() == 3);
-    let mut marks = Vec::new(rt.alloc());
-    formula.mark_needed(rt.alloc(), rotation, &ALL, 0, &[0], 0, &mut marks)?;
-    assert!(rt; marks.as_slice() == ALL.as_slice());
+    let marks = formula.mark_needed(rotation, &ALL, 0, &[0], 0)?;
+    assert!(rt; marks == ALL.as_slice());
     Ok(())
 }
 

@@ -53,9 +53,8 @@ fn finds(
     let formula = formula_of(rt, 5, 4, LINES)?;
     assert!(rt; formula.groups() == 4 && formula.vars() == 5);
     let mut rotation = Rotation::new(rt.alloc());
-    let mut marks = Vec::new(rt.alloc());
-    formula.mark_needed(rt.alloc(), &mut rotation, keep, 0, set, group, &mut marks)?;
-    Ok(marks.as_slice() == wanted.as_slice())
+    let marks = formula.mark_needed(&mut rotation, keep, 0, set, group)?;
+    Ok(marks == wanted.as_slice())
 }
 
 #[test]

@@ -1,4 +1,4 @@
-use Rattle.std.proofs.Common.{◌≡◌, ◌++◌, map, ◌∙◌, ap, arith}
+use Rattle.std.proofs.Common.{◌++◌, map, ◌∙◌, ap, arith}
 use Rattle.sat_solve.specs.Clauses.{span_of}
 use Rattle.sat_solve.proofs.Appended.{appended_start, appended_more, appended_whole}
 use Rattle.sat_solve.proofs.formula.push_owners.Goals as goal

@@ -1,4 +1,5 @@
 use Rattle.std.proofs.Common.{◌≡◌, ◌<◌, ◌||◌, ◌++◌, ◌∙◌, ℕ, All, Bor, List, ap, arith, filter, length, map, not, subst, sym, take, true}
+use Rattle.std.proofs.Math.Bool.{or-false}
 use Rattle.std.proofs.lemmas.List.{take_all}
 use Rattle.std.specs.List.{flat_map}
 use Rattle.deb_relation.specs.declared.atom.Atom.{Atom}
@@ -6,7 +7,7 @@ use Rattle.deb_relation.specs.Relationship.{atom_view, AtomText}
 use Rattle.deb_index.specs.Packages.{first_of_each}
 use Rattle.deb_causes.specs.Near.{IsTold, first_told, first_with_stem, has_text, is_one_of, names_of, similar_names, similar_to, stem, stems_in}
 use Rattle.number_sets.proofs.ListLemmas.{all_at}
-use Rattle.deb_causes.proofs.SimilarLemmas.{names-more, or-none}
+use Rattle.deb_causes.proofs.SimilarLemmas.{names-more}
 use Rattle.deb_causes.proofs.similar.Similar.names.Goals as goal
 
 abbrev view : Bor Atom → AtomText
@@ -21,7 +22,7 @@ loop-atom-init c =
       names_are = ap (map (λ name. name.now)) none;
       known_are = λ name. c.in_ok-add_names.ensures name
           ∙ ap (λ atoms. is_one_of (map view atoms) name) (c.deref.ensures.value ∙ sym c.deref-atom-items.ensures.value)
-          ∙ or-none (is_one_of own name)
+          ∙ sym (or-false (is_one_of own name))
           ∙ ap (λ xs. is_one_of own name || has_text (map (λ one. one.now) xs) name) (sym none);
     }
 

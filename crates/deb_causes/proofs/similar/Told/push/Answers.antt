@@ -1,8 +1,8 @@
 use Rattle.std.proofs.Common.{◌≡◌, ◌≤◌, ◌<◌, ◌||◌, ◌++◌, ◌∷◌, [], ◌∙◌, ℕ, Bool, Bor, List, ap, arith, false, length, map, not, sym, true}
-use Rattle.std.proofs.lemmas.Bool.{or_parts}
+use Rattle.std.proofs.lemmas.Bool.{not-false, not-true, or_parts}
 use Rattle.std.proofs.lemmas.List.{length-map, map-append}
 use Rattle.deb_causes.specs.Near.{is_one_of, similar_limit, has_text}
-use Rattle.deb_causes.proofs.SimilarLemmas.{kept-full, kept-known, kept-new, known-again, known-more, not-false, not-true, or-second}
+use Rattle.deb_causes.proofs.SimilarLemmas.{kept-full, kept-known, kept-new, known-again, known-more, or-second}
 use Rattle.deb_causes.proofs.similar.Told.push.Goals as goal
 
 abbrev text : Bor (List ℕ) → List ℕ

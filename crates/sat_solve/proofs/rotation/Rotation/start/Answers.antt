@@ -9,6 +9,7 @@ loop-var-init c = record {
   sized = omega (arith, c.in_ok-resize.ensures.len, c.resize.new.self.ok);
   group = refl;
   lists = refl;
+  marks = refl;
 }
 
 pub loop-var-preserved : goal.loop-var-preserved
@@ -16,6 +17,7 @@ loop-var-preserved c = record {
   sized = ap length c.mark.ensures ∙ (length-set c.loop-var.self.inside.items _ true ∙ c.loop-var.invariant.sized);
   group = c.loop-var.invariant.group;
   lists = c.loop-var.invariant.lists;
+  marks = c.loop-var.invariant.marks;
 }
 
 pub returns-then-has-clause-alone : goal.returns-then-has-clause-alone

@@ -6,4 +6,5 @@ invariant-loop-var l = record {
   sized : length l.self.inside.items ≡ l.problem.vars;
   group : l.self.group ≡ l.group;
   lists : l.self.lists ≡ l.initial.self.lists;
+  marks : l.self.marks ≡ l.initial.self.marks;
 }

@@ -6,6 +6,6 @@ abbrev pub invariant-loop : goal.invariant-loop
 invariant-loop l = record {
   listed : (k : ℕ) → k < length l.problem.spans.now → IsListed l.problem l.self.lists.items k;
   alone : BreaksAlone l.problem l.self.inside.items l.self.group;
-  needed : MarksNeeded l.problem l.marks.items;
-  sized : length l.marks.items ≡ length l.problem.keep.now;
+  needed : MarksNeeded l.problem l.self.marks.items;
+  sized : length l.self.marks.items ≡ length l.problem.keep.now;
 }

@@ -1,0 +1,9 @@
+use Rattle.std.proofs.Common.{◌≡◌, ◌&&◌, ◌||◌, ℕ, take}
+use Rattle.std.specs.List.{list_any}
+use Rattle.number_sets.specs.Sets.{members_of}
+use Rattle.deb_causes.specs.Causes.{is_version_of}
+use Rattle.deb_causes.proofs.cause_of_core.push_versions.Given as goal
+
+abbrev pub invariant-loop-constraint : goal.invariant-loop-constraint
+invariant-loop-constraint l =
+    (q : ℕ) → members_of l.versions.items q ≡ (members_of l.initial.versions.items q || (members_of l.answering q && list_any (is_version_of l.index q) (take l.constraint-index l.core)))
