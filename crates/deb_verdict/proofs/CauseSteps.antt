@@ -10,10 +10,13 @@ use Rattle.std.specs.List.Sorted.{IsStrictlyIncreasing}
 use Rattle.number_sets.specs.Sets.{NumberSet, all_of, IsFirst, IsWithin, members_of}
 use Rattle.number_sets.proofs.ListMembers.{members_of_at}
 use Rattle.number_sets.proofs.MembersLemmas.{members_of_push}
-use Rattle.deb_health.specs.Causes.{AreCores, AreCoresWithout, cause_at, either, is_final_at, IsFirstWithout, nothing, without}
-use Rattle.deb_health.specs.Health.{Admits, AdmitsNone, admits_none_upward, IsHopeless}
+use Rattle.deb_health.specs.Causes.{AreCoresWithout, cause_at, either, is_final_at, IsFirstWithout, nothing, without}
+use Rattle.deb_health.specs.declared.told.Cores.{Cores}
+use Rattle.deb_health.specs.declared.told.Cores.TheVariants as cores_are
+use Rattle.deb_health.specs.Health.{Admits, AdmitsNone, IsHopeless}
+use Rattle.deb_health.specs.Verdicts.{AreToldCores}
 use Rattle.deb_health.proofs.CauseLemmas.{core_has_final}
-use Rattle.deb_health.proofs.CoreLemmas.{core_left, without_nothing}
+use Rattle.deb_health.proofs.CoreLemmas.{admits_more, core_left, without_nothing}
 use Rattle.deb_verdict.proofs.AdmitsSome.{admits_some}
 use Rattle.deb_verdict.proofs.Whole.{all_admit_none}
 
@@ -155,13 +158,14 @@ module _ (index : IndexView) (p : ℕ) where
         (core_left index p out core first one.0 is_in)
         (taken one.0 ∙ or_right (out one.0) (cause_at index core one.0) one.1)
 
-  -- before anything is taken out
-  pub hopeless_whole : IsHopeless index p → AdmitsNone index p (without nothing all_of)
-  hopeless_whole hopeless = admits_none_upward index p all_of (without nothing all_of) (without_nothing nothing all_of (λ k. refl)) (all_admit_none index p hopeless)
-
-  -- where some set meets what is left, these are all
-  pub all_found : (out : NumberSet) (cores : List (List Constraint)) → AreFound index p out cores → Admits index p (without out all_of) → AreCores index p cores
-  all_found out cores found admits =
+  -- where some set meets what is left, these are as many as are wanted: of a first one alone nothing is out yet
+  pub all_told : (wanted : Cores) (out : List ℕ) (cores : List (List Constraint)) → (wanted ≡ cores_are.None → ⊥) → (wanted ≡ cores_are.First → out ≡ []) → IsHopeless index p
+      → AreFound index p (members_of out) cores → Admits index p (without (members_of out) all_of) → AreToldCores wanted index p cores
+  all_told cores_are.None out cores some begins hopeless found admits = absurd (some refl)
+  all_told cores_are.First out cores some begins hopeless found admits =
+      let Meets : List ℕ → Type 0 = λ list. Admits index p (without (members_of list) all_of) in
+      absurd (all_admit_none index p hopeless (admits_more index p all_of (without nothing all_of) (without_nothing nothing all_of (λ k. refl)) (subst Meets (begins refl) admits)))
+  all_told cores_are.All out cores some begins hopeless found admits =
       let All : List (List ℕ) → Type 0 = λ lists. AreCoresWithout index p nothing lists in
       record {
         positions = found.positions;

@@ -2,7 +2,7 @@
 
 ghost use Rattle.std.specs.Prelude.{◌≡◌, ℕ, ◌<◌, ◌^◌, All, OnOk, Some, length, map, slice_get};
 ghost use Rattle.std.specs.List.Sorted.{IsStrictlyIncreasing};
-ghost use Rattle.deb_index.specs.Constraints.{constraints_of};
+ghost use Rattle.deb_index.specs.Constraints.{IsOfIndex, constraints_of};
 ghost use Rattle.number_sets.specs.Sets.{members_of, IsWithin};
 ghost use Rattle.deb_verdict.specs.Closure.{kept};
 ghost use Rattle.deb_verdict.specs.Formulas.{Lists};
@@ -50,7 +50,8 @@ pub(crate) fn list_constraints(
     constraints: &mut Vec<Constraint>,
 ) -> Result<(), AllocError>
     requires { All (λ k. k < length (constraints_of index.now)) positions.now }
-    ensures { OnOk result (map (slice_get (constraints_of index.now)) positions.now ≡ map Some constraints.new.items) }
+    ensures stand { OnOk result (map (slice_get (constraints_of index.now)) positions.now ≡ map Some constraints.new.items) }
+    ensures of_index { OnOk result (All (IsOfIndex index.now) constraints.new.items) }
 {
     constraints.clear();
     for position in positions {

@@ -8,12 +8,11 @@
 //! - The first healthy set: `gather` finds the candidates beside the places that are in every healthy set, and the needs that these leave open,
 //!   `describe` has the encoder of `deb_encode` make clauses of all constraints that speak of these places, and `first_set` has the solver find the
 //!   first true set of the clauses.
-//! - The first core: `first_core` finds the first set of constraints that no set meets. The crate `core_extract` takes out those that no
-//!   refutation needs, and asks `question` whether a part of the constraints admits none: where `deb_groundwork` can't tell, `by_formula` does. It
-//!   knows of each part, by the `core_formula` of the package, which is made once: each constraint that speaks of the closure (`kept_positions`
-//!   lists them) is a group of clauses, the part says which groups are kept, and the solver which it used.
-//! - All causes: `all_causes` takes the cause of the first core out of the constraints, and looks for the first core of what is left, until
-//!   that admits a set.
+//! - Cores: `all_causes` finds the first set of constraints that no set meets, takes its cause out, and looks for the first core of what is left,
+//!   until that admits a set. The crate `core_extract` takes out those that no refutation needs, and asks `question` whether a part of the
+//!   constraints admits none: where `deb_groundwork` can't tell, `by_formula` does. It knows of each part, by the `core_formula` of the package,
+//!   which is made once: each constraint that speaks of the closure (`kept_positions` lists them) is a group of clauses, the part says which
+//!   groups are kept, and the solver which it used.
 #![tactic(auto)]
 
 mod all_causes;
@@ -21,7 +20,6 @@ mod by_formula;
 mod core_formula;
 mod decision;
 mod describe;
-mod first_core;
 mod first_set;
 mod gather;
 mod kept_positions;

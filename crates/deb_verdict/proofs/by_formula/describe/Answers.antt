@@ -4,7 +4,6 @@ use Rattle.std.proofs.lemmas.Option.{slice_get_within}
 use Rattle.deb_index.specs.declared.constraint.Constraint.{Constraint}
 use Rattle.deb_index.specs.Packages.{IndexView}
 use Rattle.deb_index.specs.Constraints.{IsOfIndex, constraints_of}
-use Rattle.deb_index.proofs.ConstraintLemmas.{constraints-within}
 use Rattle.number_sets.specs.Sets.{members_of, IsWithin}
 use Rattle.sat_solve.specs.Clauses.{Clauses}
 use Rattle.deb_encode.proofs.AddLemmas.{below_moved}
@@ -14,7 +13,6 @@ use Rattle.deb_encode.specs.Play.{TellsPlaces}
 use Rattle.deb_verdict.proofs.Described.{carry}
 use Rattle.deb_verdict.proofs.Settled.{IsOfClosure, told_refuted, told_admitted}
 use Rattle.deb_verdict.proofs.Encoded.{sizes}
-use Rattle.deb_verdict.proofs.Whole.{named_all}
 use Rattle.deb_verdict.proofs.by_formula.describe.Goals as goal
 
 pub list_positions-requires : goal.list_positions-requires
@@ -36,7 +34,7 @@ encode_each-requires-clause-empty c =
     let positions : List ℕ = c.list_positions.new.positions.items in
     let constraints : List Constraint = c.deref-2.result.now in
     let Stand : List ℕ → Type 0 = λ list. map (slice_get (constraints_of c.args.index.now)) list ≡ map (λ (x : Constraint). Some x) constraints in
-    let stand : Stand positions = subst Stand c.deref.ensures.value (c.in_ok-list_constraints.ensures ∙ ap (map (λ (x : Constraint). Some x)) (sym c.deref-2.ensures.value)) in
+    let stand : Stand positions = subst Stand c.deref.ensures.value (c.in_ok-list_constraints.ensures.stand ∙ ap (map (λ (x : Constraint). Some x)) (sym c.deref-2.ensures.value)) in
     let Of : ℕ → ℕ → Clauses = λ vars groups. record { vars = vars; groups = groups; clauses = [] } in
     let vars_is : c.count_of.result ≡ length c.new-play.result.candidates.now = c.count_of.ensures ∙ (ap length c.as_slice-members.ensures ∙ sym (ap length c.new-play.ensures.candidates)) in
     let groups_is : c.len.result ≡ length constraints = omega (arith, c.len.ensures, sizes c.args.index.now c.gather.new.self.places positions constraints stand, c.list_positions.new.positions.ok) in
@@ -45,9 +43,8 @@ encode_each-requires-clause-empty c =
 pub encode_each-requires-clause-of_index : goal.encode_each-requires-clause-of_index
 encode_each-requires-clause-of_index c =
     let AreOf : IndexView → Type 0 = λ index. All (IsOfIndex index) c.deref-2.result.now in
-    subst AreOf (sym c.new-play.ensures.index)
-    (named_all (IsOfIndex c.args.index.now) (constraints_of c.args.index.now) c.deref-2.result.now c.deref.result.now (constraints-within c.args.index.now)
-    (c.in_ok-list_constraints.ensures ∙ ap (map (λ (x : Constraint). Some x)) (sym c.deref-2.ensures.value)))
+    let Of : List Constraint → Type 0 = λ list. All (IsOfIndex c.args.index.now) list in
+    subst AreOf (sym c.new-play.ensures.index) (subst Of (sym c.deref-2.ensures.value) c.in_ok-list_constraints.ensures.of_index)
 
 pub overflow_cast-result : goal.overflow_cast-result
 overflow_cast-result c =
@@ -65,7 +62,7 @@ invariant_of-result c =
     let positions : List ℕ = c.list_positions.new.positions.items in
     let constraints : List Constraint = c.deref-2.result.now in
     let Stand : List ℕ → Type 0 = λ list. map (slice_get (constraints_of c.args.index.now)) list ≡ map (λ (x : Constraint). Some x) constraints in
-    let stand : Stand positions = subst Stand c.deref.ensures.value (c.in_ok-list_constraints.ensures ∙ ap (map (λ (x : Constraint). Some x)) (sym c.deref-2.ensures.value)) in
+    let stand : Stand positions = subst Stand c.deref.ensures.value (c.in_ok-list_constraints.ensures.stand ∙ ap (map (λ (x : Constraint). Some x)) (sym c.deref-2.ensures.value)) in
     let there : slice_get c.gather.new.self.places c.unwrap-must.result ≡ Some c.args.p = rw c.unwrap-must.ensures at c.position_of.ensures.some in
     record {
       groups = c.in_ok-encode_each.ensures.groups ∙ sym (sizes c.args.index.now c.gather.new.self.places positions constraints stand);
@@ -86,7 +83,7 @@ returns c =
       closed = closed_alone index c.args.p c.clear.new.self.members c.gather.new.self c.clear.ensures.members c.in_ok-gather.ensures.gathered c.in_ok-gather.ensures.start;
       all = subst Within c.as_slice-members.ensures c.in_ok-list_positions.ensures.all;
       vars = c.in_ok-encode_each.ensures.vars ∙ ap length c.new-play.ensures.candidates;
-      stand = subst Stand c.deref.ensures.value (c.in_ok-list_constraints.ensures ∙ ap (map (λ (x : Constraint). Some x)) (sym c.deref-2.ensures.value));
+      stand = subst Stand c.deref.ensures.value (c.in_ok-list_constraints.ensures.stand ∙ ap (map (λ (x : Constraint). Some x)) (sym c.deref-2.ensures.value));
       tells =
           carry (λ one forced candidates. TellsPlaces one forced candidates constraints formula.clauses) c.new-play.result.index.now index c.new-play.result.forced.now [] c.new-play.result.candidates.now members
           c.new-play.ensures.index (c.new-play.ensures.forced ∙ c.clear.ensures.members) c.new-play.ensures.candidates c.in_ok-encode_each.ensures.tells;

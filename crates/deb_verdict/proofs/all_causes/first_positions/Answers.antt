@@ -3,7 +3,7 @@ use Rattle.number_sets.specs.Sets.{members_of}
 use Rattle.number_sets.proofs.ListMembers.{below_members}
 use Rattle.deb_verdict.proofs.CauseSteps.{first_found, none_found}
 use Rattle.deb_verdict.proofs.Whole.{first_in_list}
-use Rattle.deb_verdict.proofs.first_core.first_positions.Goals as goal
+use Rattle.deb_verdict.proofs.all_causes.first_positions.Goals as goal
 
 pub returns-clause-first : goal.returns-clause-first
 returns-clause-first c =
