@@ -9,7 +9,7 @@ use Rattle.deb_report.specs.Since.{BrokenView, amends_of, news_of, summary_of, a
 use Rattle.std.specs.Borrow.{Bor}
 use Rattle.std.specs.Option.{option_map}
 use Rattle.deb_report.specs.declared.content.Content.{Content}
-use Rattle.deb_report.specs.declared.before.Before.{Before}
+use Rattle.deb_report.specs.declared.newly_broken.Before.{Before}
 
 -- the asked places that have a block, with what is told of them; numbers and lists of broken packages of an earlier index, each under its title;
 -- the causes, where they are asked for

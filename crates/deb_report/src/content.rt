@@ -9,7 +9,7 @@ ghost use Rattle.deb_report.specs.Content.{causes_if, content_of, IsContentOf, b
 ghost use Rattle.run_settings.specs.Settings.{settings_of};
 
 use crate::amends::{Amends, amends_of};
-use crate::before::Before;
+use crate::newly_broken::Before;
 use crate::shown::shown_of;
 use crate::summary::{Counts, numbers_of};
 use deb_causes::{Cause, causes_of};

@@ -8,10 +8,10 @@ ghost use Rattle.deb_report.specs.Since.{counts_of, summary_of};
 ghost use Rattle.deb_report.specs.Content.{before_view};
 ghost use Rattle.deb_report.specs.Document.{written_report, written_told};
 
-use crate::before::Before;
 use crate::content::content_of;
 use crate::document::Document;
 use crate::form::Writer;
+use crate::newly_broken::Before;
 use crate::options::options_of;
 use crate::sought::similar_to_walks;
 use crate::summary::{Counts, Summary, summary_of};

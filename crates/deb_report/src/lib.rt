@@ -4,7 +4,7 @@
 //!
 //! - `layout`: the calls; `content`: what a report tells, with its causes by `deb_causes`; `options`: the words that a report is made under.
 //! - `asked`: the places that are asked; `shown`: those that are shown, with what is told of them; `summary`: what a run counts.
-//! - `broken`: the broken packages of an earlier index; `before`: these, by which it is told of a package whether it is newly broken; `amends`: those
+//! - `broken`: the broken packages of an earlier index; `newly_broken`: those of another index that are newly broken; `amends`: those
 //!   that are mended or gone; `marks`: marks on names.
 //! - `document`: a report in its form, with its `numbers`; `cores`: those of a package; `causes`: the blocks of causes; `sought`: which names that differ
 //!   in numbers alone are looked for.
@@ -17,7 +17,6 @@
 mod amends;
 mod answers;
 mod asked;
-mod before;
 mod broken;
 mod causes;
 mod content;
@@ -28,6 +27,7 @@ mod hits;
 mod json_text;
 mod layout;
 mod marks;
+mod newly_broken;
 mod numbers;
 mod options;
 mod own;
@@ -41,7 +41,7 @@ mod walk_constraints;
 mod walk_lines;
 
 pub use asked::{AskedFault, asked_places, earlier_places};
-pub use before::Before;
 pub use broken::{BrokenPackage, broken_packages};
 pub use layout::{report, report_told};
+pub use newly_broken::Before;
 pub use summary::Summary;

@@ -8,7 +8,7 @@ use Rattle.deb_health.specs.declared.told.Told.{Told}
 use Rattle.deb_health.specs.declared.told.Wanted.{Wanted}
 use Rattle.deb_health.specs.Health.{IsInstallable}
 use Rattle.deb_health.specs.Verdicts.{Installable, IsTold, SpeaksOf, ToldView, told_view}
-use Rattle.deb_report.specs.declared.before.Before.{Before}
+use Rattle.deb_report.specs.declared.newly_broken.Before.{Before}
 use Rattle.deb_report.specs.declared.summary.Summary.{Summary}
 use Rattle.deb_report.specs.Since.{BrokenView, summary_of}
 use Rattle.deb_report.specs.Content.{before_view}

@@ -1,7 +1,7 @@
 use Rattle.std.proofs.Common.{◌≡◌, subst}
 use Rattle.std.specs.Borrow.{Bor}
 use Rattle.std.proofs.lemmas.Option.{same_Some}
-use Rattle.deb_report.specs.declared.before.Before.{Before}
+use Rattle.deb_report.specs.declared.newly_broken.Before.{Before}
 use Rattle.debcheck.proofs.verdicts.check_and_tell.Goals as goal
 
 pub report_on-told-requires-clause-before : goal.report_on-told-requires-clause-before

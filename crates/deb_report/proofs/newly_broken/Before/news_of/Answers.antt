@@ -4,8 +4,8 @@ use Rattle.deb_report.specs.Since.{broken_view, is_news}
 use Rattle.deb_health.specs.Verdicts.{IsAskedOf, shown_view}
 use Rattle.number_sets.proofs.AtomSteps.{kept, left_out}
 use Rattle.number_sets.proofs.ListLemmas.{all_item}
-use Rattle.deb_report.proofs.before.Before.news_of.Goals as goal
-use Rattle.deb_report.proofs.before.Before.news_of.Goals.{then-is_new+in_ok-push, else-is_new}
+use Rattle.deb_report.proofs.newly_broken.Before.news_of.Goals as goal
+use Rattle.deb_report.proofs.newly_broken.Before.news_of.Goals.{then-is_new+in_ok-push, else-is_new}
 
 pub is_new-requires : goal.is_new-requires
 is_new-requires c =

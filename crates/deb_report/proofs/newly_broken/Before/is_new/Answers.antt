@@ -1,6 +1,6 @@
 use Rattle.std.proofs.Common.{◌∙◌, ap, map, not}
 use Rattle.deb_report.specs.Since.{AreMarks, broken_view, was_broken}
-use Rattle.deb_report.proofs.before.Before.is_new.Goals as goal
+use Rattle.deb_report.proofs.newly_broken.Before.is_new.Goals as goal
 
 pub returns : goal.returns
 returns c =
